@@ -5,6 +5,7 @@ import { ArgumentError, ArgumentTypeError } from "./errors.mjs";
 export const CHOICES = Object.freeze(["pass", "move 0", "move 1", "move 2", "move 3", "move 4",
   "switch 1", "switch 2", "switch 3", "switch 4", "switch 5", "switch 6"]);
 const BYTES = CHOICES.map((_, bit) => (bit === 0 ? 0 : bit < 6 ? bit + 0x0f : bit + 0x1b));
+const BYTE_OF_NAME = new Map(BYTES.map((byte, bit) => [CHOICES[bit], byte]));
 const NAME_OF_BYTE = new Map(BYTES.map((byte, bit) => [byte, CHOICES[bit]]));
 const MOST_SHOWN = 60;
 
@@ -61,6 +62,36 @@ export function object(value, what, lawful) {
   return value;
 }
 
+/** An object with fields, and with no keys but these. */
+export function record(value, what, lawful, keys) {
+  for (const key of Object.keys(object(value, what, lawful))) {
+    if (keys.includes(key)) continue;
+    const near = nearest(key, keys, 2);
+    const meant = near ? `did you mean ${shown(near)}?` : `its keys are ${keys.join(", ")}`;
+    throw new ArgumentError(`${what} has the unknown key ${shown(key)}; ${meant}`, `${what}.${key}`);
+  }
+  return value;
+}
+
+// How many letters one text must gain, lose or change to become the other one.
+function distance(one, two) {
+  let row = Array.from({ length: two.length + 1 }, (_, at) => at);
+  for (let at = 1; at <= one.length; at++) {
+    const next = [at];
+    for (let to = 1; to <= two.length; to++)
+      next.push(Math.min(row[to] + 1, next[to - 1] + 1, row[to - 1] + (one[at - 1] === two[to - 1] ? 0 : 1)));
+    row = next;
+  }
+  return row[two.length];
+}
+
+/** The name that differs least from a text, if it differs by at most `most` letters. */
+export function nearest(given, names, most) {
+  const small = given.slice(0, MOST_SHOWN).toLowerCase();
+  const found = names.map((name) => [distance(small, name.toLowerCase()), name]).reduce((one, two) => (two[0] < one[0] ? two : one));
+  return found[0] <= most ? found[1] : null;
+}
+
 /** A list: an array, a typed array, or any other object with a length. */
 export function list(value, what, lawful = "a list") {
   const isList = typeof value === "object" && value !== null && Number.isInteger(value.length) && value.length >= 0;
@@ -75,9 +106,16 @@ export function numbers(value, what, count, of) {
   return Array.from(value, (it, place) => of(it, `${what}[${place}]`));
 }
 
-/** The ten bytes of a seed. */
-export function seedBytes(value) {
-  return Uint8Array.from(numbers(value, "seed", 10, (it, what) => within(it, what, 0, 255)));
+const SEED_SIZE = 10;
+const isByte = (value) => Number.isInteger(value) && value >= 0 && value <= 255;
+
+/** The seed, whose ten numbers are tested. */
+export function seedOf(value) {
+  const { length } = list(value, "seed", `a list of ${SEED_SIZE} numbers`);
+  if (length !== SEED_SIZE) throw new ArgumentError(`seed has ${length} numbers, not ${SEED_SIZE}`, "seed");
+  if (value instanceof Uint8Array) return value;
+  for (let at = 0; at < SEED_SIZE; at++) if (!isByte(value[at])) within(value[at], `seed[${at}]`, 0, 255);
+  return value;
 }
 
 /** The bytes of a Uint8Array, an ArrayBuffer, or a DataView. */
@@ -89,15 +127,16 @@ export function octets(value, what) {
 
 /** A side, 1 or 2. */
 export function sideOf(value) {
+  if (value === 1 || value === 2) return value;
   if (whole(value, "side") !== 1 && value !== 2) throw new ArgumentError(`side is ${value}, not 1 or 2`, "side");
   return value;
 }
 
 /** The byte of a choice, whether offered or not: a byte, or a name such as "pass", "move 1", "switch 2". */
 export function byteOf(choice, what = "choice") {
+  const byte = BYTE_OF_NAME.get(choice);
+  if (byte !== undefined) return byte;
   if (typeof choice === "number") return within(choice, what, 0, 255);
-  const bit = CHOICES.indexOf(choice);
-  if (bit >= 0) return BYTES[bit];
   const lawful = "pass, move 0 to 4, or switch 1 to 6";
   if (typeof choice === "string") throw new ArgumentError(`${what}: ${shown(choice)} is not a choice: ${lawful}`, what);
   throw wrongType(choice, what, `a choice: ${lawful}, or its byte`);
@@ -105,7 +144,14 @@ export function byteOf(choice, what = "choice") {
 
 /** The byte of a side's choice. */
 export function choiceByte(choice, side) {
-  return byteOf(choice, `side ${side}'s choice`);
+  return BYTE_OF_NAME.get(choice) ?? byteOf(choice, `side ${side}'s choice`);
+}
+
+const OFFERED = [];
+
+/** The names of the choices in a mask. Each mask has one list, which is frozen. */
+export function choicesIn(mask) {
+  return (OFFERED[mask] ??= Object.freeze(CHOICES.filter((_, bit) => (mask >> bit) & 1)));
 }
 
 /** The name of a choice's byte. */

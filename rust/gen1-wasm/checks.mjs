@@ -16,12 +16,15 @@ const wordsOf = (bytes, ...places) => places.map((at) => wordOf(bytes, at));
 const ROOM_REFUSALS = [CODES.ERROR_OVER, CODES.ERROR_STALE, CODES.ERROR_CHOSEN, CODES.ERROR_NOT_OFFERED];
 const linesOf = (texts) => texts.map((line) => `${line}\n`).join("");
 
+// What a battle is made of, from an input, which also has choices.
+const termsOf = ({ one, two, seed, rules, limit }) => ({ one, two, seed, rules, limit });
+
 // What `run` prints of an input, and how it ends.
 function run(gen1, asked) {
   let text = "";
   let battle;
   try {
-    battle = gen1.battle(asked);
+    battle = gen1.battle(termsOf(asked));
   } catch (fault) {
     if (!(fault instanceof library.TeamError)) throw fault;
     return [text, `error: team ${fault.side} place ${fault.place} refusal ${fault.code}\n`];
@@ -93,7 +96,7 @@ function shownOf({ one, two, turn, outcome }) {
 
 // A recorded battle, update by update: log, bytes, choices, state, and what a spectator knows.
 function traceCase(gen1, one) {
-  const battle = gen1.battle(one.object);
+  const battle = gen1.battle(termsOf(one.object));
   const spectator = gen1.spectator(one.object.one, one.object.two);
   const players = [1, 2].map((side) => [gen1.teller({ side }), gen1.player({ side, team: side === 1 ? one.object.one : one.object.two })]);
   for (const [number, update] of one.updates.entries()) {
@@ -163,7 +166,7 @@ function sorted(value) {
 
 // The same updates as two players' submissions, side 2 first in every other pair.
 function roomCase(gen1, terms, [first, ...updates]) {
-  const room = gen1.room(gen1.battle(terms));
+  const room = gen1.room(gen1.battle(termsOf(terms)));
   equal([hexOf(room.log), hexOf(room.battle.bytes)], [first.log, first.bytes]);
   for (const [number, update] of updates.entries()) {
     const due = [1, 2].filter((side) => room.choices(side).length);

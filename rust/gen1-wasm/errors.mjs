@@ -31,6 +31,12 @@ export class ArgumentError extends RangeError {
 /** The module was not found, cannot run here, or is not the C library's. */
 export class ModuleError extends Gen1Error {}
 
+/** The module's memory cannot grow. */
+export class MemoryError extends Gen1Error {}
+
+/** A battle or an array of battles was used after `free`. */
+export class FreedError extends Gen1Error {}
+
 /** Teams, rules or limit are refused: the side (0 if neither team is wrong), the place of the member, and the field. */
 export class TeamError extends Gen1Error {
   constructor(message, code, { side = 0, place = 0, field = "", reason } = {}) {

@@ -2,7 +2,7 @@
 import * as library from "./gen1.mjs";
 import { equal, hexOf, holds, thrown } from "./holding.mjs";
 
-const { ArgumentError, ArgumentTypeError, DamageError, LoadError, LogError, ModuleError } = library;
+const { ArgumentError, ArgumentTypeError, DamageError, FreedError, LoadError, LogError, ModuleError } = library;
 const { RefusedError, RoomError, StateError, TeamError, TextError } = library;
 const SEED = [1, 36, 255, 7, 31, 100, 179, 254, 127, 10];
 const TAUROS = { species: "Tauros", moves: [["Strength", 3]] };
@@ -33,7 +33,7 @@ const MEMBERS = [
   [{ moves: Array(5).fill(["Pound", 3]) }, ArgumentError, "moves", /has 5 moves, not at most 4$/],
   [{ moves: [["Pound", 3], "Cut"] }, ArgumentTypeError, "moves[1]", /is "Cut", not a pair: a move, and its PP ups from 0 to 3$/],
   [{ moves: [["Pound"]] }, ArgumentError, "moves[0]", /is \["Pound"\], not a pair/],
-  [{ moves: [["Pond", 3]] }, ArgumentError, "moves[0][0]", /is "Pond", which is not in docs\/TABLES.md$/],
+  [{ moves: [["Pond", 3]] }, ArgumentError, "moves[0][0]", /is "Pond", which is not in docs\/TABLES.md; did you mean "Pound"\?$/],
   [{ moves: [["body slam", 3]] }, ArgumentError, "moves[0][0]", /did you mean "Body Slam"\?$/],
   ...[0, 166, 255, ...BIG].map((move) => [{ moves: [["Pound", 3], [move, 3]] }, TeamError, 11, /a move is not 1 to 165: moves is \[\["Pound",3\],/]),
   ...NO_NUMBERS.filter((it) => typeof it !== "string").map((move) => [{ moves: [[move, 3]] }, ArgumentTypeError, "moves[0][0]", /, not a/]),
@@ -67,6 +67,52 @@ function members(gen1, check) {
     for (const it of NO_OBJECTS) wrong(() => gen1.battle(it), /^terms is .*, not an object with one, two and seed$/);
     thrown(() => gen1.spectator([TAUROS], []), TeamError, /^team 2: the team has no member/);
     wrong(() => gen1.spectator(5, [TAUROS]), /^one is 5, not a list of 1 to 6 members$/);
+  });
+}
+
+// Keys that are none, of each object that the calls take.
+function keys(gen1, battle, check) {
+  const asked = [
+    [() => gen1.battle({ ...TERMS, one: [{ ...TAUROS, lvl: 50 }] }), "one[0].lvl", /^one\[0\] has the unknown key "lvl"; did you mean "level"\?$/],
+    [() => gen1.team([TAUROS, { ...TAUROS, ivs: [] }]), "members[1].ivs", /^members\[1\] has the unknown key "ivs"; did you mean "dvs"\?$/],
+    [() => gen1.battle({ ...TERMS, choices: [] }), "terms.choices", /^terms has the unknown key "choices"; its keys are one, two, seed, rules, limit$/],
+    [() => gen1.player({ side: 1, tem: [TAUROS] }), "terms.tem", /"tem"; did you mean "team"\?$/],
+    [() => gen1.teller({ side: 1, pixel: true }), "terms.pixel", /"pixel"; did you mean "pixels"\?$/],
+    [() => battle.withState((state) => void (state.turns = 3)), "state.turns", /"turns"; did you mean "turn"\?$/],
+    [() => battle.withState(({ two }) => void (two.member = [])), "state.two.member", /"member"; did you mean "members"\?$/],
+    [() => battle.withState(({ one: { members } }) => void (members[0].HP = 5)), "state.one.members[0].HP", /"HP"; did you mean "hp"\?$/],
+    [() => battle.withState(({ one: { active } }) => void (active.stage = [])), "state.one.active.stage", /"stage"; did you mean "stages"\?$/],
+  ];
+  check("unknown keys", () => {
+    for (const [call, argument, text] of asked) equal(outside(call, text).argument, argument);
+  });
+}
+
+// Teams that are tested on their own, and battles that were freed.
+function teams(gen1, check) {
+  check("teams that are none", () => {
+    for (const it of NO_OBJECTS) wrong(() => gen1.team(it), /^members is .*, not a list of 1 to 6 members$/);
+    for (const it of [[], Array(7).fill(TAUROS)]) equal(thrown(() => gen1.team(it), TeamError, /^the team has (no member|more than 6 members)/).side, 0);
+    const { side, place, field } = thrown(() => gen1.team([TAUROS, { ...TAUROS, level: 0 }]), TeamError, /^member 2: the level is not 1 to 100: level is 0$/);
+    equal([side, place, field], [0, 2, "level"]);
+    const team = gen1.team([TAUROS]);
+    thrown(() => gen1.battle({ ...TERMS, one: team, two: [] }), TeamError, /^team 2: the team has no member/);
+    thrown(() => gen1.battle({ ...TERMS, one: team, rules: 4 }), TeamError, /^the rules are not 0 to 3: rules is 4$/);
+  });
+  check("freed battles", () => {
+    const [battle, other] = [gen1.battle(TERMS), gen1.battle(TERMS)];
+    for (const it of [...NO_OBJECTS, {}]) wrong(() => battle.copyFrom(it), /^battle is .*, not a Battle$/);
+    battle.free();
+    battle.free();
+    const calls = [
+      () => battle.bytes, () => battle.state, () => battle.result, () => battle.isOver, () => battle.clone(), () => battle.copyFrom(other),
+      () => other.copyFrom(battle), () => battle.choices(1), () => battle.offeredMask(1), () => battle.words(1, "pass"), () => battle.update("pass", "pass"),
+      () => battle.updateSilent("pass", "pass"), () => battle.reseed(SEED), () => battle.playout(1, 1), () => battle.odds(1, "Pound"),
+      () => battle.knockOut(1, "Pound"), () => battle.damage(1, "Pound"), () => battle.ownSide(1), () => battle.withHp(1, 1, 5), () => gen1.room(battle),
+      () => gen1.player({ side: 1, team: [TAUROS] }).show(battle),
+    ];
+    for (const call of calls) thrown(call, FreedError, /^the battle was freed$/);
+    equal(hexOf(other.bytes), hexOf(gen1.battle(TERMS).bytes));
   });
 }
 
@@ -177,7 +223,7 @@ function moves(gen1, battle, check) {
         thrown(call, DamageError, /^no damage of -?\d.*: a move is not 1 to 165$/);
     const calls = [(move) => battle.damage(1, move), (move) => battle.odds(1, move), (move) => battle.knockOut(1, move)];
     for (const call of [...calls, (move) => gen1.damage(TAUROS, TAUROS, move)]) {
-      outside(() => call("Pond"), /^move is "Pond", which is not in docs\/TABLES.md$/);
+      outside(() => call("Pond"), /^move is "Pond", which is not in docs\/TABLES.md; did you mean "Pound"\?$/);
       outside(() => call("body slam"), /did you mean "Body Slam"\?$/);
       for (const it of [undefined, null, true, [1], {}, 1n]) wrong(() => call(it), /^move is .*, not a name or a number$/);
     }
@@ -212,6 +258,94 @@ function seeds(battle, check) {
     for (const rounds of [-1, 2 ** 32, 2 ** 53])
       outside(() => battle.playout(1, rounds), /^rounds is -?\d.*, not 0 to 4294967295$/);
     for (const rounds of NO_NUMBERS) wrong(() => battle.playout(1, rounds), /^rounds is .*, not a whole number$/);
+  });
+}
+
+// Guesses that don't fit what a player knows, whose foe has shown an Alakazam with Psychic.
+function guesses(gen1, check) {
+  const alakazam = { species: "Alakazam", moves: [["Psychic", 3]] };
+  const battle = gen1.battle({ one: [TAUROS], two: [alakazam, { species: "Chansey", moves: [["Pound", 3]] }], seed: SEED });
+  const [teller, player] = [gen1.teller({ side: 1 }), gen1.player({ side: 1, team: [TAUROS] })];
+  for (const choice of ["pass", "move 1"]) teller.report(battle, battle.update(choice, choice).log, player);
+  const guessed = (guess, it = player) => library.Battle.fromPlayer(it, { team: [alakazam], seed: SEED, ...guess });
+  check("guesses that do not fit", () => {
+    const before = player.view;
+    const asked = [
+      [[{ ...alakazam, species: "Chansey" }], /^guess\.team\[0\] must be Alakazam of level 100, which appeared, not Chansey of level 100$/],
+      [[{ ...alakazam, level: 99 }], /^guess\.team\[0\] must be Alakazam of level 100, which appeared, not Alakazam of level 99$/],
+      [[{ ...alakazam, moves: [["Recover", 3]] }], /^guess\.team\[0\] must know Psychic, which it was seen to use$/],
+    ];
+    for (const [team, text] of asked) outside(() => guessed({ team }), text);
+    const more = player.clone();
+    more.feed(Uint8Array.of(2, 2, 113, 2, 100, 191, 2, 191, 2, 0));
+    outside(() => guessed({}, more), /^guess\.team must have the 2 members that have appeared, not 1$/);
+    const over = player.clone();
+    over.feed(Uint8Array.of(26, 1));
+    for (const it of [over, gen1.player({ side: 1, team: [TAUROS] })])
+      outside(() => guessed({}, it), /^player must be of a battle that has begun and is not over$/);
+    equal(player.view, before);
+  });
+  check("guesses that are none", () => {
+    for (const it of [...NO_OBJECTS, teller, [TAUROS]]) wrong(() => library.Battle.fromPlayer(it, { team: [alakazam], seed: SEED }), /^player is .*, not a Player$/);
+    for (const it of NO_OBJECTS) wrong(() => library.Battle.fromPlayer(player, it), /^guess is .*, not an object with team and seed$/);
+    for (const it of NO_OBJECTS) wrong(() => guessed({ team: it }), /^guess\.team is .*, not a list of 1 to 6 members$/);
+    outside(() => guessed({ foes: [] }), /^guess has the unknown key "foes"; its keys are team, seed, rules, limit$/);
+    outside(() => guessed({ team: [{ ...alakazam, species: "Alakazan" }] }), /^guess\.team\[0\]\.species is "Alakazan", .* did you mean "Alakazam"\?$/);
+    thrown(() => guessed({ team: [] }), TeamError, /^the team has no member/);
+    for (const seed of [[], new Uint8Array(9)]) outside(() => guessed({ seed }), /^seed has \d numbers, not 10$/);
+    for (const rules of [4, ...BIG]) thrown(() => guessed({ rules }), StateError, /^state\.rules is -?\d.*, not 0 to 3$/);
+    for (const limit of [0, 1, 10000]) thrown(() => guessed({ limit }), StateError, /^state\.(limit|turn) is \d+, /);
+  });
+}
+
+// Arrays: bad lengths, places and players, and use after `free`.
+function arrays(gen1, check) {
+  const battle = gen1.battle(TERMS);
+  const sides = [1, 2].map((side) => ({ teller: gen1.teller({ side }), player: gen1.player({ side, team: [TAUROS] }) }));
+  const array = gen1.battleArray({ battle, count: 2 });
+  check("arrays that are none", () => {
+    for (const it of NO_OBJECTS) wrong(() => gen1.battleArray(it), /^terms is .*, not an object with battle and count$/);
+    for (const it of [...NO_OBJECTS, TERMS]) wrong(() => gen1.battleArray({ battle: it, count: 1 }), /^battle is .*, not a Battle$/);
+    for (const count of [0, 2 ** 20 + 1, ...BIG.filter((it) => it < 0)]) outside(() => gen1.battleArray({ battle, count }), /^count is -?\d.*, not 1 to 1048576$/);
+    for (const count of NO_NUMBERS) wrong(() => gen1.battleArray({ battle, count }), /^count is .*, not a whole number$/);
+    outside(() => gen1.battleArray({ battle, count: 2, seeds: SEED }), /^seeds has 10 numbers, not 20$/);
+    outside(() => gen1.battleArray({ battle, count: 2, seed: SEED }), /^terms has the unknown key "seed"; did you mean "seeds"\?$/);
+    for (const it of [5, {}, "sides"]) wrong(() => gen1.battleArray({ battle, count: 1, sides: it }), /^sides is .*, not two objects/);
+    outside(() => gen1.battleArray({ battle, count: 1, sides: [sides[0]] }), /^sides has 1 elements, not 2$/);
+    outside(() => gen1.battleArray({ battle, count: 1, sides: [sides[1], sides[0]] }), /^sides\[0\] is not of side 1$/);
+    wrong(() => gen1.battleArray({ battle, count: 1, sides: [sides[0], { teller: sides[1].teller, player: 5 }] }), /^sides\[1\]\.player is 5, not a Player$/);
+    wrong(() => gen1.battleArray({ battle, count: 1, sides: [{ teller: battle, player: 5 }, sides[1]] }), /^sides\[0\]\.teller is .*, not a Teller$/);
+  });
+  check("what an array refuses", () => {
+    const before = hexOf(array.bytes);
+    for (const call of [(it) => array.step(it, [0, 0]), (it) => array.step([0, 0], it), (it) => array.reseed(it)]) {
+      for (const it of [undefined, null, 5, "00", {}]) wrong(() => call(it), /^(ones|twos|seeds) is .*, not a list of \d+ numbers$/);
+      for (const it of [[], [0], new Uint8Array(3)]) outside(() => call(it), /^(ones|twos|seeds) has \d numbers, not \d+$/);
+    }
+    for (const it of BIG) outside(() => array.step([0, it], [0, 0]), /^ones\[1\] is -?\d.*, not 0 to 255$/);
+    for (const it of NO_NUMBERS) wrong(() => array.step([0, 0], [it, 0]), /^twos\[0\] is .*, not a whole number$/);
+    for (const call of [(side) => array.masks(side), (side) => gen1.battleArray({ battle, count: 1, sides }).observe(side)]) {
+      for (const side of [0, 3, ...BIG]) outside(() => call(side), /^side is -?\d.*, not 1 or 2$/);
+      for (const side of NO_NUMBERS) wrong(() => call(side), /^side is .*, not a whole number$/);
+    }
+    for (const place of [2, ...BIG]) outside(() => array.at(place), /^place is -?\d.*, not 0 to 1$/);
+    for (const call of [() => array.observe(1), () => array.player(0, 1)]) outside(call, /^the array has no players: it was created without sides$/);
+    outside(() => array.take([0, 2]), /^places\[1\] is 2, not 0 to 1$/);
+    outside(() => array.take([]), /^places has no place$/);
+    outside(() => array.reset([true]), /^which has 1 values, not 2$/);
+    wrong(() => array.randomStep(5), /^random is 5, not a function that returns numbers/);
+    outside(() => array.playouts(-1, 1), /^seed is -1, not 0 to 2/);
+    outside(() => array.playouts(1, -1), /^rounds is -1, not 0 to 4294967295$/);
+    // Both sides are asked for a move after the start; the other battle is before it, and refused.
+    equal(Array.from(array.step([17, 0], [17, 0])), [0, 8 + 32]);
+    equal([Array.from(array.codes), hexOf(array.at(0).bytes)], [[25, 0], before.slice(0, 768)]);
+  });
+  check("freed arrays", () => {
+    array.free();
+    array.free();
+    const asked = [() => array.bytes, () => array.at(0), () => array.masks(1), () => array.step([0, 0], [0, 0]), () => array.randomStep(),
+      () => array.playouts(1, 1), () => array.reseed(new Uint8Array(20)), () => array.reset(), () => array.take([0])];
+    for (const call of asked) thrown(call, FreedError, /^the array was freed$/);
   });
 }
 
@@ -260,7 +394,7 @@ const NO_STATES = [
 // Changes that no state of the library can have: each with the class of the error and its text.
 const UNREADABLE = [
   [MEMBER({ status: "confused" }), ArgumentError, /^state\.two\.members\[0\]\.status is "confused", not one of "none", "sleep", /],
-  [MEMBER({ species: "Taurus" }), ArgumentError, /\.species is "Taurus", which is not in docs\/TABLES.md$/],
+  [MEMBER({ species: "Taurus" }), ArgumentError, /\.species is "Taurus", which is not in docs\/TABLES.md; did you mean "Tauros"\?$/],
   [MEMBER({ pp: [1, 2] }), ArgumentError, /\.pp has 2 numbers, not 1$/],
   [MEMBER({ moves: Array(5).fill("Pound") }), ArgumentError, /\.moves has 5 moves, not at most 4$/],
   [MEMBER({ marked: 1 }), ArgumentTypeError, /\.marked is 1, not true or false$/],
@@ -354,6 +488,7 @@ function calls(gen1, check) {
   moves(gen1, battle, check);
   seeds(battle, check);
   states(gen1, battle, check);
+  keys(gen1, battle, check);
   check("nothing has changed", () => equal(hexOf(battle.bytes), before));
   check("a loaded battle goes on alike", () => {
     const copy = gen1.load(battle.bytes);
@@ -392,7 +527,7 @@ function rooms(gen1, check) {
     equal([spectator.state, spectator.held], [gen1.spectator([TAUROS], [TAUROS]).state, new Uint8Array(0)]);
   });
   check("constructors", () => {
-    for (const kind of [library.Gen1, library.Battle, library.Update, library.Room, library.Spectator, library.Player, library.Teller])
+    for (const kind of [library.Gen1, library.Battle, library.Update, library.Room, library.Spectator, library.Player, library.Teller, library.Team, library.BattleArray])
       wrong(() => new kind(), /is created by .*, not by new/);
   });
 }
@@ -415,5 +550,5 @@ export async function badSources(check) {
 
 /** Runs all checks of bad input. */
 export function badInput(gen1, check) {
-  for (const part of [members, terms, bytes, reasons, calls, rows, rooms, players]) part(gen1, check);
+  for (const part of [members, teams, terms, arrays, guesses, bytes, reasons, calls, rows, rooms, players]) part(gen1, check);
 }

@@ -1,6 +1,20 @@
 // Types of gen1.mjs. TypeScript finds them by name: the resolutions node, node16, nodenext and bundler look for a .d.mts next to an
 // .mjs. uses.mjs compares them with what the module does.
 
+import type { MoveName, SpeciesName, TypeName } from "./names.mjs";
+export type { MoveName, SpeciesName, TypeName };
+
+declare global {
+  // Before TypeScript 5.2, and without its library esnext.disposable, there is no Symbol.dispose.
+  interface SymbolConstructor {
+    readonly dispose: unique symbol;
+  }
+}
+
+/** A species as an argument: its exact name (docs/TABLES.md), or its number from 1 to 151. Other texts are refused when the call is made. */
+export type SpeciesLike = SpeciesName | number | (string & {});
+/** A move as an argument: its exact name (docs/TABLES.md), or its number from 1 to 165. Other texts are refused when the call is made. */
+export type MoveLike = MoveName | number | (string & {});
 /** A choice as `choices` returns it. */
 export type ChoiceName = "pass" | `move ${0 | 1 | 2 | 3 | 4}` | `switch ${1 | 2 | 3 | 4 | 5 | 6}`;
 /** A choice as an argument: its name, or its byte from 0 to 255. */
@@ -19,23 +33,22 @@ export type Numbers = ArrayLike<number> & object;
 
 /** A member as an argument. By default the level is 100, and DVs and experience are at their maximum. */
 export interface Member {
-  /** The exact name (docs/TABLES.md), or the number from 1 to 151. */
-  species: string | number;
+  species: SpeciesLike;
   level?: number;
   /** Attack, Defense, Speed, Special: 0 to 15. */
   dvs?: Numbers;
   /** HP, Attack, Defense, Speed, Special: 0 to 65535. */
   exp?: Numbers;
   /** At most four: the name or number, and the PP ups from 0 to 3. */
-  moves: readonly (readonly [string | number, number])[];
+  moves: readonly (readonly [MoveLike, number])[];
 }
 
-/** One to six members. */
-export type Team = readonly Member[];
+/** One to six members as an argument. Keys that a Member doesn't have are refused. */
+export type Members = readonly Member[];
 
 export interface Terms {
-  one: Team;
-  two: Team;
+  one: Team | Members;
+  two: Team | Members;
   /** Ten numbers from 0 to 255. */
   seed: Numbers;
   /** 0 is no clause, which is the default, 1 the sleep clause, 2 the freeze clause, 3 both. */
@@ -44,39 +57,83 @@ export interface Terms {
   limit?: number;
 }
 
+/** What a caller of Battle.fromPlayer guesses of what the player can't know. */
+export interface Guess {
+  /** The foe's team: first the members that have appeared, in the order in which they did, then the others. */
+  team: Team | Members;
+  /** Ten numbers from 0 to 255, of which the first is drawn next. */
+  seed: Numbers;
+  /** As in Terms. */
+  rules?: number;
+  limit?: number;
+}
+
 /** A member from a text, with all fields that `battle` takes. */
 export interface WholeMember {
-  species: string;
+  species: SpeciesName;
   level: number;
   dvs: number[];
   exp: number[];
-  moves: [string, number][];
+  moves: [MoveName, number][];
 }
 
+/** How a battle stands. Objects of the same values may be the same object. */
 export interface Result {
-  outcome: Outcome;
-  requests: [Request, Request];
+  readonly outcome: Outcome;
+  readonly requests: readonly [Request, Request];
 }
 
-/**
- * An event with its numbers as in log bytes (include/gen1.h, gen1_event). A field that the event doesn't have is 0. `size` is how many
- * bytes of the log it takes.
- */
-export interface GameEvent {
-  tag: number; side: number; species: number; move: number; targetSide: number; targetSpecies: number; place: number; level: number;
-  status: number; detail: number; amount: number; hp: number; maxHp: number; turn: number; size: number;
+/** Why a member cannot act. */
+export type CantReason = "asleep" | "frozen" | "partially trapped" | "flinched" | "recharging" | "disabled" | "paralysed";
+/** What damaged a member. */
+export type DamageSource = "direct" | "poison" | "burn" | "leech seed" | "recoil" | "confusion";
+/** What starts, ends or acts. */
+export type Volatile = "confusion" | "bide" | "substitute" | "leech seed" | "mist" | "focus energy" | "light screen" | "reflect" | "disable"
+  | "type change" | "trapped" | "rage" | "splash";
+/** Why a battle had to stop: a division by 0, or a Psywave of level 1. */
+export type Fault = "division" | "psywave";
+
+/** The member of a side that an event is about. */
+interface Who {
+  side: Side;
+  species: SpeciesName;
 }
+/** The health of a member after an event. */
+interface Health {
+  hp: number;
+  maxHp: number;
+  status: Status;
+}
+
+/** The fields of an event by its kind (docs/MECHANICS.md, "Events"). `size` is how many bytes of the log it takes. */
+export type GameEvent = { size: number } & (
+  | { kind: "turn"; turn: number }
+  | { kind: "switch"; place: number; level: number } & Who & Health
+  | { kind: "move"; move: MoveName; targetSide: Side; targetSpecies: SpeciesName } & Who
+  | { kind: "cant"; reason: CantReason } & Who
+  | { kind: "damage"; source: DamageSource } & Who & Health
+  | { kind: "heal" } & Who & Health
+  | { kind: "crit" | "super effective" | "resisted" | "immune" | "miss" | "fail" | "must recharge" | "faint" } & Who
+  | { kind: "status" | "cure"; status: Exclude<Status, "none"> } & Who
+  | { kind: "boost" | "unboost"; stat: Stat; stages: number } & Who
+  | { kind: "start" | "end" | "activate"; volatile: Volatile } & Who
+  | { kind: "prepare"; move: MoveName } & Who
+  | { kind: "hit count"; hits: number } & Who
+  | { kind: "clear all" | "one hit knock out" | "tie" }
+  | { kind: "win"; side: Side }
+  | { kind: "fault"; fault: Fault });
+export type EventKind = GameEvent["kind"];
 
 /** The state of a member. */
 export interface MemberState {
-  species: string;
+  species: SpeciesName;
   level: number;
   status: Status;
   /** How many more turns it sleeps, 1 to 7; 0 if it is awake. */
   sleep: number;
   /** Whether the sleep clause counts its sleep. */
   marked: boolean;
-  moves: string[];
+  moves: MoveName[];
   /** The PP of each move, 0 to 63. */
   pp: number[];
   hp: number;
@@ -89,7 +146,7 @@ export interface MemberState {
 export interface ActiveState {
   /** 1 to 6. */
   place: number;
-  types: string[];
+  types: TypeName[];
   /** Attack, Defense, Speed and Special after stages and penalties, 1 to 999. */
   stats: number[];
   /** -6 to 6: Attack, Defense, Speed, Special, accuracy, evasion. */
@@ -216,7 +273,7 @@ export type OwnMember = Omit<MemberState, "sleep" | "marked">;
 export interface OwnActive {
   /** 1 to 6. */
   place: number;
-  types: string[];
+  types: TypeName[];
   /** Attack, Defense, Speed and Special after stages and penalties, 1 to 999. */
   stats: number[];
   /** -6 to 6: Attack, Defense, Speed, Special, accuracy, evasion. */
@@ -240,14 +297,14 @@ export interface OwnSide {
 
 /** A member as the log showed it last. */
 export interface SeenMember {
-  species: string;
+  species: SpeciesName;
   level: number;
   status: Status;
   /** In 48ths if the teller hides exact HP. */
   hp: number;
   maxHp: number;
   /** The moves that it used, in the order of their first use, and how often, 1 to 255. */
-  moves: { name: string; uses: number }[];
+  moves: { name: MoveName; uses: number }[];
 }
 
 /** A condition that the log announces. */
@@ -258,11 +315,11 @@ export type Announced = "substitute" | "confused" | "mist" | "focus energy" | "l
 export interface SeenActive {
   /** The place in `members` from 1. */
   place: number;
-  types: string[];
+  types: TypeName[];
   /** -6 to 6: Attack, Defense, Speed, Special, accuracy, evasion. */
   stages: number[];
   /** Null for none since it came out. */
-  lastMove: string | null;
+  lastMove: MoveName | null;
   /** Those that were announced and have not ended. */
   announced: Announced[];
 }
@@ -296,12 +353,12 @@ export interface Base {
   defense: number;
   speed: number;
   special: number;
-  types: [string, string];
+  types: [TypeName, TypeName];
 }
 
 /** A move (docs/TABLES.md). */
 export interface MoveData {
-  type: string;
+  type: TypeName;
   /** 0 to 170. One-hit moves, Counter, Super Fang and moves with a fixed damage have 1; Night Shade, Bide and moves without damage, 0. */
   power: number;
   /** In percent, 30 to 100. */
@@ -339,6 +396,10 @@ export class Gen1Error extends Error {
 }
 /** The module was not found, cannot run here, or is not the C library's. `cause` is the host's error, if there was one. */
 export class ModuleError extends Gen1Error {}
+/** The module's memory cannot grow. */
+export class MemoryError extends Gen1Error {}
+/** A battle or an array of battles was used after `free`. */
+export class FreedError extends Gen1Error {}
 /** Teams, rules or limit are refused. */
 export class TeamError extends Gen1Error {
   /** 1 or 2; 0 if neither team is wrong. */
@@ -402,13 +463,41 @@ export class Update {
   private constructor();
   readonly result: Result;
   readonly log: Uint8Array;
-  readonly events: GameEvent[];
-  readonly lines: string[];
+  /** Decoded when they are first read. */
+  readonly events: readonly GameEvent[];
+  readonly lines: readonly string[];
+  toJSON(): { result: Result; events: readonly GameEvent[] };
 }
 
-/** A battle. `gen1.battle` and `gen1.load` create it; `update` changes it in place. */
+/** A team that was tested, for any number of battles. `gen1.team` creates it. */
+export class Team {
+  private constructor();
+  readonly length: number;
+  /** The members, with all their fields. */
+  readonly members: WholeMember[];
+  [Symbol.iterator](): Iterator<WholeMember>;
+  toJSON(): WholeMember[];
+}
+
+/**
+ * A battle. `gen1.battle` and `gen1.load` create it; `update` changes it in place.
+ *
+ * Its 384 bytes are in the module's memory. The garbage collector gives them back some time after the last use of the battle, which a program
+ * that does not return to its event loop must not wait for. Such a program frees its battles, or reuses one by `copyFrom`.
+ */
 export class Battle {
   private constructor();
+  /**
+   * A battle that fits what a player knows, with a guess of the rest: the base of a search that doesn't cheat.
+   *
+   * The own side is as it was shown. The foe's members have the HP, status and stages that were told, and the moves and stats of the guess; PP
+   * are those that are left after the uses that were seen. A condition that was announced is on if a move of the guess explains it. Hidden counts
+   * have middle values: three turns of sleep and confusion, four of Disable, two of Bide, thrashing and trapping, a Substitute of a quarter of the
+   * maximum HP.
+   *
+   * Throws ArgumentError for a guess that does not fit, and for a battle that has not begun or is over; TeamError; StateError.
+   */
+  static fromPlayer(player: Player, guess: Guess): Battle;
   /** A copy of the battle's 384 bytes, which are its whole state (docs/LAYOUT.md). */
   readonly bytes: Uint8Array;
   readonly result: Result;
@@ -416,6 +505,14 @@ export class Battle {
   readonly state: State;
   /** An independent copy. It draws the same numbers, unless it is reseeded. */
   clone(): Battle;
+  /** Becomes a copy of another battle, which takes less time than a clone. */
+  copyFrom(battle: Battle): void;
+  /** Gives the memory back at once. Every later call of this battle, but `free`, throws FreedError. */
+  free(): void;
+  /** The same as `free`, for `using` declarations, where the host has Symbol.dispose. */
+  [Symbol.dispose](): void;
+  /** The state, from which `gen1.battleOfState` creates the battle. */
+  toJSON(): State;
   /** What a side is shown of itself. Nothing of it depends on the foe, but whether its trapping move holds the active member. */
   ownSide(side: Side): OwnSide;
   /** Another battle: this one with the state as `change`, which is passed a copy of it, has changed it. Throws StateError. */
@@ -427,7 +524,7 @@ export class Battle {
   /** This battle with another stage, -6 to 6, of the active member. Current stats follow the stages. Throws StateError. */
   withStage(side: Side, stat: Stat, stage: number): Battle;
   /** The choices that a side is offered; none if the battle is over. */
-  choices(side: Side): ChoiceName[];
+  choices(side: Side): readonly ChoiceName[];
   /** The offered choices as a mask, whose bit N is for CHOICES[N]. */
   offeredMask(side: Side): number;
   /** A choice in words, "move 2 Body Slam". It need not be offered. Throws ArgumentError if there is no such move or member. */
@@ -444,11 +541,75 @@ export class Battle {
    */
   playout(seed: number | bigint, rounds: number): Playouts;
   /** The odds of a side's move in the current state. Throws DamageError if no member is out. */
-  odds(side: Side, move: string | number): Odds;
+  odds(side: Side, move: MoveLike): Odds;
   /** The chances that a side's move knocks out the foe's active member, in one use and in two. Throws DamageError if no member is out. */
-  knockOut(side: Side, move: string | number): KnockOut;
+  knockOut(side: Side, move: MoveLike): KnockOut;
   /** The damage of a side's move: 39 numbers, at the factors from 217 to 255. Throws DamageError. */
-  damage(side: Side, move: string | number, critical?: boolean): number[];
+  damage(side: Side, move: MoveLike, critical?: boolean): number[];
+}
+
+/** What a BattleArray is made of. */
+export interface ArrayTerms {
+  battle: Battle;
+  /** How many copies of the battle, 1 to 1,048,576. */
+  count: number;
+  /** Ten bytes for each, so that each draws numbers of its own. Without them all draw the battle's. */
+  seeds?: Numbers;
+  /** Of side 1 and side 2, the teller and the player of the battle as it stands. With them the array keeps players for each battle. */
+  sides?: readonly [{ teller: Teller; player: Player }, { teller: Teller; player: Player }];
+}
+
+/**
+ * Many battles, which are updated together. `gen1.battleArray` creates it. Numbers are in typed arrays, with the battle at place 0 first. Its
+ * memory is given back as that of a Battle is.
+ */
+export class BattleArray {
+  private constructor();
+  readonly length: number;
+  /**
+   * How each battle stands: the outcome (an index of OUTCOMES) in bits 0 to 2, the requests of side 1 and of side 2 (an index of REQUESTS) in
+   * bits 3 and 4, 5 and 6. One array, whose values change.
+   */
+  readonly results: Uint8Array;
+  /** 0 for each battle that the last step updated, else the code of a RefusedError. One array, whose values change. */
+  readonly codes: Uint8Array;
+  /** A copy of all battles, 384 bytes each. */
+  readonly bytes: Uint8Array;
+  /** A copy of the battle at a place. */
+  at(place: number): Battle;
+  /** The masks of the choices that a side is offered: bit N is for CHOICES[N]. Those of a battle that is over are 0. */
+  masks(side: Side): Uint16Array;
+  /**
+   * Updates each battle with a choice of each side, as bytes (`byteOf`), and returns `results`. A battle that refuses its pair is unchanged,
+   * and `codes` says why; so one that is over is unchanged whatever its choices are.
+   */
+  step(ones: Numbers, twos: Numbers): Uint8Array;
+  /** Makes a step with choices at random, which are equally likely, and returns the choices of both sides. `random` is Math.random by default. */
+  randomStep(random?: () => number): [Uint8Array, Uint8Array];
+  /**
+   * What a side knows in each battle: a row of COLUMNS.length numbers for each, one row after the other. A row is made of the side's Player
+   * alone, so it has nothing that the side may not know. Throws ArgumentError if the array was created without `sides`.
+   */
+  observe(side: Side): Uint16Array;
+  /** A copy of the player of a side. Throws ArgumentError if the array was created without `sides`. */
+  player(place: number, side: Side): Player;
+  /**
+   * Plays `rounds` copies of each battle to their end with random choices. Returns four counts for each battle: wins of side 1, wins of side 2,
+   * ties, faults. The battle at place N is played out with the seed plus N.
+   */
+  playouts(seed: number | bigint, rounds: number): Uint32Array;
+  /** Replaces the numbers that each battle draws: ten bytes for each, of which the first is drawn next. */
+  reseed(seeds: Numbers): void;
+  /**
+   * Restores battles, with their players, to what they were when the array was created: all, or those whose value in `which` is not 0 or
+   * false. With `seeds`, ten bytes for each battle, the restored battles draw these numbers.
+   */
+  reset(which?: ArrayLike<unknown> | null, seeds?: Numbers | null): void;
+  /** A new array with copies of the battles at these places, with their players. A place may be there many times. */
+  take(places: Numbers): BattleArray;
+  /** Gives the memory back at once. Every later call but `free` throws FreedError. */
+  free(): void;
+  [Symbol.dispose](): void;
 }
 
 /** A battle of two players who choose independently. `gen1.room` creates it. */
@@ -466,6 +627,8 @@ export class Room {
   choices(side: Side): ChoiceName[];
   /** Returns the update, or null while the foe's choice is awaited. Throws RoomError, and then the room is unchanged. */
   submit(side: Side, number: number, choice: Choice): Update | null;
+  /** The number, the result, and the log of the last pair. The battle, which the players must not see, is not in it. */
+  toJSON(): { number: number; result: Result; log: number[] };
 }
 
 /** A spectator, which knows both teams and the log alone. `gen1.spectator` creates it. */
@@ -477,6 +640,7 @@ export class Spectator {
   clone(): Spectator;
   /** Reads the next bytes of the log, in pieces of any size. Throws LogError, and then the spectator is unchanged. */
   feed(log: Uint8Array | ArrayBuffer): void;
+  toJSON(): ShownState;
 }
 
 /**
@@ -486,21 +650,26 @@ export class Spectator {
 export class Player {
   private constructor();
   readonly side: Side;
+  /** A copy of its gen1_player (include/gen1.h). */
+  readonly bytes: Uint8Array;
   /** What it knows, decoded each time when it is read. */
   readonly view: PlayerView;
   /** Its choices when it was last shown its side; none before, and once the battle is over. */
-  readonly choices: ChoiceName[];
+  readonly choices: readonly ChoiceName[];
   clone(): Player;
   /** Reads the next bytes that its side is told, in pieces of any size. Throws LogError, and then the player is unchanged. */
   feed(told: Uint8Array | ArrayBuffer): void;
   /** Shows it its own side and its choices as they are now in the battle, and nothing else of it. */
   show(battle: Battle): void;
+  toJSON(): { view: PlayerView; choices: readonly ChoiceName[] };
 }
 
 /** What the host of a battle keeps to tell one side of the events. `gen1.teller` creates it. */
 export class Teller {
   private constructor();
   readonly side: Side;
+  /** A copy of its gen1_teller (include/gen1.h). */
+  readonly bytes: Uint8Array;
   clone(): Teller;
   /**
    * The bytes that its side is told of the log of an update, which name the foe's members by their appearance. It is passed the log of every
@@ -522,6 +691,10 @@ export class Gen1 {
   readonly version: string;
   /** Creates a battle before its first update, in which both sides pass. Throws TeamError. */
   battle(terms: Terms): Battle;
+  /** Tests a team once, for any number of battles. Throws TeamError. */
+  team(members: Members): Team;
+  /** Creates an array of copies of a battle. Throws MemoryError. */
+  battleArray(terms: ArrayTerms): BattleArray;
   /** Loads a battle from its 384 bytes. Throws LoadError. */
   load(bytes: Uint8Array | ArrayBuffer): Battle;
   /** The code of the LoadError for bytes, or 0 if they are a battle. Costs less than a `load` that throws. */
@@ -534,9 +707,9 @@ export class Gen1 {
   /** Creates a room with a copy of the battle, which is started at once if it has not begun. */
   room(battle: Battle): Room;
   /** Creates a spectator of a battle of two teams, before its start. Throws TeamError. */
-  spectator(one: Team, two: Team): Spectator;
+  spectator(one: Team | Members, two: Team | Members): Spectator;
   /** Creates a player of a side, before the first update. `foes` is the number of the foe's members, if it is to know it. Throws TeamError. */
-  player(terms: { side: Side; team: Team; foes?: number }): Player;
+  player(terms: { side: Side; team: Team | Members; foes?: number }): Player;
   /** Creates a teller of a side, before the first event. With `pixels` it tells HP of the foe's members in 48ths. */
   teller(terms: { side: Side; pixels?: boolean }): Teller;
   /** The members in a team builder's text (docs/TEAM_TEXT.md). Throws TextError. */
@@ -544,13 +717,13 @@ export class Gen1 {
   /** The members in a packed line (docs/TEAM_TEXT.md). Throws TextError. */
   teamFromPacked(line: string): WholeMember[];
   /** The odds of a move between two members that have just been sent out. Throws TeamError, DamageError. */
-  odds(attacker: Member, defender: Member, move: string | number): Odds;
+  odds(attacker: Member, defender: Member, move: MoveLike): Odds;
   /** The damage of a move between two members that have just been sent out: 39 numbers. Throws TeamError, DamageError. */
-  damage(attacker: Member, defender: Member, move: string | number, critical?: boolean): number[];
+  damage(attacker: Member, defender: Member, move: MoveLike, critical?: boolean): number[];
   /** The row of a species. Throws ArgumentError for an unknown one. */
-  base(species: string | number): Base;
+  base(species: SpeciesLike): Base;
   /** The row of a move. Throws ArgumentError for an unknown one. */
-  moveData(move: string | number): MoveData;
+  moveData(move: MoveLike): MoveData;
   /** The events of log bytes. Throws LogError. */
   events(log: Uint8Array | ArrayBuffer): GameEvent[];
   /** The lines of log bytes, without line feeds. Throws LogError. */
@@ -574,11 +747,11 @@ export function choiceOf(byte: number): ChoiceName;
 export const CHOICES: readonly ChoiceName[];
 export const LOG_ROOM: 512;
 /** Each at the index that is its number less 1. */
-export const SPECIES: readonly string[];
+export const SPECIES: readonly SpeciesName[];
 /** Each at the index that is its number less 1. */
-export const MOVES: readonly string[];
+export const MOVES: readonly MoveName[];
 /** Each at the index that is its number. */
-export const TYPES: readonly string[];
+export const TYPES: readonly TypeName[];
 /** Each at the index that is its number. */
 export const STATUSES: readonly Status[];
 /** Each at the index that is its bit. */
@@ -591,3 +764,18 @@ export const REASONS: readonly string[];
 export const OUTCOMES: readonly Outcome[];
 /** Each at the index that is its number. */
 export const REQUESTS: readonly Request[];
+/**
+ * The columns of a row that `BattleArray.observe` returns. Numbers are those of gen1_player (include/gen1.h): a species, move or type has its
+ * number, a stage is from 0 to 12, and a condition or an offered choice is 1 or 0.
+ */
+export const COLUMNS: readonly string[];
+/** Each at the index that is its number less 1. */
+export const EVENT_KINDS: readonly EventKind[];
+/** Each at the index that is its number less 1. */
+export const CANT_REASONS: readonly CantReason[];
+/** Each at the index that is its number. */
+export const DAMAGE_SOURCES: readonly DamageSource[];
+/** Each at the index that is its number less 1. */
+export const VOLATILES: readonly Volatile[];
+/** Each at the index that is its number less 1. */
+export const FAULTS: readonly Fault[];

@@ -5,19 +5,23 @@
 //     const battle = gen1.battle({ one: [member], two: [member], seed });
 //     const { lines } = battle.update("pass", "pass");
 //
-// A battle holds its 384 bytes. Each call copies them to the module's memory and back, so nothing has to be freed. JavaScript contains
-// no rules of battle. README.md lists the files that belong to this module.
-import { byteOf, CHOICES, choiceOf, object, octets, seedBytes, truth, whole, wrongType, byteOr255 } from "./arguments.mjs";
-import { Battle, BATTLE_SIZE, damageError, eventsOf, linesOf, loadError, Update } from "./battle.mjs";
+// The 384 bytes of a battle are in the module's memory. The garbage collector gives them back, or `battle.free()` at once. JavaScript
+// contains no rules of battle.
+import { byteOf, CHOICES, choiceOf, octets, truth, wrongType } from "./arguments.mjs";
+import { arrayOf, BattleArray } from "./array.mjs";
+import { Battle, blockOfTerms, damageError, loadError } from "./battle.mjs";
 import { ModuleError } from "./errors.mjs";
+import { CANT_REASONS, DAMAGE_SOURCES, EVENT_KINDS, eventsOf, FAULTS, linesOf, VOLATILES } from "./events.mjs";
 import { CODES } from "./header.mjs";
 import { Library } from "./memory.mjs";
+import { COLUMNS } from "./observing.mjs";
 import { Player, playerOf, Teller, tellerOf } from "./players.mjs";
 import { Room, roomOf } from "./room.mjs";
 import { Spectator, spectatorOf } from "./spectator.mjs";
-import { bytesOfState } from "./states.mjs";
+import { blockOfState } from "./states.mjs";
 import { MOVES, SPECIES, TYPES } from "./tables.mjs";
-import { baseOf, memberBytes, membersFrom, moveDataOf, moveOf, teamBytes, teamError } from "./teams.mjs";
+import { baseOf, memberBytes, membersFrom, moveDataOf, moveOf, Team, teamError } from "./teams.mjs";
+import { Update } from "./update.mjs";
 import { CONDITIONS, oddsOf, OUTCOMES, REASONS, REQUESTS, STATS, STATUSES } from "./views.mjs";
 
 export const LOG_ROOM = CODES.LOG_ROOM;
@@ -49,40 +53,47 @@ export class Gen1 {
 
   /** Creates a battle of two teams before its first update, in which both sides pass. */
   battle(terms) {
-    const { one, two, seed, rules = 0, limit = 1000 } = object(terms, "terms", "an object with one, two and seed");
-    const library = this.#library;
-    const pieces = [teamBytes(library, one, "one"), teamBytes(library, two, "two"), seedBytes(seed)];
-    const numbers = [byteOr255(rules, "rules"), Math.min(Math.max(whole(limit, "limit"), 0), 65535)];
-    library.begin();
-    const battle = library.room(BATTLE_SIZE);
-    const answer = library.calls.gen1_new(battle, ...pieces.map((piece) => library.put(piece)), ...numbers);
-    if (answer) throw teamError(library, answer, [one, two], { rules, limit });
-    return new Battle(library, library.read(battle, BATTLE_SIZE));
+    return new Battle(this.#library, blockOfTerms(this.#library, terms));
+  }
+
+  /** Creates an array of `count` copies of a battle. */
+  battleArray(terms) {
+    return arrayOf(this.#library, terms);
   }
 
   /** Loads a battle from its 384 bytes, of any of the three versions. */
   load(bytes) {
-    const [code, battle] = this.#loaded(bytes);
-    if (code) throw loadError(this.#library, code, bytes.byteLength);
-    return new Battle(this.#library, this.#library.read(battle, BATTLE_SIZE));
+    const library = this.#library;
+    const block = library.arena.block();
+    const code = this.#loadInto(block, bytes);
+    if (!code) return new Battle(library, block);
+    library.arena.free(block);
+    throw loadError(library, code, bytes.byteLength);
   }
 
   /** The code of the LoadError for bytes, or 0 if they are a battle. Costs less than a `load` that throws. */
   testBytes(bytes) {
-    return this.#loaded(bytes)[0];
+    const block = this.#library.arena.block();
+    const code = this.#loadInto(block, bytes);
+    this.#library.arena.free(block);
+    return code;
   }
 
   /** Creates the battle in a state: an object as `battle.state` is. Active members whose four stats are 0 get theirs from stages and status. */
   battleOfState(state) {
-    return new Battle(this.#library, bytesOfState(this.#library, state));
+    return new Battle(this.#library, blockOfState(this.#library, state));
   }
 
-  #loaded(bytes) {
+  #loadInto(block, bytes) {
     const given = octets(bytes, "bytes");
     const library = this.#library;
     library.begin();
-    const [battle, from] = [library.room(BATTLE_SIZE), library.put(given)];
-    return [library.calls.gen1_load(battle, from, library.size(given.length)), battle];
+    return library.calls.gen1_load(block.pointer, library.put(given), library.size(given.length));
+  }
+
+  /** Tests a team once, for any number of battles. */
+  team(members) {
+    return new Team(this.#library, members);
   }
 
   /** Creates a room with a copy of a battle, which is started at once if it has not begun. */
@@ -194,10 +205,10 @@ export async function load(source) {
 }
 
 export {
-  ArgumentError, ArgumentTypeError, DamageError, Gen1Error, LoadError, LogError, ModuleError, RefusedError, RoomError, StateError, TeamError,
-  TextError,
+  ArgumentError, ArgumentTypeError, DamageError, FreedError, Gen1Error, LoadError, LogError, MemoryError, ModuleError, RefusedError, RoomError,
+  StateError, TeamError, TextError,
 } from "./errors.mjs";
 export {
-  Battle, byteOf, CHOICES, choiceOf, CONDITIONS, MOVES, OUTCOMES, Player, REASONS, REQUESTS, Room, SPECIES, Spectator, STATS, STATUSES, Teller, TYPES,
-  Update,
+  Battle, BattleArray, byteOf, CANT_REASONS, CHOICES, choiceOf, COLUMNS, CONDITIONS, DAMAGE_SOURCES, EVENT_KINDS, FAULTS, MOVES, OUTCOMES, Player, REASONS, REQUESTS, Room,
+  SPECIES, Spectator, STATS, STATUSES, Team, Teller, TYPES, Update, VOLATILES,
 };

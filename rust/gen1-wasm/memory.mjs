@@ -1,38 +1,60 @@
 // The module's memory, and the arguments of a call in it. Pointers and sizes are BigInts in a module with a 64-bit memory.
+import { Arena, BATTLE_SIZE } from "./arena.mjs";
+import { MemoryError, ModuleError } from "./errors.mjs";
 import { CODES } from "./header.mjs";
-import { ModuleError } from "./errors.mjs";
 import { layoutOf, readStruct } from "./structs.mjs";
 
 const DECODER = new TextDecoder();
 const PAGE = 65536;
 // All exports that are used. A module of an older version may lack some.
 const NEEDED = [
-  "memory", "__heap_base", ...["version", "new", "load", "choices", "offered", "update", "update_silent", "result", "next_event", "next_line", "damage", "odds_now",
+  "memory", "__heap_base", ...["version", "new", "load", "offered", "update", "update_silent", "result", "next_event", "next_line", "damage", "odds_now",
     "odds_between", "takes_hit_test", "playout", "team_from_text", "team_from_packed", "species_from_name", "move_from_name", "error_text", "get_state", "set_state", "knock_out",
     "choice_words", "reseed", "room_begin", "room_choices", "room_submit", "spectator_begin", "spectator_feed", "player_begin", "player_feed", "player_show",
-    "get_own_side", "teller_begin", "tell"].map((call) => `gen1_${call}`),
+    "get_own_side", "teller_begin", "tell", "offered_many", "update_many"].map((call) => `gen1_${call}`),
 ];
+
+const aligned = (place) => Math.ceil(place / 8) * 8;
 
 /** The exports of a module, with space for the arguments of one call at a time after the module's own data. */
 export class Library {
-  #begin;
-  #end;
   #memory;
+  #begin;
+  #limit;
+  #end;
 
   /** The functions of include/gen1.h. */
   calls;
   /** Whether the module has a 64-bit memory. */
   isLong;
+  /** The module's memory, as bytes. Another view replaces it when the memory grows. */
+  bytes;
+  /** The places of battles. */
+  arena;
+  /** Space for the log of an update, its length, what of it is told, what a side is shown, and a seed: pointers, and the same as offsets. */
+  log;
+  logAt;
+  length;
+  told;
+  own;
+  seed;
+  seedAt;
 
   constructor(instance) {
     const { memory, __heap_base: base } = instance.exports;
     const lacking = NEEDED.filter((name) => instance.exports[name] === undefined);
     if (lacking.length) throw new ModuleError(`the module is not the C library's: it exports no ${lacking.join(", ")}`);
     this.calls = instance.exports;
-    this.#memory = memory;
-    this.#begin = Number(base.value);
-    this.#end = this.#begin;
     this.isLong = typeof base.value === "bigint";
+    this.#memory = memory;
+    this.bytes = new Uint8Array(memory.buffer);
+    this.arena = new Arena(this);
+    this.#end = this.#begin = Number(base.value);
+    this.#limit = this.bytes.length;
+    [this.log, this.length, this.told, this.seed] = [CODES.LOG_ROOM, 8, CODES.LOG_ROOM, 10].map((count) => this.room(count));
+    this.own = this.roomOf("gen1_own_side");
+    [this.logAt, this.seedAt] = [Number(this.log), Number(this.seed)];
+    this.#begin = this.#end;
   }
 
   /** Begins a call: frees the space of the previous one. */
@@ -40,14 +62,32 @@ export class Library {
     this.#end = this.#begin;
   }
 
-  /** A pointer to `count` zero bytes, aligned for any struct. */
+  /** A pointer to `count` zero bytes, aligned for any struct, until the next call begins. */
   room(count) {
-    const place = (this.#end + 7) & ~7;
+    if (aligned(this.#end) + count > this.#limit) this.#widen(count);
+    const place = aligned(this.#end);
     this.#end = place + count;
-    const short = this.#end - this.#memory.buffer.byteLength;
-    if (short > 0) this.#grow(Math.ceil(short / PAGE));
-    new Uint8Array(this.#memory.buffer, place, count).fill(0);
+    this.bytes.fill(0, place, this.#end);
     return this.size(place);
+  }
+
+  // Goes on in a new space, at least twice as long as the old one.
+  #widen(count) {
+    const pages = Math.ceil(Math.max(2 * (this.#limit - this.#begin), count + PAGE) / PAGE);
+    this.#end = this.#begin = this.grow(pages);
+    this.#limit = this.#begin + pages * PAGE;
+  }
+
+  /** Adds pages of 65,536 bytes to the memory, and returns the offset of the first. */
+  grow(pages) {
+    const place = this.bytes.length;
+    try {
+      this.#grow(pages);
+    } catch (cause) {
+      throw Object.assign(new MemoryError(`the module's memory of ${place} bytes cannot grow by ${pages * PAGE}: free battles that are no longer used`), { cause });
+    }
+    this.bytes = new Uint8Array(this.#memory.buffer);
+    return place;
   }
 
   // For a 64-bit memory some hosts take the number of pages as a BigInt; others, such as Node 20, take a number.
@@ -69,7 +109,7 @@ export class Library {
 
   /** Writes bytes to a pointer. */
   write(pointer, bytes) {
-    new Uint8Array(this.#memory.buffer).set(bytes, Number(pointer));
+    this.bytes.set(bytes, Number(pointer));
   }
 
   /** A pointer to space for a struct of gen1.h. */
@@ -84,17 +124,25 @@ export class Library {
 
   /** The size_t at a pointer. */
   sizeAt(pointer) {
-    return new DataView(this.#memory.buffer).getUint32(Number(pointer), true);
+    const [place, bytes] = [Number(pointer), this.bytes];
+    return (bytes[place] | (bytes[place + 1] << 8) | (bytes[place + 2] << 16) | (bytes[place + 3] << 24)) >>> 0;
   }
 
   /** A copy of the bytes at a pointer. */
   read(pointer, count) {
-    return new Uint8Array(this.#memory.buffer).slice(Number(pointer), Number(pointer) + count);
+    return this.bytes.slice(Number(pointer), Number(pointer) + count);
+  }
+
+  /** A copy of the battle at a pointer in a block of its own. */
+  blockOf(pointer) {
+    const block = this.arena.block();
+    this.bytes.copyWithin(block.place, Number(pointer), Number(pointer) + BATTLE_SIZE);
+    return block;
   }
 
   /** The ASCII text at a pointer. */
   textAt(pointer, count) {
-    return DECODER.decode(new Uint8Array(this.#memory.buffer, Number(pointer), count));
+    return DECODER.decode(this.bytes.subarray(Number(pointer), Number(pointer) + count));
   }
 
   /** The struct of gen1.h at a pointer, as an object with its fields. */

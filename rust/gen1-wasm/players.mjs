@@ -1,21 +1,24 @@
 // What one side of a battle may know, and what it is told (docs/MECHANICS.md, "Player's view").
+import { choicesIn, octets, record, sideOf, truth, within, wrongType } from "./arguments.mjs";
+import { Battle } from "./battle.mjs";
 import { ArgumentError } from "./errors.mjs";
-import { CHOICES, object, octets, sideOf, truth, within, wrongType } from "./arguments.mjs";
-import { Battle, logErrorAfter, made } from "./battle.mjs";
+import { inspected } from "./inspecting.mjs";
+import { logErrorAfter } from "./events.mjs";
+import { made } from "./update.mjs";
 import { CODES } from "./header.mjs";
 import { fieldOf, layoutOf, readStruct } from "./structs.mjs";
-import { teamBytes, teamError } from "./teams.mjs";
+import { teamAt, teamError, teamGiven } from "./teams.mjs";
 import { viewOf } from "./views.mjs";
 
 const MOST_FOES = 6;
 
 /** The bytes of a player before a battle. */
 export function playerOf(library, terms) {
-  const { side, team, foes = 0 } = object(terms, "terms", "an object with side and team");
-  const [own, given, number] = [sideOf(side), teamBytes(library, team, "team"), within(foes, "foes", 0, MOST_FOES)];
+  const { side, team, foes = 0 } = record(terms, "terms", "an object with side and team", ["side", "team", "foes"]);
+  const [own, given, number] = [sideOf(side), teamGiven(library, team, "team"), within(foes, "foes", 0, MOST_FOES)];
   library.begin();
   const player = library.roomOf("gen1_player");
-  const answer = library.calls.gen1_player_begin(player, own, library.put(given), number);
+  const answer = library.calls.gen1_player_begin(player, own, teamAt(library, given), number);
   // The answer names a member, and no side.
   if (answer) throw teamError(library, answer + own * 65536, [team, team], {}, (_, place) => (place ? `team: member ${place}: ` : "team: "));
   return library.read(player, layoutOf("gen1_player", library.isLong).size);
@@ -23,7 +26,7 @@ export function playerOf(library, terms) {
 
 /** The bytes of a teller before a battle. */
 export function tellerOf(library, terms) {
-  const { side, pixels = false } = object(terms, "terms", "an object with side");
+  const { side, pixels = false } = record(terms, "terms", "an object with side", ["side", "pixels"]);
   const [own, isInPixels] = [sideOf(side), truth(pixels, "pixels")];
   library.begin();
   const teller = library.roomOf("gen1_teller");
@@ -31,14 +34,29 @@ export function tellerOf(library, terms) {
   return library.read(teller, layoutOf("gen1_teller", library.isLong).size);
 }
 
+/** The library of a player. */
+export let libraryOf;
+
 /** A player: one side with what it may know, and nothing else of the battle. */
 export class Player {
   #library;
   #bytes;
 
+  static {
+    libraryOf = (player) => {
+      if (!(player instanceof Player)) throw wrongType(player, "player", "a Player");
+      return player.#library;
+    };
+  }
+
   constructor(library, bytes) {
     this.#library = made(library, "Player", "gen1.player");
     this.#bytes = bytes;
+  }
+
+  /** A copy of the bytes of its gen1_player (include/gen1.h). */
+  get bytes() {
+    return this.#bytes.slice();
   }
 
   #field(name) {
@@ -52,13 +70,13 @@ export class Player {
 
   /** What it knows, decoded when it is read. */
   get view() {
-    return viewOf(readStruct("gen1_player", new DataView(this.#bytes.buffer), 0, this.#library.isLong));
+    return viewOf(this.#bytes, readStruct("gen1_player", new DataView(this.#bytes.buffer), 0, this.#library.isLong));
   }
 
   /** Its choices when it was last shown its side; none before, and once the battle is over. */
   get choices() {
     const offered = this.#field("offered");
-    return CHOICES.filter((_, bit) => (offered >> bit) & 1);
+    return choicesIn(offered);
   }
 
   /** An independent copy that knows the same. */
@@ -87,6 +105,15 @@ export class Player {
     library.calls.gen1_player_show(player, own, library.calls.gen1_offered(from, side));
     this.#bytes = library.read(player, this.#bytes.length);
   }
+
+  /** What it knows, and its choices. */
+  toJSON() {
+    return { view: this.view, choices: this.choices };
+  }
+
+  [Symbol.for("nodejs.util.inspect.custom")](depth, options, inspect) {
+    return inspected("Player", this.toJSON(), options, inspect);
+  }
 }
 
 /** A teller: what the host of a battle keeps to tell one side of the events. */
@@ -97,6 +124,11 @@ export class Teller {
   constructor(library, bytes) {
     this.#library = made(library, "Teller", "gen1.teller");
     this.#bytes = bytes;
+  }
+
+  /** A copy of the bytes of its gen1_teller (include/gen1.h). */
+  get bytes() {
+    return this.#bytes.slice();
   }
 
   /** The side that it tells. */

@@ -1,10 +1,15 @@
 // A battle of two players who choose independently (docs/MECHANICS.md, "Rooms").
-import { choiceByte, sideOf, within, wrongType } from "./arguments.mjs";
-import { Battle, BATTLE_SIZE, made, notOffered, offeredBy, Update } from "./battle.mjs";
+import { choiceByte, choiceOf, sideOf, within, wrongType } from "./arguments.mjs";
+import { BATTLE_SIZE } from "./arena.mjs";
+import { Battle, notOffered } from "./battle.mjs";
 import { RoomError } from "./errors.mjs";
 import { CODES } from "./header.mjs";
+import { inspected } from "./inspecting.mjs";
 import { fieldOf, layoutOf } from "./structs.mjs";
+import { made, Update } from "./update.mjs";
+import { resultOf } from "./views.mjs";
 
+const MOST_CHOICES = 9;
 const MOST_NUMBER = 2 ** 32 - 1;
 
 /** The bytes of a room of a battle, which is started at once if it has not begun. */
@@ -33,12 +38,17 @@ export class Room {
 
   /** A copy of the battle. It includes what the players must not know. */
   get battle() {
-    return new Battle(this.#library, this.#bytes.slice(0, BATTLE_SIZE));
+    return new Battle(this.#library, this.#library.blockOf(this.#put()));
   }
 
   /** The outcome so far, and what is asked of each side. */
   get result() {
-    return this.battle.result;
+    return resultOf(this.#result);
+  }
+
+  // The number of the result. A room begins with its battle.
+  get #result() {
+    return this.#library.calls.gen1_result(this.#put());
   }
 
   /** The number of the current pair of choices, which is how many pairs have ended. */
@@ -63,7 +73,9 @@ export class Room {
 
   /** The choices that a side may submit for the current pair; none if it has chosen, or the battle is over. */
   choices(side) {
-    return offeredBy(this.#library, "gen1_room_choices", this.#put(), sideOf(side));
+    const [room, choices] = [this.#put(), this.#library.room(MOST_CHOICES)];
+    const count = this.#library.calls.gen1_room_choices(room, sideOf(side), choices);
+    return Array.from(this.#library.read(choices, count), choiceOf);
   }
 
   /** Submits a side's choice for the pair with this number. Returns the update, or null while the foe's choice is awaited. */
@@ -73,7 +85,8 @@ export class Room {
     const code = this.#library.calls.gen1_room_submit(room, ...asked);
     if (code) throw this.#refused(code, ...asked);
     this.#bytes = this.#library.read(room, this.#bytes.length);
-    return this.number === before ? null : new Update(this.#library, this.result, this.log);
+    const { log } = this;
+    return this.number === before ? null : new Update(this.#library, this.#result, log, 0, log.length);
   }
 
   #refused(code, side, number, choice) {
@@ -85,5 +98,14 @@ export class Room {
       [CODES.ERROR_NOT_OFFERED]: () => `side ${side}: ${notOffered(sentence, choice, offered)}`,
     }[code]();
     return new RoomError(said, code, { side, choice, offered, number, current, reason: sentence });
+  }
+
+  /** The number, the result, and the log of the last pair as an array of bytes. The battle, which the players must not see, is not in it. */
+  toJSON() {
+    return { number: this.number, result: this.result, log: Array.from(this.log) };
+  }
+
+  [Symbol.for("nodejs.util.inspect.custom")](depth, options, inspect) {
+    return inspected("Room", { number: this.number, ...this.result }, options, inspect);
   }
 }

@@ -1,16 +1,18 @@
 // What a spectator knows of a battle from both teams and the log alone (docs/MECHANICS.md, "Spectator's view").
 import { octets } from "./arguments.mjs";
-import { logErrorAfter, made } from "./battle.mjs";
+import { logErrorAfter } from "./events.mjs";
+import { inspected } from "./inspecting.mjs";
+import { made } from "./update.mjs";
 import { fieldOf, layoutOf, readStruct } from "./structs.mjs";
-import { teamBytes, teamError } from "./teams.mjs";
+import { teamAt, teamError, teamGiven } from "./teams.mjs";
 import { shownOf } from "./views.mjs";
 
 /** The bytes of a spectator before a battle of two teams. */
 export function spectatorOf(library, one, two) {
-  const teams = [teamBytes(library, one, "one"), teamBytes(library, two, "two")];
+  const teams = [teamGiven(library, one, "one"), teamGiven(library, two, "two")];
   library.begin();
   const spectator = library.roomOf("gen1_spectator");
-  const answer = library.calls.gen1_spectator_begin(spectator, ...teams.map((team) => library.put(team)));
+  const answer = library.calls.gen1_spectator_begin(spectator, ...teams.map((team) => teamAt(library, team)));
   if (answer) throw teamError(library, answer, [one, two]);
   return library.read(spectator, layoutOf("gen1_spectator", library.isLong).size);
 }
@@ -53,5 +55,14 @@ export class Spectator {
     const code = library.calls.gen1_spectator_feed(spectator, library.put(given), library.size(given.length));
     if (code) throw logErrorAfter(library, code, this.held, given);
     this.#bytes = library.read(spectator, this.#bytes.length);
+  }
+
+  /** What is known. */
+  toJSON() {
+    return this.state;
+  }
+
+  [Symbol.for("nodejs.util.inspect.custom")](depth, options, inspect) {
+    return inspected("Spectator", this.state, options, inspect);
   }
 }

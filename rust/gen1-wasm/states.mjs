@@ -1,16 +1,17 @@
 // Battles from states that were written or changed: an object as `battle.state` returns it becomes a gen1_state, which the library tests.
-import { byteOr255, list, numbers, object, shown, text, truth, whole, within } from "./arguments.mjs";
+import { byteOr255, list, numbers, record, shown, text, truth, whole, within } from "./arguments.mjs";
 import { ArgumentError, StateError } from "./errors.mjs";
 import { CODES } from "./header.mjs";
 import { MOVES, SPECIES, TYPES } from "./tables.mjs";
 import { bytesOf, moveOf, speciesOf } from "./teams.mjs";
 import { CONDITIONS, OUTCOMES, REQUESTS, STATUSES } from "./views.mjs";
 
-const BATTLE_SIZE = 384;
 const MOST_MEMBERS = 6;
 const MOST_MOVES = 4;
 const MOST_WORD = 65535;
 const MIDDLE = 6;
+const MEMBER_KEYS = ["species", "level", "status", "sleep", "marked", "moves", "pp", "hp", "maxHp", "stats"];
+const STATE_KEYS = ["one", "two", "turn", "limit", "lastDamage", "rules", "outcome", "requests", "index", "numbers"];
 
 // A number as a word; the greatest, which the library refuses, if it is out of range.
 const wordOrMost = (value, what) => (whole(value, what) >= 0 && value <= MOST_WORD ? value : MOST_WORD);
@@ -40,7 +41,7 @@ function slotsOf(library, it, what) {
 }
 
 function memberForm(library, given, what) {
-  const it = object(given, what, "the state of a member");
+  const it = record(given, what, "the state of a member", MEMBER_KEYS);
   return {
     species: speciesOf(library, it.species, `${what}.species`), level: byteOr255(it.level, `${what}.level`),
     status: indexOf(STATUSES, it.status, `${what}.status`), sleep: byteOr255(it.sleep, `${what}.sleep`),
@@ -50,11 +51,12 @@ function memberForm(library, given, what) {
 }
 
 const COUNTS = ["place", "currentMove", "pickedMove", "substitute", "confusion", "disabledSlot", "disabledTurns", "badPoison", "turns"];
+const ACTIVE_KEYS = [...COUNTS, "types", "stats", "stages", "conditions", "keptAccuracy", "energy"];
 
 // The active member; of none every field is 0, as in new memory.
 function activeForm(given, what) {
   if (given === null) return {};
-  const it = object(given, what, "the state of the active member, or null");
+  const it = record(given, what, "the state of the active member, or null", ACTIVE_KEYS);
   return {
     ...Object.fromEntries(COUNTS.map((key) => [key, byteOr255(it[key], `${what}.${key}`)])),
     keptAccuracy: within(it.keptAccuracy, `${what}.keptAccuracy`, 0, 255), energy: within(it.energy, `${what}.energy`, 0, MOST_WORD),
@@ -65,7 +67,7 @@ function activeForm(given, what) {
 }
 
 function sideForm(library, given, what) {
-  const it = object(given, what, "the state of a side");
+  const it = record(given, what, "the state of a side", ["members", "active"]);
   const { length } = list(it.members, `${what}.members`);
   if (length < 1 || length > MOST_MEMBERS)
     throw new ArgumentError(`${what}.members has ${length} members, not 1 to ${MOST_MEMBERS}`, `${what}.members`);
@@ -74,7 +76,7 @@ function sideForm(library, given, what) {
 }
 
 function stateForm(library, given) {
-  const it = object(given, "state", "a state: an object as battle.state is");
+  const it = record(given, "state", "a state: an object as battle.state is", STATE_KEYS);
   return {
     sides: [sideForm(library, it.one, "state.one"), sideForm(library, it.two, "state.two")],
     turn: wordOrMost(it.turn, "state.turn"), limit: wordOrMost(it.limit, "state.limit"),
@@ -141,13 +143,14 @@ function stateError(found, state) {
   return new StateError(faultWords(of, path, lawful), CODES.ERROR_STATE, { ...of, field: path, ...lawful });
 }
 
-/** The 384 bytes of the battle in a state. */
-export function bytesOfState(library, state) {
+/** A block with the battle in a state. */
+export function blockOfState(library, state) {
   const bytes = bytesOf("gen1_state", library.isLong, stateForm(library, state));
   library.begin();
-  const [battle, from, fault] = [library.room(BATTLE_SIZE), library.put(bytes), library.roomOf("gen1_state_fault")];
-  if (library.calls.gen1_set_state(battle, from, fault)) throw stateError(library.readStruct("gen1_state_fault", fault), state);
-  return library.read(battle, BATTLE_SIZE);
+  const [block, from, fault] = [library.arena.block(), library.put(bytes), library.roomOf("gen1_state_fault")];
+  if (!library.calls.gen1_set_state(block.pointer, from, fault)) return block;
+  library.arena.free(block);
+  throw stateError(library.readStruct("gen1_state_fault", fault), state);
 }
 
 /** The place of the member of a state's side; refuses one that is not there. */

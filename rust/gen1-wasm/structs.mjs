@@ -35,6 +35,12 @@ export function layoutOf(name, isLong) {
   return known.get(name);
 }
 
+/** The offsets of the fields of a struct without a size_t, by their keys, and its size. */
+export function offsetsOf(name) {
+  const { size, fields } = layoutOf(name, false);
+  return { size, ...Object.fromEntries(fields.map(({ key, at }) => [key, at])) };
+}
+
 // A value of a field. No number of 8 bytes is above 2 ** 53 here.
 function read(field, view, at, isLong) {
   return field.struct ? readStruct(field.struct, view, at, isLong) : Number(view[`get${field.kind}`](at, true));

@@ -1,12 +1,15 @@
 // Teams in the library's form, from objects and from a team builder's text, and the errors for them.
 import { ArgumentError, TeamError, TextError } from "./errors.mjs";
-import { byteOr255, list, numbers, object, shown, text, within, wrongType } from "./arguments.mjs";
+import { byteOr255, list, nearest, numbers, record, shown, text, within, wrongType } from "./arguments.mjs";
 import { CODES, TEXT_FAULTS } from "./header.mjs";
+import { inspected } from "./inspecting.mjs";
 import { layoutOf, writeStruct } from "./structs.mjs";
 import { MOVE_ROWS, MOVES, SPECIES, SPECIES_ROWS, TYPES } from "./tables.mjs";
+import { made } from "./update.mjs";
 
 const MOST_MEMBERS = 6;
 const MOST_MOVES = 4;
+const MEMBER_KEYS = ["species", "level", "dvs", "exp", "moves"];
 const FULL_DVS = Object.freeze([15, 15, 15, 15]);
 const FULL_EXP = Object.freeze([65535, 65535, 65535, 65535, 65535]);
 const SPECIES_KIND = { names: SPECIES, rows: SPECIES_ROWS, find: "gen1_species_from_name" };
@@ -26,7 +29,8 @@ function numberOf(library, value, kind, what) {
   library.begin();
   const name = new TextEncoder().encode(value);
   const near = library.calls[kind.find](library.put(name), library.size(name.length));
-  const meant = near ? `; did you mean ${shown(kind.names[near - 1])}?` : "";
+  const meantName = near ? kind.names[near - 1] : nearest(value, kind.names, Math.floor(value.length / 3));
+  const meant = meantName ? `; did you mean ${shown(meantName)}?` : "";
   throw new ArgumentError(`${what} is ${shown(value)}, which is not in docs/TABLES.md${meant}`, what);
 }
 
@@ -66,7 +70,7 @@ function pairOf(library, value, what) {
 }
 
 function memberOf(library, given, what) {
-  const it = object(given, what, "a member: an object with species and moves");
+  const it = record(given, what, "a member: an object with species and moves", MEMBER_KEYS);
   const moves = list(it.moves, `${what}.moves`, "a list of pairs: a move, and its PP ups from 0 to 3");
   const most = `not at most ${MOST_MOVES}`;
   if (moves.length > MOST_MOVES) throw new ArgumentError(`${what}.moves has ${moves.length} moves, ${most}`, `${what}.moves`);
@@ -93,11 +97,71 @@ export function memberBytes(library, given, what) {
   return bytesOf("gen1_member", library.isLong, memberOf(library, given, what));
 }
 
-/** A team's bytes. `what` names the argument. With too many members only the count is passed, which the library refuses. */
-export function teamBytes(library, given, what) {
+// A team's bytes. With too many members only the count is passed, which the library refuses.
+function teamBytes(library, given, what) {
   const { length } = list(given, what, "a list of 1 to 6 members");
   const members = length > MOST_MEMBERS ? [] : Array.from(given, (it, place) => memberOf(library, it, `${what}[${place}]`));
   return bytesOf("gen1_team", library.isLong, { members, count: Math.min(length, 255) });
+}
+
+/** A team that was tested once, for any number of battles. It doesn't change. */
+export class Team {
+  #library;
+  #block;
+
+  constructor(library, members, what = "members") {
+    this.#library = made(library, "Team", "gen1.team");
+    const bytes = teamBytes(library, members, what);
+    library.begin();
+    const [spectator, team] = [library.roomOf("gen1_spectator"), library.put(bytes)];
+    const answer = library.calls.gen1_spectator_begin(spectator, team, team);
+    if (answer) throw teamError(library, answer & 0xffff, [members], {}, (_, place) => (place ? `member ${place}: ` : ""));
+    this.#block = library.blockOf(team);
+  }
+
+  get #team() {
+    return this.#library.readStruct("gen1_team", this.#block.pointer);
+  }
+
+  /** The number of members. */
+  get length() {
+    return this.#team.count;
+  }
+
+  /** The members, with all their fields. */
+  get members() {
+    const { members, count } = this.#team;
+    return members.slice(0, count).map(memberFrom);
+  }
+
+  [Symbol.iterator]() {
+    return this.members[Symbol.iterator]();
+  }
+
+  /** The members. */
+  toJSON() {
+    return this.members;
+  }
+
+  [Symbol.for("nodejs.util.inspect.custom")](depth, options, inspect) {
+    return inspected("Team", this.members, options, inspect);
+  }
+
+  /** Its pointer in the memory of a library; null if it is another library's. */
+  static pointer(team, library) {
+    return team.#library === library ? team.#block.pointer : null;
+  }
+}
+
+/** A team as an argument: a Team of this library, or the bytes of one. `what` names the argument. */
+export function teamGiven(library, given, what) {
+  if (!(given instanceof Team)) return teamBytes(library, given, what);
+  return Team.pointer(given, library) === null ? teamBytes(library, given.members, what) : given;
+}
+
+/** A pointer to a team that `teamGiven` returned. */
+export function teamAt(library, team) {
+  return team instanceof Team ? Team.pointer(team, library) : library.put(team);
 }
 
 const ofTeams = (side, place) => (side ? `team ${side}: ` : "") + (place ? `member ${place}: ` : "");
@@ -105,8 +169,8 @@ const ofTeams = (side, place) => (side ? `team ${side}: ` : "") + (place ? `memb
 /** Why gen1_new refuses teams and terms, by the number that it returns; `where` names the member. */
 export function teamError(library, answer, teams, terms = {}, where = ofTeams) {
   const [code, place, side] = [answer & 255, (answer >> 8) & 255, answer >> 16];
-  const [field, team] = [FIELDS[code] ?? "moves", teams[side - 1]];
-  const was = field === "members" ? `there are ${team.length}` : `${field} is ${shown(place ? team[place - 1][field] : terms[field])}`;
+  const [field, team] = [FIELDS[code] ?? "moves", teams[Math.max(side, 1) - 1]];
+  const was = field === "members" ? `there are ${team.length}` : `${field} is ${shown(place ? Array.from(team)[place - 1][field] : terms[field])}`;
   const reason = library.sentence(code);
   return new TeamError(`${where(side, place)}${reason}: ${was}`, code, { side, place, field, reason });
 }

@@ -4,79 +4,83 @@ import * as library from "./gen1.mjs";
 import { equal, holds, thrown } from "./holding.mjs";
 
 /** @typedef {import("./gen1.mjs").Gen1} Gen1 */
-const { Battle, CHOICES, CONDITIONS, OUTCOMES, Player, REQUESTS, Room, Spectator, STATS, STATUSES, Teller, Update } = library;
+/** @template T @typedef {Exclude<keyof T, symbol>} Named the keys that are texts */
+const { Battle, BattleArray, CANT_REASONS, CHOICES, CONDITIONS, OUTCOMES, Player, REQUESTS, Room, Spectator, STATS, STATUSES, Team, Teller, Update } = library;
 
 /** @type {Record<Exclude<keyof typeof library, "default">, true>} */
 const EXPORTS = {
-  ArgumentError: true, ArgumentTypeError: true, Battle: true, byteOf: true, CHOICES: true, choiceOf: true, CONDITIONS: true, DamageError: true,
-  Gen1: true, Gen1Error: true, HAS_LONG_MEMORIES: true, load: true, LOG_ROOM: true, LoadError: true, LogError: true, ModuleError: true, MOVES: true,
-  OUTCOMES: true, Player: true, REASONS: true, RefusedError: true, REQUESTS: true, Room: true, RoomError: true, SPECIES: true, Spectator: true,
-  StateError: true, STATS: true, STATUSES: true, TeamError: true, Teller: true, TextError: true, TYPES: true, Update: true,
+  ArgumentError: true, ArgumentTypeError: true, Battle: true, BattleArray: true, byteOf: true, CANT_REASONS: true, CHOICES: true, choiceOf: true,
+  COLUMNS: true, CONDITIONS: true, DAMAGE_SOURCES: true, DamageError: true, EVENT_KINDS: true, FAULTS: true, FreedError: true, Gen1: true, Gen1Error: true, HAS_LONG_MEMORIES: true,
+  load: true, LOG_ROOM: true, LoadError: true, LogError: true, MemoryError: true, ModuleError: true, MOVES: true, OUTCOMES: true, Player: true,
+  REASONS: true, RefusedError: true, REQUESTS: true, Room: true, RoomError: true, SPECIES: true, Spectator: true, StateError: true, STATS: true,
+  STATUSES: true, Team: true, TeamError: true, Teller: true, TextError: true, TYPES: true, Update: true, VOLATILES: true,
 };
 /** @type {Record<keyof Gen1, true>} */
 const OF_GEN1 = {
-  is64: true, build: true, version: true, battle: true, load: true, testBytes: true, battleOfState: true, room: true, spectator: true, player: true,
+  is64: true, build: true, version: true, battle: true, team: true, battleArray: true, load: true, testBytes: true, battleOfState: true, room: true, spectator: true, player: true,
   teller: true, teamFromText: true, teamFromPacked: true, odds: true, damage: true, base: true, moveData: true, events: true, lines: true,
 };
-/** @type {Record<keyof import("./gen1.mjs").Battle, true>} */
+/** @type {Record<Named<import("./gen1.mjs").Battle>, true>} */
 const OF_BATTLE = {
-  bytes: true, result: true, isOver: true, state: true, clone: true, choices: true, offeredMask: true, words: true, update: true, updateSilent: true,
+  bytes: true, result: true, isOver: true, state: true, clone: true, copyFrom: true, free: true, toJSON: true, choices: true, offeredMask: true, words: true, update: true, updateSilent: true,
   reseed: true, playout: true, odds: true, damage: true, knockOut: true, ownSide: true, withState: true, withHp: true, withStatus: true, withStage: true,
 };
-/** @type {Record<keyof import("./gen1.mjs").Room, true>} */
-const OF_ROOM = { battle: true, result: true, number: true, log: true, clone: true, choices: true, submit: true };
-/** @type {Record<keyof import("./gen1.mjs").Spectator, true>} */
-const OF_SPECTATOR = { state: true, held: true, clone: true, feed: true };
-/** @type {Record<keyof import("./gen1.mjs").Player, true>} */
-const OF_PLAYER = { side: true, view: true, choices: true, clone: true, feed: true, show: true };
-/** @type {Record<keyof import("./gen1.mjs").Teller, true>} */
-const OF_TELLER = { side: true, clone: true, tell: true, report: true };
-/** @type {Record<keyof import("./gen1.mjs").PlayerView, true>} */
+/** @type {Record<Named<import("./gen1.mjs").Room>, true>} */
+const OF_ROOM = { battle: true, result: true, number: true, log: true, clone: true, choices: true, submit: true, toJSON: true };
+/** @type {Record<Named<import("./gen1.mjs").Spectator>, true>} */
+const OF_SPECTATOR = { state: true, held: true, clone: true, feed: true, toJSON: true };
+/** @type {Record<Named<import("./gen1.mjs").Player>, true>} */
+const OF_PLAYER = { side: true, bytes: true, view: true, choices: true, clone: true, feed: true, show: true, toJSON: true };
+/** @type {Record<Named<import("./gen1.mjs").Team>, true>} */
+const OF_TEAM = { length: true, members: true, toJSON: true };
+/** @type {Record<Named<import("./gen1.mjs").Teller>, true>} */
+const OF_TELLER = { side: true, bytes: true, clone: true, tell: true, report: true };
+/** @type {Record<Named<import("./gen1.mjs").BattleArray>, true>} */
+const OF_ARRAY = {
+  length: true, results: true, codes: true, bytes: true, at: true, masks: true, step: true, randomStep: true, observe: true, player: true,
+  playouts: true, reseed: true, reset: true, take: true, free: true,
+};
+/** @type {Record<Named<import("./gen1.mjs").PlayerView>, true>} */
 const OF_VIEW = { side: true, turn: true, outcome: true, own: true, ownPublic: true, foe: true, foes: true };
-/** @type {Record<keyof import("./gen1.mjs").OwnSide, true>} */
+/** @type {Record<Named<import("./gen1.mjs").OwnSide>, true>} */
 const OF_OWN_SIDE = { members: true, active: true, turn: true, request: true, outcome: true };
-/** @type {Record<keyof import("./gen1.mjs").OwnMember, true>} */
+/** @type {Record<Named<import("./gen1.mjs").OwnMember>, true>} */
 const OF_OWN_MEMBER = { species: true, level: true, status: true, moves: true, pp: true, hp: true, maxHp: true, stats: true };
-/** @type {Record<keyof import("./gen1.mjs").OwnActive, true>} */
+/** @type {Record<Named<import("./gen1.mjs").OwnActive>, true>} */
 const OF_OWN_ACTIVE = { place: true, types: true, stats: true, stages: true, conditions: true, disabledSlot: true, held: true };
-/** @type {Record<keyof import("./gen1.mjs").SeenMember, true>} */
+/** @type {Record<Named<import("./gen1.mjs").SeenMember>, true>} */
 const OF_SEEN = { species: true, level: true, status: true, hp: true, maxHp: true, moves: true };
-/** @type {Record<keyof import("./gen1.mjs").SeenActive, true>} */
+/** @type {Record<Named<import("./gen1.mjs").SeenActive>, true>} */
 const OF_SEEN_ACTIVE = { place: true, types: true, stages: true, lastMove: true, announced: true };
-/** @type {Record<keyof import("./gen1.mjs").KnockOut, true>} */
+/** @type {Record<Named<import("./gen1.mjs").KnockOut>, true>} */
 const OF_KNOCK_OUT = { once: true, onceOf: true, twice: true, twiceOf: true, breaksSubstitute: true, chanceOnce: true, chanceTwice: true };
-/** @type {Record<keyof import("./gen1.mjs").Update, true>} */
-const OF_UPDATE = { result: true, log: true, events: true, lines: true };
-/** @type {Record<keyof import("./gen1.mjs").State, true>} */
+/** @type {Record<Named<import("./gen1.mjs").Update>, true>} */
+const OF_UPDATE = { result: true, log: true, events: true, lines: true, toJSON: true };
+/** @type {Record<Named<import("./gen1.mjs").State>, true>} */
 const OF_STATE = { one: true, two: true, turn: true, limit: true, lastDamage: true, rules: true, outcome: true, requests: true, index: true, numbers: true };
-/** @type {Record<keyof import("./gen1.mjs").MemberState, true>} */
+/** @type {Record<Named<import("./gen1.mjs").MemberState>, true>} */
 const OF_MEMBER = { species: true, level: true, status: true, sleep: true, marked: true, moves: true, pp: true, hp: true, maxHp: true, stats: true };
-/** @type {Record<keyof import("./gen1.mjs").ActiveState, true>} */
+/** @type {Record<Named<import("./gen1.mjs").ActiveState>, true>} */
 const OF_ACTIVE = {
   place: true, types: true, stats: true, stages: true, conditions: true, currentMove: true, pickedMove: true, keptAccuracy: true, substitute: true,
   confusion: true, disabledSlot: true, disabledTurns: true, badPoison: true, turns: true, energy: true,
 };
-/** @type {Record<keyof import("./gen1.mjs").ShownState, true>} */
+/** @type {Record<Named<import("./gen1.mjs").ShownState>, true>} */
 const OF_SHOWN = { one: true, two: true, turn: true, outcome: true };
-/** @type {Record<keyof import("./gen1.mjs").ShownSide, true>} */
+/** @type {Record<Named<import("./gen1.mjs").ShownSide>, true>} */
 const OF_SHOWN_SIDE = { members: true, place: true, stages: true, substitute: true, confused: true, lightScreen: true, reflect: true };
-/** @type {Record<keyof import("./gen1.mjs").Odds, true>} */
+/** @type {Record<Named<import("./gen1.mjs").Odds>, true>} */
 const OF_ODDS = {
   usual: true, critical: true, criticalChance: true, hitChance: true, reason: true, fixed: true, hits: true, chargesFirst: true, takesHitTest: true,
 };
-/** @type {Record<keyof import("./gen1.mjs").Base, true>} */
+/** @type {Record<Named<import("./gen1.mjs").Base>, true>} */
 const OF_BASE = { hp: true, attack: true, defense: true, speed: true, special: true, types: true };
-/** @type {Record<keyof import("./gen1.mjs").MoveData, true>} */
+/** @type {Record<Named<import("./gen1.mjs").MoveData>, true>} */
 const OF_MOVE_DATA = { type: true, power: true, accuracy: true, pp: true, effect: true };
-/** @type {Record<keyof import("./gen1.mjs").Playouts, true>} */
+/** @type {Record<Named<import("./gen1.mjs").Playouts>, true>} */
 const OF_PLAYOUTS = { winsOne: true, winsTwo: true, ties: true, faults: true };
-/** @type {Record<keyof import("./gen1.mjs").WholeMember, true>} */
+/** @type {Record<Named<import("./gen1.mjs").WholeMember>, true>} */
 const OF_WHOLE_MEMBER = { species: true, level: true, dvs: true, exp: true, moves: true };
-/** @type {Record<keyof import("./gen1.mjs").GameEvent, true>} */
-const OF_EVENT = {
-  tag: true, side: true, species: true, move: true, targetSide: true, targetSpecies: true, place: true, level: true, status: true, detail: true,
-  amount: true, hp: true, maxHp: true, turn: true, size: true,
-};
 // The names in docs/MECHANICS.md and docs/LAYOUT.md, in the order of their numbers and bits.
 /** @type {Record<import("./gen1.mjs").Condition, true>} */
 const ALL_CONDITIONS = {
@@ -91,6 +95,25 @@ const ALL_STATS = { attack: true, defense: true, speed: true, special: true, acc
 const ALL_OUTCOMES = { ongoing: true, "win one": true, "win two": true, tie: true, "fault 1": true, "fault 2": true };
 /** @type {Record<import("./gen1.mjs").Request, true>} */
 const ALL_REQUESTS = { pass: true, move: true, switch: true };
+/** @type {Record<import("./gen1.mjs").EventKind, true>} */
+const ALL_KINDS = {
+  turn: true, switch: true, move: true, cant: true, damage: true, heal: true, crit: true, "super effective": true, resisted: true, immune: true,
+  miss: true, fail: true, status: true, cure: true, boost: true, unboost: true, "clear all": true, start: true, end: true, activate: true,
+  prepare: true, "must recharge": true, "hit count": true, "one hit knock out": true, faint: true, win: true, tie: true, fault: true,
+};
+/** @type {Record<import("./gen1.mjs").CantReason, true>} */
+const ALL_REASONS = {
+  asleep: true, frozen: true, "partially trapped": true, flinched: true, recharging: true, disabled: true, paralysed: true,
+};
+/** @type {Record<import("./gen1.mjs").DamageSource, true>} */
+const ALL_SOURCES = { direct: true, poison: true, burn: true, "leech seed": true, recoil: true, confusion: true };
+/** @type {Record<import("./gen1.mjs").Volatile, true>} */
+const ALL_VOLATILES = {
+  confusion: true, bide: true, substitute: true, "leech seed": true, mist: true, "focus energy": true, "light screen": true, reflect: true,
+  disable: true, "type change": true, trapped: true, rage: true, splash: true,
+};
+/** @type {Record<import("./gen1.mjs").Fault, true>} */
+const ALL_FAULTS = { division: true, psywave: true };
 /** @type {Record<import("./gen1.mjs").ChoiceName, true>} */
 const ALL_CHOICES = {
   pass: true, "move 0": true, "move 1": true, "move 2": true, "move 3": true, "move 4": true, "switch 1": true, "switch 2": true, "switch 3": true,
@@ -119,6 +142,8 @@ function lists() {
   equal([CONDITIONS, STATUSES, STATS], [ALL_CONDITIONS, ALL_STATUSES, ALL_STATS].map(Object.keys));
   equal([OUTCOMES, REQUESTS, CHOICES], [Object.keys(ALL_OUTCOMES), Object.keys(ALL_REQUESTS), Object.keys(ALL_CHOICES)]);
   equal([library.SPECIES.length, library.MOVES.length, library.TYPES.length, library.REASONS.length, library.LOG_ROOM], [151, 165, 15, 23, 512]);
+  equal([library.EVENT_KINDS, CANT_REASONS, library.DAMAGE_SOURCES], [ALL_KINDS, ALL_REASONS, ALL_SOURCES].map(Object.keys));
+  equal([library.VOLATILES, library.FAULTS], [ALL_VOLATILES, ALL_FAULTS].map(Object.keys));
   equal(CHOICES.map((choice) => library.choiceOf(library.byteOf(choice))), CHOICES);
 }
 
@@ -126,7 +151,7 @@ function lists() {
 function battles(gen1) {
   const battle = gen1.battle(TERMS);
   const update = battle.update("pass", 0);
-  /** @type {string[]} */
+  /** @type {readonly import("./gen1.mjs").ChoiceName[]} */
   const choices = battle.choices(1);
   holds(choices.every((choice) => typeof choice === "string") && typeof gen1.is64 === "boolean" && /^\d+\.\d+\.\d+$/.test(gen1.version), "other types");
   for (const [one, wanted] of /** @type {[object, Record<string, true>][]} */ ([[gen1, OF_GEN1], [battle, OF_BATTLE], [update, OF_UPDATE]])) offers(one, wanted);
@@ -135,7 +160,15 @@ function battles(gen1) {
   hasKeys(battle.state, OF_STATE);
   hasKeys(one.members[0], OF_MEMBER);
   hasKeys(one.active ?? {}, OF_ACTIVE);
-  hasKeys(update.events[0], OF_EVENT);
+  const [event] = update.events;
+  holds(event.kind === "switch" && event.species === "Tauros" && event.place === 1, "another event");
+  const team = gen1.team([TAUROS]);
+  offers(team, OF_TEAM);
+  holds(team instanceof Team && gen1.battle({ ...TERMS, one: team, two: team }).state.two.members.length === team.length, "another team");
+  const copy = battle.clone();
+  copy.copyFrom(battle);
+  holds(JSON.stringify(copy) === JSON.stringify(battle.state), "another copy");
+  copy.free();
   hasKeys(battle.odds(1, "Strength"), OF_ODDS);
   hasKeys(battle.knockOut(1, "Strength"), OF_KNOCK_OUT);
   hasKeys(gen1.base("Tauros"), OF_BASE);
@@ -184,7 +217,23 @@ function statesAndPlayers(gen1) {
     gen1.battleOfState(battle.state), battle.withState((state) => void (state.turn = 2)), battle.withHp(1, 1, 5), battle.withStatus(2, 2, "sleep", 7),
     battle.withStage(1, "evasion", -6),
   ];
+  const guess = { team: TERMS.two, seed: TERMS.seed, rules: 3, limit: 20 };
+  holds(Battle.fromPlayer(player, guess).choices(1).length === player.choices.length, "another guess");
   holds(changed.every((it) => it instanceof Battle) && player.clone() instanceof Player && teller.clone() instanceof Teller, "another class");
+}
+
+/** @param {Gen1} gen1 */
+function arrays(gen1) {
+  const battle = gen1.battle(TERMS);
+  const [one, two] = /** @type {const} */ ([1, 2]).map((side) => ({ teller: gen1.teller({ side }), player: gen1.player({ side, team: TERMS.one }) }));
+  const array = gen1.battleArray({ battle, count: 3, seeds: new Uint8Array(30), sides: [one, two] });
+  offers(array, OF_ARRAY);
+  const [ones, twos] = array.randomStep(() => 0.5);
+  holds(ones.length === 3 && twos.length === 3 && array.at(2) instanceof Battle && array.player(0, 1) instanceof Player, "another array");
+  holds(array.take([2, 2, 0]) instanceof BattleArray && array.step([16, 17, 18], Uint8Array.of(17, 17, 17)) === array.results, "other results");
+  equal([array.observe(1).length, array.masks(2).length, array.playouts(1n, 1).length], [3 * library.COLUMNS.length, 3, 12]);
+  array.reset([true, false, 1], new Uint8Array(30));
+  array.free();
 }
 
 // Each of these is refused by its types, else tsc calls the directive above it unused; and by the module.
@@ -203,6 +252,10 @@ const NO_CONSTRUCTORS = [
   () => new Player(),
   // @ts-expect-error
   () => new Teller(),
+  // @ts-expect-error
+  () => new Team(),
+  // @ts-expect-error
+  () => new BattleArray(),
 ];
 
 /** @param {Gen1} gen1 */
@@ -226,6 +279,10 @@ function refused(gen1) {
     () => gen1.battle({ ...TERMS, seed: "0123456789" }),
     // @ts-expect-error
     () => gen1.battle({ one: [TAUROS], two: [TAUROS] }),
+    // @ts-expect-error
+    () => gen1.battleArray({ battle, n: 3 }),
+    // @ts-expect-error
+    () => gen1.team([{ species: "Tauros", lvl: 50, moves: [["Strength", 3]] }]),
     // @ts-expect-error
     () => battle.update("jump", "pass"),
     // @ts-expect-error
@@ -251,5 +308,6 @@ export function uses(gen1) {
   battles(gen1);
   roomsAndSpectators(gen1);
   statesAndPlayers(gen1);
+  arrays(gen1);
   refused(gen1);
 }

@@ -1,9 +1,10 @@
 // States, results, odds and players as objects, with names in place of the library's numbers.
 import { CODES } from "./header.mjs";
+import { offsetsOf } from "./structs.mjs";
 import { MOVES, SPECIES, TYPES } from "./tables.mjs";
 
 // The names of the header's codes with this prefix, in the order of their numbers: BAD_POISON is "bad poison".
-function namesOf(start) {
+export function namesOf(start) {
   const found = Object.entries(CODES).filter(([name]) => name.startsWith(start)).sort(([, one], [, two]) => one - two);
   return Object.freeze(found.map(([name]) => name.slice(start.length).replaceAll("_", " ").toLowerCase()));
 }
@@ -29,35 +30,126 @@ export const REASONS = Object.freeze([
 ]);
 const MIDDLE = 6;
 
-/** The object of a number that gen1_result returns. */
+// The objects of the numbers that gen1_result returns.
+const RESULTS = [];
+
+/** The object of a number that gen1_result returns. Each number has one object, which is frozen. */
 export function resultOf(answer) {
-  return { outcome: OUTCOMES[answer & 7], requests: [REQUESTS[(answer >> 3) & 3], REQUESTS[(answer >> 5) & 3]] };
+  return (RESULTS[answer] ??= Object.freeze({
+    outcome: OUTCOMES[answer & 7], requests: Object.freeze([REQUESTS[(answer >> 3) & 3], REQUESTS[(answer >> 5) & 3]]),
+  }));
 }
 
-const stagesOf = (stages) => stages.map((stage) => stage - MIDDLE);
-const typesOf = (types) => types.map((type) => TYPES[type]);
-const conditionsOf = (bits) => CONDITIONS.filter((_, bit) => (bits >> bit) & 1);
+// Offsets in the structs that are read often. None has a field whose size depends on the module.
+const STATE = offsetsOf("gen1_state");
+const SIDE_STATE = offsetsOf("gen1_side_state");
+const MEMBER_STATE = offsetsOf("gen1_member_state");
+const ACTIVE_STATE = offsetsOf("gen1_active_state");
+const OWN_SIDE = offsetsOf("gen1_own_side");
+const OWN_MEMBER = offsetsOf("gen1_own_member");
+const OWN_AT = offsetsOf("gen1_player").own;
+const MOST_MEMBERS = 6;
+const MOST_MOVES = 4;
 
-function memberOf(of) {
-  const slots = [0, 1, 2, 3].filter((slot) => of.moves[slot]);
+const word = (bytes, at) => bytes[at] | (bytes[at + 1] << 8);
+const fourWords = (bytes, at) => [word(bytes, at), word(bytes, at + 2), word(bytes, at + 4), word(bytes, at + 6)];
+const typesAt = (bytes, at) => [TYPES[bytes[at]], TYPES[bytes[at + 1]]];
+const stagesOf = (stages) => Array.from(stages, (stage) => stage - MIDDLE);
+
+function stagesAt(bytes, at) {
+  const found = [];
+  for (let stat = 0; stat < STATS.length; stat++) found.push(bytes[at + stat] - MIDDLE);
+  return found;
+}
+
+function conditionsAt(bytes, at) {
+  const found = [];
+  const bits = word(bytes, at) | (word(bytes, at + 2) << 16);
+  for (let bit = 0; bits >> bit; bit++) if ((bits >> bit) & 1) found.push(CONDITIONS[bit]);
+  return found;
+}
+
+// Adds the moves and PP, HP and stats of a member, whose fields have these offsets.
+function withMoves(member, bytes, at, of) {
+  for (let slot = 0; slot < MOST_MOVES; slot++) {
+    const move = bytes[at + of.moves + slot];
+    if (!move) continue;
+    member.moves.push(MOVES[move - 1]);
+    member.pp.push(bytes[at + of.pp + slot]);
+  }
+  member.hp = word(bytes, at + of.hp);
+  member.maxHp = word(bytes, at + of.maxHp);
+  member.stats = fourWords(bytes, at + of.stats);
+  return member;
+}
+
+function memberState(bytes, at) {
+  const of = MEMBER_STATE;
+  const member = {
+    species: SPECIES[bytes[at + of.species] - 1], level: bytes[at + of.level], status: STATUSES[bytes[at + of.status]],
+    sleep: bytes[at + of.sleep], marked: bytes[at + of.marked] === 1, moves: [], pp: [], hp: 0, maxHp: 0, stats: null,
+  };
+  return withMoves(member, bytes, at, of);
+}
+
+function activeState(bytes, at) {
+  const of = ACTIVE_STATE;
+  if (!bytes[at + of.place]) return null;
   return {
-    species: SPECIES[of.species - 1], level: of.level, status: STATUSES[of.status], sleep: of.sleep, marked: of.marked === 1,
-    moves: slots.map((slot) => MOVES[of.moves[slot] - 1]), pp: slots.map((slot) => of.pp[slot]),
-    hp: of.hp, maxHp: of.maxHp, stats: of.stats,
+    place: bytes[at + of.place], types: typesAt(bytes, at + of.types), stats: fourWords(bytes, at + of.stats), stages: stagesAt(bytes, at + of.stages),
+    conditions: conditionsAt(bytes, at + of.conditions), currentMove: bytes[at + of.currentMove], pickedMove: bytes[at + of.pickedMove],
+    keptAccuracy: bytes[at + of.keptAccuracy], substitute: bytes[at + of.substitute], confusion: bytes[at + of.confusion],
+    disabledSlot: bytes[at + of.disabledSlot], disabledTurns: bytes[at + of.disabledTurns], badPoison: bytes[at + of.badPoison],
+    turns: bytes[at + of.turns], energy: word(bytes, at + of.energy),
   };
 }
 
-function activeOf({ conditions, types, stages, ...rest }) {
-  if (!rest.place) return null;
-  return { ...rest, types: typesOf(types), stages: stagesOf(stages), conditions: conditionsOf(conditions) };
+function sideState(bytes, at) {
+  const members = [];
+  for (let place = 0; place < MOST_MEMBERS; place++) {
+    const member = at + SIDE_STATE.members + place * MEMBER_STATE.size;
+    if (bytes[member + MEMBER_STATE.species]) members.push(memberState(bytes, member));
+  }
+  return { members, active: activeState(bytes, at + SIDE_STATE.active) };
 }
 
-const sideOf = (of) => ({ members: of.members.filter((it) => it.species).map(memberOf), active: activeOf(of.active) });
-
 /** The object of a gen1_state. */
-export function stateOf({ sides, outcome, requests, ...rest }) {
-  const [one, two] = sides.map(sideOf);
-  return { one, two, ...rest, outcome: OUTCOMES[outcome], requests: requests.map((request) => REQUESTS[request]) };
+export function stateOf(bytes, at) {
+  const of = STATE;
+  return {
+    one: sideState(bytes, at + of.sides), two: sideState(bytes, at + of.sides + SIDE_STATE.size), turn: word(bytes, at + of.turn),
+    limit: word(bytes, at + of.limit), lastDamage: word(bytes, at + of.lastDamage), rules: bytes[at + of.rules], outcome: OUTCOMES[bytes[at + of.outcome]],
+    requests: [REQUESTS[bytes[at + of.requests]], REQUESTS[bytes[at + of.requests + 1]]], index: bytes[at + of.index],
+    numbers: Array.from(bytes.subarray(at + of.numbers, at + of.numbers + 10)),
+  };
+}
+
+function ownMember(bytes, at) {
+  const of = OWN_MEMBER;
+  const member = {
+    species: SPECIES[bytes[at + of.species] - 1], level: bytes[at + of.level], status: STATUSES[bytes[at + of.status]],
+    moves: [], pp: [], hp: 0, maxHp: 0, stats: null,
+  };
+  return withMoves(member, bytes, at, of);
+}
+
+function ownActive(bytes, at) {
+  const of = OWN_SIDE;
+  return {
+    place: bytes[at + of.place], types: typesAt(bytes, at + of.types), stats: fourWords(bytes, at + of.stats), stages: stagesAt(bytes, at + of.stages),
+    conditions: conditionsAt(bytes, at + of.conditions), disabledSlot: bytes[at + of.disabledSlot], held: bytes[at + of.held] === 1,
+  };
+}
+
+/** The object of a gen1_own_side. */
+export function ownSideOf(bytes, at) {
+  const of = OWN_SIDE;
+  const members = [];
+  for (let place = 0; place < bytes[at + of.count]; place++) members.push(ownMember(bytes, at + of.members + place * OWN_MEMBER.size));
+  return {
+    members, active: bytes[at + of.place] ? ownActive(bytes, at) : null, turn: word(bytes, at + of.turn), request: REQUESTS[bytes[at + of.request]],
+    outcome: OUTCOMES[bytes[at + of.outcome]],
+  };
 }
 
 function shownSide({ members, count, stages, place, ...up }) {
@@ -93,18 +185,6 @@ export function chancesOf({ breaksSubstitute, ...ways }) {
   };
 }
 
-function ownMember(of) {
-  const { sleep, marked, ...shown } = memberOf(of);
-  return shown;
-}
-
-/** The object of a gen1_own_side. */
-export function ownSideOf({ members, count, turn, request, outcome, place, types, stats, stages, conditions, disabledSlot, held }) {
-  const of = { types: typesOf(types), stats, stages: stagesOf(stages), conditions: conditionsOf(conditions) };
-  const active = place ? { place, ...of, disabledSlot, held: held === 1 } : null;
-  return { members: members.slice(0, count).map(ownMember), active, turn, request: REQUESTS[request], outcome: OUTCOMES[outcome] };
-}
-
 function seenMember({ species, level, status, hp, max, moves }) {
   const used = moves.filter(({ id }) => id).map(({ id, uses }) => ({ name: MOVES[id - 1], uses }));
   return { species: SPECIES[species - 1], level, status: STATUSES[status], hp, maxHp: max, moves: used };
@@ -115,14 +195,15 @@ const wordsOf = (key) => key.replace(/[A-Z]/g, (letter) => ` ${letter.toLowerCas
 
 function publicSide({ members, stages, place, firstType, secondType, lastMove, announced }) {
   const active = {
-    place, types: typesOf([firstType, secondType]), stages: stagesOf(stages), lastMove: MOVES[lastMove - 1] ?? null,
+    place, types: [TYPES[firstType], TYPES[secondType]], stages: stagesOf(stages), lastMove: MOVES[lastMove - 1] ?? null,
     announced: Object.keys(announced).filter((key) => announced[key]).map(wordsOf),
   };
   return { members: members.filter((it) => it.species).map(seenMember), active: place ? active : null };
 }
 
-/** The object of a gen1_player. */
-export function viewOf({ known, own, side, foes }) {
+/** The object of a gen1_player, from its bytes and its struct. */
+export function viewOf(bytes, { known, own, side, foes }) {
   const [ownPublic, foe] = [known.sides[side - 1], known.sides[2 - side]].map(publicSide);
-  return { side, turn: known.turn, outcome: OUTCOMES[known.outcome], own: own.count ? ownSideOf(own) : null, ownPublic, foe, foes: foes || null };
+  const shown = own.count ? ownSideOf(bytes, OWN_AT) : null;
+  return { side, turn: known.turn, outcome: OUTCOMES[known.outcome], own: shown, ownPublic, foe, foes: foes || null };
 }

@@ -42,14 +42,36 @@ function logs(gen1, check) {
     const [many, times] = [new Uint8Array(3000 * LOG.length), 3000];
     for (let at = 0; at < many.length; at += LOG.length) many.set(LOG, at);
     const [lines, events] = [gen1.lines(many), gen1.events(many)];
-    equal([lines.length, events.length, events[13]], [times * LINES.length, times * LINES.length, { ...events[13], tag: 26, side: 1, size: 2 }]);
+    equal([lines.length, events.length, events[13]], [times * LINES.length, times * LINES.length, { kind: "win", side: 1, size: 2 }]);
     holds(lines.every((line, at) => line === LINES[at % LINES.length]), "a line is another one");
     equal(thrown(() => gen1.lines(Uint8Array.of(...LOG, 26)), library.LogError, /the bytes end within an event/).at, LOG.length);
   });
-  check("an event", () => {
-    const wanted = { tag: 5, side: 2, species: 128, move: 0, targetSide: 0, targetSpecies: 0, place: 0, level: 0, status: 0, detail: 0, amount: 0 };
-    equal(gen1.events(LOG)[5], { ...wanted, hp: 149, maxHp: 353, turn: 0, size: 9 });
+  check("events", () => {
+    const [one, two] = [1, 2].map((side) => ({ side, species: "Tauros" }));
+    const used = { move: "Strength", targetSide: 2, targetSpecies: "Tauros", size: 6 };
+    equal(gen1.events(LOG).slice(1, 6), [
+      { kind: "switch", ...two, place: 1, level: 100, hp: 353, maxHp: 353, status: "none", size: 10 }, { kind: "turn", turn: 1, size: 3 },
+      { kind: "move", ...one, ...used }, { kind: "crit", ...two, size: 3 },
+      { kind: "damage", ...two, hp: 149, maxHp: 353, status: "none", source: "direct", size: 9 },
+    ]);
     equal(gen1.events(LOG).map(({ size }) => size), [10, 10, 3, 6, 3, 9, 6, 9, 3, 6, 3, 9, 3, 2]);
+  });
+  check("each kind of event", () => {
+    // An event of each kind as bytes (docs/MECHANICS.md, "Log bytes"), with its fields after side and species.
+    const tauros = [1, 128];
+    const cases = [
+      [[4, ...tauros, 7], "cant", { reason: "paralysed" }], [[6, ...tauros, 97, 1, 97, 1, 2], "heal", { hp: 353, maxHp: 353, status: "poison" }],
+      [[13, ...tauros, 3], "status", { status: "burn" }], [[14, ...tauros, 1], "cure", { status: "sleep" }],
+      [[15, ...tauros, 6, 2], "boost", { stat: "evasion", stages: 2 }], [[16, ...tauros, 1, 1], "unboost", { stat: "attack", stages: 1 }],
+      [[18, ...tauros, 4], "start", { volatile: "leech seed" }], [[19, ...tauros, 1], "end", { volatile: "confusion" }],
+      [[20, ...tauros, 13], "activate", { volatile: "splash" }], [[21, ...tauros, 19], "prepare", { move: "Fly" }],
+      [[23, ...tauros, 5], "hit count", { hits: 5 }], [[5, ...tauros, 97, 1, 97, 1, 0, 3], "damage", { hp: 353, maxHp: 353, status: "none", source: "leech seed" }],
+    ];
+    for (const [bytes, kind, more] of cases) equal(gen1.events(Uint8Array.from(bytes)), [{ kind, side: 1, species: "Tauros", ...more, size: bytes.length }]);
+    for (const [tag, kind] of [[7, "crit"], [8, "super effective"], [9, "resisted"], [10, "immune"], [11, "miss"], [12, "fail"], [22, "must recharge"], [25, "faint"]])
+      equal(gen1.events(Uint8Array.of(tag, ...tauros)), [{ kind, side: 1, species: "Tauros", size: 3 }]);
+    for (const [tag, kind] of [[17, "clear all"], [24, "one hit knock out"], [27, "tie"]]) equal(gen1.events(Uint8Array.of(tag)), [{ kind, size: 1 }]);
+    equal(gen1.events(Uint8Array.of(26, 2, 28, 2)), [{ kind: "win", side: 2, size: 2 }, { kind: "fault", fault: "psywave", size: 2 }]);
   });
 }
 
@@ -235,6 +257,45 @@ function players(gen1, check) {
   });
 }
 
+const ALAKAZAM = { species: "Alakazam", moves: [["Psychic", 3]] };
+
+// Side 1 after the first turn of a battle with Alakazam, whose Psychic it has seen. The log leaves its Tauros 5 of 353 HP, and Alakazam 32 of 313.
+function guessing(gen1) {
+  const one = [{ species: "Tauros", moves: [["Body Slam", 3]] }];
+  const battle = gen1.battle({ one, two: [ALAKAZAM, { species: "Chansey", moves: [["Ice Beam", 3]] }], seed: SEED });
+  const [teller, player] = [gen1.teller({ side: 1 }), gen1.player({ side: 1, team: one })];
+  for (const choice of ["pass", "move 1"]) teller.report(battle, battle.update(choice, choice).log, player);
+  return player;
+}
+
+// Battles that fit what a player knows.
+function guesses(gen1, check) {
+  const player = guessing(gen1);
+  const { Battle } = library;
+  check("what is known and what is guessed", () => {
+    const team = [{ species: "Alakazam", moves: [["Recover", 3], ["Psychic", 3]], exp: [0, 65535, 65535, 65535, 65535] }, { species: "Gengar", moves: [["Hypnosis", 3]] }];
+    const numbers = Array.from({ length: 10 }, (_, at) => 20 + at);
+    const copy = Battle.fromPlayer(player, { team, seed: numbers, rules: 3, limit: 50 });
+    const { state } = copy;
+    equal([copy.ownSide(1), copy.choices(1)], [player.view.own, player.choices]);
+    equal([state.turn, state.limit, state.rules, state.numbers, copy.choices(2)], [2, 50, 3, numbers, ["move 1", "move 2", "switch 2"]]);
+    // Without HP experience Alakazam has (55 + 15) * 2 + 110 = 250 HP, of which 32 of 313 are 25.6. Of 16 PP of Psychic one was used.
+    const [alakazam, gengar] = state.two.members;
+    equal([alakazam.maxHp, alakazam.hp, alakazam.pp, alakazam.status], [250, 26, [32, 15], "none"]);
+    equal([gengar.hp, gengar.maxHp, state.two.active.currentMove], [323, 323, 2]);
+    holds(copy.update("move 1", "move 2").log.length > 0, "no log");
+  });
+  check("conditions that were announced", () => {
+    const told = player.clone();
+    told.feed(Uint8Array.of(18, 2, 65, 3, 18, 2, 65, 1, 18, 2, 65, 12));
+    const out = Battle.fromPlayer(told, { team: [ALAKAZAM], seed: SEED }).state.two.active;
+    equal([out.conditions, out.substitute, out.confusion], [["confused", "substitute"], 78, 3]);
+    const raging = { ...ALAKAZAM, moves: [["Psychic", 3], ["Rage", 3]] };
+    const { conditions, currentMove, keptAccuracy } = Battle.fromPlayer(told, { team: gen1.team([raging]), seed: SEED }).state.two.active;
+    equal([conditions.includes("rage"), currentMove, keptAccuracy], [true, 2, 255]);
+  });
+}
+
 // Whether a move misses in the first two updates, with the lowest accuracy against the highest evasion. Vaporeon is not immune to any type.
 function misses(gen1, move, seed) {
   const team = (species, known) => [{ species, moves: [[known, 3]] }];
@@ -247,7 +308,7 @@ function misses(gen1, move, seed) {
   let isMissing = false;
   for (let update = 0; update < 2 && !changed.isOver; update++) {
     const { events } = changed.update(changed.choices(1)[0], changed.choices(2)[0]);
-    isMissing ||= events.some(({ tag, side }) => tag === CODES.EVENT_MISS && side === 1);
+    isMissing ||= events.some((event) => event.kind === "miss" && event.side === 1);
   }
   return isMissing;
 }
@@ -262,9 +323,9 @@ function everyDraw(gen1) {
     for (const draws of [[byte, 255, 0], [255, 255, byte]]) {
       const battle = begun.clone();
       battle.reseed([...draws, 0, 0, 0, 0, 0, 0, 0]);
-      const tags = battle.update("move 1", "move 1").events.map(({ tag }) => tag);
-      critical += tags.includes(CODES.EVENT_CRIT) ? 1 : 0;
-      missed += tags.includes(CODES.EVENT_MISS) ? 1 : 0;
+      const kinds = battle.update("move 1", "move 1").events.map(({ kind }) => kind);
+      critical += kinds.includes("crit") ? 1 : 0;
+      missed += kinds.includes("miss") ? 1 : 0;
     }
   // Tauros has base Speed 110, and the draw is compared with half of it.
   const { criticalChance, hitChance } = gen1.odds(user, foe, "Thunder");
@@ -395,6 +456,79 @@ function rows(gen1, check) {
   });
 }
 
+// An array, whose battles are those that are played one by one.
+function arrays(gen1, check) {
+  const team = gen1.team(["Starmie", "Tauros"].map((species) => ({ species, moves: [["Blizzard", 3], ["Toxic", 3], ["Explosion", 3]] })));
+  const battle = gen1.battle({ one: team, two: team, seed: SEED, limit: 30 });
+  const sides = [1, 2].map((side) => ({ teller: gen1.teller({ side, pixels: true }), player: gen1.player({ side, team, foes: 2 }) }));
+  const seeds = Uint8Array.from({ length: 50 }, (_, at) => (at * 37) % 256);
+  const arraysOf = () => [gen1.battleArray({ battle, count: 5, seeds }), gen1.battleArray({ battle, count: 5, seeds, sides })];
+  check("an array of battles", () => {
+    const [plain, watched] = arraysOf();
+    const alone = Array.from({ length: 5 }, (_, at) => {
+      const copy = battle.clone();
+      copy.reseed(seeds.subarray(10 * at, 10 * at + 10));
+      return { copy, sides: sides.map(({ teller, player }) => ({ teller: teller.clone(), player: player.clone() })) };
+    });
+    for (let turn = 0; turn < 40; turn++) {
+      const pick = (side) => alone.map(({ copy }, at) => library.byteOf(copy.choices(side)[(turn * 7 + at + side) % (copy.choices(side).length || 1)] ?? 0));
+      const [ones, twos] = [pick(1), pick(2)];
+      equal(Array.from(plain.masks(1)), alone.map(({ copy }) => copy.offeredMask(1)));
+      equal(Array.from(watched.step(ones, twos)), Array.from(plain.step(ones, twos)));
+      alone.forEach(({ copy, sides: both }, at) => {
+        if (copy.isOver) return;
+        const { log, result } = copy.update(ones[at], twos[at]);
+        for (const { teller, player } of both) teller.report(copy, log, player);
+        equal(library.OUTCOMES[plain.results[at] & 7], result.outcome);
+      });
+      const all = alone.map(({ copy }) => hexOf(copy.bytes)).join("");
+      equal([hexOf(plain.bytes), hexOf(watched.bytes), watched.codes, plain.at(3).state], [all, all, plain.codes, alone[3].copy.state]);
+      for (const side of [1, 2]) equal(watched.player(2, side).view, alone[2].sides[side - 1].player.view);
+    }
+    holds(alone.every(({ copy }) => copy.isOver), "a battle goes on after its limit");
+    const first = watched.take([4, 0, 4]);
+    equal([hexOf(first.at(0).bytes), hexOf(first.at(2).bytes), first.player(1, 2).view], [hexOf(plain.at(4).bytes), hexOf(plain.at(4).bytes), watched.player(0, 2).view]);
+    watched.reset([0, 1, 0, 0, 0]);
+    equal([watched.results[1] & 7, watched.player(1, 1).view.turn, watched.player(0, 1).view.turn > 0], [0, 0, true]);
+    watched.reset();
+    equal(hexOf(watched.bytes), hexOf(arraysOf()[0].bytes));
+  });
+  check("observations", () => {
+    const [, watched] = arraysOf();
+    const row = (it, side, place) => {
+      const rows = it.observe(side).subarray(library.COLUMNS.length * place, library.COLUMNS.length * (place + 1));
+      return Object.fromEntries(library.COLUMNS.map((name, column) => [name, rows[column]]));
+    };
+    watched.randomStep();
+    // Starmie is 121 in docs/TABLES.md, of types 9 and 12; its 323 HP are told in 48ths. Blizzard and Explosion are 59 and 153.
+    const found = row(watched, 2, 3);
+    equal(["own member 2 species", "own member 1 max hp", "own member 1 move 1", "own type 1", "own stage 3", "turn", "foes"].map((name) => found[name]), [128, 323, 59, 9, 6, 1, 2]);
+    equal(["foe member 1 species", "foe member 1 hp", "foe member 1 max", "foe member 2 species", "foe place", "foe first type"].map((name) => found[name]), [121, 48, 48, 0, 1, 9]);
+    equal(library.CHOICES.filter((name) => found[`offered ${name}`]), ["move 1", "move 2", "move 3", "switch 2"]);
+    watched.step(new Uint8Array(5).fill(18), new Uint8Array(5).fill(0x22));
+    const after = row(watched, 2, 0);
+    equal([after["foe last move"], after["foe member 1 move 1 id"], after["foe member 1 move 1 uses"], after["own place"], after.turn], [92, 92, 1, 2, 2]);
+    equal(library.COLUMNS.length, new Set(library.COLUMNS).size);
+  });
+  check("a row is the same whatever the foe keeps hidden", () => {
+    const rowsWith = (hidden) => {
+      const foe = gen1.team([{ species: "Starmie", moves: [["Blizzard", 3], [hidden, 3]] }, { species: hidden === "Surf" ? "Mew" : "Onix", moves: [["Bind", 3]] }]);
+      const own = [1, 2].map((side) => ({ teller: gen1.teller({ side, pixels: true }), player: gen1.player({ side, team: side === 1 ? team : foe, foes: 2 }) }));
+      const array = gen1.battleArray({ battle: gen1.battle({ one: team, two: foe, seed: SEED }), count: 1, sides: own });
+      array.step([0], [0]);
+      array.step([18], [17]);
+      return Array.from(array.observe(1));
+    };
+    equal(rowsWith("Surf"), rowsWith("Psychic"));
+  });
+  check("playouts of an array", () => {
+    const [plain] = arraysOf();
+    const counts = plain.playouts(2n ** 64n - 2n, 3);
+    const wanted = [0, 1, 2, 3, 4].flatMap((at) => Object.values(plain.at(at).playout((2n ** 64n - 2n + BigInt(at)) % 2n ** 64n, 3)));
+    equal(Array.from(counts), wanted);
+  });
+}
+
 function searching(gen1, check) {
   const team = [{ species: "Tauros", moves: [["Body Slam", 3], ["Hyper Beam", 3], ["Earthquake", 3], ["Blizzard", 3]] },
     { species: "Gengar", level: 73, moves: [["Hypnosis", 3], ["Night Shade", 3]] }];
@@ -441,6 +575,6 @@ function layouts(check) {
 
 /** Runs all worked examples. */
 export function worked(gen1, check) {
-  for (const part of [logs, odds, uses, knockOuts, states, players, rooms, spectators, texts, rows, searching]) part(gen1, check);
+  for (const part of [logs, odds, uses, knockOuts, states, players, guesses, rooms, spectators, texts, rows, arrays, searching]) part(gen1, check);
   layouts(check);
 }

@@ -116,7 +116,7 @@ export class Calculator {
       this.numbers.replaceChildren(...sides.map((_, at) => this.results(sides, at)));
       this.numbers.removeAttribute("data-stale");
       this.say("");
-      this.code = encoded(joined(...both.map(standingBytes), [MOVES.indexOf(extra) + 1]));
+      this.code = encoded(joined(...both.map(standingBytes), [MOVES.findIndex((name) => name === extra) + 1]));
       setAddress("calculator", { c: this.code });
     } catch (error) {
       if (!(error instanceof Problem)) throw error;

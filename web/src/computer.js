@@ -42,6 +42,7 @@ function scoreOf(battle, side, choice, other, random) {
   if (side === 1) copy.updateSilent(choice, other);
   else copy.updateSilent(other, choice);
   const { winsOne, winsTwo, ties, faults } = copy.playout(random.draw(), 1);
+  copy.free();
   return 2 * (side === 1 ? winsOne : winsTwo) + ties + faults;
 }
 

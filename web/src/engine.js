@@ -8,7 +8,7 @@ import { Problem } from "./dom.js";
  * @typedef {{ species: Record<string, readonly [string, string]>, moves: Record<string, Move> }} Tables the types of each species, and the moves
  * @typedef {{ species: string | number, level: number, dvs: number[], exp: number[], moves: [string | number, number][] }} Member
  * @typedef {{ seed: number[], one: Member[], two: Member[], rules: number, limit: number }} Terms
- * @typedef {{ tag: number, side: number, place: number, size: number, line: string }} GameEvent
+ * @typedef {{ kind: import("gen1").EventKind, side: number, place: number, size: number, line: string }} GameEvent
  * @typedef {import("gen1").SideState & { choices: number[] }} SideState
  * @typedef {import("gen1").State & { sides: SideState[] }} State
  * @typedef {import("gen1").ShownState & { sides: import("gen1").ShownSide[] }} View
@@ -116,7 +116,8 @@ export class Engine {
    * @param {Terms} terms
    */
   begin(terms) {
-    return testingTeams(() => this.gen1.battle(terms)).bytes;
+    const { one, two, seed, rules, limit } = terms;
+    return testingTeams(() => this.gen1.battle({ one, two, seed, rules, limit })).bytes;
   }
 
   /**
@@ -145,7 +146,9 @@ export class Engine {
     testLength(log, "The log");
     try {
       const lines = this.gen1.lines(log);
-      return this.gen1.events(log).map(({ tag, side, place, size }, at) => ({ tag, side, place, size, line: lines[at] }));
+      return this.gen1.events(log).map((event, at) => ({
+        kind: event.kind, side: "side" in event ? event.side : 0, place: event.kind === "switch" ? event.place : 0, size: event.size, line: lines[at],
+      }));
     } catch (error) {
       if (error instanceof LogError) throw new Problem(`This is not the log of a battle: ${error.reason} (at byte ${error.at}).`);
       throw error;

@@ -12,10 +12,7 @@ import { Problem } from "./dom.js";
  *   and the frame that first did
  */
 
-const TURN = 1;
-const SWITCH = 2;
-const FAINT = 0x19;
-const ENDS = [TURN, 0x1a, 0x1b, 0x1c];
+const ENDS = ["turn", "win", "tie", "fault"];
 /**
  * A log doesn't have the teams, so these take their places until a member comes out.
  * @type {Member[]}
@@ -31,9 +28,9 @@ function updatesOf(events) {
   const updates = [];
   let begun = 0;
   events.forEach((event, place) => {
-    const next = events[place + 1]?.tag;
-    const falls = event.tag === FAINT && next !== FAINT && !ENDS.includes(next);
-    if (ENDS.includes(event.tag) || falls || next === undefined) {
+    const next = events[place + 1]?.kind;
+    const falls = event.kind === "faint" && next !== "faint" && !ENDS.includes(next);
+    if (ENDS.includes(event.kind) || falls || next === undefined) {
       updates.push(events.slice(begun, place + 1));
       begun = place + 1;
     }
@@ -107,7 +104,7 @@ export class Recording {
   add(log, events, battle) {
     for (const event of events) {
       const key = `${event.side} ${event.place}`;
-      if (event.tag === SWITCH && !this.told.has(key)) this.told.set(key, toldBy(event.line, this.frames.length));
+      if (event.kind === "switch" && !this.told.has(key)) this.told.set(key, toldBy(event.line, this.frames.length));
     }
     this.frames.push({ log, events, battle, view: this.engine.watch(this.spectator, log) });
   }

@@ -12,7 +12,7 @@ import { inWords, OUTCOMES, sideOf } from "./words.js";
  * @param {boolean} raw whether lines are shown as the program prints them
  */
 export function lineItems(events, raw) {
-  return events.map((event) => make("li", { class: `line side-${sideOf(event.line)}${event.tag === 1 ? " turn" : ""}`, "data-line": event.line },
+  return events.map((event) => make("li", { class: `line side-${sideOf(event.line)}${event.kind === "turn" ? " turn" : ""}`, "data-line": event.line },
     raw ? event.line : inWords(event.line)));
 }
 

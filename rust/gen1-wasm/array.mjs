@@ -1,0 +1,306 @@
+// Many battles side by side in the module's memory, updated in one call, with numbers in typed arrays.
+import { ArgumentError, FreedError } from "./errors.mjs";
+import { byteOf, CHOICES, list, record, sideOf, within, wrongType } from "./arguments.mjs";
+import { BATTLE_SIZE } from "./arena.mjs";
+import { Battle, loadError, playoutSeed } from "./battle.mjs";
+import { CODES } from "./header.mjs";
+import { inspected } from "./inspecting.mjs";
+import { COLUMNS, fillRow, PLAYER_SIZE, TELLER_SIZE } from "./observing.mjs";
+import { Player, Teller } from "./players.mjs";
+import { made } from "./update.mjs";
+
+const MOST_BATTLES = 2 ** 20;
+const SEED_SIZE = 10;
+const PLAYOUTS_SIZE = 16;
+const KEYS = ["battle", "count", "seeds", "sides"];
+const UPDATE_SIZE = 4;
+// Both sides of one battle: their players, and their tellers.
+const SIDES_SIZE = 2 * (PLAYER_SIZE + TELLER_SIZE);
+const BYTES = Uint8Array.from(CHOICES, (choice) => byteOf(choice));
+
+const placesOf = (count, isWatched) => {
+  const sides = count * BATTLE_SIZE;
+  const scratch = sides + (isWatched ? count * SIDES_SIZE : 0);
+  return { sides, scratch, size: scratch + count * PLAYOUTS_SIZE };
+};
+
+// A typed array or an array of `count` bytes, as a Uint8Array.
+function bytesOf(value, what, count) {
+  const { length } = list(value, what, `a list of ${count} numbers`);
+  if (length !== count) throw new ArgumentError(`${what} has ${length} numbers, not ${count}`, what);
+  if (value instanceof Uint8Array) return value;
+  return Uint8Array.from(value, (it, place) => within(it, `${what}[${place}]`, 0, 255));
+}
+
+function pairOf(value) {
+  const pair = list(value, "sides", "two objects, each with the teller and the player of a side");
+  if (pair.length !== 2) throw new ArgumentError(`sides has ${pair.length} elements, not 2`, "sides");
+  for (const side of [1, 2]) {
+    const what = `sides[${side - 1}]`;
+    const { teller, player } = record(pair[side - 1], what, "an object with teller and player", ["teller", "player"]);
+    if (!(teller instanceof Teller)) throw wrongType(teller, `${what}.teller`, "a Teller");
+    if (!(player instanceof Player)) throw wrongType(player, `${what}.player`, "a Player");
+    if (teller.side !== side || player.side !== side) throw new ArgumentError(`${what} is not of side ${side}`, what);
+  }
+  return pair;
+}
+
+/** Many battles, which are updated together. Numbers are in typed arrays, with the battle at place 0 first. */
+export class BattleArray {
+  #library;
+  #region;
+  #places;
+  #isWatched;
+  #first;
+
+  /** How many battles there are. */
+  length;
+  /** What gen1_result returns for each battle after the last step, in one array whose values change. */
+  results;
+  /** 0 for each battle that the last step updated, else why it did not: CODES.ERROR_OVER and so on, in one array whose values change. */
+  codes;
+
+  constructor(library, count, fill, isWatched) {
+    this.#library = made(library, "BattleArray", "gen1.battleArray");
+    this.length = count;
+    this.#isWatched = isWatched;
+    this.#places = placesOf(count, isWatched);
+    this.#region = library.arena.region(this.#places.size, this);
+    [this.results, this.codes] = [new Uint8Array(count), new Uint8Array(count)];
+    fill(this.#at);
+    this.#begin();
+  }
+
+  // Keeps the battles for `reset`.
+  #begin() {
+    this.#first = this.#library.bytes.slice(this.#at, this.#at + this.#places.scratch);
+    this.#see();
+  }
+
+  // The offset of the first battle.
+  get #at() {
+    if (this.#region === null) throw new FreedError("the array was freed");
+    return this.#region.place;
+  }
+
+  #pointer(offset) {
+    return this.#library.size(this.#at + offset);
+  }
+
+  // Computes the results of the battles as they are.
+  #see() {
+    for (let at = 0; at < this.length; at++) this.results[at] = this.#library.calls.gen1_result(this.#pointer(at * BATTLE_SIZE));
+    this.codes.fill(0);
+  }
+
+  #place(at) {
+    return within(at, "place", 0, this.length - 1);
+  }
+
+  /** A copy of the battle at a place. */
+  at(place) {
+    return new Battle(this.#library, this.#library.blockOf(this.#pointer(this.#place(place) * BATTLE_SIZE)));
+  }
+
+  /** A copy of all battles, 384 bytes each. */
+  get bytes() {
+    return this.#library.bytes.slice(this.#at, this.#at + this.length * BATTLE_SIZE);
+  }
+
+  /** The masks of the choices that a side is offered: bit N is for CHOICES[N]. Those of a battle that is over are 0. */
+  masks(side) {
+    const [{ calls, bytes }, at] = [this.#library, this.#at + this.#places.scratch];
+    const count = this.#library.size(this.length);
+    calls.gen1_offered_many(this.#pointer(0), count, sideOf(side), this.#pointer(this.#places.scratch), count);
+    return new Uint16Array(bytes.buffer.slice(at, at + 2 * this.length));
+  }
+
+  /** Updates each battle with a choice of each side, as bytes. A battle that refuses its pair is unchanged, and `codes` says why. */
+  step(ones, twos) {
+    const [first, second] = [bytesOf(ones, "ones", this.length), bytesOf(twos, "twos", this.length)];
+    if (this.#isWatched) this.#stepAll(first, second);
+    else this.#stepMany(first, second);
+    return this.results;
+  }
+
+  #stepMany(ones, twos) {
+    const { results, codes, length } = this;
+    const updates = new Uint32Array(this.#library.bytes.buffer, this.#at + this.#places.scratch, length);
+    for (let at = 0; at < length; at++) updates[at] = ones[at] | (twos[at] << 8);
+    const count = this.#library.size(length);
+    this.#library.calls.gen1_update_many(this.#pointer(0), count, this.#pointer(this.#places.scratch), count);
+    for (let at = 0; at < length; at++) {
+      results[at] = updates[at] >> 16;
+      codes[at] = updates[at] >>> 24;
+    }
+  }
+
+  // Updates one battle after the other, and tells both sides of each the log.
+  #stepAll(ones, twos) {
+    const { calls, log, length: told } = this.#library;
+    const room = this.#library.size(CODES.LOG_ROOM);
+    for (let at = 0; at < this.length; at++) {
+      const battle = this.#pointer(at * BATTLE_SIZE);
+      this.codes[at] = calls.gen1_update(battle, ones[at], twos[at], log, room, told);
+      if (this.codes[at] === 0) this.#tell(at, battle, this.#library.size(this.#library.sizeAt(told)));
+      this.results[at] = calls.gen1_result(battle);
+    }
+  }
+
+  #tell(at, battle, count) {
+    const library = this.#library;
+    const { calls, log, told, own, length } = library;
+    for (let side = 1; side <= 2; side++) {
+      const player = this.#pointer(this.#sideAt(at, side));
+      calls.gen1_tell(this.#pointer(this.#sideAt(at, side) + PLAYER_SIZE), log, count, told, library.size(CODES.LOG_ROOM), length);
+      calls.gen1_player_feed(player, told, library.size(library.sizeAt(length)));
+      calls.gen1_get_own_side(battle, side, own);
+      calls.gen1_player_show(player, own, calls.gen1_offered(battle, side));
+    }
+  }
+
+  // The offset of a side's player from the first battle; its teller comes after it.
+  #sideAt(at, side) {
+    return this.#places.sides + at * SIDES_SIZE + (side - 1) * (PLAYER_SIZE + TELLER_SIZE);
+  }
+
+  /** Makes a step with choices at random, which are equally likely, and returns them. `random` returns numbers from 0 to below 1. */
+  randomStep(random = Math.random) {
+    if (typeof random !== "function") throw wrongType(random, "random", "a function that returns numbers from 0 to below 1");
+    const [ones, twos] = [1, 2].map((side) => this.masks(side).map((mask) => (mask ? BYTES[nth(mask, random())] : 0)));
+    const pair = [Uint8Array.from(ones), Uint8Array.from(twos)];
+    this.step(...pair);
+    return pair;
+  }
+
+  /** What a side knows in each battle: a row of COLUMNS.length numbers each, from its player alone. The array needs `sides`. */
+  observe(side) {
+    if (!this.#isWatched) throw new ArgumentError("the array has no players: it was created without sides", "sides");
+    const [own, width] = [sideOf(side), COLUMNS.length];
+    const [rows, { bytes }] = [new Uint16Array(this.length * width), this.#library];
+    for (let at = 0; at < this.length; at++) fillRow(rows, at * width, bytes, this.#at + this.#sideAt(at, own), own);
+    return rows;
+  }
+
+  /** A copy of the player of a side of the battle at a place. The array needs `sides`. */
+  player(place, side) {
+    if (!this.#isWatched) throw new ArgumentError("the array has no players: it was created without sides", "sides");
+    const at = this.#sideAt(this.#place(place), sideOf(side));
+    return new Player(this.#library, this.#library.read(this.#pointer(at), PLAYER_SIZE));
+  }
+
+  /**
+   * Plays `rounds` copies of each battle to their end with random choices. Returns four counts for each battle: wins of side 1, wins of side 2,
+   * ties, faults. The battle at place N is played out with the seed plus N.
+   */
+  playouts(seed, rounds) {
+    const [state, games, found] = [playoutSeed(seed), within(rounds, "rounds", 0, 2 ** 32 - 1), new Uint32Array(4 * this.length)];
+    const counts = this.#pointer(this.#places.scratch);
+    const view = new Uint32Array(this.#library.bytes.buffer, Number(counts), 4);
+    for (let at = 0; at < this.length; at++) {
+      const own = BigInt.asUintN(64, state + BigInt(at));
+      const code = this.#library.calls.gen1_playout(this.#pointer(at * BATTLE_SIZE), own, games, counts);
+      if (code) throw loadError(this.#library, code, BATTLE_SIZE);
+      found.set(view, 4 * at);
+    }
+    return found;
+  }
+
+  /** Replaces the numbers that each battle draws: ten bytes for each, of which the first is drawn next. */
+  reseed(seeds) {
+    const given = bytesOf(seeds, "seeds", SEED_SIZE * this.length);
+    for (let at = 0; at < this.length; at++) reseedAt(this.#library, this.#at, at, given);
+  }
+
+  /**
+   * Restores battles, with their players, to what they were when the array was created: all, or those where `which`, an array with a value for
+   * each, is not 0 or false. With `seeds`, ten bytes for each battle, the restored battles draw these numbers.
+   */
+  reset(which = null, seeds = null) {
+    const { length } = which === null ? this : list(which, "which", `a list of ${this.length} values`);
+    if (length !== this.length) throw new ArgumentError(`which has ${length} values, not ${this.length}`, "which");
+    const given = seeds === null ? null : bytesOf(seeds, "seeds", SEED_SIZE * this.length);
+    for (let at = 0; at < this.length; at++) {
+      if (which !== null && !which[at]) continue;
+      this.#restore(at * BATTLE_SIZE, BATTLE_SIZE);
+      if (this.#isWatched) this.#restore(this.#sideAt(at, 1), SIDES_SIZE);
+      if (given) reseedAt(this.#library, this.#at, at, given);
+    }
+    this.#see();
+  }
+
+  #restore(offset, count) {
+    this.#library.bytes.set(this.#first.subarray(offset, offset + count), this.#at + offset);
+  }
+
+  /** A new array with copies of the battles at these places, with their players. A place may be there many times. */
+  take(places) {
+    const from = Array.from(list(places, "places"), (place, at) => within(place, `places[${at}]`, 0, this.length - 1));
+    if (!from.length) throw new ArgumentError("places has no place", "places");
+    const [{ sides }, library] = [placesOf(from.length, this.#isWatched), this.#library];
+    return new BattleArray(library, from.length, (to) => {
+      for (const [at, place] of from.entries()) {
+        const battle = this.#at + place * BATTLE_SIZE;
+        library.bytes.copyWithin(to + at * BATTLE_SIZE, battle, battle + BATTLE_SIZE);
+        const pair = this.#at + this.#sideAt(place, 1);
+        if (this.#isWatched) library.bytes.copyWithin(to + sides + at * SIDES_SIZE, pair, pair + SIDES_SIZE);
+      }
+    }, this.#isWatched);
+  }
+
+  /** Gives the memory back at once. Every later call but `free` throws FreedError. */
+  free() {
+    if (this.#region !== null) this.#library.arena.freeRegion(this.#region);
+    this.#region = null;
+  }
+
+  [Symbol.for("nodejs.util.inspect.custom")](depth, options, inspect) {
+    if (this.#region === null) return "BattleArray (freed)";
+    return inspected("BattleArray", { length: this.length, over: this.results.filter((result) => result & 7).length }, options, inspect);
+  }
+}
+
+if (Symbol.dispose) Object.defineProperty(BattleArray.prototype, Symbol.dispose, { value: BattleArray.prototype.free });
+
+// The bit of one of the choices in a mask, by a number from 0 to below 1.
+function nth(mask, part) {
+  let count = 0;
+  for (let rest = mask; rest; rest &= rest - 1) count++;
+  let rest = mask;
+  for (let left = Math.floor(part * count); left > 0; left--) rest &= rest - 1;
+  return 31 - Math.clz32(rest & -rest);
+}
+
+/** Creates `count` copies of a battle. */
+export function arrayOf(library, terms) {
+  const { battle, count, seeds = null, sides = null } = record(terms, "terms", "an object with battle and count", KEYS);
+  if (!(battle instanceof Battle)) throw wrongType(battle, "battle", "a Battle");
+  const number = within(count, "count", 1, MOST_BATTLES);
+  const given = seeds === null ? null : bytesOf(seeds, "seeds", SEED_SIZE * number);
+  const pair = sides === null ? null : pairOf(sides);
+  const [{ bytes }, { sides: first }] = [battle, placesOf(number, pair !== null)];
+  return new BattleArray(library, number, (at) => {
+    for (let place = 0; place < number; place++) {
+      library.bytes.set(bytes, at + place * BATTLE_SIZE);
+      if (given) reseedAt(library, at, place, given);
+    }
+    if (pair) putSides(library, pair, at + first, number);
+  }, pair !== null);
+}
+
+// Replaces the numbers of the battle at a place by the seed at the same place.
+function reseedAt(library, first, place, seeds) {
+  const { calls, bytes, seed, seedAt } = library;
+  for (let at = 0; at < SEED_SIZE; at++) bytes[seedAt + at] = seeds[SEED_SIZE * place + at];
+  calls.gen1_reseed(library.size(first + place * BATTLE_SIZE), seed, 0);
+}
+
+// Writes the players and tellers of a pair for each battle.
+function putSides(library, pair, at, count) {
+  for (let place = 0; place < count; place++)
+    for (const [side, { teller, player }] of pair.entries()) {
+      const to = at + place * SIDES_SIZE + side * (PLAYER_SIZE + TELLER_SIZE);
+      library.bytes.set(player.bytes, to);
+      library.bytes.set(teller.bytes, to + PLAYER_SIZE);
+    }
+}
