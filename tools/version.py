@@ -25,6 +25,7 @@ PLACES = (
     ("crates/gen1_c/src/names.rt", r"gen1_version\(\) -> u32\n    ensures \{ result ≡ ", r" \}\n",
      lambda text, a, b, c: f"65536 * {a} + 256 * {b} + {c}"),
     ("packaging/README.md", r"`libgen1\.so\.1`, `libgen1\.so\.", r"` \|", lambda text, a, b, c: text),
+    ("rust/gen1-wasm/package.json", r'"version": "', r'",\n', lambda text, a, b, c: text),
     ("CITATION.cff", r"\nversion: ", r"\n", lambda text, a, b, c: text),
 )
 DAY = ("CITATION.cff", r'\ndate-released: "', r'"\n')

@@ -23,7 +23,7 @@ def javascript_package():
 
 def bundle(script, package, *options):
     """A script with all its imports, bundled by esbuild; `package` is the folder of the package's modules."""
-    words = ["esbuild", script, "--bundle", f"--alias:gen1={package / 'gen1.mjs'}", "--external:node:*", "--target=es2022", "--charset=utf8"]
+    words = ["esbuild", script, "--bundle", f"--alias:gen1={package / 'gen1.mjs'}", "--external:node:*", "--log-override:empty-import-meta=silent", "--target=es2022", "--charset=utf8"]
     made = subprocess.run([*words, *options], capture_output=True, text=True)
     if made.returncode:
         sys.exit(f"web: {made.stderr}")

@@ -1,5 +1,5 @@
 // A bot with playouts against a player that chooses at random, both with the same team. Prints each battle's end, and how many it won.
-import { load } from "./gen1.mjs";
+import { load } from "gen1";
 
 const BATTLES = 20;
 const FORKS = 32;
@@ -22,8 +22,8 @@ Snorlax
 - Self-Destruct
 `;
 
-const gen1 = await load(new URL("./gen1.wasm", import.meta.url));
-const team = gen1.teamFromText(TEAM);
+const gen1 = await load();
+const team = gen1.team(gen1.teamFromText(TEAM));
 let drawn = 1;
 
 // A random number from 0 to `count` - 1; the same sequence in each run.
@@ -39,19 +39,21 @@ const seed = () => Array.from({ length: 10 }, () => random(256));
 const any = (list) => list[random(list.length)];
 
 // How often side 1 wins after a choice. A copy draws the same numbers as the battle, so each fork gets others.
-/** @param {import("./gen1.mjs").Battle} battle @param {import("./gen1.mjs").ChoiceName} choice */
+/** @param {import("gen1").Battle} battle @param {import("gen1").ChoiceName} choice */
 function wins(battle, choice) {
   let won = 0;
+  const copy = battle.clone();
   for (let fork = 0; fork < FORKS; fork++) {
-    const copy = battle.clone();
+    copy.copyFrom(battle);
     copy.reseed(seed());
     copy.updateSilent(choice, any(copy.choices(2)));
     won += copy.playout(random(2 ** 32), 1).winsOne;
   }
+  copy.free();
   return won;
 }
 
-/** @param {import("./gen1.mjs").Battle} battle */
+/** @param {import("gen1").Battle} battle */
 function best(battle) {
   const tried = battle.choices(1).map((choice) => ({ choice, won: wins(battle, choice) }));
   return tried.reduce((one, two) => (two.won > one.won ? two : one)).choice;

@@ -730,13 +730,14 @@ export class Gen1 {
   lines(log: Uint8Array | ArrayBuffer): string[];
 }
 
+/** A module: its URL or the text of it, its path in Node, or its bytes. */
 export type Source = URL | string | BufferSource;
 
 /**
- * Loads the library from a module's URL or bytes. Of two modules, it loads the proved one if this host has 64-bit memories, else the
- * plain one. Rejects with ArgumentTypeError, ModuleError.
+ * Loads the library: the module of this package, or one from its URL, its path in Node, or its bytes. Of two modules, it loads the proved one if
+ * this host has 64-bit memories, else the plain one. Rejects with ArgumentTypeError, ModuleError.
  */
-export function load(source: Source | { proved?: Source; plain: Source }): Promise<Gen1>;
+export function load(source?: Source | { proved?: Source; plain: Source }): Promise<Gen1>;
 /** Whether this host has 64-bit memories. */
 export const HAS_LONG_MEMORIES: boolean;
 /** The byte of a choice. Throws ArgumentError for an unknown name, or a number that is not a byte. */

@@ -1,7 +1,7 @@
 // First-generation link battles in JavaScript, over the WebAssembly module of the C library (include/gen1.h).
 //
-//     import { load } from "./gen1.mjs";
-//     const gen1 = await load(new URL("./gen1.wasm", import.meta.url));
+//     import { load } from "gen1";
+//     const gen1 = await load();
 //     const battle = gen1.battle({ one: [member], two: [member], seed });
 //     const { lines } = battle.update("pass", "pass");
 //
@@ -169,10 +169,20 @@ export class Gen1 {
   }
 }
 
-const SOURCE = "a module: a URL or its text, its bytes, or { proved, plain } with one of these each";
+const SOURCE = "a module: a URL, a path or their text, its bytes, or { proved, plain } with one of these each";
+const HAS_FILES = typeof process === "object" && Boolean(process?.versions?.node);
+// The scheme of a URL. One letter before a colon is a drive of Windows.
+const SCHEME = /^[a-z][a-z0-9+.-]+:/i;
+
+// The bytes of a file. Bundlers leave the import alone, which is reached only where there are files.
+async function fileAt(place) {
+  const { readFile } = await import(/* webpackIgnore: true */ /* @vite-ignore */ "node:fs/promises");
+  return readFile(place);
+}
 
 async function fetched(source) {
-  if (source instanceof URL && source.protocol === "file:") return (await import("node:fs/promises")).readFile(source);
+  if (HAS_FILES && typeof source === "string" && !SCHEME.test(source)) return fileAt(source);
+  if (/^file:/i.test(source)) return fileAt(new URL(source));
   const answer = await fetch(source);
   if (!answer.ok) throw new Error(`${answer.status} ${answer.statusText}`);
   return answer.arrayBuffer();
@@ -194,10 +204,10 @@ async function instanceOf(source, what) {
 export const HAS_LONG_MEMORIES = WebAssembly.validate(Uint8Array.of(0, 0x61, 0x73, 0x6d, 1, 0, 0, 0, 5, 3, 1, 4, 1));
 
 /**
- * Loads the library from a module's URL or bytes. Of two modules, `{ proved, plain }`, it loads the proved one if the host can run it,
+ * Loads the library: the module of this package, or one from its URL, its path in Node, or its bytes. Of two modules, `{ proved, plain }`, it loads the proved one if the host can run it,
  * else the plain one; `build` says which.
  */
-export async function load(source) {
+export async function load(source = new URL("./gen1.wasm", import.meta.url)) {
   const isNamed = source?.proved !== undefined || source?.plain !== undefined;
   const build = !isNamed ? null : source.proved !== undefined && HAS_LONG_MEMORIES ? "proved" : "plain";
   const what = build ? `source.${build}` : "source";

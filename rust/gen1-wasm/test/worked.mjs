@@ -1,9 +1,9 @@
 // Worked examples from docs/MECHANICS.md, docs/TEAM_TEXT.md, README.md and include/gen1.h, whose results were calculated without the
 // library.
-import * as library from "./gen1.mjs";
-import { CODES } from "./header.mjs";
+import * as library from "../gen1.mjs";
+import { CODES } from "../header.mjs";
 import { bytesOfHex, equal, hexOf, holds, thrown } from "./holding.mjs";
-import { layoutOf } from "./structs.mjs";
+import { layoutOf } from "../structs.mjs";
 
 const SEED = [1, 36, 255, 7, 31, 100, 179, 254, 127, 10];
 const STRONG = { species: "Tauros", moves: [["Strength", 3]] };

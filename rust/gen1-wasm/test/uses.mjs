@@ -1,9 +1,9 @@
 // Uses of the library that are checked twice: `tsc -p tsconfig.json` holds them against gen1.d.mts, and `uses` runs them. So the types
 // say what the module does: each key of a type is there and no other, and what a type refuses is refused by the module too.
-import * as library from "./gen1.mjs";
+import * as library from "../gen1.mjs";
 import { equal, holds, thrown } from "./holding.mjs";
 
-/** @typedef {import("./gen1.mjs").Gen1} Gen1 */
+/** @typedef {import("../gen1.mjs").Gen1} Gen1 */
 /** @template T @typedef {Exclude<keyof T, symbol>} Named the keys that are texts */
 const { Battle, BattleArray, CANT_REASONS, CHOICES, CONDITIONS, OUTCOMES, Player, REQUESTS, Room, Spectator, STATS, STATUSES, Team, Teller, Update } = library;
 
@@ -20,109 +20,109 @@ const OF_GEN1 = {
   is64: true, build: true, version: true, battle: true, team: true, battleArray: true, load: true, testBytes: true, battleOfState: true, room: true, spectator: true, player: true,
   teller: true, teamFromText: true, teamFromPacked: true, odds: true, damage: true, base: true, moveData: true, events: true, lines: true,
 };
-/** @type {Record<Named<import("./gen1.mjs").Battle>, true>} */
+/** @type {Record<Named<import("../gen1.mjs").Battle>, true>} */
 const OF_BATTLE = {
   bytes: true, result: true, isOver: true, state: true, clone: true, copyFrom: true, free: true, toJSON: true, choices: true, offeredMask: true, words: true, update: true, updateSilent: true,
   reseed: true, playout: true, odds: true, damage: true, knockOut: true, ownSide: true, withState: true, withHp: true, withStatus: true, withStage: true,
 };
-/** @type {Record<Named<import("./gen1.mjs").Room>, true>} */
+/** @type {Record<Named<import("../gen1.mjs").Room>, true>} */
 const OF_ROOM = { battle: true, result: true, number: true, log: true, clone: true, choices: true, submit: true, toJSON: true };
-/** @type {Record<Named<import("./gen1.mjs").Spectator>, true>} */
+/** @type {Record<Named<import("../gen1.mjs").Spectator>, true>} */
 const OF_SPECTATOR = { state: true, held: true, clone: true, feed: true, toJSON: true };
-/** @type {Record<Named<import("./gen1.mjs").Player>, true>} */
+/** @type {Record<Named<import("../gen1.mjs").Player>, true>} */
 const OF_PLAYER = { side: true, bytes: true, view: true, choices: true, clone: true, feed: true, show: true, toJSON: true };
-/** @type {Record<Named<import("./gen1.mjs").Team>, true>} */
+/** @type {Record<Named<import("../gen1.mjs").Team>, true>} */
 const OF_TEAM = { length: true, members: true, toJSON: true };
-/** @type {Record<Named<import("./gen1.mjs").Teller>, true>} */
+/** @type {Record<Named<import("../gen1.mjs").Teller>, true>} */
 const OF_TELLER = { side: true, bytes: true, clone: true, tell: true, report: true };
-/** @type {Record<Named<import("./gen1.mjs").BattleArray>, true>} */
+/** @type {Record<Named<import("../gen1.mjs").BattleArray>, true>} */
 const OF_ARRAY = {
   length: true, results: true, codes: true, bytes: true, at: true, masks: true, step: true, randomStep: true, observe: true, player: true,
   playouts: true, reseed: true, reset: true, take: true, free: true,
 };
-/** @type {Record<Named<import("./gen1.mjs").PlayerView>, true>} */
+/** @type {Record<Named<import("../gen1.mjs").PlayerView>, true>} */
 const OF_VIEW = { side: true, turn: true, outcome: true, own: true, ownPublic: true, foe: true, foes: true };
-/** @type {Record<Named<import("./gen1.mjs").OwnSide>, true>} */
+/** @type {Record<Named<import("../gen1.mjs").OwnSide>, true>} */
 const OF_OWN_SIDE = { members: true, active: true, turn: true, request: true, outcome: true };
-/** @type {Record<Named<import("./gen1.mjs").OwnMember>, true>} */
+/** @type {Record<Named<import("../gen1.mjs").OwnMember>, true>} */
 const OF_OWN_MEMBER = { species: true, level: true, status: true, moves: true, pp: true, hp: true, maxHp: true, stats: true };
-/** @type {Record<Named<import("./gen1.mjs").OwnActive>, true>} */
+/** @type {Record<Named<import("../gen1.mjs").OwnActive>, true>} */
 const OF_OWN_ACTIVE = { place: true, types: true, stats: true, stages: true, conditions: true, disabledSlot: true, held: true };
-/** @type {Record<Named<import("./gen1.mjs").SeenMember>, true>} */
+/** @type {Record<Named<import("../gen1.mjs").SeenMember>, true>} */
 const OF_SEEN = { species: true, level: true, status: true, hp: true, maxHp: true, moves: true };
-/** @type {Record<Named<import("./gen1.mjs").SeenActive>, true>} */
+/** @type {Record<Named<import("../gen1.mjs").SeenActive>, true>} */
 const OF_SEEN_ACTIVE = { place: true, types: true, stages: true, lastMove: true, announced: true };
-/** @type {Record<Named<import("./gen1.mjs").KnockOut>, true>} */
+/** @type {Record<Named<import("../gen1.mjs").KnockOut>, true>} */
 const OF_KNOCK_OUT = { once: true, onceOf: true, twice: true, twiceOf: true, breaksSubstitute: true, chanceOnce: true, chanceTwice: true };
-/** @type {Record<Named<import("./gen1.mjs").Update>, true>} */
+/** @type {Record<Named<import("../gen1.mjs").Update>, true>} */
 const OF_UPDATE = { result: true, log: true, events: true, lines: true, toJSON: true };
-/** @type {Record<Named<import("./gen1.mjs").State>, true>} */
+/** @type {Record<Named<import("../gen1.mjs").State>, true>} */
 const OF_STATE = { one: true, two: true, turn: true, limit: true, lastDamage: true, rules: true, outcome: true, requests: true, index: true, numbers: true };
-/** @type {Record<Named<import("./gen1.mjs").MemberState>, true>} */
+/** @type {Record<Named<import("../gen1.mjs").MemberState>, true>} */
 const OF_MEMBER = { species: true, level: true, status: true, sleep: true, marked: true, moves: true, pp: true, hp: true, maxHp: true, stats: true };
-/** @type {Record<Named<import("./gen1.mjs").ActiveState>, true>} */
+/** @type {Record<Named<import("../gen1.mjs").ActiveState>, true>} */
 const OF_ACTIVE = {
   place: true, types: true, stats: true, stages: true, conditions: true, currentMove: true, pickedMove: true, keptAccuracy: true, substitute: true,
   confusion: true, disabledSlot: true, disabledTurns: true, badPoison: true, turns: true, energy: true,
 };
-/** @type {Record<Named<import("./gen1.mjs").ShownState>, true>} */
+/** @type {Record<Named<import("../gen1.mjs").ShownState>, true>} */
 const OF_SHOWN = { one: true, two: true, turn: true, outcome: true };
-/** @type {Record<Named<import("./gen1.mjs").ShownSide>, true>} */
+/** @type {Record<Named<import("../gen1.mjs").ShownSide>, true>} */
 const OF_SHOWN_SIDE = { members: true, place: true, stages: true, substitute: true, confused: true, lightScreen: true, reflect: true };
-/** @type {Record<Named<import("./gen1.mjs").Odds>, true>} */
+/** @type {Record<Named<import("../gen1.mjs").Odds>, true>} */
 const OF_ODDS = {
   usual: true, critical: true, criticalChance: true, hitChance: true, reason: true, fixed: true, hits: true, chargesFirst: true, takesHitTest: true,
 };
-/** @type {Record<Named<import("./gen1.mjs").Base>, true>} */
+/** @type {Record<Named<import("../gen1.mjs").Base>, true>} */
 const OF_BASE = { hp: true, attack: true, defense: true, speed: true, special: true, types: true };
-/** @type {Record<Named<import("./gen1.mjs").MoveData>, true>} */
+/** @type {Record<Named<import("../gen1.mjs").MoveData>, true>} */
 const OF_MOVE_DATA = { type: true, power: true, accuracy: true, pp: true, effect: true };
-/** @type {Record<Named<import("./gen1.mjs").Playouts>, true>} */
+/** @type {Record<Named<import("../gen1.mjs").Playouts>, true>} */
 const OF_PLAYOUTS = { winsOne: true, winsTwo: true, ties: true, faults: true };
-/** @type {Record<Named<import("./gen1.mjs").WholeMember>, true>} */
+/** @type {Record<Named<import("../gen1.mjs").WholeMember>, true>} */
 const OF_WHOLE_MEMBER = { species: true, level: true, dvs: true, exp: true, moves: true };
 // The names in docs/MECHANICS.md and docs/LAYOUT.md, in the order of their numbers and bits.
-/** @type {Record<import("./gen1.mjs").Condition, true>} */
+/** @type {Record<import("../gen1.mjs").Condition, true>} */
 const ALL_CONDITIONS = {
   bide: true, thrash: true, trapping: true, flinch: true, charging: true, invulnerable: true, confused: true, mist: true, "focus energy": true,
   substitute: true, recharge: true, rage: true, seeded: true, "bad poison": true, "light screen": true, reflect: true, disabled: true,
 };
-/** @type {Record<import("./gen1.mjs").Status, true>} */
+/** @type {Record<import("../gen1.mjs").Status, true>} */
 const ALL_STATUSES = { none: true, sleep: true, poison: true, burn: true, freeze: true, paralysis: true };
-/** @type {Record<import("./gen1.mjs").Stat, true>} */
+/** @type {Record<import("../gen1.mjs").Stat, true>} */
 const ALL_STATS = { attack: true, defense: true, speed: true, special: true, accuracy: true, evasion: true };
-/** @type {Record<import("./gen1.mjs").Outcome, true>} */
+/** @type {Record<import("../gen1.mjs").Outcome, true>} */
 const ALL_OUTCOMES = { ongoing: true, "win one": true, "win two": true, tie: true, "fault 1": true, "fault 2": true };
-/** @type {Record<import("./gen1.mjs").Request, true>} */
+/** @type {Record<import("../gen1.mjs").Request, true>} */
 const ALL_REQUESTS = { pass: true, move: true, switch: true };
-/** @type {Record<import("./gen1.mjs").EventKind, true>} */
+/** @type {Record<import("../gen1.mjs").EventKind, true>} */
 const ALL_KINDS = {
   turn: true, switch: true, move: true, cant: true, damage: true, heal: true, crit: true, "super effective": true, resisted: true, immune: true,
   miss: true, fail: true, status: true, cure: true, boost: true, unboost: true, "clear all": true, start: true, end: true, activate: true,
   prepare: true, "must recharge": true, "hit count": true, "one hit knock out": true, faint: true, win: true, tie: true, fault: true,
 };
-/** @type {Record<import("./gen1.mjs").CantReason, true>} */
+/** @type {Record<import("../gen1.mjs").CantReason, true>} */
 const ALL_REASONS = {
   asleep: true, frozen: true, "partially trapped": true, flinched: true, recharging: true, disabled: true, paralysed: true,
 };
-/** @type {Record<import("./gen1.mjs").DamageSource, true>} */
+/** @type {Record<import("../gen1.mjs").DamageSource, true>} */
 const ALL_SOURCES = { direct: true, poison: true, burn: true, "leech seed": true, recoil: true, confusion: true };
-/** @type {Record<import("./gen1.mjs").Volatile, true>} */
+/** @type {Record<import("../gen1.mjs").Volatile, true>} */
 const ALL_VOLATILES = {
   confusion: true, bide: true, substitute: true, "leech seed": true, mist: true, "focus energy": true, "light screen": true, reflect: true,
   disable: true, "type change": true, trapped: true, rage: true, splash: true,
 };
-/** @type {Record<import("./gen1.mjs").Fault, true>} */
+/** @type {Record<import("../gen1.mjs").Fault, true>} */
 const ALL_FAULTS = { division: true, psywave: true };
-/** @type {Record<import("./gen1.mjs").ChoiceName, true>} */
+/** @type {Record<import("../gen1.mjs").ChoiceName, true>} */
 const ALL_CHOICES = {
   pass: true, "move 0": true, "move 1": true, "move 2": true, "move 3": true, "move 4": true, "switch 1": true, "switch 2": true, "switch 3": true,
   "switch 4": true, "switch 5": true, "switch 6": true,
 };
 
-/** @type {import("./gen1.mjs").Member} */
+/** @type {import("../gen1.mjs").Member} */
 const TAUROS = { species: "Tauros", level: 100, dvs: Uint8Array.of(15, 15, 15, 15), moves: [["Strength", 3], [34, 0]] };
-/** @type {import("./gen1.mjs").Terms} */
+/** @type {import("../gen1.mjs").Terms} */
 const TERMS = { one: [TAUROS], two: [TAUROS, { species: 94, moves: [["Splash", 3]] }], seed: new Uint8Array(10), rules: 3, limit: 9999 };
 
 /** @param {object} found @param {Record<string, true>} wanted */
@@ -151,7 +151,7 @@ function lists() {
 function battles(gen1) {
   const battle = gen1.battle(TERMS);
   const update = battle.update("pass", 0);
-  /** @type {readonly import("./gen1.mjs").ChoiceName[]} */
+  /** @type {readonly import("../gen1.mjs").ChoiceName[]} */
   const choices = battle.choices(1);
   holds(choices.every((choice) => typeof choice === "string") && typeof gen1.is64 === "boolean" && /^\d+\.\d+\.\d+$/.test(gen1.version), "other types");
   for (const [one, wanted] of /** @type {[object, Record<string, true>][]} */ ([[gen1, OF_GEN1], [battle, OF_BATTLE], [update, OF_UPDATE]])) offers(one, wanted);
@@ -187,7 +187,7 @@ function roomsAndSpectators(gen1) {
   const spectator = gen1.spectator(TERMS.one, TERMS.two);
   offers(room, OF_ROOM);
   offers(spectator, OF_SPECTATOR);
-  /** @type {import("./gen1.mjs").Update | null} */
+  /** @type {import("../gen1.mjs").Update | null} */
   const waiting = room.submit(1, room.number, room.choices(1)[0]);
   spectator.feed(room.submit(2, 0, "move 1")?.log ?? new Uint8Array(0));
   holds(waiting === null && spectator.state.one.place === 0 && room.clone() instanceof Room && spectator.clone() instanceof Spectator, "another room");
@@ -212,7 +212,7 @@ function statesAndPlayers(gen1) {
   hasKeys(foe.members[0], OF_SEEN);
   hasKeys(foe.active ?? {}, OF_SEEN_ACTIVE);
   equal([own, player.choices], [battle.ownSide(1), battle.choices(1)]);
-  /** @type {import("./gen1.mjs").Battle[]} */
+  /** @type {import("../gen1.mjs").Battle[]} */
   const changed = [
     gen1.battleOfState(battle.state), battle.withState((state) => void (state.turn = 2)), battle.withHp(1, 1, 5), battle.withStatus(2, 2, "sleep", 7),
     battle.withStage(1, "evasion", -6),

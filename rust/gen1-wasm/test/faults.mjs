@@ -1,5 +1,5 @@
 // Bad input: each error is named and says which argument is wrong, what it was and what is lawful, and nothing changes.
-import * as library from "./gen1.mjs";
+import * as library from "../gen1.mjs";
 import { equal, hexOf, holds, thrown } from "./holding.mjs";
 
 const { ArgumentError, ArgumentTypeError, DamageError, FreedError, LoadError, LogError, ModuleError } = library;
@@ -534,7 +534,7 @@ function rooms(gen1, check) {
 
 // Sources that aren't the library's module, each with the error and its text. The last is the smallest possible module.
 const SOURCES = [
-  ...[undefined, null, 5, true, {}, [1], { plain: 5 }].map((it) => [it, ArgumentTypeError, /^source(\.plain)? is .*, not a module: a URL or its text/]),
+  ...[null, 5, true, {}, [1], { plain: 5 }].map((it) => [it, ArgumentTypeError, /^source(\.plain)? is .*, not a module: a URL, a path or their text/]),
   [new URL("data:text/plain,none"), ModuleError, /^source, data:.* is not a module that can run here: /],
   [{ plain: Uint8Array.of(1, 2, 3) }, ModuleError, /^source\.plain is not a module that can run here: /],
   [Uint8Array.of(0, 0x61, 0x73, 0x6d, 1, 0, 0, 0), ModuleError, /^the module is not the C library's: it exports no memory, /],

@@ -1,7 +1,7 @@
 // Compares the module with recorded battles (tests/battles), in any JavaScript host.
-import * as library from "./gen1.mjs";
+import * as library from "../gen1.mjs";
 import { badInput, badSources } from "./faults.mjs";
-import { CODES } from "./header.mjs";
+import { CODES } from "../header.mjs";
 import { bytesOfHex, equal, hexOf, holds } from "./holding.mjs";
 import { uses } from "./uses.mjs";
 import { worked } from "./worked.mjs";
