@@ -147,7 +147,8 @@ export function choiceByte(choice, side) {
   return BYTE_OF_NAME.get(choice) ?? byteOf(choice, `side ${side}'s choice`);
 }
 
-const OFFERED = [];
+const MASKS = 4096;
+const OFFERED = new Array(MASKS).fill(null);
 
 /** The names of the choices in a mask. Each mask has one list, which is frozen. */
 export function choicesIn(mask) {

@@ -73,8 +73,9 @@ export class Battle {
 
   // The battle's pointer in the module's memory.
   get #at() {
-    if (this.#block === null) throw new FreedError("the battle was freed");
-    return this.#block.pointer;
+    const block = this.#block;
+    if (block === null) throw new FreedError("the battle was freed");
+    return block.pointer;
   }
 
   // The same, as the first argument of a call that also needs other space.
@@ -96,7 +97,8 @@ export class Battle {
   /** Becomes a copy of another battle. */
   copyFrom(battle) {
     if (!(battle instanceof Battle)) throw wrongType(battle, "battle", "a Battle");
-    const [to, from] = [Number(this.#at), Number(battle.#at)];
+    const to = Number(this.#at);
+    const from = Number(battle.#at);
     if (battle.#library === this.#library) this.#library.bytes.copyWithin(to, from, from + BATTLE_SIZE);
     else this.#library.bytes.set(battle.bytes, to);
   }
@@ -191,7 +193,8 @@ export class Battle {
   update(one, two) {
     const first = choiceByte(one, 1);
     const second = choiceByte(two, 2);
-    const [library, battle] = [this.#library, this.#at];
+    const library = this.#library;
+    const battle = this.#at;
     const code = library.calls.gen1_update(battle, first, second, library.log, library.size(CODES.LOG_ROOM), library.length);
     if (code) throw this.#refused(code, [first, second]);
     return new Update(library, library.calls.gen1_result(battle), library.bytes, library.logAt, library.sizeAt(library.length));
@@ -201,7 +204,8 @@ export class Battle {
   updateSilent(one, two) {
     const first = choiceByte(one, 1);
     const second = choiceByte(two, 2);
-    const [{ calls }, battle] = [this.#library, this.#at];
+    const { calls } = this.#library;
+    const battle = this.#at;
     const code = calls.gen1_update_silent(battle, first, second);
     if (code) throw this.#refused(code, [first, second]);
     return resultOf(calls.gen1_result(battle));

@@ -685,6 +685,8 @@ export class Gen1 {
   private constructor();
   /** Whether the module has a 64-bit memory. */
   readonly is64: boolean;
+  /** How many bytes the module's memory has. It grows with the battles that are held at the same time, and never shrinks. */
+  readonly memorySize: number;
   /** Which module runs, by the key that `load` was passed; null if it was passed one source without a key. */
   readonly build: "proved" | "plain" | null;
   /** The version of the library, such as "1.0.0". */

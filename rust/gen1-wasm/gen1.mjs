@@ -45,6 +45,11 @@ export class Gen1 {
     return this.#library.isLong;
   }
 
+  /** How many bytes the module's memory has. It grows with the battles that are held at the same time, and never shrinks. */
+  get memorySize() {
+    return this.#library.bytes.length;
+  }
+
   /** The version of the library, such as "1.0.0". */
   get version() {
     const number = this.#library.calls.gen1_version();

@@ -124,7 +124,8 @@ export class Library {
 
   /** The size_t at a pointer. */
   sizeAt(pointer) {
-    const [place, bytes] = [Number(pointer), this.bytes];
+    const place = Number(pointer);
+    const { bytes } = this;
     return (bytes[place] | (bytes[place + 1] << 8) | (bytes[place + 2] << 16) | (bytes[place + 3] << 24)) >>> 0;
   }
 
@@ -136,7 +137,8 @@ export class Library {
   /** A copy of the battle at a pointer in a block of its own. */
   blockOf(pointer) {
     const block = this.arena.block();
-    this.bytes.copyWithin(block.place, Number(pointer), Number(pointer) + BATTLE_SIZE);
+    const from = Number(pointer);
+    this.bytes.copyWithin(block.place, from, from + BATTLE_SIZE);
     return block;
   }
 

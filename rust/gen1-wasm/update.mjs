@@ -35,7 +35,7 @@ export class Update {
     this.#slab = slab;
     this.#from = used;
     this.#count = count;
-    for (let place = 0; place < count; place++) slab[used + place] = bytes[at + place];
+    slab.set(bytes.subarray(at, at + count), used);
     used += count;
   }
 

@@ -31,7 +31,7 @@ export const REASONS = Object.freeze([
 const MIDDLE = 6;
 
 // The objects of the numbers that gen1_result returns.
-const RESULTS = [];
+const RESULTS = new Array(128).fill(null);
 
 /** The object of a number that gen1_result returns. Each number has one object, which is frozen. */
 export function resultOf(answer) {

@@ -17,7 +17,7 @@ const EXPORTS = {
 };
 /** @type {Record<keyof Gen1, true>} */
 const OF_GEN1 = {
-  is64: true, build: true, version: true, battle: true, team: true, battleArray: true, load: true, testBytes: true, battleOfState: true, room: true, spectator: true, player: true,
+  is64: true, memorySize: true, build: true, version: true, battle: true, team: true, battleArray: true, load: true, testBytes: true, battleOfState: true, room: true, spectator: true, player: true,
   teller: true, teamFromText: true, teamFromPacked: true, odds: true, damage: true, base: true, moveData: true, events: true, lines: true,
 };
 /** @type {Record<Named<import("../gen1.mjs").Battle>, true>} */
