@@ -137,14 +137,16 @@ def test_without_numpy():
         "tauros = Member('Tauros', ['Pound'])\n"
         "battle = Battle([tauros], [tauros], range(10))\n"
         "class Mine(BattleEnv): pass\n"
-        "for call in (lambda: BattleArray(5, battle), lambda: BattleArray.of([battle]), BattleEnv, TwoPlayerEnv, Mine):\n"
+        "others = Encoding, PlayerArray, VectorEnv, TwoPlayerVectorEnv\n"
+        "for call in (lambda: BattleArray(5, battle), lambda: BattleArray.of([battle]), BattleEnv, TwoPlayerEnv, Mine, *others):\n"
         "    try:\n"
         "        call()\n"
         "    except ImportError as fault:\n"
         "        print(isinstance(fault, Error), fault.name, fault)\n"
     ).splitlines()
-    assert told[0] == "0 False True" and len(told) == 6
-    for name, line in zip(("BattleArray", "BattleArray", "BattleEnv", "TwoPlayerEnv", "Mine"), told[1:]):
+    names = ("BattleArray", "BattleArray", "BattleEnv", "TwoPlayerEnv", "Mine", "Encoding", "PlayerArray", "VectorEnv", "TwoPlayerVectorEnv")
+    assert told[0] == "0 False True" and len(told) == 1 + len(names)
+    for name, line in zip(names, told[1:]):
         assert line == f"True numpy {name} needs numpy: install numpy, or gen1 with its extra, as gen1[arrays]"
 
 

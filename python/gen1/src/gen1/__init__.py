@@ -193,6 +193,7 @@ __all__ = [
     "DamageFault",
     "Damages",
     "Effect",
+    "Encoding",
     "EndEvent",
     "Error",
     "Event",
