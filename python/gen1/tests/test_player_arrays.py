@@ -11,7 +11,21 @@ from conftest import random_team
 
 np = pytest.importorskip("numpy")
 
-from gen1 import BadArgument, BadTeam, BadType, Battle, BattleArray, Choice, Conditions, Player, Request, Side, Teller  # noqa: E402
+from gen1 import (  # noqa: E402
+    BadArgument,
+    BadTeam,
+    BadType,
+    Battle,
+    BattleArray,
+    Choice,
+    Conditions,
+    LibraryMissing,
+    Player,
+    Request,
+    Side,
+    Teller,
+    _library,
+)
 from gen1 import encodings as encoded  # noqa: E402
 from gen1.arrays import COUNTS, nth_choices  # noqa: E402
 from gen1.encodings import COLUMNS, VERSION, Encoding  # noqa: E402
@@ -331,6 +345,12 @@ def test_arguments_that_are_wrong(battle):
         assert array.battles == before
     with pytest.raises(ValueError):
         array.known(1)["turn"] = 5
+
+
+def test_a_library_without_the_loops():
+    """As tools/install builds it: the message says who adds them."""
+    with pytest.raises(LibraryMissing, match="has no gen1_py_nothing; only tools/python_wheel adds it"):
+        _library.bind("gen1_py_nothing", None)
 
 
 def test_copies_are_independent():

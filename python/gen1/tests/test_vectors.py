@@ -21,7 +21,6 @@ from gen1 import (  # noqa: E402
 )
 from gen1.arrays import CHOICES  # noqa: E402
 from gen1.encodings import COLUMNS  # noqa: E402
-from gen1.names import Move, Type  # noqa: E402
 from gen1.opponents import worths  # noqa: E402
 from gen1.player_arrays import PlayerArray  # noqa: E402
 from gen1.spaces import AutoresetMode, mode_of  # noqa: E402
@@ -44,7 +43,9 @@ def test_the_spaces():
         observations, infos = env.reset(seed=1)
         assert observations in env.observation_space and observations[0] in env.single_observation_space
         assert env.action_space.sample(tuple(infos["action_mask"].astype(np.int8))) in env.action_space
-    assert VectorEnv(2).metadata["autoreset_mode"].value == "NextStep" and "autoreset_mode" not in VectorEnv.metadata
+    env = VectorEnv(num_envs=2)
+    assert not env.closed and env.close() is None and env.closed
+    assert env.metadata["autoreset_mode"].value == "NextStep" and "autoreset_mode" not in VectorEnv.metadata
 
 
 @pytest.mark.parametrize("mode", MODES)
@@ -133,7 +134,7 @@ def test_two_players():
         if over["one"]:
             assert all(np.array_equal(infos[it]["final_obs"][0], rows[it]) for it in many.agents)
             rows, _ = one.reset()
-    assert many.agents == ["one", "two"] and many.close() is None
+    assert many.agents == ["one", "two"] and many.close() is None and many.closed
 
 
 def test_teams_of_each_battle():
@@ -158,17 +159,13 @@ def test_teams_of_each_battle():
 
 
 def test_greedy_beats_random():
-    """By far, with the default teams."""
-    env, dice, won = VectorEnv(200, opponent="greedy", autoreset="disabled"), np.random.default_rng(3), 0
-    env.reset(seed=3)
-    for _ in range(400):
-        live = env.action_masks().any(1)
-        _, rewards, over, _, infos = env.step(some(env.action_masks(), dice))
-        won -= rewards.sum()
-        if over.any():
-            break_at = over
-            env.reset(options={"reset_mask": break_at})
-    assert won > 0 and live.any()
+    """It wins more than four of five of its battles, with the default teams."""
+    env, dice, rewards = VectorEnv(200, opponent="greedy", autoreset="same_step"), np.random.default_rng(3), []
+    _, infos = env.reset(seed=3)
+    for _ in range(150):
+        _, reward, _, _, infos = env.step(some(infos["action_mask"], dice))
+        rewards += reward[reward != 0].tolist()
+    assert len(rewards) > 300 and rewards.count(-1) > 0.8 * len(rewards)
 
 
 def test_what_greedy_estimates():
@@ -181,7 +178,7 @@ def test_what_greedy_estimates():
     assert found["Strength"] == pytest.approx(80 * physical) and found["Earthquake"] == 0
     assert found["Blizzard"] == pytest.approx(120 * 0.9 * 4 * special)
     assert found["Thunderbolt"] == pytest.approx(95 * special * 2 * 0.5)
-    assert (worths(array, 1)[:, 1:] == 0).all() and Move.BLIZZARD and Type.ICE
+    assert (worths(array, 1)[:, 1:] == 0).all()
 
 
 @pytest.mark.parametrize("made", [VectorEnv, TwoPlayerVectorEnv])

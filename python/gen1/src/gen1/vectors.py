@@ -35,9 +35,15 @@ class _Vector:
     closed = False
 
     def _prepare(
-        self, n: int, teams: tuple[TeamSource, TeamSource], terms: tuple[int, int], autoreset: object, form: Encoding | str, threads: int
+        self,
+        num_envs: int,
+        teams: tuple[TeamSource, TeamSource],
+        terms: tuple[int, int],
+        autoreset: object,
+        form: Encoding | str,
+        threads: int,
     ) -> None:
-        self.num_envs = within(n, "n", 1, MOST)
+        self.num_envs = within(num_envs, "num_envs", 1, MOST)
         mode, encoding = spaces.mode_of(autoreset), encoding_of(form)
         self.autoreset_mode = _AutoresetMode(mode.value)
         self.metadata = {**self.metadata, "autoreset_mode": self.autoreset_mode}
@@ -68,7 +74,8 @@ class _Vector:
         return tuple(self._episodes.sight(at) for at in range(self.num_envs))
 
     def close(self, **_: Any) -> None:
-        """Does nothing, since there is nothing to close."""
+        """Marks it as closed; there is nothing else to close."""
+        self.closed = True
 
     def _choices(self, actions: NDArray[Any], side: int) -> Bytes:
         """The choices that actions mean. Raises `Refused` for one that is not offered; nothing has changed then."""
@@ -87,7 +94,7 @@ class _Vector:
 
 
 class VectorEnv(_Vector, _Base):  # type: ignore[misc, valid-type]
-    """`n` battles, in each of which the player of side 1 meets an opponent, with the API of `gymnasium.vector.VectorEnv`.
+    """`num_envs` battles, n for short, in each of which the player of side 1 meets an opponent, with the API of `gymnasium.vector.VectorEnv`.
 
     `opponent` is "random", "greedy" (the move that hurts most), or a function: given observations, (m, columns), and action masks, (m, 12)
     bools, of those m battles that go on, it returns their actions, (m). It sees what the player of side 2 knows, and never a battle.
@@ -104,7 +111,7 @@ class VectorEnv(_Vector, _Base):  # type: ignore[misc, valid-type]
 
     def __init__(
         self,
-        n: int = 1,
+        num_envs: int = 1,
         one: TeamSource = DEFAULT_TEAM,
         two: TeamSource = DEFAULT_TEAM,
         opponent: OpponentLike = "random",
@@ -116,7 +123,7 @@ class VectorEnv(_Vector, _Base):  # type: ignore[misc, valid-type]
         threads: int = 1,
     ) -> None:
         self._opponent = opponent_of(opponent)
-        self._prepare(n, (one, two), (rules, limit), autoreset, observations, threads)
+        self._prepare(num_envs, (one, two), (rules, limit), autoreset, observations, threads)
         self.observation_space, self.action_space = self._batch_space, self._batch_actions
 
     def reset(
@@ -149,7 +156,7 @@ class VectorEnv(_Vector, _Base):  # type: ignore[misc, valid-type]
 
 
 class TwoPlayerVectorEnv(_Vector):
-    """`n` battles of two players, "one" and "two", with PettingZoo's parallel API, where each value has a further first axis of length n.
+    """`num_envs` battles of two players, "one" and "two", with PettingZoo's parallel API; each value has a further first axis, of length n.
 
     Both act in each step; a side that is asked for nothing takes action 0, pass. `agents` are always both: battles that are over start anew
     as `autoreset` says, which is as in `VectorEnv`, and so are all other arguments.
@@ -159,7 +166,7 @@ class TwoPlayerVectorEnv(_Vector):
 
     def __init__(
         self,
-        n: int = 1,
+        num_envs: int = 1,
         one: TeamSource = DEFAULT_TEAM,
         two: TeamSource = DEFAULT_TEAM,
         *,
@@ -169,7 +176,7 @@ class TwoPlayerVectorEnv(_Vector):
         observations: Encoding | str = "player",
         threads: int = 1,
     ) -> None:
-        self._prepare(n, (one, two), (rules, limit), autoreset, observations, threads)
+        self._prepare(num_envs, (one, two), (rules, limit), autoreset, observations, threads)
         self.possible_agents, self.agents = list(NAMES), list(NAMES)
         self.observation_spaces = dict.fromkeys(NAMES, self._batch_space)
         self.action_spaces = dict.fromkeys(NAMES, self._batch_actions)
