@@ -80,7 +80,8 @@ def test_steps(mode, opponent):
                 assert np.array_equal((final[:, WON] - final[:, LOST])[terminations], rewards[terminations])
                 assert not infos["final_info"]["action_mask"].any()
             continue
-        assert "final_obs" not in infos and np.array_equal((observations[:, WON] - observations[:, LOST])[terminations], rewards[terminations])
+        shown = observations[:, WON] - observations[:, LOST]
+        assert "final_obs" not in infos and np.array_equal(shown[terminations], rewards[terminations])
         assert np.array_equal(terminations, ~infos["action_mask"].any(1))
         if mode == "next_step":
             assert (turns[over] == 1).all() and not terminations[over].any() and not rewards[over].any()
@@ -101,8 +102,8 @@ def test_one_battle_is_that_of_a_single_environment():
     """The same seed and actions give the same observations, rewards and masks, for each opponent and encoding."""
     for opponent in ("random", "greedy", lambda observations, masks: masks.argmax(1)):
         for encoding in (Encoding(), Encoding("uint8", True)):
-            many, one = VectorEnv(1, opponent=opponent, autoreset="disabled", observations=encoding), BattleEnv(opponent=opponent, observations=encoding)
-            dice = np.random.default_rng(2)
+            many = VectorEnv(1, opponent=opponent, autoreset="disabled", observations=encoding)
+            one, dice = BattleEnv(opponent=opponent, observations=encoding), np.random.default_rng(2)
             for seed in (3, None):
                 (observations, infos), (row, info) = many.reset(seed=seed), one.reset(seed=seed)
                 over = False
@@ -230,7 +231,12 @@ def test_actions_that_are_wrong():
     assert fault.value.choice == CHOICES[1]
     two = TwoPlayerVectorEnv(2)
     two.reset()
-    for actions, kind in (({}, BadArgument), (None, BadType), ({"one": [2, 2], "two": [2]}, BadArgument), ({"one": [2, 2], "two": [1, 2]}, Refused)):
+    for actions, kind in (
+        ({}, BadArgument),
+        (None, BadType),
+        ({"one": [2, 2], "two": [2]}, BadArgument),
+        ({"one": [2, 2], "two": [1, 2]}, Refused),
+    ):
         with pytest.raises(kind):
             two.step(actions)
     with pytest.raises(BadArgument):

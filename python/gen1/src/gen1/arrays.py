@@ -38,20 +38,27 @@ for _mask in range(1 << ACTIONS):
 class BattleArray:
     """Battles in one array of (n, 384) bytes that begins at a multiple of 64.
 
-    `bytes` is the array itself. `fields` is the same array with the field names of docs/LAYOUT.md: `array.fields["sides"]["members"]["hp"]`
-    has shape (n, 2, 6). `results` (n) are the result bytes of the battles. `codes` (n) is 0 for each battle that the last step updated, else
-    the number of its `Refusal`. All four are read-only and show the current battles, so copy what is needed after the next step. Battles
-    are changed by `array[place] = battle`, `step`, `random_step`, `reseed` and `reset`.
+    `bytes` is the array itself. `fields` is the same array with the field
+    names of docs/LAYOUT.md: `array.fields["sides"]["members"]["hp"]` has
+    shape (n, 2, 6). `results` (n) are the result bytes of the battles.
+    `codes` (n) is 0 for each battle that the last step updated, else the
+    number of its `Refusal`. All four are read-only and show the current
+    battles, so copy what is needed after the next step. Battles are changed
+    by `array[place] = battle`, `step`, `random_step`, `reseed` and `reset`.
 
-    An array must be used by one thread at a time. Steps and masks let other threads run, so that different arrays can step in parallel.
-    With `threads`, steps and masks of one array run in that many threads, each for a part of the battles. What comes out does not depend on
-    their number.
+    An array must be used by one thread at a time. Steps and masks let other
+    threads run, so that different arrays can step in parallel. With
+    `threads`, steps and masks of one array run in that many threads, each
+    for a part of the battles. What comes out does not depend on their
+    number.
     """
 
     def __init__(self, n: int, battle: Battle, seeds: ArrayLike | None = None, *, threads: int = 1) -> None:
-        """Creates `n` copies of a battle, at least 1. With `seeds`, (n, 10) bytes, each draws numbers of its own.
+        """Creates `n` copies of a battle, at least 1. With `seeds`, (n, 10)
+        bytes, each draws numbers of its own.
 
-        Without seeds all copies draw the same numbers as the battle. `threads` is 1 to 256.
+        Without seeds all copies draw the same numbers as the battle.
+        `threads` is 1 to 256.
         """
         count, row = within(n, "n", 1, 1 << 40), _row(battle, "battle")
         self._threads = within(threads, "threads", 1, MOST_THREADS)
@@ -71,10 +78,12 @@ class BattleArray:
         return cls._holding(np.stack(rows), known)
 
     def take(self, places: ArrayLike) -> "BattleArray":
-        """A new array with copies of the battles at these places: (m) numbers from -n to n - 1, at least one, which may repeat.
+        """A new array with copies of the battles at these places: (m) numbers
+        from -n to n - 1, at least one, which may repeat.
 
-        A search makes copies of each battle with `array.take(np.repeat(np.arange(n), 4))` and reseeds them. `reset` on the new array
-        restores these copies.
+        A search makes copies of each battle with
+        `array.take(np.repeat(np.arange(n), 4))` and reseeds them. `reset`
+        on the new array restores these copies.
         """
         at = _array(places, "places")
         if at.ndim != 1 or not len(at):
@@ -142,9 +151,11 @@ class BattleArray:
         return over
 
     def masks(self) -> Masks:
-        """The offered choices of each side of each battle as masks, (2, n): first side 1, then side 2.
+        """The offered choices of each side of each battle as masks, (2, n):
+        first side 1, then side 2.
 
-        Bit b of a mask is 1 exactly if `CHOICES[b]` is offered; `bits` converts masks to bools. The mask of a battle that is over is 0.
+        Bit b of a mask is 1 exactly if `CHOICES[b]` is offered; `bits`
+        converts masks to bools. The mask of a battle that is over is 0.
         """
         masks = np.empty((2, len(self)), np.uint16)
         battles, (ones, twos) = self._bytes.ctypes.data, (it.ctypes.data for it in masks)
@@ -158,19 +169,24 @@ class BattleArray:
         return masks
 
     def step(self, ones: ArrayLike, twos: ArrayLike) -> Bytes:
-        """Updates each battle with a choice of each side, (n) numbers from 0 to 255 each, and returns a copy of the results, (n).
+        """Updates each battle with a choice of each side, (n) numbers from 0
+        to 255 each, and returns a copy of the results, (n).
 
-        A battle that refuses its pair is unchanged, and `codes` says why. So a battle that is over is unchanged whatever its choices
-        are. Raises `BadArgument` or `BadType` for choices of another length, range or type, and then nothing has changed.
+        A battle that refuses its pair is unchanged, and `codes` says why.
+        So a battle that is over is unchanged whatever its choices are.
+        Raises `BadArgument` or `BadType` for choices of another length,
+        range or type, and then nothing has changed.
         """
         pair = self._choices(ones, "ones"), self._choices(twos, "twos")
         self._update(*pair)
         return self._results.copy()
 
     def random_step(self, dice: np.random.Generator) -> tuple[Bytes, Bytes]:
-        """Makes a step with a random choice of each side, all equally likely, and returns these choices.
+        """Makes a step with a random choice of each side, all equally likely,
+        and returns these choices.
 
-        A battle that is over is unchanged. Raises `BadType` if `dice` is not a numpy generator.
+        A battle that is over is unchanged. Raises `BadType` if `dice` is
+        not a numpy generator.
         """
         if not isinstance(dice, np.random.Generator):
             raise BadType(f"dice must be a numpy.random.Generator, not {shown(dice)}")
@@ -180,18 +196,24 @@ class BattleArray:
         return taken[0], taken[1]
 
     def observe(self, side: int) -> NDArray[np.float32]:
-        """The observation of a side for each battle, (n, `len(COLUMNS)`) numbers; `gen1.observations` describes the columns."""
+        """The observation of a side for each battle, (n, `len(COLUMNS)`)
+        numbers; `gen1.observations` describes the columns.
+        """
         known = a_side(side)
         return observe(self._fields, known, self.masks()[known - 1])
 
     def reseed(self, seeds: ArrayLike) -> None:
-        """Replaces the numbers that each battle draws by (n, 10) bytes, of which the first is drawn next; nothing else changes."""
+        """Replaces the numbers that each battle draws by (n, 10) bytes, of
+        which the first is drawn next; nothing else changes.
+        """
         self._fields["numbers"], self._fields["index"] = self._seeds(seeds), 0
 
     def reset(self, which: ArrayLike | None = None, seeds: ArrayLike | None = None) -> None:
-        """Restores battles to what they were when the array was created: all, or those where `which`, (n) bools, is true.
+        """Restores battles to what they were when the array was created: all,
+        or those where `which`, (n) bools, is true.
 
-        With `seeds`, (n, 10) bytes, the restored battles draw these numbers.
+        With `seeds`, (n, 10) bytes, the restored battles draw these
+        numbers.
         """
         chosen = np.ones(len(self), bool) if which is None else _array(which, "which")
         if chosen.shape != (len(self),) or chosen.dtype != bool:
@@ -258,12 +280,16 @@ class BattleArray:
 
 
 def bits(masks: Masks) -> NDArray[np.bool_]:
-    """Converts masks of any shape to bools, with a further axis of length 12: the choices in the order of `CHOICES`."""
+    """Converts masks of any shape to bools, with a further axis of length 12:
+    the choices in the order of `CHOICES`.
+    """
     return (masks[..., None] >> np.arange(ACTIONS, dtype=np.uint16) & 1).astype(bool)
 
 
 def nth_choices(masks: Masks, nth: NDArray[Any]) -> Bytes:
-    """The number of the n-th choice that each mask offers; 0, which is `PASS`, for a mask of 0."""
+    """The number of the n-th choice that each mask offers; 0, which is `PASS`,
+    for a mask of 0.
+    """
     taken: Bytes = NTH.take(np.left_shift(masks, 4, dtype=np.uint32) + nth)
     return taken
 

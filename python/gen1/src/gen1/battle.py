@@ -337,11 +337,11 @@ class Battle:
         choices, and counts how they end. The battle is unchanged.
 
         `seed`, 0 to 2**64 - 1, is for the choices; the same seed gives the
-        same counts. `rounds` is 0 to 2**32 - 1. The first thousand are those
-        of gen1_playout (include/gen1.h, "many battles"); for each further
-        thousand `random.Random(seed).getrandbits(64)` gives the next seed.
-        The copies draw the numbers that the battle will draw; a search that
-        must not know them reseeds a copy first.
+        same counts. `rounds` is 0 to 2**32 - 1. The first thousand are
+        those of gen1_playout (include/gen1.h, "many battles"); for each
+        further thousand `random.Random(seed).getrandbits(64)` gives the
+        next seed. The copies draw the numbers that the battle will draw; a
+        search that must not know them reseeds a copy first.
 
         About ten thousand are played in a second. Other threads run
         meanwhile, and `KeyboardInterrupt` ends the call after at most a

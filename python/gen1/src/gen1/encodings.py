@@ -37,8 +37,10 @@ PLAYER = np.dtype(PlayerStruct)
 class Column:
     """A column of a row.
 
-    `options` is 0 for a number; else the column is a category with that many options, 0 to `options` - 1. `low` and `high` are the least
-    and the greatest value in a row of float32, `top` the greatest one in a row of uint8, where the least is 0. `says` is its meaning.
+    `options` is 0 for a number; else the column is a category with that
+    many options, 0 to `options` - 1. `low` and `high` are the least and the
+    greatest value in a row of float32, `top` the greatest one in a row of
+    uint8, where the least is 0. `says` is its meaning.
     """
 
     name: str
@@ -65,8 +67,8 @@ class _Cell:
 
 
 def _category(name: str, place: int, options: int, of: str) -> _Cell:
-    says = f"{of}, 0 to {options - 1}"
-    return _Cell(Column(name, options, 0.0, float(options - 1), options - 1, says), "byte", place, 0, tuple(map(float, range(256))), tuple(range(256)))
+    column = Column(name, options, 0.0, float(options - 1), options - 1, f"{of}, 0 to {options - 1}")
+    return _Cell(column, "byte", place, 0, tuple(map(float, range(256))), tuple(range(256)))
 
 
 def _share(name: str, place: int, most: int, says: str) -> _Cell:
@@ -221,9 +223,11 @@ class _FormStruct(Structure):
 
 @dataclass(frozen=True)
 class Encoding:
-    """The form of a row: its type, "float32" or "uint8", and whether each category is one number, to embed, or one-hot.
+    """The form of a row: its type, "float32" or "uint8", and whether each
+    category is one number, to embed, or one-hot.
 
-    A category that is one-hot has one column for each of its options, in the same place.
+    A category that is one-hot has one column for each of its options, in
+    the same place.
     """
 
     dtype: str = "float32"
@@ -240,7 +244,9 @@ class Encoding:
 
     @cached_property
     def columns(self) -> tuple[Column, ...]:
-        """The columns of a row. An option of a one-hot category is named "own 1 status = 2"."""
+        """The columns of a row. An option of a one-hot category is named "own
+        1 status = 2".
+        """
         made: list[Column] = []
         for it in COLUMNS:
             if it.options and self.one_hot:
@@ -292,7 +298,9 @@ class Encoding:
         return made
 
     def rows(self, count: int, out: Rows | None = None) -> Rows:
-        """A new array for `count` rows; or `out`, if it is such an array. Raises `BadType` if it is another one."""
+        """A new array for `count` rows; or `out`, if it is such an array.
+        Raises `BadType` if it is another one.
+        """
         if out is None:
             return np.empty((count, self.width), self.dtype)
         if not isinstance(out, np.ndarray) or out.dtype != self.dtype:
@@ -315,7 +323,9 @@ class Encoding:
 
 @lru_cache(maxsize=4)
 def filler(dtype: str, short: bool = False) -> Any:
-    """The call of batch.c that fills rows of this type; one that is short keeps the interpreter's lock."""
+    """The call of batch.c that fills rows of this type; one that is short
+    keeps the interpreter's lock.
+    """
     name = {"float32": "gen1_py_observe_floats", "uint8": "gen1_py_observe_bytes"}[dtype]
     of = _library.SHORT if short else _library.LONG
     return _library.bind(name, None, c_void_p, c_size_t, c_size_t, c_void_p, c_void_p, of=of)
@@ -331,6 +341,8 @@ def encoding_of(given: "Encoding | str") -> Encoding:
 
 
 def described(encoding: Encoding = Encoding()) -> str:
-    """A line for each column: its number, its name, its range as float32 and as uint8, and its meaning."""
+    """A line for each column: its number, its name, its range as float32 and
+    as uint8, and its meaning.
+    """
     lines = [f"{at:5}  {it.name:28} {it.low:g} to {it.high:g}; 0 to {it.top}  {it.says}" for at, it in enumerate(encoding.columns)]
     return "\n".join([f"columns of version {VERSION}: number, name, range as float32 and as uint8, meaning", *lines])

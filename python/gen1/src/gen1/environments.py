@@ -65,7 +65,9 @@ class _Single:
         return self.seen[side - 1].copy()
 
     def choice(self, number: int, side: int) -> int:
-        """The choice that an action means. Raises `Refused` if it is not offered, or if the battle is over."""
+        """The choice that an action means. Raises `Refused` if it is not
+        offered, or if the battle is over.
+        """
         mask = self.mask(side)
         if not mask >> number & 1:
             if not mask:
@@ -81,7 +83,9 @@ class _Single:
         return int(chooser(self.episodes.players, 2, self.episodes.encoding, self.episodes.dice)[0])
 
     def update(self, one: int, two: int) -> int:
-        """Updates the battle by choices that are offered, and returns its outcome."""
+        """Updates the battle by choices that are offered, and returns its
+        outcome.
+        """
         self.updates[0], self.updates[1] = one, two
         self.play(*self.played)
         return self.updates[2] & 7
@@ -144,7 +148,9 @@ class _Environment:
         return self._episodes.players.player(0, side)
 
     def render(self) -> str | None:
-        """The turn, and the members that are out, on one line, with render mode "ansi"."""
+        """The turn, and the members that are out, on one line, with render
+        mode "ansi".
+        """
         return self._episodes.sight(0) if self.render_mode == "ansi" else None
 
     def close(self) -> None:
@@ -152,18 +158,23 @@ class _Environment:
 
 
 class BattleEnv(_Environment, _Base):  # type: ignore[misc, valid-type]
-    """One player, side 1, against an opponent on side 2, with Gymnasium's API. It plays the battles of a `VectorEnv` of one.
+    """One player, side 1, against an opponent on side 2, with Gymnasium's API.
+    It plays the battles of a `VectorEnv` of one.
 
-    `one` and `two` are teams, or functions of a numpy generator that return the team for each new battle. `opponent` is "random", "greedy"
-    or a function of observations, (1, columns), and action masks, (1, 12), as in `VectorEnv`; it sees what the player of side 2 knows.
-    `observations` is "player", or an `Encoding`.
+    `one` and `two` are teams, or functions of a numpy generator that return
+    the team for each new battle. `opponent` is "random", "greedy" or a
+    function of observations, (1, columns), and action masks, (1, 12), as in
+    `VectorEnv`; it sees what the player of side 2 knows. `observations` is
+    "player", or an `Encoding`.
 
-    The reward is 1 for a win, -1 for a loss, and 0 otherwise. At the turn limit the battle ends in a tie, as its rules say, so no episode
-    is truncated.
+    The reward is 1 for a win, -1 for a loss, and 0 otherwise. At the turn
+    limit the battle ends in a tie, as its rules say, so no episode is
+    truncated.
 
-    An action that is not offered raises `Refused`, before the opponent is asked, and changes nothing. So use `action_masks()`, and pass a
-    mask to `action_space.sample()`. If a function returns an action that is not offered, `Refused` is raised for side 2; the battle is
-    unchanged.
+    An action that is not offered raises `Refused`, before the opponent is
+    asked, and changes nothing. So use `action_masks()`, and pass a mask to
+    `action_space.sample()`. If a function returns an action that is not
+    offered, `Refused` is raised for side 2; the battle is unchanged.
     """
 
     spec = None
@@ -183,10 +194,12 @@ class BattleEnv(_Environment, _Base):  # type: ignore[misc, valid-type]
         self.observation_space, self.action_space = self._space, self._actions
 
     def reset(self, *, seed: int | None = None, options: Mapping[str, Any] | None = None) -> tuple[Rows, dict[str, Any]]:
-        """Starts a new battle, and returns the observation of side 1 and the info, as from `step`.
+        """Starts a new battle, and returns the observation of side 1 and the
+        info, as from `step`.
 
-        `options` may have teams "one" and "two" for this battle; other keys are ignored, since wrappers add keys of their own. Raises
-        `BadTeam`, `BadArgument`, `BadType`, and then the battle is unchanged.
+        `options` may have teams "one" and "two" for this battle; other keys
+        are ignored, since wrappers add keys of their own. Raises `BadTeam`,
+        `BadArgument`, `BadType`, and then the battle is unchanged.
         """
         single = self._begin(seed, options)
         if _Base is not object:
@@ -194,9 +207,11 @@ class BattleEnv(_Environment, _Base):  # type: ignore[misc, valid-type]
         return single.row(1), {"action_mask": single.truths(1)}
 
     def step(self, action: int) -> tuple[Rows, float, bool, bool, dict[str, Any]]:
-        """Updates the battle with side 1's action and the opponent's: observation, reward, whether it is over, False, and the mask.
+        """Updates the battle with side 1's action and the opponent's:
+        observation, reward, whether it is over, False, and the mask.
 
-        Raises `ResetNeeded` before the first reset, `Refused`, `BadArgument`, `BadType`.
+        Raises `ResetNeeded` before the first reset, `Refused`,
+        `BadArgument`, `BadType`.
         """
         single = self._single or self._begun()
         mine = single.choice(_action(action, "action"), 1)
@@ -204,15 +219,18 @@ class BattleEnv(_Environment, _Base):  # type: ignore[misc, valid-type]
         return single.row(1), _REWARDS[outcome], outcome != 0, False, {"action_mask": single.truths(1)}
 
     def action_masks(self) -> Truths:
-        """Which actions are offered, as (12) bools. Raises `ResetNeeded` before the first reset."""
+        """Which actions are offered, as (12) bools. Raises `ResetNeeded`
+        before the first reset.
+        """
         return (self._single or self._begun()).truths(1)
 
 
 class TwoPlayerEnv(_Environment):
     """Two players, "one" and "two", with PettingZoo's parallel API.
 
-    Both act in each step; a side that is asked for nothing takes action 0, pass. When the battle is over, `agents` becomes empty. The
-    arguments are those of `BattleEnv`.
+    Both act in each step; a side that is asked for nothing takes action 0,
+    pass. When the battle is over, `agents` becomes empty. The arguments are
+    those of `BattleEnv`.
     """
 
     metadata: dict[str, Any] = {"render_modes": ["ansi"], "name": "gen1_v1", "is_parallelizable": True}
@@ -243,15 +261,19 @@ class TwoPlayerEnv(_Environment):
     def reset(
         self, seed: int | None = None, options: Mapping[str, Any] | None = None
     ) -> tuple[dict[str, Rows], dict[str, dict[str, Any]]]:
-        """Starts a new battle, and returns the observation and the info of each agent. `options` are those of `BattleEnv.reset`."""
+        """Starts a new battle, and returns the observation and the info of
+        each agent. `options` are those of `BattleEnv.reset`.
+        """
         single = self._begin(seed, options)
         self.agents = list(self.possible_agents)
         return self._each(single.row), self._each(self._info)
 
     def step(self, actions: Mapping[str, int]) -> tuple[dict[str, Any], ...]:
-        """Updates the battle with both actions: observations, rewards, terminations, truncations and infos of the agents.
+        """Updates the battle with both actions: observations, rewards,
+        terminations, truncations and infos of the agents.
 
-        Raises `ResetNeeded` before the first reset, `Refused`, `BadArgument`, `BadType`; then the battle is unchanged.
+        Raises `ResetNeeded` before the first reset, `Refused`,
+        `BadArgument`, `BadType`; then the battle is unchanged.
         """
         if not isinstance(actions, Mapping):
             raise BadType(f"actions must be a dict, not {shown(actions)}")
@@ -274,7 +296,9 @@ class TwoPlayerEnv(_Environment):
         return told
 
     def action_masks(self, agent: str) -> Truths:
-        """Which actions an agent is offered, as (12) bools. Raises `ResetNeeded` before the first reset."""
+        """Which actions an agent is offered, as (12) bools. Raises
+        `ResetNeeded` before the first reset.
+        """
         side = self._side(agent)
         return self._begun().truths(side)
 

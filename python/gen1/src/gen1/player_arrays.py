@@ -28,7 +28,9 @@ USUAL = Encoding()
 
 @dataclass(frozen=True)
 class Start:
-    """A battle after its first update, and what its players and tellers know then, as pairs of `PLAYER` and `TELLER`."""
+    """A battle after its first update, and what its players and tellers know
+    then, as pairs of `PLAYER` and `TELLER`.
+    """
 
     battle: Battle
     players: Pairs
@@ -36,7 +38,9 @@ class Start:
 
 
 def start_of(one: TeamLike, two: TeamLike, rules: int, limit: int, pixels: bool = False) -> Start:
-    """The start of a battle of two teams. The first update draws nothing, so the battle can be reseeded."""
+    """The start of a battle of two teams. The first update draws nothing, so
+    the battle can be reseeded.
+    """
     teams = sides_of(one, two)
     battle = Battle(*teams, bytes(10), rules, limit)
     log = battle.update(Choice.PASS, Choice.PASS).log
@@ -50,19 +54,25 @@ def start_of(one: TeamLike, two: TeamLike, rules: int, limit: int, pixels: bool 
 
 @lru_cache(maxsize=2)
 def player_of_play(short: bool = False) -> Any:
-    """The call of batch.c that updates battles and tells their players; one that is short keeps the interpreter's lock."""
+    """The call of batch.c that updates battles and tells their players; one
+    that is short keeps the interpreter's lock.
+    """
     takes = c_void_p, c_void_p, c_void_p, c_void_p, c_size_t
     return _library.bind("gen1_py_play", None, *takes, of=_library.SHORT if short else _library.LONG)
 
 
 class PlayerArray:
-    """Battles of two teams in an array, each after its first update, with the players of both sides.
+    """Battles of two teams in an array, each after its first update, with the
+    players of both sides.
 
-    `step` updates all battles in one call, and tells both players of each. What `masks`, `observe`, `known` and `player` return is computed
-    from the players alone, so a side learns nothing from it that it may not know (docs/MECHANICS.md, "Player's view"). Only `battles`,
-    `results` and `codes` are the referee's.
+    `step` updates all battles in one call, and tells both players of each.
+    What `masks`, `observe`, `known` and `player` return is computed from
+    the players alone, so a side learns nothing from it that it may not know
+    (docs/MECHANICS.md, "Player's view"). Only `battles`, `results` and
+    `codes` are the referee's.
 
-    Battles are changed by `step`, `reset` and `begin`. An array must be used by one thread at a time.
+    Battles are changed by `step`, `reset` and `begin`. An array must be
+    used by one thread at a time.
     """
 
     def __init__(
@@ -77,10 +87,13 @@ class PlayerArray:
         pixels: bool = False,
         threads: int = 1,
     ) -> None:
-        """Begins `n` battles of two teams, which draw the numbers of `seeds`, (n, 10) bytes, or all zeros.
+        """Begins `n` battles of two teams, which draw the numbers of `seeds`,
+        (n, 10) bytes, or all zeros.
 
-        `rules` and `limit` are those of `Battle`. With `pixels` HP of the foe is told in 48ths. `threads`, 1 to 256, is how many threads
-        `step` and `observe` use. Raises `BadTeam`, `BadArgument`, `BadType`.
+        `rules` and `limit` are those of `Battle`. With `pixels` HP of the
+        foe is told in 48ths. `threads`, 1 to 256, is how many threads
+        `step` and `observe` use. Raises `BadTeam`, `BadArgument`,
+        `BadType`.
         """
         self._terms = rules, limit, pixels
         start = start_of(one, two, *self._terms)
@@ -95,7 +108,9 @@ class PlayerArray:
         return f"<PlayerArray of {len(self):,}, {int(self.over.sum()):,} over>"
 
     def copy(self) -> "PlayerArray":
-        """An independent array with the same battles and players, which draws the same numbers."""
+        """An independent array with the same battles and players, which draws
+        the same numbers.
+        """
         made = PlayerArray.__new__(PlayerArray)
         made._terms, made._battles, made._first = self._terms, self._battles.copy(), (self._first[0].copy(), self._first[1].copy())
         made._players, made._tellers = self._players.copy(), self._tellers.copy()
@@ -118,7 +133,9 @@ class PlayerArray:
 
     @property
     def codes(self) -> Bytes:
-        """0 for each battle that the last step updated, else the number of its `Refusal`, (n)."""
+        """0 for each battle that the last step updated, else the number of its
+        `Refusal`, (n).
+        """
         return self._battles.codes
 
     @property
@@ -132,21 +149,27 @@ class PlayerArray:
         return self._battles.over
 
     def masks(self, side: Side | int) -> Masks:
-        """The offered choices of a side in each battle, (n), as a new array of masks, as those of `BattleArray.masks`."""
+        """The offered choices of a side in each battle, (n), as a new array of
+        masks, as those of `BattleArray.masks`.
+        """
         masks: Masks = self._players["offered"][:, a_side(side) - 1].copy()
         return masks
 
     def known(self, side: Side | int) -> Pairs:
-        """What the players of a side know, (n), as a read-only view with the fields of `gen1_player` (include/gen1.h).
+        """What the players of a side know, (n), as a read-only view with the
+        fields of `gen1_player` (include/gen1.h).
 
-        `known(1)["own"]["stats"]` has shape (n, 4). It shows the current battles.
+        `known(1)["own"]["stats"]` has shape (n, 4). It shows the current
+        battles.
         """
         view = self._players[:, a_side(side) - 1]
         view.flags.writeable = False
         return view
 
     def player(self, at: int, side: Side | int) -> Player:
-        """A copy of the player of a side in one battle. Raises `BadPlace`, which is an `IndexError` too."""
+        """A copy of the player of a side in one battle. Raises `BadPlace`,
+        which is an `IndexError` too.
+        """
         made = Player.__new__(Player)
         made._held = PlayerStruct.from_buffer_copy(self._players[a_place(at, len(self)), a_side(side) - 1].tobytes())
         return made
@@ -154,10 +177,12 @@ class PlayerArray:
     def observe(
         self, side: Side | int, encoding: Encoding = USUAL, out: Rows | None = None, which: NDArray[np.bool_] | None = None
     ) -> Rows:
-        """What a side knows of each battle, as rows, (n, `encoding.width`); `encoding.columns` describes the columns.
+        """What a side knows of each battle, as rows, (n, `encoding.width`);
+        `encoding.columns` describes the columns.
 
-        The rows are a new array, or `out` if it is given, which must have that shape and `encoding.dtype`. With `which`, (n) bools, there
-        are only the m rows of the battles where it is true.
+        The rows are a new array, or `out` if it is given, which must have
+        that shape and `encoding.dtype`. With `which`, (n) bools, there are
+        only the m rows of the battles where it is true.
         """
         at, pairs = a_side(side) - 1, self._players if which is None else _octets(self._players)[self._mask(which)]
         rows, form, fill = encoding.rows(len(pairs), out), encoding.form(at + 1), filler(encoding.dtype)
@@ -170,7 +195,9 @@ class PlayerArray:
         return rows
 
     def step(self, ones: ArrayLike, twos: ArrayLike) -> Bytes:
-        """Updates each battle with a choice of each side, and tells both players. The rest is as of `BattleArray.step`."""
+        """Updates each battle with a choice of each side, and tells both
+        players. The rest is as of `BattleArray.step`.
+        """
         updates, (battles, players, tellers, into) = self._battles._updates, self._places()
         updates[:, 0], updates[:, 1] = self._battles._choices(ones, "ones"), self._battles._choices(twos, "twos")
         play = player_of_play()
@@ -183,9 +210,11 @@ class PlayerArray:
         return self._battles.results.copy()
 
     def reset(self, which: ArrayLike | None = None, seeds: ArrayLike | None = None) -> None:
-        """Restores battles and their players to their begin: all, or those where `which`, (n) bools, is true.
+        """Restores battles and their players to their begin: all, or those
+        where `which`, (n) bools, is true.
 
-        With `seeds`, (n, 10) bytes, the restored battles draw these numbers.
+        With `seeds`, (n, 10) bytes, the restored battles draw these
+        numbers.
         """
         self._battles.reset(which, seeds)
         chosen: Any = slice(None) if which is None else self._mask(which)
@@ -193,7 +222,9 @@ class PlayerArray:
             _octets(held)[chosen] = _octets(first)[chosen]
 
     def begin(self, at: int, one: TeamLike, two: TeamLike, seed: bytes = bytes(10)) -> None:
-        """Begins a new battle of two teams at a place, to which `reset` then goes back. Raises as the constructor does."""
+        """Begins a new battle of two teams at a place, to which `reset` then
+        goes back. Raises as the constructor does.
+        """
         number, start = a_place(at, len(self)), start_of(one, two, *self._terms)
         start.battle.reseed(seed)
         self._put(number, start)

@@ -94,19 +94,27 @@ class _Vector:
 
 
 class VectorEnv(_Vector, _Base):  # type: ignore[misc, valid-type]
-    """`num_envs` battles, n for short, in each of which the player of side 1 meets an opponent, with the API of `gymnasium.vector.VectorEnv`.
+    """`num_envs` battles, n for short, in each of which the player of side 1
+    meets an opponent, with the API of `gymnasium.vector.VectorEnv`.
 
-    `opponent` is "random", "greedy" (the move that hurts most), or a function: given observations, (m, columns), and action masks, (m, 12)
-    bools, of those m battles that go on, it returns their actions, (m). It sees what the player of side 2 knows, and never a battle.
+    `opponent` is "random", "greedy" (the move that hurts most), or a
+    function: given observations, (m, columns), and action masks, (m, 12)
+    bools, of those m battles that go on, it returns their actions, (m). It
+    sees what the player of side 2 knows, and never a battle.
 
-    `one` and `two` are teams, or functions of a numpy generator that return the team for each new battle. `autoreset` is one of Gymnasium's
-    modes, or its name: "next_step", "same_step", "disabled" (`AutoresetMode`). With "same_step" the infos of a step that ended battles have
-    `final_obs` (also as `final_observation`, its older name), `final_info`, and their masks `_final_obs` and `_final_info`. `observations`
-    is "player", or an `Encoding`. `threads` is how many threads the library uses.
+    `one` and `two` are teams, or functions of a numpy generator that return
+    the team for each new battle. `autoreset` is one of Gymnasium's modes,
+    or its name: "next_step", "same_step", "disabled" (`AutoresetMode`).
+    With "same_step" the infos of a step that ended battles have `final_obs`
+    (also as `final_observation`, its older name), `final_info`, and their
+    masks `_final_obs` and `_final_info`. `observations` is "player", or an
+    `Encoding`. `threads` is how many threads the library uses.
 
-    `infos["action_mask"]`, (n, 12) bools, says which actions are offered. An action that is not raises `Refused`, and nothing changes. The
-    action of a battle that is over is ignored. Rewards are 1 for a win, -1 for a loss, else 0; no episode is truncated, as a battle at the
-    turn limit is a tie.
+    `infos["action_mask"]`, (n, 12) bools, says which actions are offered.
+    An action that is not raises `Refused`, and nothing changes. The action
+    of a battle that is over is ignored. Rewards are 1 for a win, -1 for a
+    loss, else 0; no episode is truncated, as a battle at the turn limit is
+    a tie.
     """
 
     def __init__(
@@ -129,19 +137,24 @@ class VectorEnv(_Vector, _Base):  # type: ignore[misc, valid-type]
     def reset(
         self, *, seed: int | list[int] | None = None, options: Mapping[str, Any] | None = None
     ) -> tuple[Rows, dict[str, Any]]:
-        """Starts new battles, and returns the observations of side 1, (n, columns), and the infos.
+        """Starts new battles, and returns the observations of side 1, (n,
+        columns), and the infos.
 
-        `options` may have teams "one" and "two" for these battles, and "reset_mask", (n) bools, if only some are to start anew. A seed
-        restarts all random numbers, also those of the opponents that draw any. Raises `BadTeam`, `BadArgument`, `BadType`; then nothing has
+        `options` may have teams "one" and "two" for these battles, and
+        "reset_mask", (n) bools, if only some are to start anew. A seed
+        restarts all random numbers, also those of the opponents that draw
+        any. Raises `BadTeam`, `BadArgument`, `BadType`; then nothing has
         changed.
         """
         self._episodes.begin(seed, options)
         return self._episodes.rows(1), self._info(1)
 
     def step(self, actions: ArrayLike) -> tuple[Rows, NDArray[np.float64], Truths, Truths, dict[str, Any]]:
-        """Updates each battle by an action, (n): observations, rewards, terminations, truncations, and infos.
+        """Updates each battle by an action, (n): observations, rewards,
+        terminations, truncations, and infos.
 
-        Raises `ResetNeeded` before the first reset, `Refused`, `BadArgument`, `BadType`; then no battle has changed.
+        Raises `ResetNeeded` before the first reset, `Refused`,
+        `BadArgument`, `BadType`; then no battle has changed.
         """
         episodes = self._episodes
         players = episodes.going_on
@@ -156,10 +169,13 @@ class VectorEnv(_Vector, _Base):  # type: ignore[misc, valid-type]
 
 
 class TwoPlayerVectorEnv(_Vector):
-    """`num_envs` battles of two players, "one" and "two", with PettingZoo's parallel API; each value has a further first axis, of length n.
+    """`num_envs` battles of two players, "one" and "two", with PettingZoo's
+    parallel API; each value has a further first axis, of length n.
 
-    Both act in each step; a side that is asked for nothing takes action 0, pass. `agents` are always both: battles that are over start anew
-    as `autoreset` says, which is as in `VectorEnv`, and so are all other arguments.
+    Both act in each step; a side that is asked for nothing takes action 0,
+    pass. `agents` are always both: battles that are over start anew as
+    `autoreset` says, which is as in `VectorEnv`, and so are all other
+    arguments.
     """
 
     metadata: dict[str, Any] = {"render_modes": ["ansi"], "name": "gen1_v1", "is_parallelizable": True}
@@ -192,12 +208,16 @@ class TwoPlayerVectorEnv(_Vector):
     def reset(
         self, seed: int | list[int] | None = None, options: Mapping[str, Any] | None = None
     ) -> tuple[dict[str, Rows], dict[str, dict[str, Any]]]:
-        """Starts new battles, and returns the observations and the infos of each agent. The arguments are those of `VectorEnv.reset`."""
+        """Starts new battles, and returns the observations and the infos of
+        each agent. The arguments are those of `VectorEnv.reset`.
+        """
         self._episodes.begin(seed, options)
         return self._each(self._episodes.rows), self._each(self._info)
 
     def step(self, actions: Mapping[str, ArrayLike]) -> tuple[dict[str, Any], ...]:
-        """Updates each battle by an action of each agent, (n): observations, rewards, terminations, truncations and infos of the agents."""
+        """Updates each battle by an action of each agent, (n): observations,
+        rewards, terminations, truncations and infos of the agents.
+        """
         if not isinstance(actions, Mapping):
             raise BadType(f"actions must be a dict, not {shown(actions)}")
         if set(actions) != set(NAMES):
