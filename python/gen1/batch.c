@@ -53,7 +53,7 @@ typedef struct form {
     uint32_t bytes;
     uint32_t words;
     uint32_t ratios; /* a word as a share of the word at `by` */
-    uint32_t hot;    /* a byte, 1 in the column `to` plus the byte */
+    uint32_t hot;    /* a byte below `by`, 1 in the column `to` plus the byte */
     uint32_t width;  /* of a row */
 } form;
 
@@ -113,8 +113,11 @@ static uint8_t byte_share(uint32_t part, uint32_t whole)
         for (end += by->ratios; it < end; it++)                                                                                           \
             EACH_ROW(share(word(player), word(player - it->from + it->by)));                                                              \
         for (end += by->hot; it < end; it++)                                                                                              \
-            for (size_t row = 0; row < height; row++)                                                                                     \
-                rows[row * width + it->to + first[row * 2 * sizeof(gen1_player) + it->from]] = 1;                                         \
+            for (size_t row = 0; row < height; row++) {                                                                                   \
+                const uint8_t option = first[row * 2 * sizeof(gen1_player) + it->from];                                                   \
+                if (option < it->by)                                                                                                      \
+                    rows[row * width + it->to + option] = 1;                                                                              \
+            }                                                                                                                             \
     }                                                                                                                                     \
     void name(const gen1_player (*players)[2], size_t side, size_t count, const form *by, number *rows);                                  \
     void name(const gen1_player (*players)[2], size_t side, size_t count, const form *by, number *rows)                                   \

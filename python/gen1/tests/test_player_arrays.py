@@ -347,6 +347,17 @@ def test_arguments_that_are_wrong(battle):
         array.known(1)["turn"] = 5
 
 
+def test_players_that_no_battle_has():
+    """Bytes that only a forged pickle has: each row is written, and nothing next to it."""
+    forge = pickle.loads(pickle.dumps(Player(1, random_team(random.Random(41))))).__reduce__()[0]
+    for byte in (0x00, 0x7F, 0xFF):
+        held = bytearray(encoded.PLAYER.itemsize * bytes([byte]))
+        held[encoded.PlayerStruct.side.offset] = 1
+        for encoding in ENCODINGS:
+            rows = encoding.row(forge(bytes(held)))
+            assert rows.shape == (encoding.width,) and np.isfinite(rows).all()
+
+
 def test_a_library_without_the_loops():
     """As tools/install builds it: the message says who adds them."""
     with pytest.raises(LibraryMissing, match="has no gen1_py_nothing; only tools/python_wheel adds it"):

@@ -282,7 +282,7 @@ class Encoding:
         to = 0
         for it in _cells(side):
             hot = bool(it.column.options) and self.one_hot
-            by = it.by
+            by = it.column.options if hot else it.by
             if it.kind != "ratio" and not hot:
                 values, kept = it.floats if self.dtype == "float32" else it.octets, lists[it.kind == "word"]
                 by = kept.index(values) if values in kept else len(kept)
