@@ -226,7 +226,7 @@ def test_actions_that_are_wrong():
         with pytest.raises(kind):
             env.step(actions)
         assert env.battles == before
-    with pytest.raises(Refused, match="^battle 1: side 1's choice is not offered: move 0; offered: move 1, ") as fault:
+    with pytest.raises(Refused, match="^battle 1: side 1's choice is not offered: move 0; it can choose move 1, ") as fault:
         env.step([2, 1, 2])
     assert fault.value.choice == CHOICES[1]
     two = TwoPlayerVectorEnv(2)
