@@ -132,6 +132,15 @@ class Trial:
         told = ran(python, "-c", "import gen1; print(gen1.__version__)", cwd=place)
         return due(told, f"{version()}\n") or due(ran(python, "-m", "gen1", "run", STORED, cwd=place), LINES.read_text())
 
+    def npm(self):
+        """The package, installed by npm without a network, plays the stored run."""
+        place = self.room / "npm"
+        shutil.rmtree(place, ignore_errors=True)
+        place.mkdir()
+        ran("npm", "install", "--silent", "--offline", "--no-audit", "--no-fund", self.out / f"gen1-{version()}.tgz", cwd=place)
+        shutil.copy(ROOT / "examples" / "javascript" / "two_tauros.mjs", place)
+        return due(ran("node", "two_tauros.mjs", cwd=place), LINES.read_text())
+
     def differences(self):
         """The program of the plain sources plays the battles of docs/DIFFERENCES.md."""
         ran(ROOT / "tools" / "differences", program(), cwd=self.room)
@@ -176,7 +185,7 @@ class Trial:
         self.tell("SHA256SUMS", self.sums)
         parts = {
             "rust": [("rust", self.rust), ("docs/DIFFERENCES.md", self.differences)], "c": [("c", self.c), ("c, by CMake", self.cmake)],
-            "page": [("page", self.page)],
+            "page": [("page", self.page)], "npm": [("npm", self.npm)],
             "python": [("wheel", self.python, "*.whl"), ("source archive", self.python, f"gen1-{version()}.tar.gz")],
         }
         for part, checks in parts.items():

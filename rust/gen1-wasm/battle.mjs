@@ -41,7 +41,7 @@ export function blockOfTerms(library, terms) {
 
 /**
  * A battle. `update` changes it in place; `clone` keeps it. Its bytes are in the module's memory until `free` is called, or until the garbage
- * collector finds that it is no longer used.
+ * collector finds that nothing uses it.
  */
 export class Battle {
   #library;
@@ -57,7 +57,7 @@ export class Battle {
    *
    * `guess` has the foe's team, first the members that have appeared, in the order in which they did, then the others; the seed of the numbers
    * to draw; and rules and limit as in `gen1.battle`. The own side is as it was shown. The foe's members have the HP, status and stages that
-   * were told, and the moves and stats of the guess; PP are those that are left after the uses that were seen. A condition that was announced is
+   * were reported, and the moves and stats of the guess; PP are those that are left after the uses that were seen. A condition that was announced is
    * on if a move of the guess explains it. Hidden counts have middle values: three turns of sleep and confusion, four of Disable, two of Bide,
    * thrashing and trapping, a Substitute of a quarter of the maximum HP.
    */

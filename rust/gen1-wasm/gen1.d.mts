@@ -5,7 +5,7 @@ import type { MoveName, SpeciesName, TypeName } from "./names.mjs";
 export type { MoveName, SpeciesName, TypeName };
 
 declare global {
-  // Before TypeScript 5.2, and without its library esnext.disposable, there is no Symbol.dispose.
+  // Before TypeScript 5.2, and without its library esnext.disposable, Symbol.dispose has no type.
   interface SymbolConstructor {
     readonly dispose: unique symbol;
   }
@@ -490,7 +490,7 @@ export class Battle {
   /**
    * A battle that fits what a player knows, with a guess of the rest: the base of a search that doesn't cheat.
    *
-   * The own side is as it was shown. The foe's members have the HP, status and stages that were told, and the moves and stats of the guess; PP
+   * The own side is as it was shown. The foe's members have the HP, status and stages that were reported, and the moves and stats of the guess; PP
    * are those that are left after the uses that were seen. A condition that was announced is on if a move of the guess explains it. Hidden counts
    * have middle values: three turns of sleep and confusion, four of Disable, two of Bide, thrashing and trapping, a Substitute of a quarter of the
    * maximum HP.

@@ -209,8 +209,8 @@ async function instanceOf(source, what) {
 export const HAS_LONG_MEMORIES = WebAssembly.validate(Uint8Array.of(0, 0x61, 0x73, 0x6d, 1, 0, 0, 0, 5, 3, 1, 4, 1));
 
 /**
- * Loads the library: the module of this package, or one from its URL, its path in Node, or its bytes. Of two modules, `{ proved, plain }`, it loads the proved one if the host can run it,
- * else the plain one; `build` says which.
+ * Loads the library: the module of this package, or one from its URL, its path in Node, or its bytes. Of two modules, `{ proved, plain }`, it
+ * loads the proved one if the host can run it, else the plain one; `build` says which.
  */
 export async function load(source = new URL("./gen1.wasm", import.meta.url)) {
   const isNamed = source?.proved !== undefined || source?.plain !== undefined;
@@ -224,6 +224,6 @@ export {
   StateError, TeamError, TextError,
 } from "./errors.mjs";
 export {
-  Battle, BattleArray, byteOf, CANT_REASONS, CHOICES, choiceOf, COLUMNS, CONDITIONS, DAMAGE_SOURCES, EVENT_KINDS, FAULTS, MOVES, OUTCOMES, Player, REASONS, REQUESTS, Room,
-  SPECIES, Spectator, STATS, STATUSES, Team, Teller, TYPES, Update, VOLATILES,
+  Battle, BattleArray, byteOf, CANT_REASONS, CHOICES, choiceOf, COLUMNS, CONDITIONS, DAMAGE_SOURCES, EVENT_KINDS, FAULTS, MOVES, OUTCOMES, Player,
+  REASONS, REQUESTS, Room, SPECIES, Spectator, STATS, STATUSES, Team, Teller, TYPES, Update, VOLATILES,
 };

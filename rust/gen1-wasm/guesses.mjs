@@ -7,7 +7,7 @@ const KEYS = ["team", "seed", "rules", "limit"];
 // Turns of sleep and confusion, of Disable, and of Bide, thrashing and trapping, where they are hidden.
 const [ASLEEP, BLOCKED, UNDERWAY] = [3, 4, 2];
 const MOST_SUBSTITUTE = 249;
-// Conditions that stand alone, and those that belong to a current move with one of these effects. At most one of the latter is on.
+// Conditions without a move, and those that belong to a current move with one of these effects. At most one of the latter is on.
 const FREE = ["mist", "focus energy", "seeded", "light screen", "reflect", "confused", "substitute", "bad poison"];
 const TIED = {
   bide: ["Bide"], thrash: ["Thrash"], trapping: ["Trapping"], charging: ["Charge", "ChargeInvulnerable"], recharge: ["Recharge"], rage: ["Rage"],
@@ -55,7 +55,7 @@ function foes({ members: seen }, fresh) {
   return fresh.map((member, at) => (at < seen.length ? appeared(member, seen[at], `guess.team[${at}]`) : member));
 }
 
-// A guessed member with what is public of it. HP that was told in 48ths is rounded up.
+// A guessed member with what is public of it. HP in 48ths is rounded up.
 function appeared(member, seen, what) {
   const named = ({ species, level }) => `${species} of level ${level}`;
   if (named(member) !== named(seen)) throw new ArgumentError(`${what} must be ${named(seen)}, which appeared, not ${named(member)}`, what);

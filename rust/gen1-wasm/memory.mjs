@@ -31,7 +31,7 @@ export class Library {
   bytes;
   /** The places of battles. */
   arena;
-  /** Space for the log of an update, its length, what of it is told, what a side is shown, and a seed: pointers, and the same as offsets. */
+  /** Space for a log, its length, what of it is reported to a side, what a side is shown, and a seed: pointers, and the same as offsets. */
   log;
   logAt;
   length;
@@ -71,7 +71,7 @@ export class Library {
     return this.size(place);
   }
 
-  // Goes on in a new space, at least twice as long as the old one.
+  // Takes a new space, of at least twice the length.
   #widen(count) {
     const pages = Math.ceil(Math.max(2 * (this.#limit - this.#begin), count + PAGE) / PAGE);
     this.#end = this.#begin = this.grow(pages);
@@ -84,7 +84,8 @@ export class Library {
     try {
       this.#grow(pages);
     } catch (cause) {
-      throw Object.assign(new MemoryError(`the module's memory of ${place} bytes cannot grow by ${pages * PAGE}: free battles that are no longer used`), { cause });
+      const message = `the module's memory of ${place} bytes cannot grow by ${pages * PAGE}: free the battles that you have done with`;
+      throw Object.assign(new MemoryError(message), { cause });
     }
     this.bytes = new Uint8Array(this.#memory.buffer);
     return place;

@@ -7,7 +7,7 @@ import { CONDITIONS } from "./views.mjs";
 export const PLAYER_SIZE = CODES.PLAYER_SIZE;
 export const TELLER_SIZE = layoutOf("gen1_teller", false).size;
 
-// Fields that are no knowledge, and those of the own side that are public too.
+// Fields that say nothing, and those of the own side that are public too.
 const LEFT_OUT = { gen1_own_side: ["turn", "outcome"], gen1_own_member: ["unused"], gen1_public_side: ["unused"], gen1_seen: ["unused"] };
 const PLAYER = offsetsOf("gen1_player");
 const PUBLIC = offsetsOf("gen1_public");

@@ -5,7 +5,7 @@ import { Library } from "./memory.mjs";
 import { inspected } from "./inspecting.mjs";
 import { resultOf } from "./views.mjs";
 
-// Logs are kept in pieces of longer arrays, since an array for each takes as long as an update.
+// Logs are kept in pieces of longer arrays, since to create an array for each takes the time of an update.
 const SLAB = 32768;
 let slab = new Uint8Array(SLAB);
 let used = 0;

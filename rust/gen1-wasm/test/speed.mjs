@@ -119,4 +119,28 @@ line("array: masks", () => { kept = array.masks(1); }, () => calls.gen1_offered_
 line("array: a playout", () => { kept = array.playouts(1n, 1); },
   () => { for (let at = 0; at < BATTLES; at++) calls.gen1_playout(many + 384 * at, BigInt(1 + at), 1, updates); }, 10 * BATTLES);
 line("array: observe", () => { kept = watched.observe(1); }, null, BATTLES);
-line("array: random step, players", () => watched.randomStep(), null, 10 * BATTLES);
+
+// A step with players: the update with its log, which is reported to both sides, and what each is shown.
+const sizes = ["gen1_player", "gen1_teller", "gen1_own_side"].map((name) => layoutOf(name, false).size);
+const [players, tellers] = [0, 1].map((kind) => [1, 2].map(() => room(sizes[kind])));
+const [shown, heard] = [room(sizes[2]), room(CODES.LOG_ROOM)];
+for (const side of [1, 2]) {
+  calls.gen1_player_begin(players[side - 1], side, teamAt, 0);
+  calls.gen1_teller_begin(tellers[side - 1], side, 0);
+}
+const known = bytes.slice(players[0], shown);
+function stepAlone() {
+  copied();
+  bytes.set(known, players[0]);
+  calls.gen1_update(copy, 17, 17, log, CODES.LOG_ROOM, length);
+  const count = bytes[length] + 256 * bytes[length + 1];
+  for (const side of [1, 2]) {
+    calls.gen1_tell(tellers[side - 1], log, count, heard, CODES.LOG_ROOM, length);
+    calls.gen1_player_feed(players[side - 1], heard, bytes[length] + 256 * bytes[length + 1]);
+    calls.gen1_get_own_side(copy, side, shown);
+    calls.gen1_player_show(players[side - 1], shown, calls.gen1_offered(copy, side));
+  }
+}
+const going = watched.take(Array.from({ length: BATTLES }, (_, at) => at));
+line("array: reset, step, players", () => { going.reset(); going.step(first, first); },
+  () => { for (let at = 0; at < BATTLES; at++) stepAlone(); }, BATTLES);

@@ -500,7 +500,7 @@ function arrays(gen1, check) {
       return Object.fromEntries(library.COLUMNS.map((name, column) => [name, rows[column]]));
     };
     watched.randomStep();
-    // Starmie is 121 in docs/TABLES.md, of types 9 and 12; its 323 HP are told in 48ths. Blizzard and Explosion are 59 and 153.
+    // Starmie is 121 in docs/TABLES.md, of types 9 and 12; its 323 HP are reported in 48ths. Blizzard and Explosion are 59 and 153.
     const found = row(watched, 2, 3);
     equal(["own member 2 species", "own member 1 max hp", "own member 1 move 1", "own type 1", "own stage 3", "turn", "foes"].map((name) => found[name]), [128, 323, 59, 9, 6, 1, 2]);
     equal(["foe member 1 species", "foe member 1 hp", "foe member 1 max", "foe member 2 species", "foe place", "foe first type"].map((name) => found[name]), [121, 48, 48, 0, 1, 9]);
