@@ -165,14 +165,16 @@ fn are_distinct(input: &Value) -> bool {
 #[test]
 fn a_log_of_a_recorded_battle_is_what_the_battle_tells() {
     let inputs = inputs();
-    for input in &inputs {
+    for (number, input) in inputs.iter().enumerate() {
         let printed = ran(&["run", "--showdown"], input.to_string().as_bytes()).stdout;
         let log = String::from_utf8(printed).expect("UTF-8");
         for side in Side::BOTH {
             let player = told(input, side, Teller::new(side));
             let own = members(input, side);
             compare(&followed(&log, side, Some(&own)), &player, true);
-            compare(&followed(&log, side, None), &player, false);
+            if number % 4 == 0 {
+                compare(&followed(&log, side, None), &player, false);
+            }
         }
     }
     assert!(inputs.is_empty() || inputs.len() > 400, "{}", inputs.len());
@@ -267,13 +269,14 @@ fn what_a_side_is_sent_is_what_the_battle_tells() {
                 };
                 let player = told(input, side, teller);
                 let own = members(input, side);
-                // What the simulator prints for both sides, and what one side gets of it.
-                compare(&followed(&printed, side, Some(&own)), &player, true);
-                compare(
-                    &followed(&view(&printed, side), side, Some(&own)),
-                    &player,
-                    true,
-                );
+                // For one side what the simulator prints, for the other what it gets of that.
+                let is_whole = pixels == (side == Side::One);
+                let log = if is_whole {
+                    printed.clone()
+                } else {
+                    view(&printed, side)
+                };
+                compare(&followed(&log, side, Some(&own)), &player, true);
                 compared += 1;
             }
         }
@@ -376,7 +379,7 @@ fn other_forms_of_showdown_are_read() {
     let object: Value = serde_json::from_slice(&done.stdout).expect("JSON");
     assert_eq!(
         String::from_utf8_lossy(&done.stderr),
-        "note: line 27: the word \"-transform\" is not known, and not followed\n"
+        "note: line 27: the word \"-transform\" is not known\n"
     );
     assert_eq!(object["own"]["player"], "Alice");
     assert_eq!(
@@ -481,7 +484,7 @@ fn a_wrong_line_leads_to_its_fault() {
         ),
         (
             "|switch|p1a: A|Mew|99/99\n|switch|p1a: B|Mew|99/99",
-            "in |switch|: side 1 sends out \"B\" (Mew, L100) with other HP or status than a member that went in, and its 2 members have all been out",
+            "in |switch|: all 2 members have been out; expected one of them with the HP and status that it had, found \"B\" (Mew, L100)",
         ),
     ];
     for (lines, why) in cases {
@@ -516,7 +519,7 @@ fn a_wrong_line_leads_to_its_fault() {
         ),
         (
             &START.replace("|teamsize|p1|2", "|"),
-            "line 8: in |switch|: side 1 sends out \"Bo\" (Tauros, L100) with other HP or status than a member that went in, and its team has no other member of this species and level",
+            "line 8: in |switch|: expected a member of the team, found \"Bo\" (Tauros, L100)",
         ),
     ] {
         let done = ran(&["follow", "--team", &team], log.as_bytes());

@@ -269,7 +269,9 @@ fn without_showdown(line: &str) -> Option<String> {
     let is_event = !matches!(line, "|" | "|upkeep");
     let named = line
         .replace("|win|Side ", "|win|p")
-        .replace("|spa|", "|spc|");
+        .replace("|spa|", "|spc|")
+        .replace("|accuracy|", "|acc|")
+        .replace("|evasion|", "|eva|");
     is_event.then_some(named + "\n")
 }
 

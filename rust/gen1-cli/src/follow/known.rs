@@ -3,6 +3,7 @@ use super::reader::Reader;
 use super::roster::Entry;
 use crate::json::EventObject;
 use crate::screen::bar;
+use crate::showdown::index;
 use gen1::{Announced, Conditions, Element, Kind, MoveId, Outcome, Player, PublicSide, Seen, Side};
 use serde::Serialize;
 
@@ -58,8 +59,7 @@ struct KnownActive {
 impl Known {
     pub fn of(player: &Player, read: &Reader) -> Known {
         let side = |side: Side| {
-            let at = usize::from(side.number()) - 1;
-            let (roster, name) = (&read.sides[at], &read.names[at]);
+            let (roster, name) = (&read.sides[index(side)], &read.names[index(side)]);
             let public = player.public(side);
             let both = public.members.iter().zip(&roster.entries);
             KnownSide {

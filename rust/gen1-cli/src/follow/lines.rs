@@ -1,4 +1,5 @@
 //! The lines of a battle log that one side sees.
+use crate::showdown::player_of;
 use gen1::Side;
 use std::borrow::Cow;
 
@@ -27,7 +28,7 @@ pub fn seen_by(side: Side, log: &str, before: usize) -> Vec<(usize, &str)> {
             continue;
         };
         let (own, public) = (lines.next(), lines.next());
-        seen.extend(match owner == super::player_of(side) {
+        seen.extend(match owner == player_of(side) {
             true => own,
             false => public,
         });

@@ -9,7 +9,6 @@ use crate::fault::{self, Fault};
 use crate::files::{self, put};
 use crate::input::{Members, team, team_named};
 use crate::json::line_of;
-pub use crate::showdown::player_of;
 use clap::{Args, ValueEnum};
 use gen1::{Event, EventList, LogBuf, Player, Side, Team, member, write_log};
 use known::Known;
@@ -66,15 +65,13 @@ pub fn follow(asked: &Follow) -> Result<(), Fault> {
     let refused =
         |(line, why): (usize, String)| Fault::protocol(line, &why).within(&files::name_of(file));
     read_all(&mut read, side, &bytes).map_err(refused)?;
-    if let Some((line, what)) = read.unknown.first().filter(|_| asked.strict) {
-        return Err(refused((*line, format!("{what} is not known"))));
+    if let Some(first) = read.unknown.first().filter(|_| asked.strict) {
+        return Err(refused((first.line, first.why())));
     }
     let player = player_of_log(side, own.map(|(team, _)| team), &read)?;
     put_known(asked, &player, &read)?;
-    for (line, what) in &read.unknown {
-        fault::note(&format!(
-            "line {line}: {what} is not known, and not followed"
-        ));
+    for it in &read.unknown {
+        fault::note(&format!("line {}: {}", it.line, it.why()));
     }
     Ok(())
 }

@@ -6,90 +6,19 @@ use super::fields::{
 use super::roster::{Entry, Roster};
 use crate::input::near::{did_you_mean, nearest_word};
 use crate::input::shown;
+use crate::showdown::index;
 use gen1::{DamageSource, Event, FaultCode, Health, HitCount, Side, StageCount, TurnNumber, Who};
 
 /// Words of lines that say nothing of the battle.
-const PASSED_OVER: &[&str] = &[
-    "",
-    "start",
-    "upkeep",
-    "tier",
-    "rule",
-    "rated",
-    "t:",
-    "request",
-    "error",
-    "c",
-    "c:",
-    "chat",
-    "j",
-    "J",
-    "join",
-    "l",
-    "L",
-    "leave",
-    "n",
-    "N",
-    "name",
-    "raw",
-    "html",
-    "uhtml",
-    "uhtmlchange",
-    "inactive",
-    "inactiveoff",
-    "init",
-    "title",
-    "debug",
-    "bigerror",
-    "askreg",
-    "message",
-    "-hint",
-    "-center",
-    "-nothing",
-    "-notarget",
-    "-anim",
-    "clearpoke",
-    "poke",
-    "teampreview",
-];
+const PASSED_OVER: &str = "\
+    start upkeep tier rule rated t: request error c c: chat j J join l L leave n N name raw html \
+    uhtml uhtmlchange inactive inactiveoff init title debug bigerror askreg message -hint -center \
+    -nothing -notarget -anim clearpoke poke teampreview";
 /// Words of lines that are read.
-const WORDS: &[&str] = &[
-    "player",
-    "teamsize",
-    "gametype",
-    "gen",
-    "split",
-    "turn",
-    "win",
-    "tie",
-    "switch",
-    "drag",
-    "move",
-    "cant",
-    "faint",
-    "-damage",
-    "-heal",
-    "-crit",
-    "-supereffective",
-    "-resisted",
-    "-immune",
-    "-miss",
-    "-fail",
-    "-status",
-    "-curestatus",
-    "-boost",
-    "-unboost",
-    "-clearallboost",
-    "-start",
-    "-end",
-    "-activate",
-    "-prepare",
-    "-mustrecharge",
-    "-hitcount",
-    "-ohko",
-    "-message",
-    "fault",
-];
+const WORDS: &str = "\
+    player teamsize gametype gen split turn win tie switch drag move cant faint -damage -heal -crit \
+    -supereffective -resisted -immune -miss -fail -status -curestatus -boost -unboost \
+    -clearallboost -start -end -activate -prepare -mustrecharge -hitcount -ohko -message fault";
 
 /// What was read of a log.
 pub struct Reader {
@@ -97,11 +26,34 @@ pub struct Reader {
     /// The names of the players; empty before the log names them.
     pub names: [String; 2],
     pub events: Vec<Event>,
-    /// Lines that may say something of the battle, and were passed over: the number of the first, and what it has.
-    pub unknown: Vec<(usize, String)>,
+    /// What the log has that is not known, each once.
+    pub unknown: Vec<Unknown>,
     turn: u16,
     /// The line in which the battle ended.
     end: Option<usize>,
+}
+
+/// A word of a line, or a name in it, that is not known and may say something of the battle.
+pub struct Unknown {
+    /// The first line that has it.
+    pub line: usize,
+    /// The word of the line.
+    word: String,
+    /// The name after it, if the word is known.
+    name: Option<String>,
+}
+
+impl Unknown {
+    pub fn why(&self) -> String {
+        let (word, names) = (&self.word, WORDS.split(' '));
+        match &self.name {
+            Some(name) => format!("in |{word}|: {} is not known", shown(name)),
+            None => {
+                let meant = did_you_mean(nearest_word(word, names));
+                format!("the word {} is not known{meant}", shown(word))
+            }
+        }
+    }
 }
 
 /// The fields of a line after its word.
@@ -123,10 +75,6 @@ impl<'a> Fields<'a> {
         let known = tags.filter_map(|tag| value_of(SOURCES, tag)).next();
         known.unwrap_or(DamageSource::Direct)
     }
-}
-
-fn index(side: Side) -> usize {
-    usize::from(side.number()) - 1
 }
 
 impl Reader {
@@ -153,21 +101,23 @@ impl Reader {
             "player" | "teamsize" | "gametype" | "gen" => self.header(word, &fields),
             "turn" => self.begin_turn(&fields),
             "win" | "tie" | "fault" | "-message" => self.finish(number, word, &fields),
-            _ if PASSED_OVER.contains(&word) => Ok(()),
-            _ if WORDS.contains(&word) => self.event(number, word, &fields),
+            "" => Ok(()),
+            _ if is_one_of(PASSED_OVER, word) => Ok(()),
+            _ if is_one_of(WORDS, word) => self.event(number, word, &fields),
             _ => {
-                let meant = did_you_mean(nearest_word(word, WORDS.iter().copied()));
-                self.pass_over(number, format!("the word {}{meant}", shown(word)));
+                self.pass_over(number, word, None);
                 Ok(())
             }
         };
         read.map_err(inside)
     }
 
-    fn pass_over(&mut self, number: usize, what: String) {
+    fn pass_over(&mut self, line: usize, word: &str, name: Option<&str>) {
+        let is_new = |it: &Unknown| it.word != word || it.name.as_deref() != name;
         // A log can have as many as it has lines. The first ones are enough to see why.
-        if self.unknown.len() < 20 && self.unknown.iter().all(|(_, known)| *known != what) {
-            self.unknown.push((number, what));
+        if self.unknown.len() < 20 && self.unknown.iter().all(is_new) {
+            let (word, name) = (word.into(), name.map(String::from));
+            self.unknown.push(Unknown { line, word, name });
         }
     }
 
@@ -295,7 +245,7 @@ impl Reader {
                 let name = second("what it is")?;
                 let event = named(who, word, name);
                 if event.is_none() {
-                    self.pass_over(number, format!("{} in |{word}|", shown(name)));
+                    self.pass_over(number, word, Some(name));
                 }
                 return Ok(event);
             }
@@ -316,13 +266,7 @@ impl Reader {
 
     fn foe_of(&self, who: Who) -> Result<Who, String> {
         let roster = &self.sides[index(who.side.other())];
-        let active = roster.active().map(|active| roster.who(active));
-        active.ok_or_else(|| {
-            format!(
-                "side {} has no member out before |switch|",
-                who.side.other()
-            )
-        })
+        Ok(roster.who(roster.sent_out()?))
     }
 
     /// An event that changes HP or status of a member.
@@ -352,6 +296,10 @@ impl Reader {
         roster.set_health(health);
         Ok(event)
     }
+}
+
+fn is_one_of(words: &str, word: &str) -> bool {
+    words.split(' ').any(|known| known == word)
 }
 
 /// The event of a line whose second field is a name; `None` for a name that is not known.

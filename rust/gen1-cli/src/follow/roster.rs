@@ -106,15 +106,22 @@ impl Roster {
         found.or_else(|| fresh().next())
     }
 
+    /// Why a member can't come out that is none of those which are known.
     fn no_other(&self, coming: &Entry, most: usize) -> String {
-        let (side, name) = (self.side, shown(&coming.name));
-        let (species, level) = (coming.species, coming.level);
-        let who = format!(
-            "side {side} sends out {name} ({species}, L{level}) with other HP or status than a member that went in"
-        );
-        match self.has_team {
-            true => format!("{who}, and its team has no other member of this species and level"),
-            false => format!("{who}, and its {most} members have all been out"),
+        let (name, species, level) = (shown(&coming.name), coming.species, coming.level);
+        let found = format!("found {name} ({species}, L{level})");
+        if !self.has_team {
+            let as_it_was = "with the HP and status that it had";
+            return format!(
+                "all {most} members have been out; expected one of them {as_it_was}, {found}"
+            );
+        }
+        let is_same = |it: &Entry| it.species == species && it.level == level;
+        match self.entries.iter().any(is_same) {
+            true => {
+                format!("expected another member of the team, or the same HP and status, {found}")
+            }
+            false => format!("expected a member of the team, {found}"),
         }
     }
 
@@ -123,12 +130,15 @@ impl Roster {
         self.entries.get(self.out?)
     }
 
+    /// The same, or what is wrong with a line before there is one.
+    pub fn sent_out(&self) -> Result<&Entry, String> {
+        let none = || format!("side {} has no member out before |switch|", self.side);
+        self.active().ok_or_else(none)
+    }
+
     /// The member that a line names, which has to be the one that is out.
     pub fn named(&self, name: &str) -> Result<Who, String> {
-        let side = self.side;
-        let active = self.active();
-        let active =
-            active.ok_or_else(|| format!("side {side} has no member out before |switch|"))?;
+        let (side, active) = (self.side, self.sent_out()?);
         match active.name == name {
             true => Ok(self.who(active)),
             false => Err(format!(

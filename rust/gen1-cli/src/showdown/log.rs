@@ -121,7 +121,7 @@ impl Log {
         let line = Line::of(event).to_string();
         let fields = line.split('|').skip(1);
         let fields: Vec<_> = fields.map(|field| self.field(field)).collect();
-        special(fields).join("|")
+        with_stat(fields).join("|")
     }
 
     /// A field of a line, with the name of the member that is out in place of its species.
@@ -164,10 +164,15 @@ pub fn index(side: Side) -> usize {
     usize::from(side.number()) - 1
 }
 
-/// Showdown names the Special by one of the two stats that it became.
-fn special(mut fields: Vec<String>) -> Vec<String> {
-    match fields.as_mut_slice() {
-        [word, _, stat, ..] if word.ends_with("boost") && stat == "spc" => *stat = "spa".into(),
+/// Showdown names the Special by one of the two stats that it became, and has no short names of accuracy and evasion.
+fn with_stat(mut fields: Vec<String>) -> Vec<String> {
+    let [word, _, stat, _] = fields.as_mut_slice() else {
+        return fields;
+    };
+    match (word.ends_with("boost"), stat.as_str()) {
+        (true, "spc") => *stat = "spa".into(),
+        (true, "acc") => *stat = "accuracy".into(),
+        (true, "eva") => *stat = "evasion".into(),
         _ => (),
     }
     fields
