@@ -70,6 +70,9 @@ fn collected() -> Values {
         );
         let log = ran(&["run", "--showdown"], input.as_bytes()).stdout;
         let log = String::from_utf8(log).expect("UTF-8");
+        // A log may end anywhere.
+        let log: Vec<_> = log.lines().take(150).collect();
+        let log = log.join("\n");
         values.prints("known", &["follow", "--json"], &log, &["own", "events"]);
         values.prints(
             "members",
