@@ -2,6 +2,7 @@
 
 import inspect
 import itertools
+import json
 import pydoc
 import random
 import subprocess
@@ -24,25 +25,17 @@ def test_help(before):
     done = subprocess.run([sys.executable, "-c", script], capture_output=True, text=True, stdin=subprocess.DEVNULL, check=True)
     assert done.stderr == "" and "Help on package gen1" in done.stdout
     told = done.stdout.splitlines()
-    assert "conjugate" not in done.stdout and len(told) < 8000
+    assert "conjugate" not in done.stdout and done.stdout.count("'Hyper Beam'") == 0 and len(told) < 8000
     start = told.index("PACKAGE CONTENTS")
     assert all(len(it) <= 80 for it in told[:start])
     for name in ("Member", "Battle", "State", "Room", "Player", "BattleArray", "BattleEnv", "Error"):
         assert any(name in it for it in told[:start])
 
 
-# Modules that need numpy.
-ARRAYS = ("gen1.arrays", "gen1.environments")
-
-
-def public():
-    """Each name of the package with what it names, but for the classes that need numpy."""
-    return [(name, getattr(gen1, name)) for name in gen1.__all__ if getattr(getattr(gen1, name), "__module__", "") not in ARRAYS]
-
-
 def test_docstrings_fit_a_terminal():
     """`help` shows each line of them within 80 columns: it indents those of a class or a function by 8, and those of a method by 12."""
-    for name, it in public():
+    pytest.importorskip("numpy")
+    for name, it in ((name, getattr(gen1, name)) for name in gen1.__all__):
         docs = [(72, it)] if isinstance(it, type) or callable(it) else []
         if isinstance(it, type) and it.__module__.startswith("gen1."):
             methods = [value for key, value in vars(it).items() if not key.startswith("_") or key == "__init__"]
@@ -233,3 +226,12 @@ def test_move_0_is_explained():
     with pytest.raises(gen1.Refused) as fault:
         battle.update(Choice.MOVE_1, Choice.MOVE_1)
     assert str(fault.value) == "side 1's choice is not offered: move 1; it can choose move 0 (no slot can be chosen)"
+
+
+def test_move_0_is_explained_in_a_played_battle(tmp_path):
+    sides = {"one": [Member("Tauros", ["Hyper Beam"]).to_dict()], "two": [Member("Snorlax", ["Splash"]).to_dict()]}
+    path = tmp_path / "battle.json"
+    path.write_text(json.dumps(sides | {"seed": [1] * 10}))
+    words = [sys.executable, "-m", "gen1", "play", str(path), "--seed", "1"]
+    done = subprocess.run(words, capture_output=True, text=True, input="1\n" * 20, check=True)
+    assert "  1  move 1 Hyper Beam\n" in done.stdout and "  1  move 0 (no slot can be chosen)\n" in done.stdout

@@ -5,6 +5,7 @@ import pickle
 import random
 import subprocess
 import sys
+from types import SimpleNamespace
 
 import pytest
 from conftest import random_team
@@ -83,6 +84,22 @@ def test_it_knows_what_single_players_know(pixels):
     assert array.over.any()
     array.reset()
     assert array.over.sum() == 0 and all(array.player(at, 1).turn == 1 for at in range(n))
+
+
+OWN = "members", "place", "stages", "stats", "types", "conditions", "disabled_slot", "held", "request", "turn", "outcome"
+
+
+def noted(player):
+    """What a player knows, with each part made once."""
+    own, public = player.own, {side: player.public(side) for side in Side}
+    return SimpleNamespace(
+        side=player.side,
+        own=SimpleNamespace(**{name: getattr(own, name) for name in OWN}),
+        foe=public[player.side.foe],
+        public=public.get,
+        choices=player.choices,
+        foes=player.foes,
+    )
 
 
 def flag(name, player):
@@ -198,9 +215,10 @@ def test_each_column_is_what_the_player_knows(pixels):
     assert len(players) > 50 and {it.side for it in players} == set(Side)
     assert all(" seen move 5" in it or " seen move 4" in it for it in never)
     for player in players:
-        values = [float(expected(it.name, player)) for it in COLUMNS]
+        known = noted(player)
+        values = [float(expected(it.name, known)) for it in COLUMNS]
         assert Encoding().row(player) == pytest.approx(values, abs=1e-6)
-        assert Encoding("uint8").row(player).tolist() == [as_byte(it, value, player) for it, value in zip(COLUMNS, values)]
+        assert Encoding("uint8").row(player).tolist() == [as_byte(it, value, known) for it, value in zip(COLUMNS, values)]
 
 
 def test_a_row_is_that_of_its_player():

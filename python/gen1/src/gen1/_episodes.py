@@ -20,6 +20,8 @@ from gen1.teams import Member
 Truths: TypeAlias = NDArray[np.bool_]
 # A team, or a function of a generator that returns the team of the next battle.
 TeamSource: TypeAlias = TeamLike | Callable[[np.random.Generator], TeamLike]
+# The sources of both sides; None for the default team.
+TeamSources: TypeAlias = tuple[TeamSource | None, TeamSource | None]
 
 BEFORE = "call reset() before step(): no battle has begun"
 DEFAULT_TEAM = (
@@ -47,8 +49,17 @@ class Episodes:
     """`n` battles with their players, and the generator for seeds, teams and opponents."""
 
     def __init__(
-        self, n: int, one: TeamSource, two: TeamSource, rules: int, limit: int, encoding: Encoding, mode: Any, threads: int
+        self,
+        n: int,
+        one: TeamSource | None,
+        two: TeamSource | None,
+        rules: int,
+        limit: int,
+        encoding: Encoding,
+        mode: Any,
+        threads: int,
     ) -> None:
+        one, two = (DEFAULT_TEAM if it is None else it for it in (one, two))
         self.sources, self.terms = (one, two), (rules, limit)
         self.encoding, self.mode = encoding, mode
         self.dice, self.begun = np.random.default_rng(), False

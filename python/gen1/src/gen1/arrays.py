@@ -1,5 +1,7 @@
 """Many battles at once in one numpy array, with no Python loop over them."""
 
+from __future__ import annotations
+
 from collections.abc import Iterable, Iterator
 from ctypes import c_size_t, c_uint8, c_void_p
 from typing import Any, TypeAlias
@@ -104,7 +106,9 @@ class BattleArray:
         return len(self._bytes)
 
     def __getitem__(self, at: int) -> Battle:
-        """A copy of the battle at a place. Raises `BadPlace`, which is an `IndexError` too."""
+        """A copy of the battle at a place. Raises `BadPlace`, which is an
+        `IndexError` too.
+        """
         return Battle.load(self._bytes[place(at, len(self))].tobytes())
 
     def __setitem__(self, at: int, battle: Battle) -> None:

@@ -110,7 +110,12 @@ def choice_text(byte: int) -> str:
         return f"{byte}, which is not a choice"
 
 
+def explained(choice: Choice, words: str) -> str:
+    """The words for a choice, with the reason for move 0."""
+    return f"{words} (no slot can be chosen)" if choice is Choice.MOVE_0 else words
+
+
 def not_offered(side: int, byte: int, offered: Iterable[Choice]) -> str:
     """Why a choice that is not offered is refused."""
-    names = [f"{it.label} (no slot can be chosen)" if it is Choice.MOVE_0 else it.label for it in offered]
+    names = [explained(it, it.label) for it in offered]
     return f"side {side}'s choice is not offered: {choice_text(byte)}; it can choose {', '.join(names)}"

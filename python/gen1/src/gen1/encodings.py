@@ -1,8 +1,12 @@
-"""What a player knows, as a row of numbers: the columns, and the calls that fill rows from `gen1_player` structs.
+"""What a player knows, as a row of numbers: the columns, and the calls that
+fill rows from `gen1_player` structs.
 
-A row is computed from a `Player` and from nothing else, so it holds nothing that the side does not know (docs/MECHANICS.md, "Player's
-view"). `print(gen1.encodings.described())` lists all columns.
+A row is computed from a `Player` and from nothing else, so it holds nothing
+that the side does not know (docs/MECHANICS.md, "Player's view").
+`print(gen1.encodings.described())` lists all columns.
 """
+
+from __future__ import annotations
 
 import ctypes
 from collections.abc import Iterator

@@ -1,9 +1,14 @@
-"""Environments of one battle: one player with Gymnasium's API, and two players with PettingZoo's parallel API.
+"""Environments of one battle: one player with Gymnasium's API, and two players
+with PettingZoo's parallel API.
 
-Neither package is needed. If gymnasium is installed, its spaces and its `Env` are used. An action is a number from 0 to 11, the bit of a
-choice: 0 is pass, 1 to 5 are moves 0 to 4, 6 to 11 are switches to 1 to 6. An observation is a row of `gen1.encodings`: what the player
-knows. Many battles at once are in `gen1.vectors`.
+Neither package is needed. If gymnasium is installed, its spaces and its
+`Env` are used. An action is a number from 0 to 11, the bit of a choice: 0
+is pass, 1 to 5 are moves 0 to 4, 6 to 11 are switches to 1 to 6. An
+observation is a row of `gen1.encodings`: what the player knows. Many
+battles at once are in `gen1.vectors`.
 """
+
+from __future__ import annotations
 
 from collections.abc import Callable, Mapping
 from typing import Any
@@ -12,7 +17,8 @@ import numpy as np
 
 from gen1 import spaces
 from gen1._check import shown, within
-from gen1._episodes import BEFORE, DEFAULT_TEAM, Episodes, TeamSource, Truths
+from gen1._episodes import BEFORE, Episodes, TeamSource, TeamSources, Truths
+from gen1._episodes import DEFAULT_TEAM as DEFAULT_TEAM
 from gen1._structs import PlayerStruct
 from gen1.arrays import ACTIONS, CHOICES, COUNTS, NTH, Bytes, Masks, bits
 from gen1.battle import Battle
@@ -109,7 +115,7 @@ class _Environment:
     _single: _Single | None = None
 
     def _prepare(
-        self, teams: tuple[TeamSource, TeamSource], terms: tuple[int, int], render_mode: str | None, observations: Encoding | str
+        self, teams: TeamSources, terms: tuple[int, int], render_mode: str | None, observations: Encoding | str
     ) -> None:
         if render_mode not in (None, "ansi"):
             raise BadArgument(f"render_mode must be None or 'ansi', not {shown(render_mode)}")
@@ -162,10 +168,11 @@ class BattleEnv(_Environment, _Base):  # type: ignore[misc, valid-type]
     It plays the battles of a `VectorEnv` of one.
 
     `one` and `two` are teams, or functions of a numpy generator that return
-    the team for each new battle. `opponent` is "random", "greedy" or a
-    function of observations, (1, columns), and action masks, (1, 12), as in
-    `VectorEnv`; it sees what the player of side 2 knows. `observations` is
-    "player", or an `Encoding`.
+    the team for each new battle; None is `environments.DEFAULT_TEAM`, three
+    members. `opponent` is "random", "greedy" or a function of observations,
+    (1, columns), and action masks, (1, 12), as in `VectorEnv`; it sees what
+    the player of side 2 knows. `observations` is "player", or an
+    `Encoding`.
 
     The reward is 1 for a win, -1 for a loss, and 0 otherwise. At the turn
     limit the battle ends in a tie, as its rules say, so no episode is
@@ -181,8 +188,8 @@ class BattleEnv(_Environment, _Base):  # type: ignore[misc, valid-type]
 
     def __init__(
         self,
-        one: TeamSource = DEFAULT_TEAM,
-        two: TeamSource = DEFAULT_TEAM,
+        one: TeamSource | None = None,
+        two: TeamSource | None = None,
         opponent: OpponentLike = "random",
         rules: int = 0,
         limit: int = 1000,
@@ -237,8 +244,8 @@ class TwoPlayerEnv(_Environment):
 
     def __init__(
         self,
-        one: TeamSource = DEFAULT_TEAM,
-        two: TeamSource = DEFAULT_TEAM,
+        one: TeamSource | None = None,
+        two: TeamSource | None = None,
         rules: int = 0,
         limit: int = 1000,
         render_mode: str | None = None,

@@ -1,12 +1,17 @@
-"""What a side of a `BattleArray` knows, as a row of numbers from -1 to 1, where both sides know both teams.
+"""What a side of a `BattleArray` knows, as a row of numbers from -1 to 1,
+where both sides know both teams.
 
-What a `Player` knows, who meets the foe's members as they come out, is a row of another form: `gen1.encodings`, whose `VERSION`, `Column`
-and `Encoding` are names of this module too.
+What a `Player` knows, who meets the foe's members as they come out, is a
+row of another form: `gen1.encodings`, whose `VERSION`, `Column` and
+`Encoding` are names of this module too.
 
-A side knows everything about its own members except what the game hides: how long sleep and confusion last, and which numbers are drawn
-next. Of the foe it knows what a spectator of both teams knows (docs/MECHANICS.md, "Spectator's view"): species and level of each member,
-HP, the kind of status, who is out, the stages, and whether a Substitute, confusion, Light Screen and Reflect are up. Moves, PP and stats
-of the foe are not in any column. `COLUMNS` has the name of each column.
+A side knows everything about its own members except what the game hides:
+how long sleep and confusion last, and which numbers are drawn next. Of the
+foe it knows what a spectator of both teams knows (docs/MECHANICS.md,
+"Spectator's view"): species and level of each member, HP, the kind of
+status, who is out, the stages, and whether a Substitute, confusion, Light
+Screen and Reflect are up. Moves, PP and stats of the foe are not in any
+column. `COLUMNS` has the name of each column.
 """
 
 from typing import Any
@@ -59,7 +64,9 @@ COLUMNS = _columns()
 
 
 def observe(fields: Any, side: int, masks: NDArray[np.uint16]) -> Row:
-    """The observations of a side, (n, `len(COLUMNS)`), from battles as `gen1.layout.BATTLE` and the masks of that side."""
+    """The observations of a side, (n, `len(COLUMNS)`), from battles as
+    `gen1.layout.BATTLE` and the masks of that side.
+    """
     own, foe = fields["sides"][:, side - 1], fields["sides"][:, 2 - side]
     n = len(fields)
     parts = [_members(own, True), _members(foe, False), _active(own), _active(foe), _whole(fields, side)]

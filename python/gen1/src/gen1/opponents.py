@@ -1,7 +1,11 @@
-"""Who plays the other side of an environment: at random, by the greatest damage, or by a function of observations and masks.
+"""Who plays the other side of an environment: at random, by the greatest
+damage, or by a function of observations and masks.
 
-All of them are given what the player of their side knows, and never the battle.
+All of them are given what the player of their side knows, and never the
+battle.
 """
+
+from __future__ import annotations
 
 from collections.abc import Callable
 from functools import lru_cache
@@ -61,7 +65,9 @@ def _rows() -> tuple[NDArray[Any], ...]:
 
 
 def worths(players: PlayerArray, side: int) -> NDArray[Any]:
-    """About how much each move of each own member hurts the foe's active member, (n, 6, 4), in no unit."""
+    """About how much each move of each own member hurts the foe's active
+    member, (n, 6, 4), in no unit.
+    """
     kinds, powers, bulks, types, chart = _rows()
     known = players.known(side)
     own, foe, battles = known["own"], known["known"]["sides"][:, 2 - side], np.arange(len(players))
@@ -80,7 +86,9 @@ def worths(players: PlayerArray, side: int) -> NDArray[Any]:
 
 
 def greedy_choices(players: PlayerArray, side: int, encoding: Encoding, dice: np.random.Generator) -> Bytes:
-    """The move that hurts most, by a simple estimate; and where a member must be sent out, the one that has such a move."""
+    """The move that hurts most, by a simple estimate; and where a member must
+    be sent out, the one that has such a move.
+    """
     worth, own = worths(players, side), players.known(side)["own"]
     score = np.zeros((len(players), ACTIONS))
     score[:, 2:6] = worth[np.arange(len(players)), np.maximum(own["place"], 1).astype(np.int64) - 1]
@@ -91,7 +99,9 @@ def greedy_choices(players: PlayerArray, side: int, encoding: Encoding, dice: np
 
 
 def by_policy(policy: Policy) -> Chooser:
-    """What a function chooses. It is given the rows of those battles that go on."""
+    """What a function chooses. It is given the rows of those battles that go
+    on.
+    """
 
     def choices(players: PlayerArray, side: int, encoding: Encoding, dice: np.random.Generator) -> Bytes:
         masks, chosen = players.masks(side), np.zeros(len(players), np.uint8)
@@ -119,7 +129,9 @@ def opponent_of(given: OpponentLike) -> Chooser:
 
 
 def actions_of(given: object, count: int, name: str) -> NDArray[Any]:
-    """Actions from 0 to 11, (count), as an array. Raises `BadArgument`, `BadType`."""
+    """Actions from 0 to 11, (count), as an array. Raises `BadArgument`,
+    `BadType`.
+    """
     try:
         actions = np.asarray(given)
     except ValueError:
@@ -135,7 +147,9 @@ def actions_of(given: object, count: int, name: str) -> NDArray[Any]:
 
 
 def must_be_offered(masks: Masks, chosen: Bytes, side: int) -> None:
-    """Raises `Refused` for the first choice that its mask doesn't have. A mask of 0, of a battle that is over, takes any."""
+    """Raises `Refused` for the first choice that its mask doesn't have. A mask
+    of 0, of a battle that is over, takes any.
+    """
     bit = np.searchsorted(CHOICES, chosen).astype(np.uint16)
     wrong = (masks != 0) & (masks >> bit & 1 == 0)
     if wrong.any():

@@ -1,5 +1,7 @@
 """Many battles at once, with what the players of both sides know of each."""
 
+from __future__ import annotations
+
 from ctypes import c_size_t, c_void_p, sizeof
 from dataclasses import dataclass
 from functools import lru_cache

@@ -1,4 +1,6 @@
-"""Spaces and modes of the environments: Gymnasium's if that package is installed, else these classes with the same methods."""
+"""Spaces and modes of the environments: Gymnasium's if that package is
+installed, else these classes with the same methods.
+"""
 
 from collections.abc import Sequence
 from enum import Enum
@@ -27,7 +29,9 @@ class Discrete:
         return [0 if seed is None else seed]
 
     def sample(self, mask: NDArray[Any] | None = None) -> np.int64:
-        """A random number, or one where the mask, (n), is true; 0 if it is true nowhere."""
+        """A random number, or one where the mask, (n), is true; 0 if it is
+        true nowhere.
+        """
         allowed = np.arange(self.n) if mask is None else np.flatnonzero(mask)
         return np.int64(self._dice.choice(allowed) if len(allowed) else 0)
 
@@ -45,7 +49,9 @@ class Discrete:
 
 
 class MultiDiscrete:
-    """Arrays of whole numbers, the number at each place from 0 to `nvec` there - 1."""
+    """Arrays of whole numbers, the number at each place from 0 to `nvec` there
+    - 1.
+    """
 
     def __init__(self, nvec: Sequence[int] | NDArray[Any]) -> None:
         self.nvec = np.array(nvec, np.int64)
@@ -58,7 +64,9 @@ class MultiDiscrete:
         return [0 if seed is None else seed]
 
     def sample(self, mask: Sequence[NDArray[Any]] | None = None) -> NDArray[np.int64]:
-        """An array of random numbers; with a mask for each place, of those that are true in it; 0 if it is true nowhere."""
+        """An array of random numbers; with a mask for each place, of those
+        that are true in it; 0 if it is true nowhere.
+        """
         if mask is None:
             return self._dice.integers(0, self.nvec, dtype=np.int64)
         allowed = [np.flatnonzero(it) for it in mask]
@@ -80,7 +88,9 @@ class MultiDiscrete:
 
 
 class Box:
-    """Arrays of one shape and type, each number from `low` to `high`, which are numbers or arrays of that shape."""
+    """Arrays of one shape and type, each number from `low` to `high`, which
+    are numbers or arrays of that shape.
+    """
 
     def __init__(
         self,
@@ -120,10 +130,13 @@ class Box:
 
 
 class AutoresetMode(Enum):
-    """What a vector environment does with a battle that is over, as in `gymnasium.vector`.
+    """What a vector environment does with a battle that is over, as in
+    `gymnasium.vector`.
 
-    `NEXT_STEP`: the next step starts a new battle in its place, and ignores its action. `SAME_STEP`: the step that ends it starts a new one
-    at once, and the info has the last observation. `DISABLED`: it stays as it is until `reset` is called with a mask.
+    `NEXT_STEP`: the next step starts a new battle in its place, and ignores
+    its action. `SAME_STEP`: the step that ends it starts a new one at once,
+    and the info has the last observation. `DISABLED`: it stays as it is
+    until `reset` is called with a mask.
     """
 
     NEXT_STEP = "NextStep"
@@ -141,7 +154,9 @@ def made() -> tuple[Any, Any, Any]:
 
 
 def made_for_vectors() -> tuple[Any, Any, Any]:
-    """The class MultiDiscrete, the base class of a vector environment, and the enum of its modes."""
+    """The class MultiDiscrete, the base class of a vector environment, and the
+    enum of its modes.
+    """
     if find_spec("gymnasium"):
         import gymnasium
 

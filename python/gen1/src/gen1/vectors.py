@@ -1,8 +1,12 @@
-"""Environments of many battles at once: one player with Gymnasium's vector API, and two with PettingZoo's parallel API for arrays.
+"""Environments of many battles at once: one player with Gymnasium's vector
+API, and two with PettingZoo's parallel API for arrays.
 
-Neither package is needed; where gymnasium is installed, its spaces, its `VectorEnv` and its modes are used. Actions are those of
+Neither package is needed; where gymnasium is installed, its spaces, its
+`VectorEnv` and its modes are used. Actions are those of
 `gen1.environments`, an observation is a row of `gen1.encodings`.
 """
+
+from __future__ import annotations
 
 from collections.abc import Callable, Mapping
 from typing import Any
@@ -12,7 +16,7 @@ from numpy.typing import ArrayLike, NDArray
 
 from gen1 import spaces
 from gen1._check import shown, within
-from gen1._episodes import DEFAULT_TEAM, Ended, Episodes, TeamSource, Truths
+from gen1._episodes import Ended, Episodes, TeamSource, TeamSources, Truths
 from gen1.arrays import ACTIONS, CHOICES, BattleArray, Bytes
 from gen1.choices import Side
 from gen1.encodings import Encoding, Rows, encoding_of
@@ -37,7 +41,7 @@ class _Vector:
     def _prepare(
         self,
         num_envs: int,
-        teams: tuple[TeamSource, TeamSource],
+        teams: TeamSources,
         terms: tuple[int, int],
         autoreset: object,
         form: Encoding | str,
@@ -103,11 +107,12 @@ class VectorEnv(_Vector, _Base):  # type: ignore[misc, valid-type]
     sees what the player of side 2 knows, and never a battle.
 
     `one` and `two` are teams, or functions of a numpy generator that return
-    the team for each new battle. `autoreset` is one of Gymnasium's modes,
-    or its name: "next_step", "same_step", "disabled" (`AutoresetMode`).
-    With "same_step" the infos of a step that ended battles have `final_obs`
-    (also as `final_observation`, its older name), `final_info`, and their
-    masks `_final_obs` and `_final_info`. `observations` is "player", or an
+    the team for each new battle; None is `environments.DEFAULT_TEAM`, three
+    members. `autoreset` is one of Gymnasium's modes, or its name:
+    "next_step", "same_step", "disabled" (`AutoresetMode`). With "same_step"
+    the infos of a step that ended battles have `final_obs` (also as
+    `final_observation`, its older name), `final_info`, and their masks
+    `_final_obs` and `_final_info`. `observations` is "player", or an
     `Encoding`. `threads` is how many threads the library uses.
 
     `infos["action_mask"]`, (n, 12) bools, says which actions are offered.
@@ -120,8 +125,8 @@ class VectorEnv(_Vector, _Base):  # type: ignore[misc, valid-type]
     def __init__(
         self,
         num_envs: int = 1,
-        one: TeamSource = DEFAULT_TEAM,
-        two: TeamSource = DEFAULT_TEAM,
+        one: TeamSource | None = None,
+        two: TeamSource | None = None,
         opponent: OpponentLike = "random",
         *,
         rules: int = 0,
@@ -183,8 +188,8 @@ class TwoPlayerVectorEnv(_Vector):
     def __init__(
         self,
         num_envs: int = 1,
-        one: TeamSource = DEFAULT_TEAM,
-        two: TeamSource = DEFAULT_TEAM,
+        one: TeamSource | None = None,
+        two: TeamSource | None = None,
         *,
         rules: int = 0,
         limit: int = 1000,

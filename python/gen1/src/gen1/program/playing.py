@@ -5,7 +5,7 @@ import random
 import sys
 
 from gen1.battle import Battle
-from gen1.choices import Choice, Side
+from gen1.choices import Choice, Side, explained
 from gen1.errors import NoDamage
 from gen1.program.inputs import Fault, a_battle, an_object, read, teams
 from gen1.sentences import sentence
@@ -49,7 +49,7 @@ def _pair(battle: Battle, sides: tuple[Team, Team], against: str, dice: random.R
 def _asked(battle: Battle, offered: tuple[Choice, ...]) -> Choice | None:
     """The choice that is typed; None at the end of the input, or for q."""
     for at, it in enumerate(offered, 1):
-        print(f"  {at}  {battle.words(Side.ONE, it)}")
+        print(f"  {at}  {explained(it, battle.words(Side.ONE, it))}")
     while True:
         print(f"choose 1 to {len(offered)}: ", end="", flush=True)
         line = sys.stdin.readline()
