@@ -3,9 +3,10 @@
 
     python3 examples/python/policy_gradient
 
-The policy is linear: each action has a weight for each feature, and the softmax over the offered actions gives their chances. It plays many
-battles at once (`gen1.VectorEnv`) and makes those actions likelier that went better than a linear estimate of the value had it (an actor and
-a critic, with generalized advantage estimation). The same arguments give the same numbers, on the same machine with the same numpy.
+The policy is linear: each action has a weight for each feature, and the softmax over the offered actions gives their chances. It plays
+many battles at once (`gen1.VectorEnv`) and makes those actions likelier that went better than a linear estimate of the value had it (an
+actor and a critic, with generalized advantage estimation). The same arguments give the same numbers, on the same machine with the same
+numpy.
 """
 
 import argparse
