@@ -298,8 +298,9 @@ def test_playouts_in_slices(battle):
 
 
 def test_playouts_can_be_interrupted():
-    """As by control C, long before 2 ** 32 - 1 are played."""
+    """As by control C, long before 2 ** 32 - 1 are played. In the background of a shell a process ignores it, unless it says otherwise."""
     script = (
+        "import signal; signal.signal(signal.SIGINT, signal.default_int_handler)\n"
         "import _thread, threading; from gen1 import *; t = Member('Tauros', ['Body Slam']); b = Battle([t], [t], range(10))\n"
         "threading.Timer(0.5, _thread.interrupt_main).start()\n"
         "try: b.playout(1, (1 << 32) - 1)\n"
