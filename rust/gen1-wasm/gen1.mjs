@@ -179,9 +179,12 @@ const HAS_FILES = typeof process === "object" && Boolean(process?.versions?.node
 // The scheme of a URL. One letter before a colon is a drive of Windows.
 const SCHEME = /^[a-z][a-z0-9+.-]+:/i;
 
-// The bytes of a file. Bundlers leave the import alone, which is reached only where there are files.
+// The module of Node that reads files. Bundlers for browsers leave it alone where its name is not in the import.
+const FILES = "node:fs/promises";
+
+// The bytes of a file.
 async function fileAt(place) {
-  const { readFile } = await import(/* webpackIgnore: true */ /* @vite-ignore */ "node:fs/promises");
+  const { readFile } = await import(/* webpackIgnore: true */ /* @vite-ignore */ FILES);
   return readFile(place);
 }
 
