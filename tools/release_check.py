@@ -148,7 +148,7 @@ class Trial:
     def page(self):
         """The page has no battle, and `gen1 replay` of the built program puts one into it."""
         page = self.out / f"gen1-{version()}.html"
-        if page.read_text().count(PLACEHOLDER) != 1 or page.stat().st_size >= 400_000:
+        if page.read_text().count(PLACEHOLDER) != 1 or page.stat().st_size >= 450_000:
             return "it has no place for a battle, or is too long"
         text = ran(program(), "replay", "--page", page, STORED, cwd=self.room)
         return None if PLACEHOLDER not in text and '"Tauros"' in text else "no battle was put into it"

@@ -6,12 +6,14 @@ from checks.browser import SIZES
 # Roles of elements that a person uses or that have a value; each needs a name.
 NAMED = {"button", "checkbox", "combobox", "group", "image", "link", "log", "meter", "region", "slider", "spinbutton", "tab", "tablist", "tabpanel", "textbox"}
 PLACES = {
+    "home": ("#home", ""),
     "replay": ("#replay", "document.getElementById('replay-example').click(); for (let i = 0; i < 8; i++) document.getElementById('replay-forward').click();"
                "document.getElementById('replay-whole').open = true"),
     "teams": ("#play", ""),
     "play": ("#play", "document.getElementById('play-start').click()"),
     "calculator": ("#calculator", "document.querySelectorAll('#panel-calculator details').forEach((it) => (it.open = true));"
-                   "document.querySelector('#calc-results button').click()"),
+                   "document.querySelectorAll('#calc-results .move')[1].click()"),
+    "builder": ("#teams", "document.querySelectorAll('#panel-teams details').forEach((it) => (it.open = true))"),
     "message": ("#replay?b=zzzz", ""),
 }
 
@@ -154,15 +156,18 @@ def the_focus_goes_to_a_heading(browser):
     for side in (1, 2):
         browser.fill(f"#play-who-{side}", "person")
         browser.fill(f"#play-team-{side}", "Tauros\n- Explosion")
+    browser.run("document.getElementById('play-open').checked = true")
     browser.click("#play-start")
     assert browser.run(at) == "play-now"
     for side in (1, 2):
         browser.find(f"#play-choices-{side} button").send_keys(Keys.ENTER)
     assert browser.text("#play-now").endswith("A tie.") or "has won" in browser.text("#play-now")
     assert browser.run(at) == "play-now"
+    browser.click("#play-menu summary")
     browser.click("#play-watch")
     assert browser.run(at) == "replay-now"
     browser.click("#tab-play")
+    browser.click("#play-menu summary")
     browser.click("#play-again")
     assert browser.run(at) == "play-teams"
 

@@ -8,8 +8,8 @@ from selenium.webdriver.common.action_chains import ActionChains
 from selenium.webdriver.chrome.service import Service
 from selenium.webdriver.common.by import By
 
-# The color schemes; the width and height of a desktop's and of a phone's screen.
-SIZES = {"wide": (1280, 960), "narrow": (360, 740)}
+# The width and height of a desktop's and of a phone's screen.
+SIZES = {"wide": (1280, 800), "narrow": (390, 844)}
 
 
 class Browser:
@@ -25,16 +25,17 @@ class Browser:
         self.driver = webdriver.Chrome(service=Service("/usr/bin/chromedriver"), options=options)
         self.driver.execute_cdp_cmd("Browser.setDownloadBehavior", {"behavior": "allow", "downloadPath": str(folder)})
         self.said, self.requested = [], []
+        self.look(*SIZES["wide"], "light")
 
     def close(self):
         self.driver.quit()
 
-    def open(self, address="", page=None):
+    def open(self, address="#replay", page=None):
         """Reloads the page at an address, and waits until it is ready."""
         self.gather()
         self.driver.get("about:blank")
         self.driver.get((page or self.page) + address)
-        self.wait("return document.documentElement.dataset.ready === 'true'")
+        self.wait("return document.documentElement.dataset.ready === 'true'", 60)
 
     def run(self, script, *words):
         return self.driver.execute_script(script, *words)
@@ -53,7 +54,15 @@ class Browser:
         return self.driver.find_element(By.CSS_SELECTOR, selector)
 
     def click(self, selector):
+        """Clicks on an element, and waits until the page has read a long battle."""
         self.find(selector).click()
+        self.wait("return !('busy' in document.documentElement.dataset)", 60)
+
+    def tap(self, selector):
+        """Touches an element."""
+        x, y = self.run("const it = document.querySelector(arguments[0]).getBoundingClientRect(); return [it.x + it.width / 2, it.y + it.height / 2]", selector)
+        for kind, points in (("touchStart", [{"x": x, "y": y}]), ("touchEnd", [])):
+            self.driver.execute_cdp_cmd("Input.dispatchTouchEvent", {"type": kind, "touchPoints": points})
 
     def text(self, selector):
         return self.run("return document.querySelector(arguments[0]).textContent", selector)
@@ -113,12 +122,13 @@ class Browser:
             time.sleep(0.02)
         raise AssertionError(f"{name} was not saved")
 
-    def look(self, width, height, scheme):
-        """Sets the size of the page, and whether the system is light or dark."""
+    def look(self, width, height, scheme, motion="reduce"):
+        """Sets the size of the page, whether the system is light or dark, and "reduce" or "no-preference" for motion."""
         self.driver.execute_cdp_cmd(
             "Emulation.setDeviceMetricsOverride", {"width": width, "height": height, "deviceScaleFactor": 1, "mobile": width < 600}
         )
-        self.driver.execute_cdp_cmd("Emulation.setEmulatedMedia", {"features": [{"name": "prefers-color-scheme", "value": scheme}]})
+        self.driver.execute_cdp_cmd("Emulation.setTouchEmulationEnabled", {"enabled": width < 600})
+        self.driver.execute_cdp_cmd("Emulation.setEmulatedMedia", {"features": [{"name": "prefers-color-scheme", "value": scheme}, {"name": "prefers-reduced-motion", "value": motion}]})
 
     def tree(self):
         """The nodes of the accessibility tree that are not ignored, as (role, name)."""

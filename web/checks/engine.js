@@ -3,6 +3,8 @@
 import { readFileSync } from "node:fs";
 import { choose, scores } from "../src/computer.js";
 import { Engine } from "../src/engine.js";
+import { guessed, playerOf } from "../src/guesses.js";
+import { Match } from "../src/match.js";
 import { conditionWords, whole } from "../src/sides.js";
 
 const engine = await Engine.of(readFileSync(process.argv[2]));
@@ -36,6 +38,11 @@ function message(call) {
 
 const tauros = (...moves) => ({ species: "Tauros", level: 100, dvs: [15, 15, 15, 15], exp: Array(5).fill(65535), moves: moves.map((move) => [move, 3]) });
 const terms = (one, two) => ({ one, two, seed: SEED, rules: 0, limit: 1000 });
+const asked = (moves, player) => {
+  const match = new Match(engine, terms([tauros(...moves)], [tauros(...moves)]), [player, "random"]);
+  match.update([0, 0]);
+  return match.question(1, 1);
+};
 const begun = (...moves) => engine.update(engine.begin(terms([tauros(...moves)], [tauros(...moves)])), 0, 0);
 
 check("a battle has the lines of the documents", () => {
@@ -89,16 +96,16 @@ check("conditions are shown with their numbers", () => {
 
 const STANDS = { stages: Array(6).fill(6), status: 0, conditions: 0, hp: 0 };
 
-// Two Tauros that know Strength, in these states, with Body Slam as a further move of the first.
+// Two Tauros that know Strength and Body Slam, in these states.
 function calculated(one, two = {}) {
-  const both = [one, two].map((it) => ({ ...STANDS, member: tauros("Strength"), ...it }));
-  return engine.calculate(both, "Body Slam");
+  const both = [one, two].map((it) => ({ ...STANDS, member: tauros("Strength", "Body Slam"), ...it }));
+  return engine.calculate(both);
 }
 
 check("members have the state that is asked for", () => {
   const [user] = calculated({});
   const slam = user.moves.find(({ move }) => move === "Body Slam");
-  equal([slam.slot, slam.damage.slice(0, 3), slam.damage.slice(36), slam.hit, slam.bound], [0, [95, 95, 96], [111, 111, 112], 255, 55]);
+  equal([slam.slot, slam.damage.slice(0, 3), slam.damage.slice(36), slam.hit, slam.bound], [2, [95, 95, 96], [111, 111, 112], 255, 55]);
   const OWN = [298, 288, 318, 238];
   const stats = (...asked) => calculated(...asked).map(({ own, stats: now }) => [own, now]);
   equal(stats({ status: 16 })[0], [OWN, [149, 288, 318, 238]]);
@@ -115,14 +122,14 @@ check("what a use does to the HP", () => {
   // Body Slam deals 95 to 112, and each critical hit more. It hits with 255 of 256 bytes.
   const { chanceOnce, chanceTwice } = found({}, { hp: 95 }, "Body Slam").knockOut;
   equal([chanceOnce, chanceTwice], [255 / 256, 65535 / 65536]);
-  const users = (move) => engine.calculate([{ ...STANDS, member: tauros(move) }, { ...STANDS, member: tauros("Strength") }], "")[0].moves[0];
+  const users = (move) => engine.calculate([{ ...STANDS, member: tauros(move) }, { ...STANDS, member: tauros("Strength") }])[0].moves[0];
   equal(["Seismic Toss", "Super Fang", "Fissure"].map((move) => users(move).fixed), [[100, 100], [176, 176], [65535, 65535]]);
   equal([users("Fissure").hit, users("Fissure").reason, users("Recover").reason], [76, null, "the user's HP don't allow it"]);
   equal([users("Swift").hit, users("Swift").reason], [null, null]);
 });
 
 check("the computer chooses the offered choice with the most damage", () => {
-  equal([["Strength"], ["Strength", "Body Slam"], ["Body Slam", "Strength"]].map((moves) => choose(engine, begun(...moves).battle, 1, "greedy", 1)), [17, 18, 17]);
+  equal([["Strength"], ["Strength", "Body Slam"], ["Body Slam", "Strength"]].map((moves) => choose(engine, asked(moves, "greedy"))), [17, 18, 17]);
 });
 
 check("playouts do not know what the battle will draw", () => {
@@ -139,6 +146,45 @@ check("playouts differ from each other", () => {
   // With one move a side, two battles differ only in their draws.
   const [score] = scores(engine.gen1.load(begun("Strength").battle), 1, 50, 7);
   equal(score >= 20 && score <= 80, true);
+});
+
+// Six members whose moves cover the conditions that a guess has to explain.
+const MOVES = ["Fly", "Dig", "Hyper Beam", "Thrash", "Wrap", "Bide", "Substitute", "Confuse Ray", "Rage", "Disable", "Toxic", "Leech Seed", "Body Slam", "Sing",
+  "Reflect", "Mist", "Focus Energy", "Light Screen", "Solar Beam", "Swords Dance", "Surf", "Explosion", "Growl", "Blizzard"];
+const six = (from) => [0, 1, 2, 3, 4, 5].map((at) => ({ ...tauros(...[0, 6, 12, 18].map((step) => MOVES[(from + at + step) % 24])), species: ["Tauros", "Starmie", "Gengar", "Zapdos", "Snorlax", "Golem"][at] }));
+
+check("guesses fit what a player knows", () => {
+  let [state, count] = [12345, 0];
+  const draw = (bound) => ((state = (Math.imul(state, 1103515245) + 12345) >>> 0) >>> 8) % bound;
+  for (let round = 0; round < 12; round++) {
+    const match = new Match(engine, { ...terms(six(round), six(round + 5)), seed: Array.from({ length: 10 }, () => draw(256)) }, ["random", "random"]);
+    match.update([0, 0]);
+    for (; !match.isOver; match.update([1, 2].map((side) => { const offered = match.offered(side); return offered[draw(offered.length)]; }))) {
+      for (const side of [1, 2]) {
+        const view = match.view(side);
+        // The worker's player is made from what it is sent.
+        const player = playerOf(engine, match.sight(side));
+        equal([player.view, player.choices], [view, match.last.players[side - 1].choices]);
+        const battle = guessed(engine, player, draw, { seed: SEED, rules: 0, limit: 1000 });
+        const own = battle.ownSide(side);
+        equal([own.members, own.active.place, own.active.stages, own.active.types, own.turn, own.request],
+          [view.own.members, view.own.active.place, view.own.active.stages, view.own.active.types, view.own.turn, view.own.request]);
+        const foe = battle.ownSide(side === 1 ? 2 : 1);
+        equal(foe.members.slice(0, view.foe.members.length).map(({ species, level, status }) => [species, level, status]),
+          view.foe.members.map(({ species, level, status }) => [species, level, status]));
+        equal(battle.choices(side), match.last.players[side - 1].choices);
+        count++;
+      }
+    }
+  }
+  equal(count > 500, true);
+});
+
+check("the computer is asked with what its side knows", () => {
+  const question = asked(["Strength", "Body Slam"], "playouts");
+  equal([question.battle, playerOf(engine, question.sight).view.foe.members.map(({ species, moves }) => [species, moves])], [null, [["Tauros", []]]]);
+  equal(asked(["Strength"], "cheating").sight, null);
+  equal([17, 18].includes(choose(engine, question)), true);
 });
 
 console.log(`${passed} passed, ${failed} failed`);

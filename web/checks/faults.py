@@ -33,6 +33,8 @@ def files_that_are_no_battles_are_refused(browser):
     asked = json.loads(battle(5, 10)["input"])
     said(browser, "long.json", b" " * 10_000_000, "10,000,000 bytes")
     said(browser, "empty.json", b"", "empty")
+    said(browser, "list.json", b"[]", "The file is a list in JSON.")
+    said(browser, "text.json", b'"Tauros"', "The file is a string in JSON.")
     said(browser, "cut.json", json.dumps(asked)[:200], "not JSON")
     said(browser, "team.json", json.dumps({**asked, "one": []}), "side 1: the team has no member")
     said(browser, "name.json", json.dumps({**asked, "two": [{**asked["two"][0], "species": "Missingno."}]}), "two[0].species")
@@ -83,7 +85,7 @@ def a_wrong_turn_limit_is_named(browser):
         browser.open("#play")
         browser.fill("#play-limit", value)
         browser.click("#play-start")
-        assert not browser.notice() and f"of at most {value}" in browser.text("#play-now")
+        assert not browser.notice() and f"after turn {value}." in browser.text("#play-rules")
 
 
 def a_log_that_is_too_long_is_refused(browser):

@@ -1,24 +1,33 @@
 """Play: recorded battles played by clicks and by keys, and battles against the computer."""
 import json
+import re
+import time
 
+from selenium.webdriver.common.keys import Keys
+
+from checks.browser import SIZES
 from checks.cases import address_of, cases, lines_of, traces
 from checks.replay import battle
 
+UPDATES = "return Number(document.getElementById('play-game').dataset.updates)"
+# A worker that returns the second choice of each of these pairs: the next one for each question.
+RECORDED = """
+const left = arguments[0].map((pair) => pair[1]).slice(1);
+window.Worker = class { postMessage(it) { if (it.id) setTimeout(() => this.onmessage({data: {id: it.id, choice: left[document.getElementById('play-game').dataset.updates - 1]}})); } terminate() {} };
+"""
 OFFERED = "return [...document.querySelectorAll('#play-choices-%d [data-choice]')].map((it) => Number(it.dataset.choice))"
 
 
 def play_on(browser, asked, press):
     """Plays a battle of two persons from its start, and collects its lines; `press(side, place, choice)` presses a choice."""
-    browser.open(f"#play?b={address_of(asked, 1)}&p1=person&p2=person")
-    found = browser.lines("#play-lines")
+    browser.open(f"#play?b={address_of(asked, 1)}&p1=person&p2=person&hands=open")
     for pair in asked["choices"][1:]:
         # A side has buttons if anything but Pass is offered.
         for side, choice in zip((1, 2), pair):
             if choice:
                 offered = browser.run(OFFERED % side)
                 press(side, offered.index(choice), choice)
-        found += browser.lines("#play-lines")
-    return found
+    return browser.lines("#play-lines")
 
 
 def a_recorded_battle_is_played_by_clicks(browser):
@@ -37,21 +46,24 @@ def a_recorded_battle_is_played_by_keys(browser):
 def only_what_is_offered_can_be_pressed(browser):
     trace = next(it for it in traces() if 10 <= len(it["updates"]) <= 20 and not any(update["refused"] for update in it["updates"]))
     asked = trace["object"]
-    browser.open(f"#play?b={address_of(asked, 1)}&p1=person&p2=person")
+    browser.open(f"#play?b={address_of(asked, 1)}&p1=person&p2=person&hands=open")
     for before, after in zip(trace["updates"], trace["updates"][1:]):
         for side in (1, 2):
             assert browser.run(OFFERED % side) == [byte for byte in before["offered"][side - 1] if byte], (side, before["pair"])
         for side, choice in zip((1, 2), after["pair"]):
             if choice:
                 browser.click(f"#play-choices-{side} [data-choice='{choice}']")
+    open_menu = lambda: browser.run("document.getElementById('play-menu').open = true")
+    open_menu()
     log = browser.saved("#play-share [data-share=log]", "battle.log")
+    open_menu()
     assert log.hex() == "".join(update["log"] for update in trace["updates"])
     assert json.loads(browser.saved("#play-share [data-share=input]", "battle.json"))["choices"] == asked["choices"]
 
 
 def taking_back_and_playing_again_is_the_same(browser):
     asked = json.loads(battle(20, 24)["input"])
-    browser.open(f"#play?b={address_of(asked, 6)}&p1=person&p2=person")
+    browser.open(f"#play?b={address_of(asked, 6)}&p1=person&p2=person&hands=open")
     shown = browser.text("#play-game")
     pair = asked["choices"][6]
     for side, choice in zip((1, 2), pair):
@@ -63,7 +75,7 @@ def taking_back_and_playing_again_is_the_same(browser):
 
 
 def battles_against_the_computer_go_on(browser):
-    for foe in ("random", "greedy", "playouts"):
+    for foe in ("random", "greedy", "playouts", "cheating"):
         browser.open("#play")
         browser.run("const Own = Worker; window.Worker = class extends Own { constructor(...words) { super(...words); window.began = true; } }")
         browser.fill("#play-who-2", foe)
@@ -72,12 +84,11 @@ def battles_against_the_computer_go_on(browser):
         browser.fill("#play-seed", "1 2 3 4 5 6 7 8 9 10")
         browser.click("#play-start")
         for press in range(1, 6):
-            count = "return new URLSearchParams(location.hash.split('?')[1]).get('b')?.length ?? 0"
-            before = browser.wait(count)
+            before = browser.run(UPDATES)
             if not browser.run(OFFERED % 1):
                 break
             browser.click("#play-choices-1 [data-choice]")
-            browser.wait(f"{count.replace('return', 'return (')}) > {before}")
+            browser.wait(f"{UPDATES} > {before}")
         assert press > 3 and browser.run("return window.began"), (foe, press)
         assert "Turn" in browser.text("#play-now") and not browser.notice()
 
@@ -97,9 +108,203 @@ def two_computers_play_to_the_end(browser):
     assert "has won" in browser.text("#play-now"), browser.text("#play-now")
 
 
+def choose_first(browser, side=1):
+    """Presses the first choice of a side, and waits for the next choices or the end; returns whether the battle goes on."""
+    before = browser.run(UPDATES)
+    browser.click(f"#play-choices-{side} [data-choice]")
+    browser.wait(f"{UPDATES} > {before}")
+    return browser.run(f"return document.querySelectorAll('#play-choices-{side} [data-choice]').length")
+
+
+def told_to(side, lines):
+    """Lines as a side is told them: the foe's HP in 48ths (docs/MECHANICS.md, "What a side is told")."""
+    def pixels(found):
+        hp, most = int(found[2]), int(found[3])
+        return f"{found[1]}{max(48 * hp // most, int(hp > 0))}/48"
+    return [re.sub(r"^(\|(?:switch|-damage|-heal)\|p%da: .*?\|)(\d+)/(\d+)" % (3 - side), pixels, line) for line in lines]
+
+
+def play_covered(browser, asked, press):
+    """Plays a battle against the computer, whose choices come from the recorded pairs; `press(choice)` presses a choice."""
+    browser.open()
+    browser.run(RECORDED, asked["choices"])
+    browser.run("location.hash = arguments[0]", f"play?b={address_of(asked, 1)}&p1=person&p2=random")
+    browser.wait("return !document.getElementById('play-game').hidden && Number(document.getElementById('play-game').dataset.updates) === 1")
+    updates = 1
+    for mine, _ in asked["choices"][1:]:
+        # What is left to the engine passes by itself.
+        if browser.run(UPDATES) > updates:
+            updates += 1
+            continue
+        press(mine)
+        updates += 1
+        browser.wait(f"{UPDATES} >= {updates}")
+    return browser.lines("#play-lines")
+
+
+def a_covered_battle_is_played_at_both_sizes(browser):
+    """By clicks, by keys and by touch, without an event of scrolling; the lines are those of the engine as side 1 is told them."""
+    case = battle(16, 24)
+    asked = json.loads(case["input"])
+    press = {
+        "wide": lambda choice: browser.click(f"#play-choices-1 [data-choice='{choice}']"),
+        "keys": lambda choice: browser.press("123456789"[browser.run(OFFERED % 1).index(choice)]),
+        "narrow": lambda choice: browser.tap(f"#play-choices-1 [data-choice='{choice}']"),
+    }
+    for how, pressing in press.items():
+        browser.look(*SIZES.get(how, SIZES["wide"]), "light")
+        assert play_covered(browser, asked, pressing) == told_to(1, lines_of(case)), how
+        assert browser.run("return window.scrollY === 0 && document.documentElement.scrollHeight <= innerHeight"), how
+        assert not browser.notice()
+    browser.look(*SIZES["wide"], "light")
+
+
+MEASURED = """
+const boxes = [...document.querySelectorAll('#play-field, #play-lines, .acts, #play-choices-1 [data-choice]')].map((it) => it.getBoundingClientRect());
+const [acts, lines] = [document.querySelector('.acts'), document.getElementById('play-lines')];
+return [innerWidth, innerHeight, document.documentElement.scrollHeight, document.documentElement.scrollWidth, acts.scrollHeight, acts.clientHeight, lines.clientHeight, lines.scrollHeight, lines.scrollTop, ...boxes.map((it) => [it.left, it.top, it.right, it.bottom].map(Math.round).join(' '))];
+"""
+INSIDE = """
+const field = document.getElementById('play-field').getBoundingClientRect();
+const parts = ['#play-field', '#play-lines', ...(document.querySelector('#play-choices-1 [data-choice]') ? ['#play-choices-1 [data-choice]'] : [])];
+const boxes = parts.flatMap((it) => [...document.querySelectorAll(it)]).map((it) => it.getBoundingClientRect());
+const acts = document.querySelector('.acts'), lines = document.getElementById('play-lines');
+return boxes.every((it) => it.top >= 0 && it.left >= 0 && it.bottom <= innerHeight + .5 && it.right <= innerWidth + .5) && lines.clientHeight >= 100
+  && acts.scrollHeight <= acts.clientHeight && Math.abs(lines.scrollHeight - lines.clientHeight - lines.scrollTop) < 2
+  && document.documentElement.scrollHeight <= innerHeight && document.documentElement.scrollWidth <= innerWidth;
+"""
+
+
+def all_is_on_one_screen(browser):
+    """The field, the end of the log and all choices, at each turn of a battle with six members."""
+    team = "\n\n".join(f"{name}\n- Body Slam\n- Rest\n- Substitute\n- Hyper Beam" for name in ("Snorlax", "Tauros", "Kangaskhan", "Dodrio", "Persian", "Fearow"))
+    for size in SIZES:
+        browser.look(*SIZES[size], "light")
+        browser.open("#play")
+        browser.fill("#play-team-1", team)
+        browser.fill("#play-who-2", "greedy")
+        browser.click("#play-start")
+        for turn in range(12):
+            # The log follows a change of its height in the next frame.
+            browser.run("return new Promise((done) => requestAnimationFrame(() => setTimeout(done)))")
+            assert browser.run(INSIDE), (size, turn, browser.run(MEASURED))
+            if not choose_first(browser):
+                break
+        assert turn > 4, turn
+        # After another size the log still ends at its end.
+        browser.look(SIZES[size][0], SIZES[size][1] - 150, "light")
+        browser.wait("const it = document.getElementById('play-lines'); return Math.abs(it.scrollHeight - it.clientHeight - it.scrollTop) < 2")
+    browser.look(*SIZES["wide"], "light")
+
+
+def the_focus_comes_back_to_the_choices(browser):
+    browser.open("#play")
+    browser.fill("#play-who-2", "random")
+    for side in (1, 2):
+        browser.fill(f"#play-team-{side}", "Chansey\n- Strength\n- Pound")
+    browser.click("#play-start")
+    for turn in (2, 3):
+        browser.find("#play-choices-1 [data-choice='18']").send_keys(Keys.ENTER)
+        browser.wait(f"return document.getElementById('play-now').textContent === 'Turn {turn}'")
+        assert browser.run("return document.activeElement.dataset.choice") == "17"
+
+
+def a_member_is_in_the_middle_of_its_move(browser):
+    browser.open("#play")
+    browser.fill("#play-who-2", "random")
+    browser.fill("#play-team-1", "Gengar\n- Substitute\n- Dig")
+    browser.fill("#play-team-2", "Chansey\n- Pound")
+    browser.click("#play-start")
+    for choice in (17, 18):
+        before = browser.run(UPDATES)
+        browser.click(f"#play-choices-1 [data-choice='{choice}']")
+        browser.wait(f"{UPDATES} > {before}")
+    assert browser.text("#play-choices-1 .to-move strong") == "Continue Dig"
+    assert browser.run("return document.querySelector('#play-field .side-1 .figure').className") == "figure under substitute"
+    browser.click("#play-choices-1 [data-choice]")
+    browser.wait(f"{UPDATES} > {before + 1}")
+    assert browser.run("return document.querySelector('#play-field .side-1 .figure').className") == "figure substitute"
+
+
+def the_log_is_whole_and_searched(browser):
+    case = battle(20, 24)
+    browser.open(f"#play?b={address_of(json.loads(case['input']), 1000)}&p1=person&p2=person&hands=open")
+    assert browser.lines("#play-lines") == lines_of(case)
+    wanted = [line for line in lines_of(case) if line.startswith("|faint|")]
+    browser.fill("#play-search", "faints")
+    seen = "return [...document.querySelectorAll('#play-lines li:not(.turn)')].filter((it) => it.checkVisibility()).map((it) => it.dataset.line)"
+    assert wanted and browser.run(seen) == wanted and browser.text("#play-found").split()[0] == str(len(wanted))
+    browser.fill("#play-search", "")
+    assert len(browser.run(seen)) == len([line for line in lines_of(case) if not line.startswith("|turn|")])
+
+
+def two_persons_cover_their_choices(browser):
+    browser.open("#play")
+    for side, move in ((1, "Body Slam"), (2, "Strength")):
+        browser.fill(f"#play-who-{side}", "person")
+        browser.fill(f"#play-team-{side}", f"Tauros\n- {move}\n\nChansey\n- Sing")
+    browser.click("#play-start")
+    shown = "return [1, 2].map((side) => document.querySelectorAll(`#play-choices-${side} [data-choice]`).length)"
+    for turn in (1, 2):
+        for side, words in ((1, ("Body Slam", "Strength")), (2, ("Strength", "Body Slam"))):
+            assert browser.run(shown) == [0, 0] and f"Side {side} chooses" in browser.text("#play-cover")
+            browser.click("#play-reveal")
+            own, foe = words
+            assert own in browser.text("#play-choices-%d" % side) and browser.run(shown)[2 - side] == 0
+            assert foe not in browser.text(".acts") and browser.run("return document.activeElement.closest('.choices').id") == f"play-choices-{side}"
+            browser.press("1")
+        assert browser.text("#play-now") == f"Turn {turn + 1}"
+    assert "/353" not in browser.text("#play-field") and not re.search(r"\d+/(?!48\b)\d+", " ".join(browser.lines("#play-lines")))
+
+
+def events_play_one_after_the_other(browser):
+    browser.look(*SIZES["wide"], "light", "no-preference")
+    browser.open("#play")
+    browser.fill("#play-who-2", "random")
+    for side in (1, 2):
+        browser.fill(f"#play-team-{side}", "Chansey\n- Strength\n- Pound")
+    browser.fill("#speed", "slow")
+    browser.click("#play-start")
+    browser.run("window.seen = []; new MutationObserver(() => window.seen.push(performance.now())).observe(document.getElementById('play-lines'), {childList: true})")
+    browser.click("#play-choices-1 [data-choice]")
+    browser.wait("return window.seen.length > 1 && !document.getElementById('play-skip').hidden")
+    assert browser.run("return !document.querySelector('#play-choices-1 [data-choice]')")
+    browser.click("#play-skip")
+    browser.wait("return document.querySelector('#play-choices-1 [data-choice]')", 3)
+    assert browser.run("return window.seen[1] - window.seen[0] > 300"), browser.run("return window.seen")
+    browser.fill("#speed", "off")
+    browser.click("#play-choices-1 [data-choice]")
+    browser.wait("return document.getElementById('play-now').textContent === 'Turn 3'", 3)
+    browser.fill("#speed", "normal")
+    browser.look(*SIZES["wide"], "light")
+
+
+def a_change_of_mind_asks_the_computer_once(browser):
+    browser.open("#play")
+    browser.run("const Own = Worker; window.asked = 0; window.Worker = class extends Own { postMessage(it) { if (it.id) window.asked++; super.postMessage(it); } }")
+    browser.click("#play-start")
+    browser.wait("return window.asked === 1")
+    browser.run("for (let time = 0; time < 40; time++) document.querySelectorAll('#play-choices-1 [data-choice]')[time % 2].click()")
+    browser.wait(f"{UPDATES} >= 2")
+    assert browser.run("return window.asked") <= 2
+
+
+def a_battle_lasts_as_long_as_its_tab(browser):
+    browser.open("#play")
+    browser.fill("#play-who-2", "greedy")
+    browser.click("#play-start")
+    choose_first(browser)
+    lines = browser.lines("#play-lines")
+    assert browser.run("return location.hash") == "#play"
+    browser.open("#play")
+    browser.click("#play-return")
+    assert browser.lines("#play-lines") == lines
+
+
 def a_battle_that_was_played_is_watched(browser):
     case = battle(5, 10)
     browser.open(f"#play?b={address_of(json.loads(case['input']), 1000)}&p1=person&p2=person")
+    browser.click("#play-menu summary")
     browser.click("#play-watch")
     browser.click("#replay-whole summary")
     browser.wait("return document.querySelector('#replay-whole-lines [data-line]')")
@@ -126,7 +331,7 @@ def a_worker_that_fails_is_done_without(browser):
         browser.click("#play-start")
         for turn in (2, 3):
             browser.click("#play-choices-1 [data-choice='18']")
-            browser.wait(f"return document.getElementById('play-now').textContent.startsWith('Turn {turn} ')")
+            browser.wait(f"return document.getElementById('play-now').textContent.startsWith('Turn {turn}')")
         assert not browser.text("#play-wait") and not browser.notice(), name
         assert name == "no worker" or browser.run("return window.ended"), name
 
@@ -136,7 +341,7 @@ def a_worker_says_why_it_cannot(browser):
     told = browser.run("""
         const worker = new Worker(URL.createObjectURL(new Blob([document.getElementById('script').text], {type: 'text/javascript'})));
         worker.postMessage({module: new Uint8Array([1, 2, 3])});
-        worker.postMessage({id: 7, battle: new Uint8Array(384), side: 1, player: 'greedy', seed: 1});
+        worker.postMessage({id: 7, asked: {side: 1, player: 'greedy', seed: 1, offered: [17, 18], battle: new Uint8Array(384)}});
         return new Promise((done) => (worker.onmessage = ({data}) => done(data)));""")
     assert told["id"] == 7 and "CompileError" in told["fault"], told
 
@@ -147,6 +352,7 @@ def two_tauros(browser):
     for side in (1, 2):
         browser.fill(f"#play-who-{side}", "person")
         browser.fill(f"#play-team-{side}", "Tauros\n- Body Slam\n- Strength\n\nStarmie\n- Surf\n\nChansey\n- Ice Beam")
+    browser.run("document.getElementById('play-open').checked = true")
     browser.click("#play-start")
 
 
@@ -155,32 +361,35 @@ def a_key_that_is_held_plays_once(browser):
     pressed = "document.body.dispatchEvent(new KeyboardEvent('keydown', {key: arguments[0], repeat: arguments[1], bubbles: true, cancelable: true}))"
     for key in "1q1q":
         browser.run(pressed, key, True)
-    assert browser.text("#play-now").startswith("Turn 1 ")
+    assert browser.text("#play-now") == "Turn 1"
     for key in "1q":
         browser.run(pressed, key, False)
-    assert browser.text("#play-now").startswith("Turn 2 ")
+    assert browser.text("#play-now") == "Turn 2"
 
 
 def keys_of_one_character_can_be_switched_off(browser):
     two_tauros(browser)
     assert browser.run("return document.querySelectorAll('#play-choices-1 kbd, #play-choices-1 [aria-keyshortcuts]').length")
+    browser.click("#settings summary")
     browser.click("#keys")
     browser.run("document.activeElement.blur()")
     assert not browser.run("return document.querySelectorAll('#play-choices-1 kbd, #play-choices-1 [aria-keyshortcuts]').length")
     browser.press("1q")
-    assert browser.text("#play-now").startswith("Turn 1 ")
+    assert browser.text("#play-now") == "Turn 1"
     two_tauros(browser)
     assert not browser.run("return document.getElementById('keys').checked")
+    browser.click("#settings summary")
     browser.click("#keys")
     browser.run("document.activeElement.blur()")
     browser.press("1q")
-    assert browser.text("#play-now").startswith("Turn 2 ")
+    assert browser.text("#play-now") == "Turn 2"
 
 
 def a_battle_that_was_left_is_gone_back_to(browser):
     two_tauros(browser)
     browser.press("1q")
     shown = browser.text("#play-game")
+    browser.click("#play-menu summary")
     browser.click("#play-again")
     assert browser.run("return document.getElementById('play-game').hidden")
     browser.click("#play-return")
@@ -188,22 +397,60 @@ def a_battle_that_was_left_is_gone_back_to(browser):
     browser.wait("return location.hash.startsWith('#play?b=')")
 
 
-def open_details_stay_with_their_member(browser):
-    two_tauros(browser)
-    names = "return [...document.querySelectorAll('#play-side-1 .members details[open]')].map((it) => it.parentElement.querySelector('.name').textContent)"
-    browser.run("document.querySelector('#play-side-1 .members > li:nth-child(2) details summary').focus()")
-    browser.press(" ")
-    browser.wait("return document.querySelector('#play-side-1 .members > li:nth-child(2) details').open")
-    assert browser.run(names) == ["Starmie"]
-    # Chansey comes out, and Tauros takes the place of Starmie's details.
-    browser.run("for (const it of ['1 [data-choice=\"35\"]', '2 [data-choice=\"17\"]']) document.querySelector('#play-choices-' + it).click()")
-    assert "Chansey" in browser.text("#play-side-1 .head") and browser.run(names) == ["Starmie"]
-    assert browser.run("return document.activeElement.textContent") == "Moves of Starmie"
+def a_hit_has_its_share_of_the_hp(browser):
+    """Body Slam does 95 to 112 damage to Tauros' 353 HP (docs/MECHANICS.md, "Damage formula"): 26.9 to 31.7 percent."""
+    browser.open("#play")
+    for side in (1, 2):
+        browser.fill(f"#play-team-{side}", "Tauros\n- Body Slam")
+    for hands, sign in (("false", "≈ "), ("true", "")):
+        browser.run(f"document.getElementById('play-open').checked = {hands}")
+        browser.click("#play-start")
+        odds = browser.find("#play-choices-1 [data-choice='17'] .odds")
+        assert odds.text == f"{sign}26–31% · 99.6% to hit" and odds.get_attribute("title") == "95–112 HP", odds.text
+        browser.click("#play-menu summary")
+        browser.click("#play-again")
+
+
+def work_of(browser):
+    """The milliseconds that the page's thread has worked: scripts, styles and layout, without waiting for the processor."""
+    metrics = {it["name"]: it["value"] for it in browser.driver.execute_cdp_cmd("Performance.getMetrics", {})["metrics"]}
+    return 1000 * sum(metrics[name] for name in ("ScriptDuration", "RecalcStyleDuration", "LayoutDuration"))
+
+
+def a_turn_is_little_work(browser):
+    browser.driver.execute_cdp_cmd("Performance.enable", {"timeDomain": "threadTicks"})
+    for size in SIZES:
+        browser.look(*SIZES[size], "light")
+        browser.open("#play")
+        browser.fill("#play-who-2", "playouts")
+        browser.click("#play-start")
+        turns = []
+        for _ in range(10):
+            choice = browser.find("#play-choices-1 [data-choice]")
+            updates, before = browser.run(UPDATES), work_of(browser)
+            choice.click()
+            # The script that waits is itself work, so the page is mostly left alone.
+            for _ in range(20):
+                time.sleep(0.7)
+                work = work_of(browser) - before
+                if browser.run(UPDATES) > updates:
+                    break
+            turns.append(work)
+            if not browser.run(OFFERED % 1):
+                break
+        middle = sorted(turns)[len(turns) // 2]
+        print(f"    a turn takes {middle:.1f} ms of the page's thread, at most {max(turns):.1f} ms ({size})")
+        assert len(turns) > 2 and middle < 16, turns
+    browser.driver.execute_cdp_cmd("Performance.disable", {})
+    browser.look(*SIZES["wide"], "light")
 
 
 CHECKS = [
+    a_turn_is_little_work,
+    a_hit_has_its_share_of_the_hp, a_covered_battle_is_played_at_both_sizes, all_is_on_one_screen, a_member_is_in_the_middle_of_its_move, the_log_is_whole_and_searched, the_focus_comes_back_to_the_choices,
+    two_persons_cover_their_choices, events_play_one_after_the_other, a_change_of_mind_asks_the_computer_once, a_battle_lasts_as_long_as_its_tab,
     a_worker_that_fails_is_done_without, a_worker_says_why_it_cannot, a_key_that_is_held_plays_once, keys_of_one_character_can_be_switched_off,
-    a_battle_that_was_left_is_gone_back_to, open_details_stay_with_their_member, a_recorded_battle_is_played_by_clicks,
+    a_battle_that_was_left_is_gone_back_to, a_recorded_battle_is_played_by_clicks,
     a_recorded_battle_is_played_by_keys, only_what_is_offered_can_be_pressed,
     taking_back_and_playing_again_is_the_same, battles_against_the_computer_go_on, two_computers_play_to_the_end,
     a_battle_that_was_played_is_watched,

@@ -1,7 +1,9 @@
 """Replay: recorded battles, opened in every way, replayed to their ends, and shared."""
 import base64
 import json
+import re
 import subprocess
+import time
 from pathlib import Path
 
 from selenium.webdriver.common.keys import Keys
@@ -30,7 +32,7 @@ def shown(browser, content, name="battle.json"):
     """Opens the page with a file."""
     browser.open()
     browser.file(name, content)
-    browser.wait("return !document.getElementById('replay-stage').hidden")
+    browser.wait("return !document.getElementById('replay-stage').hidden", 60)
 
 
 def a_recorded_battle_is_replayed_by_clicks(browser):
@@ -191,6 +193,56 @@ def a_page_with_a_long_log_opens_again(browser):
     assert int(browser.run("return document.getElementById('replay-slider').max")) > 4_000
 
 
+# The longest time, in milliseconds, that the page did not react to a timer while a file was read.
+REACTS = """
+window.longest = 0; window.bars = 0; let last = performance.now();
+const tick = () => { const now = performance.now(); window.longest = Math.max(window.longest, now - last); last = now;
+  window.bars += !document.getElementById('progress').hidden; setTimeout(tick); };
+setTimeout(tick);
+"""
+
+
+def a_long_log_leaves_the_page_responsive(browser):
+    log = next(bytes.fromhex(case["hex"]) for case in cases("print") if case["status"] == 0 and case["stdout"].startswith("|switch"))
+    browser.open()
+    browser.run(REACTS)
+    begun = time.monotonic()
+    browser.file("battle.log", log * (1_048_576 // len(log)))
+    browser.wait("return !document.getElementById('replay-stage').hidden", 90)
+    whole = 1000 * (time.monotonic() - begun)
+    longest, bars = browser.run("return [window.longest, window.bars]")
+    print(f"    the page reacted after at most {longest:.0f} ms while a log of 1,048,576 bytes was read")
+    assert longest < whole / 4 and bars > 5, (longest, whole, bars)
+
+
+def what_a_spectator_shares_is_the_log(browser):
+    case = battle(20, 40)
+    shown(browser, case["input"])
+    browser.run("Object.defineProperty(navigator, 'clipboard', {value: {writeText: async (text) => { window.copied = text; }}})")
+    browser.fill("#replay-see", "spectator")
+    log = browser.saved("#replay-share [data-share=log]", "battle.log")
+    assert json.loads(browser.saved("#replay-input", "battle.json")) == {"log": log.hex()}
+    assert json.dumps({"log": log.hex()}, separators=(",", ":")) in browser.saved("#replay-share [data-share=page]", "battle.html").decode()
+    browser.click("#replay-share [data-share=link]")
+    link = browser.wait("return window.copied").partition("#")[2]
+    assert re.fullmatch(r"replay\?b=l[\w-]+&u=\d+", link), link
+    browser.open(f"#{link}")
+    assert steps(browser) and browser.run("return document.getElementById('replay-see').value") == "spectator"
+
+
+def a_file_for_showdown_is_the_programs(browser):
+    for case in (battle(20, 24), battle(30, 60)):
+        shown(browser, case["input"])
+        page = browser.saved("#replay-share [data-share=showdown]", "battle_showdown.html").decode()
+        log = re.search(r'class="battle-log-data">\n(.*?)</script>', page, re.S)[1].replace("\\/", "/").splitlines()
+        # Each line of the battle stands in it in its order, with the name of the member in place of its species.
+        kinds = [line.split("|")[1] for line in lines_of(case)]
+        assert [kind for kind in (line.split("|")[1] for line in log) if kind in set(kinds)] == kinds
+        if browser.program:
+            words = [browser.program, "replay", "--showdown"]
+            assert subprocess.run(words, input=case["input"].encode(), capture_output=True).stdout.decode() == page
+
+
 def a_text_is_dropped_on_a_field(browser):
     browser.open("#play")
     cancelled = """
@@ -204,9 +256,26 @@ def a_text_is_dropped_on_a_field(browser):
     assert "not JSON" in browser.notice()
 
 
+def open_details_stay_with_their_member(browser):
+    member = {"level": 100, "dvs": [15] * 4, "exp": [65535] * 5}
+    team = [{**member, "species": species, "moves": [[move, 0]]} for species, move in (("Tauros", "Strength"), ("Starmie", "Surf"), ("Chansey", "Ice Beam"))]
+    shown(browser, json.dumps({"seed": [1] * 10, "one": team, "two": team, "choices": [[0, 0], [35, 17]]}))
+    names = "return [...document.querySelectorAll('#replay-side-1 .members details[open]')].map((it) => it.parentElement.querySelector('.name').textContent)"
+    browser.run("document.querySelector('#replay-side-1 .members > li:nth-child(2) details summary').focus()")
+    browser.press(" ")
+    browser.wait("return document.querySelector('#replay-side-1 .members > li:nth-child(2) details').open")
+    assert browser.run(names) == ["Starmie"]
+    # Chansey comes out, and Tauros takes the place of Starmie's details.
+    browser.run("document.getElementById('replay-forward').click()")
+    assert "Chansey" in browser.text("#replay-side-1 .head") and browser.run(names) == ["Starmie"]
+    assert browser.run("return document.activeElement.textContent") == "Moves of Starmie"
+
+
 CHECKS = [
+    open_details_stay_with_their_member,
     a_recorded_battle_is_replayed_by_clicks, the_longest_recorded_battle_is_whole_at_its_end, a_refused_pair_is_said_and_the_rest_is_shown,
     a_recorded_log_is_replayed, a_dropped_file_is_shown, keys_go_through_a_battle, an_address_is_a_position, a_spectator_sees_less,
+    a_long_log_leaves_the_page_responsive, what_a_spectator_shares_is_the_log, a_file_for_showdown_is_the_programs,
     a_battle_after_a_log_shows_all, a_text_is_dropped_on_a_field,
     a_saved_page_holds_its_battle, a_page_is_filled_by_others, what_is_saved_is_what_was_opened, a_log_as_long_as_may_be_is_shown,
     a_page_with_a_long_log_opens_again,

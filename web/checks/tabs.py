@@ -20,7 +20,7 @@ def rest(browser):
 
 def copied(browser, part):
     """The part after the # of the link that a part's button copies."""
-    browser.run("window.copied = ''")
+    browser.run("window.copied = ''; document.getElementById('play-menu').open = true")
     browser.click(f"#{part}-share [data-share=link]")
     return browser.wait("return window.copied").partition("#")[2]
 
@@ -29,12 +29,13 @@ def late_choice(browser):
     """Starts a battle against the computer, and presses a choice while the computer's choice is delayed."""
     browser.run(LATE)
     browser.fill("#play-who-2", "random")
+    browser.run("document.getElementById('play-open').checked = true")
     for side in (1, 2):
         browser.fill(f"#play-team-{side}", "Tauros\n- Body Slam\n- Strength")
     browser.click("#play-start")
     browser.click("#play-choices-1 [data-choice='17']")
     browser.wait("return window.held.length")
-    assert browser.text("#play-wait") == "Side 2 is thinking."
+    assert browser.text("#play-wait") == "The foe is thinking."
 
 
 def a_replay_stops_when_its_tab_is_left(browser):
@@ -76,7 +77,7 @@ def a_link_is_that_of_its_part(browser):
     browser.click("#tab-play")
     late_choice(browser)
     link = copied(browser, "play")
-    assert link.startswith("play?b=i") and link.endswith("&p1=person&p2=random"), link
+    assert link.startswith("play?b=i") and link.endswith("&p1=person&p2=random&hands=open"), link
     browser.click("#tab-replay")
     browser.run("window.held.shift()()")
     browser.wait("return document.getElementById('play-now').textContent.startsWith('Turn 2')")

@@ -39,9 +39,11 @@ function hash(tab, values) {
 export function setAddress(tab, values) {
   if (tab !== shown) return;
   const wanted = hash(tab, values);
-  // Browsers limit the number of changes per second.
+  // Browsers limit the number of changes per second. An address that a person opens meanwhile stays.
   window.clearTimeout(due);
+  const before = location.hash;
   due = window.setTimeout(() => {
+    if (location.hash !== before) return;
     try {
       history.replaceState(null, "", wanted);
     } catch {

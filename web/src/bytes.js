@@ -33,7 +33,11 @@ export function digits(bytes) {
 /** @param {string} text hexadecimal digits */
 export function ofDigits(text) {
   if (text.length % 2 || /[^0-9a-f]/i.test(text)) throw new Problem("The log does not consist of hexadecimal digits.");
-  return Uint8Array.from({ length: text.length / 2 }, (_, place) => parseInt(text.slice(2 * place, 2 * place + 2), 16));
+  const bytes = new Uint8Array(text.length / 2);
+  // The low four bits of a digit's code are its value; those of a letter's are 9 less.
+  const value = (/** @type {number} */ at) => (text.charCodeAt(at) & 15) + (text.charCodeAt(at) > 57 ? 9 : 0);
+  for (let place = 0; place < bytes.length; place++) bytes[place] = 16 * value(2 * place) + value(2 * place + 1);
+  return bytes;
 }
 
 /**

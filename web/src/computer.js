@@ -1,10 +1,20 @@
 // The computer's choices: at random, by expected damage, or by random battles played to their end.
-import { byteOf } from "gen1";
+import { choiceOf } from "gen1";
+import { guessed, playerOf } from "./guesses.js";
 
-/** @typedef {import("gen1").Battle} Battle */
+/**
+ * @typedef {import("gen1").Battle} Battle
+ * @typedef {import("gen1").ChoiceName} ChoiceName
+ * @typedef {import("./engine.js").Engine} Engine
+ * @typedef {{ side: 1 | 2, player: string, seed: number, offered: number[], rules: number, limit: number, sight: import("./guesses.js").Sight | null,
+ *   battle: Uint8Array | null }} Asked a question: who plays ("random", "greedy", "playouts" or "cheating"), the bytes of the offered choices, and
+ *   what the computer knows: what its side knows, or for cheating the battle itself
+ */
 
-/** How many random battles begin with each offered choice. */
+/** How many random battles begin with each offered choice: in one battle that is known, and in each guess of one that is not. */
 const ROUNDS = 200;
+const GUESSES = 25;
+const ROUNDS_OF_GUESS = 8;
 
 /** A generator of random whole numbers (xorshift), whose output depends only on its seed; a battle has its own. */
 class Random {
@@ -21,6 +31,11 @@ class Random {
     return this.state >>> 8;
   }
 
+  /** @param {number} bound */
+  below(bound) {
+    return this.draw() % bound;
+  }
+
   /** Ten numbers for a copy of a battle to draw. */
   seed() {
     return Array.from({ length: 10 }, () => this.draw() & 255);
@@ -31,8 +46,8 @@ class Random {
  * The score of a side in one random battle that begins with a choice: 2 for a win, 1 for a tie or a fault.
  * @param {Battle} battle
  * @param {1 | 2} side
- * @param {import("gen1").ChoiceName} choice
- * @param {import("gen1").ChoiceName} other the foe's choice
+ * @param {ChoiceName} choice
+ * @param {ChoiceName} other the foe's choice
  * @param {Random} random
  */
 function scoreOf(battle, side, choice, other, random) {
@@ -48,31 +63,59 @@ function scoreOf(battle, side, choice, other, random) {
 
 /**
  * The score of each offered choice in random battles that begin with it. Each draws link numbers of its own, so the score reveals
- * nothing about the numbers of the battle.
+ * nothing about the numbers of the battle. A choice that a guess does not offer counts as a tie.
  * @param {Battle} battle
  * @param {1 | 2} side
  * @param {number} rounds
- * @param {number} seed
+ * @param {Random} random
+ * @param {readonly ChoiceName[]} [choices]
  */
-export function scores(battle, side, rounds, seed) {
-  const random = new Random(seed);
-  const others = battle.choices(side === 1 ? 2 : 1);
-  return battle.choices(side).map((choice) => {
+function scoresOf(battle, side, rounds, random, choices = battle.choices(side)) {
+  const [offered, others] = [battle.choices(side), battle.choices(side === 1 ? 2 : 1)];
+  return choices.map((choice) => {
+    if (!offered.includes(choice)) return rounds;
     let score = 0;
-    for (let round = 0; round < rounds; round++) score += scoreOf(battle, side, choice, others[random.draw() % others.length], random);
+    for (let round = 0; round < rounds; round++) score += scoreOf(battle, side, choice, others[random.below(others.length)], random);
     return score;
   });
 }
 
+/** @param {Battle} battle @param {1 | 2} side @param {number} rounds @param {number} seed */
+export function scores(battle, side, rounds, seed) {
+  return scoresOf(battle, side, rounds, new Random(seed));
+}
+
+/**
+ * Battles that fit what the computer's side knows, and draw numbers of their own.
+ * @param {Engine} engine
+ * @param {Asked} asked
+ * @param {Random} random
+ * @param {number} count
+ */
+function guesses(engine, { sight, rules, limit }, random, count) {
+  if (!sight) throw new Error("nothing is known of the battle");
+  const player = playerOf(engine, sight);
+  return Array.from({ length: count }, () => guessed(engine, player, (bound) => random.below(bound), { seed: random.seed(), rules, limit }));
+}
+
+/** @param {Engine} engine @param {Asked} asked @param {Random} random @param {ChoiceName[]} choices */
+function fairScores(engine, asked, random, choices) {
+  const sums = choices.map(() => 0);
+  for (const battle of guesses(engine, asked, random, GUESSES))
+    scoresOf(battle, asked.side, ROUNDS_OF_GUESS, random, choices).forEach((score, place) => (sums[place] += score));
+  return sums;
+}
+
 /**
  * The expected damage of each offered choice: the sum of the 39 numbers, times how many of 256 bytes hit.
- * @param {import("./engine.js").Engine} engine
+ * @param {Engine} engine
  * @param {Battle} battle
  * @param {1 | 2} side
+ * @param {ChoiceName[]} choices
  */
-function damages(engine, battle, side) {
+function damages(engine, battle, side, choices) {
   const odds = engine.oddsOf(battle, side);
-  return battle.choices(side).map((choice) => {
+  return choices.map((choice) => {
     const found = odds.find(({ slot }) => choice === `move ${slot}`);
     return found?.damage ? found.damage.reduce((sum, number) => sum + number, 0) * (found.hit ?? 256) : 0;
   });
@@ -85,15 +128,14 @@ function placeOfBest(values) {
 
 /**
  * A choice of the computer, as its byte.
- * @param {import("./engine.js").Engine} engine
- * @param {Uint8Array} bytes of the battle
- * @param {1 | 2} side
- * @param {string} player "random", "greedy" or "playouts"
- * @param {number} seed
+ * @param {Engine} engine
+ * @param {Asked} asked
  */
-export function choose(engine, bytes, side, player, seed) {
-  const battle = engine.gen1.load(bytes);
-  const offered = battle.choices(side).map(byteOf);
+export function choose(engine, asked) {
+  const { side, player, seed, offered, battle } = asked;
   if (player === "random" || offered.length < 2) return offered[seed % offered.length];
-  return offered[placeOfBest(player === "greedy" ? damages(engine, battle, side) : scores(battle, side, ROUNDS, seed))];
+  const [random, choices] = [new Random(seed), offered.map(choiceOf)];
+  if (battle) return offered[placeOfBest(scoresOf(engine.gen1.load(battle), side, ROUNDS, random, choices))];
+  if (player === "greedy") return offered[placeOfBest(damages(engine, guesses(engine, asked, random, 1)[0], side, choices))];
+  return offered[placeOfBest(fairScores(engine, asked, random, choices))];
 }

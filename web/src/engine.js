@@ -1,6 +1,7 @@
 // The engine: the JavaScript package (rust/gen1-wasm), with states, odds and errors in the form that the page shows. A battle is 384 bytes.
 import { ArgumentTypeError, byteOf, load, LogError, MOVES, RefusedError, SPECIES, StateError, TeamError, TextError } from "gen1";
 import { Problem } from "./dom.js";
+import { kindOf } from "./words.js";
 
 /**
  * @typedef {import("gen1").Gen1} Gen1
@@ -8,21 +9,23 @@ import { Problem } from "./dom.js";
  * @typedef {{ species: Record<string, readonly [string, string]>, moves: Record<string, Move> }} Tables the types of each species, and the moves
  * @typedef {{ species: string | number, level: number, dvs: number[], exp: number[], moves: [string | number, number][] }} Member
  * @typedef {{ seed: number[], one: Member[], two: Member[], rules: number, limit: number }} Terms
- * @typedef {{ kind: import("gen1").EventKind, side: number, place: number, size: number, line: string }} GameEvent
+ * @typedef {{ kind: string, side: number, place: number, size: number, line: string }} GameEvent the kind is the first word of the line
  * @typedef {import("gen1").SideState & { choices: number[] }} SideState
  * @typedef {import("gen1").State & { sides: SideState[] }} State
  * @typedef {import("gen1").ShownState & { sides: import("gen1").ShownSide[] }} View
  * @typedef {{ slot: number, move: string, damage: number[] | null, critical: number[] | null, fixed: [number, number] | null, bound: number | null,
- *   hit: number | null, reason: string | null }} Odds of how many bytes a critical hit or a hit is drawn, null if without a draw; and why a use
- *   cannot hit
+ *   hit: number | null, reason: string | null, hits: number[], charges: boolean }} Odds of how many bytes a critical hit or a hit is drawn,
+ *   null if without a draw; why a use cannot hit; the chances of 0 to 5 hits; and whether the user charges first
  * @typedef {Odds & { knockOut: import("gen1").KnockOut }} CalculatedMove
- * @typedef {{ hp: number, max: number, own: number[], stats: number[], moves: CalculatedMove[] }} Calculated
+ * @typedef {{ hp: number, max: number, substitute: number, own: number[], stats: number[], moves: CalculatedMove[] }} Calculated
  * @typedef {{ member: Member, stages: number[], status: number, conditions: number, hp: number }} Standing a member and its state: six stages
  *   from 0 to 12, the byte of the status (docs/LAYOUT.md, "Member"), a bit for each of CONDITIONS, and the HP, where 0 is the maximum
  */
 
 /** The most bytes of a log or of a team's text, as the program reads them (docs/PROGRAM.md). */
 export const MOST = 1_048_576;
+/** The bytes of a log that are read at once, and the most bytes of an event (docs/MECHANICS.md, "Events"). */
+const [PIECE, MOST_EVENT] = [2048, 10];
 /** Codes of include/gen1.h. */
 const [EMPTY, UNUSUAL] = [1, 48];
 const SEED = Array(10).fill(0);
@@ -31,18 +34,23 @@ const SEED = Array(10).fill(0);
  * @type {[string, import("gen1").Condition][]}
  */
 export const CONDITIONS = [
-  ["Reflect", "reflect"], ["Light Screen", "light screen"], ["Focus Energy", "focus energy"], ["Mist", "mist"], ["Out of reach", "invulnerable"],
+  ["Reflect", "reflect"], ["Light Screen", "light screen"], ["Focus Energy", "focus energy"], ["Mist", "mist"], ["Out of reach", "invulnerable"], ["Substitute", "substitute"],
 ];
 /** @type {Record<number, import("gen1").Status>} */
 const STATUSES = { 0: "none", 8: "poison", 16: "burn", 32: "freeze", 64: "paralysis" };
 const MIDDLE = 6;
+/**
+ * What a member knows that was given no moves, since a battle needs one.
+ * @type {[string, number][]}
+ */
+const NO_MOVES = [["Splash", 3]];
 
 /**
  * Refuses what is too long to be read at once.
  * @param {ArrayLike<number>} bytes
  * @param {string} what they are, as a message names them
  */
-function testLength(bytes, what) {
+export function testLength(bytes, what) {
   if (bytes.length > MOST) throw new Problem(`${what} has ${bytes.length.toLocaleString("en")} bytes; at most ${MOST.toLocaleString("en")} are read.`);
 }
 
@@ -79,6 +87,8 @@ function stand({ members: [member], active }, { stages, status, conditions, hp }
   active.stages = stages.map((stage) => stage - MIDDLE);
   active.stats = [0, 0, 0, 0];
   active.conditions = CONDITIONS.filter((_, bit) => (conditions >> bit) & 1).map(([, name]) => name);
+  // A new Substitute has a quarter of the maximum HP.
+  active.substitute = active.conditions.includes("substitute") ? Math.floor(member.maxHp / 4) : 0;
 }
 
 /** @param {Gen1} gen1 @returns {Tables} */
@@ -140,18 +150,49 @@ export class Engine {
   /**
    * The events of log bytes.
    * @param {Uint8Array} log
+   * @param {number} [before] how many bytes stand before them
    * @returns {GameEvent[]}
    */
-  events(log) {
+  events(log, before = 0) {
     testLength(log, "The log");
     try {
       const lines = this.gen1.lines(log);
       return this.gen1.events(log).map((event, at) => ({
-        kind: event.kind, side: "side" in event ? event.side : 0, place: event.kind === "switch" ? event.place : 0, size: event.size, line: lines[at],
+        kind: kindOf(lines[at]), side: "side" in event ? event.side : 0, place: event.kind === "switch" ? event.place : 0, size: event.size, line: lines[at],
       }));
     } catch (error) {
-      if (error instanceof LogError) throw new Problem(`This is not the log of a battle: ${error.reason} (at byte ${error.at}).`);
+      if (error instanceof LogError) throw new Problem(`This is not the log of a battle: ${error.reason} (at byte ${before + error.at}).`);
       throw error;
+    }
+  }
+
+  /**
+   * The events of log bytes, in pieces that are quickly read.
+   * @param {Uint8Array} log
+   * @returns {Generator<GameEvent[]>}
+   */
+  *pieces(log) {
+    testLength(log, "The log");
+    for (let at = 0; at < log.length;) {
+      const end = Math.min(log.length, at + PIECE);
+      // The last event of a piece may go on in the next one.
+      const whole = end === log.length ? end : at + this.wholeEvents(log.subarray(at, end));
+      yield this.events(log.subarray(at, whole), at);
+      at = whole;
+    }
+  }
+
+  /**
+   * How many bytes the whole events of a log take that may have been cut.
+   * @param {Uint8Array} log
+   */
+  wholeEvents(log) {
+    try {
+      this.gen1.events(log);
+      return log.length;
+    } catch (error) {
+      // An event that cannot be read, far from the end, is the reader's to name.
+      return error instanceof LogError && error.at > 0 && log.length - error.at < MOST_EVENT ? error.at : log.length;
     }
   }
 
@@ -186,12 +227,12 @@ export class Engine {
 
   /** @param {import("gen1").Battle} battle @param {1 | 2} side @param {number} slot 0 if it is not known @param {string} move @returns {Odds} */
   oddsWith(battle, side, slot, move) {
-    const { usual, critical, criticalChance, hitChance, takesHitTest, fixed, reason } = battle.odds(side, move);
+    const { usual, critical, criticalChance, hitChance, takesHitTest, fixed, reason, hits, chargesFirst } = battle.odds(side, move);
     return {
       slot, move,
       damage: usual.numbers.length ? usual.numbers : null,
       critical: critical.numbers.length ? critical.numbers : null,
-      fixed, reason,
+      fixed, reason, hits, charges: chargesFirst,
       bound: usual.code === UNUSUAL ? null : 256 * criticalChance,
       hit: takesHitTest && hitChance < 1 ? 256 * hitChance : null,
     };
@@ -217,6 +258,20 @@ export class Engine {
   }
 
   /**
+   * Why a team cannot battle: the member and the reason; empty if it can.
+   * @param {Member[]} team
+   */
+  fault(team) {
+    try {
+      this.gen1.spectator(team, team);
+      return "";
+    } catch (error) {
+      if (!(error instanceof TeamError)) throw error;
+      return `${error.place ? `Member ${error.place}: ` : ""}${error.reason}`;
+    }
+  }
+
+  /**
    * A spectator of a battle.
    * @param {Member[]} one
    * @param {Member[]} two
@@ -238,29 +293,32 @@ export class Engine {
   }
 
   /**
-   * The maximum HP of a member of each side.
-   * @param {Member[]} members
+   * The maximum HP and the stats of a member, whatever its moves are.
+   * @param {Member} member
    */
-  maxHp(members) {
-    const [one, two] = members.map((member) => [member]);
-    const { state } = testingTeams(() => this.gen1.battle({ one, two, seed: SEED }));
-    return [state.one, state.two].map((side) => side.members[0].maxHp);
+  stats(member) {
+    const team = [{ ...member, moves: NO_MOVES }];
+    const { state } = testingTeams(() => this.gen1.battle({ one: team, two: team, seed: SEED }));
+    const { maxHp, stats } = state.one.members[0];
+    return [maxHp, ...stats];
   }
 
   /**
-   * The odds of the moves of two members in a given state, and of a further move of the first, which it need not know.
+   * The odds of the moves of two members in a given state. A member may have no moves.
    * @param {Standing[]} both
-   * @param {string} extra empty for none
    * @returns {Calculated[]}
    */
-  calculate(both, extra) {
+  calculate(both) {
     const battle = this.standing(both);
     const { state } = battle;
-    const odds = [[...this.oddsOf(battle, 1), ...(extra ? [this.oddsWith(battle, 1, 0, extra)] : [])], this.oddsOf(battle, 2)];
-    return [state.one, state.two].map(({ members: [member], active }, at) => ({
-      hp: member.hp, max: member.maxHp, own: member.stats, stats: active?.stats ?? [],
-      moves: odds[at].map((it) => ({ ...it, knockOut: battle.knockOut(at === 0 ? 1 : 2, it.move) })),
-    }));
+    return [state.one, state.two].map(({ members: [member], active }, at) => {
+      const side = at === 0 ? 1 : 2;
+      const odds = both[at].member.moves.length ? this.oddsOf(battle, side) : [];
+      return {
+        hp: member.hp, max: member.maxHp, substitute: active?.substitute ?? 0, own: member.stats, stats: active?.stats ?? [],
+        moves: odds.map((it) => ({ ...it, knockOut: battle.knockOut(side, it.move) })),
+      };
+    });
   }
 
   /**
@@ -268,7 +326,7 @@ export class Engine {
    * @param {Standing[]} both
    */
   standing(both) {
-    const [one, two] = both.map(({ member }) => [member]);
+    const [one, two] = both.map(({ member }) => [member.moves.length ? member : { ...member, moves: NO_MOVES }]);
     const begun = testingTeams(() => this.gen1.battle({ one, two, seed: SEED }));
     begun.updateSilent("pass", "pass");
     try {

@@ -2,7 +2,7 @@
 import { MOVES, SPECIES } from "gen1";
 import { decoded, digits, encoded, joined, MEMBER, memberBytes, memberOf, ofDigits } from "./bytes.js";
 import { Problem } from "./dom.js";
-import { MOST } from "./engine.js";
+import { MOST, testLength } from "./engine.js";
 
 /**
  * @typedef {import("./engine.js").Member} Member
@@ -40,6 +40,9 @@ function named(value, names, what) {
 /** White space, and the byte order mark with which some editors begin a text. */
 const BLANKS = [9, 10, 13, 32, 0xef, 0xbb, 0xbf];
 
+/** The letters with which a JSON text begins that is an object, a list or a string. */
+const STARTS = [0x7b, 0x5b, 0x22];
+
 /** The most bytes of a file: as hexadecimal digits in a page, the longest log takes twice its length and that of the page. */
 const MOST_FILE = 4 * MOST;
 
@@ -68,7 +71,7 @@ export class Inputs {
     if (!bytes.length) throw new Problem("The file is empty: there is no battle in it.");
     const begin = bytes.findIndex((byte) => !BLANKS.includes(byte));
     if (bytes[begin] === 0x3c) return this.held(new TextDecoder().decode(bytes));
-    return bytes[begin] === 0x7b ? this.parse(new TextDecoder().decode(bytes)) : this.log(bytes);
+    return STARTS.includes(bytes[begin]) ? this.parse(new TextDecoder().decode(bytes)) : this.log(bytes);
   }
 
   /**
@@ -94,14 +97,18 @@ export class Inputs {
     } catch (error) {
       throw new Problem(`The battle is not JSON: ${error instanceof Error ? error.message : error}.`);
     }
-    if (typeof value !== "object" || value === null) throw new Problem("The battle is not a JSON object.");
+    if (typeof value !== "object" || value === null || Array.isArray(value)) {
+      const found = Array.isArray(value) ? "a list" : value === null ? "null" : `a ${typeof value}`;
+      throw new Problem(`The file is ${found} in JSON. A battle is an object: {"seed": .., "one": .., "two": .., "choices": ..}, or {"log": ..}.`);
+    }
     if (typeof value.log === "string" && value.choices === undefined) return this.log(ofDigits(value.log));
     return { input: this.input(value) };
   }
 
   /** @param {Uint8Array} log @returns {Recorded} */
   log(log) {
-    if (!this.engine.events(log).length) throw new Problem("The log has no events.");
+    testLength(log, "The log");
+    if (!log.length) throw new Problem("The log has no events.");
     return { log };
   }
 
@@ -146,6 +153,14 @@ export class Inputs {
 
 /** The maximum length of a battle in an address; a longer one would make each step slow. */
 const ADDRESS = 60_000;
+
+/**
+ * Whether a battle's text may be short enough for an address.
+ * @param {Recorded} recorded
+ */
+export function mayBeShort(recorded) {
+  return ("log" in recorded ? recorded.log.length : 2 * recorded.input.choices.length) <= ADDRESS;
+}
 
 /**
  * Whether a battle's text is short enough for an address.

@@ -1,15 +1,18 @@
-// The page: its three parts, the address, keys, themes, and dropped files.
+// The page: its parts, the address, keys, themes, and dropped files.
 import { address, giveAddress, setAddress } from "./address.js";
 import { Calculator } from "./calculator.js";
-import { find, guarded, notice } from "./dom.js";
+import { done, find, guarded, notice } from "./dom.js";
 import { Engine } from "./engine.js";
+import { drawHome } from "./home.js";
 import { Inputs } from "./inputs.js";
 import { Play } from "./play.js";
 import { Players } from "./players.js";
 import { Replay } from "./replay.js";
 import { heldBattle } from "./share.js";
+import { keep, kept } from "./storage.js";
+import { Teams } from "./teams.js";
 
-const TABS = ["replay", "play", "calculator"];
+const TABS = ["home", "replay", "play", "teams", "calculator"];
 
 /** @param {string} name */
 function showTab(name) {
@@ -22,28 +25,6 @@ function showTab(name) {
   }
 }
 
-/**
- * A setting that a person chose when the page was open before.
- * @param {string} name
- */
-function kept(name) {
-  try {
-    return localStorage.getItem(name);
-  } catch {
-    // Storage may be forbidden.
-    return null;
-  }
-}
-
-/** @param {string} name @param {string} value */
-function keep(name, value) {
-  try {
-    localStorage.setItem(name, value);
-  } catch {
-    // The setting lasts until the page is closed.
-  }
-}
-
 function listenTheme() {
   const theme = find("theme", HTMLSelectElement);
   const put = () => (document.documentElement.dataset.theme = theme.value);
@@ -53,6 +34,29 @@ function listenTheme() {
     put();
     keep("theme", theme.value);
   });
+}
+
+/** Closes a menu by a press outside of it, on a button in it, or on Escape. */
+function listenMenus() {
+  const close = (/** @type {(menu: HTMLElement) => boolean} */ isClosed) => {
+    for (const menu of /** @type {NodeListOf<HTMLDetailsElement>} */ (document.querySelectorAll(".menu[open]"))) if (isClosed(menu)) menu.open = false;
+  };
+  document.addEventListener("click", ({ target }) => {
+    if (target instanceof Element) close((menu) => !menu.contains(target) || target.closest(".menu button") !== null);
+  });
+  document.addEventListener("keydown", ({ key }) => key === "Escape" && close((menu) => {
+    if (menu.contains(document.activeElement)) menu.querySelector("summary")?.focus();
+    return true;
+  }));
+}
+
+/** The speed of battles, and sounds. */
+function listenMotion() {
+  const [speed, sounds] = [find("speed", HTMLSelectElement), find("sounds", HTMLInputElement)];
+  speed.value = kept("speed") ?? "normal";
+  sounds.checked = kept("sounds") === "on";
+  speed.addEventListener("change", () => keep("speed", speed.value));
+  sounds.addEventListener("change", () => keep("sounds", sounds.checked ? "on" : "off"));
 }
 
 /**
@@ -138,35 +142,61 @@ async function begin() {
     turnTo(name);
     setAddress(name, {});
     if (name === "calculator") calculator.route(new URLSearchParams());
-    else (name === "replay" ? replay : play).toAddress();
+    else if (name === "teams") teams.route(new URLSearchParams());
+    else if (name !== "home") (name === "replay" ? replay : play).toAddress();
   };
   const play = new Play(engine, inputs, new Players(engine, module), (recorded, at) => {
     open("replay");
-    replay.show(recorded, { at });
+    return replay.show(recorded, { at });
+  });
+  const teams = new Teams(engine, (side, text) => {
+    find(`play-team-${side}`, HTMLTextAreaElement).value = text;
+    open("play");
+    done(`Side ${side} has the team.`);
   });
   const route = () => guarded(() => {
     const { tab: name, values } = address();
-    turnTo(TABS.includes(name) ? name : "replay");
-    if (tab === "replay") replay.route(values, heldBattle());
+    turnTo(TABS.includes(name) ? name : heldBattle() ? "replay" : "home");
+    if (tab === "replay") return replay.route(values, heldBattle());
     else if (tab === "play") play.route(values);
-    else calculator.route(values);
+    else if (tab === "teams") teams.route(values);
+    else if (tab === "calculator") calculator.route(values);
+  });
+  drawHome(engine, {
+    "home-watch": () => {
+      open("replay");
+      void replay.example().then(() => replay.start());
+    },
+    "home-open": () => {
+      open("replay");
+      find("replay-file", HTMLInputElement).focus();
+    },
+    "home-play": () => {
+      open("play");
+      void guarded(() => play.start());
+    },
+    "home-teams": () => {
+      open("play");
+      find("play-teams", HTMLElement).focus();
+    },
+    "home-calculate": () => open("calculator"),
   });
   listenTabs(open);
   listenDrops(replay, open);
   listenKeys((event) => {
-    if (tab !== "calculator") (tab === "replay" ? replay : play).key(event);
+    if (tab === "replay") replay.key(event);
+    else if (tab === "play") play.key(event);
   }, () => play.drawAgain());
   window.addEventListener("hashchange", () => void route());
   await route();
   document.documentElement.dataset.ready = "true";
 }
 
-/** Starts the page. */
-export function start() {
-  listenTheme();
-  find("notice-close", HTMLButtonElement).addEventListener("click", () => notice(""));
-  begin().catch((error) => {
-    console.error(error);
-    notice(`The engine could not start: ${error instanceof Error ? error.message : error}`);
-  });
-}
+listenTheme();
+listenMotion();
+listenMenus();
+find("notice-close", HTMLButtonElement).addEventListener("click", () => notice(""));
+begin().catch((error) => {
+  console.error(error);
+  notice(`The engine could not start: ${error instanceof Error ? error.message : error}`);
+});

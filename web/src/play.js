@@ -1,47 +1,29 @@
-// Play: two persons at one screen, or against the computer. The buttons are the choices that the engine offers.
-import { find, guarded, inField, keepingFocus, make, Problem } from "./dom.js";
+// Play: two persons at one screen, or against the computer. What is shown is what the person who plays may know.
+import { find, guarded, keepingFocus, make, Problem } from "./dom.js";
 import { link, setAddress } from "./address.js";
-import { joined } from "./bytes.js";
+import { choiceButtons } from "./choices.js";
+import { Field } from "./field.js";
 import { ofAddress, toAddress } from "./inputs.js";
-import { lineItems } from "./replay.js";
-import { randomSeed, randomTeam } from "./random.js";
+import { Log } from "./log.js";
+import { Match, SIDES } from "./match.js";
+import { Motion } from "./motion.js";
+import { randomSeed } from "./random.js";
+import { Setup } from "./setup.js";
 import { shareButtons } from "./share.js";
-import { badge, showSide, whole } from "./sides.js";
-import { hitWords, OUTCOMES, shares, span, STATUS_TAGS } from "./words.js";
+import { own, seen, whole } from "./sides.js";
+import { kept, keepForTab } from "./storage.js";
+import { OUTCOMES } from "./words.js";
 
 /**
- * @typedef {import("./engine.js").State} State
- * @typedef {{ battle: Uint8Array, log: Uint8Array, events: import("./engine.js").GameEvent[], pair: number[] }} Step what stands
- *   after a pair of choices
+ * @typedef {import("./match.js").Side} Side
+ * @typedef {{ terms: import("./engine.js").Terms, pairs: number[][], who: string[], isOpen: boolean }} Saved
  */
 
-/** @type {(1 | 2)[]} */
-const SIDES = [1, 2];
 /** The conditions during which a member is in the middle of its current move (docs/LAYOUT.md, "Condition bits"). */
 const GOING = ["bide", "thrash", "trapping", "charging", "recharge", "rage"];
 const KEYS = ["123456789", "qwertyuio"];
-const PLAYERS = ["person", "random", "greedy", "playouts"];
-
-/** @param {HTMLInputElement} field */
-function seedOf(field) {
-  const numbers = field.value.trim().split(/[\s,]+/).map(Number);
-  if (numbers.length !== 10 || numbers.some((it) => !Number.isInteger(it) || it < 0 || it > 255))
-    throw new Problem("The seed must be ten whole numbers from 0 to 255, with spaces between them.", { field });
-  return numbers;
-}
-
-/** @param {HTMLInputElement} field */
-function limitOf(field) {
-  const limit = field.value.trim() === "" ? NaN : Number(field.value);
-  if (!Number.isInteger(limit) || limit < 1 || limit > 9999)
-    throw new Problem(`The turn limit is ${field.value || "missing"}: it must be a whole number from 1 to 9999.`, { field });
-  return limit;
-}
-
-/** @param {number[]} damage the 39 numbers @param {number} hp */
-function damageText(damage, hp) {
-  return `${span(damage[0], damage[38])}${hp ? ` (${shares(damage, hp)} of its HP)` : ""}`;
-}
+const PLAYERS = ["person", "random", "greedy", "playouts", "cheating"];
+const SAVED = "battle";
 
 /** The part of the page that plays. */
 export class Play {
@@ -49,115 +31,135 @@ export class Play {
    * @param {import("./engine.js").Engine} engine
    * @param {import("./inputs.js").Inputs} inputs
    * @param {import("./players.js").Players} players
-   * @param {(recorded: import("./inputs.js").Recorded, at: number) => void} watch shows a battle as a replay
+   * @param {(recorded: import("./inputs.js").Recorded, at: number) => void | Promise<void>} watch shows a battle as a replay
    */
   constructor(engine, inputs, players, watch) {
     this.engine = engine;
     this.inputs = inputs;
     this.players = players;
     this.watch = watch;
-    /** @type {import("./engine.js").Terms | null} */
-    this.terms = null;
-    /** @type {Step[]} */
-    this.steps = [];
+    this.setup = new Setup(engine);
+    this.field = new Field(engine, find("play-field", HTMLElement));
+    this.log = new Log(find("play-lines", HTMLElement), find("play-search", HTMLInputElement), find("play-found", HTMLElement));
+    this.motion = new Motion(this.field, find("speed", HTMLSelectElement), find("sounds", HTMLInputElement));
+    /** @type {Match | null} */
+    this.match = null;
+    this.isOpen = false;
+    /** The side whose choices are shown, if two persons play and hands are covered; 0 while they are. */
+    this.revealed = 0;
+    this.isMoving = false;
+    /** Whether the heading has the focus of the choices. */
+    this.isLent = false;
     /** @type {(number | null)[]} */
     this.chosen = [null, null];
-    this.who = ["person", "playouts"];
+    /** @type {(Promise<number> | null)[]} the computer's choices for this turn */
+    this.thinking = [null, null];
     this.asked = 0;
     this.code = "";
-    /** @type {{ terms: import("./engine.js").Terms, steps: Step[], who: string[] } | null} the battle that was left last */
+    /** @type {Match | null} the battle that was left last */
     this.left = null;
     this.listen();
   }
 
   listen() {
+    const click = (/** @type {string} */ id, /** @type {() => unknown} */ work) =>
+      find(id, HTMLElement).addEventListener("click", () => void guarded(async () => void (await work())));
     find("play-setup", HTMLFormElement).addEventListener("submit", (event) => {
       event.preventDefault();
       void guarded(() => this.start());
     });
-    for (const side of SIDES)
-      find(`play-random-${side}`, HTMLButtonElement).addEventListener("click", () => {
-        const count = Number(find("play-members", HTMLSelectElement).value);
-        find(`play-team-${side}`, HTMLTextAreaElement).value = randomTeam(this.engine.tables, count);
-      });
-    const click = (/** @type {string} */ id, /** @type {() => void} */ work) => find(id, HTMLButtonElement).addEventListener("click", () => void guarded(work));
-    click("play-new-seed", () => void (find("play-seed", HTMLInputElement).value = randomSeed().join(" ")));
     click("play-undo", () => this.undo());
     click("play-on", () => this.goOn());
+    click("play-skip", () => this.motion.skip());
     click("play-again", () => this.leave());
+    click("play-rematch", () => this.rematch());
     click("play-return", () => this.goBack());
-    click("play-watch", () => this.watch({ input: this.input() }, this.steps.length));
-    find("play-seed", HTMLInputElement).value = randomSeed().join(" ");
-    for (const side of SIDES) find(`play-random-${side}`, HTMLButtonElement).click();
+    click("play-watch", () => this.watch(this.recorded(), this.game.steps.length));
     shareButtons(find("play-share", HTMLElement), () => ({
-      recorded: { input: this.input() }, log: joined(...this.steps.map((step) => step.log)), inputs: this.inputs,
-      link: link("play", this.values()),
+      recorded: this.recorded(), log: this.game.log(this.knower), updates: this.game.steps.map((step) => this.game.events(step, this.knower)),
+      inputs: this.inputs, link: this.link(),
     }));
+    find("play-return", HTMLElement).hidden = !kept(SAVED, true);
   }
 
-  /** @returns {import("./inputs.js").Input} */
-  input() {
-    if (!this.terms) throw new Problem("There is no battle yet.");
-    return { ...this.terms, choices: this.steps.map((step) => step.pair) };
+  /** The battle that is played. */
+  get game() {
+    if (!this.match) throw new Problem("There is no battle yet.");
+    return this.match;
   }
 
-  /** @param {number} side */
-  team(side) {
-    const field = find(`play-team-${side}`, HTMLTextAreaElement);
-    const members = inField(field, () => this.engine.team(field.value, `Side ${side}'s team`, side));
-    if (!members.length) throw new Problem(`Side ${side}'s team has no member.`, { field });
-    return members;
+  /** Whether everything may be shown: in open hands, if only the computer plays, and after the battle. */
+  get isBare() {
+    return this.isOpen || !this.game.persons.length || this.game.isOver;
   }
 
-  /** Begins the battle that is asked for. */
+  /** Who tells the lines, which stays the same for a whole battle. @returns {import("./match.js").Viewer} */
+  get teller() {
+    const { persons } = this.game;
+    if (this.isOpen || !persons.length) return "all";
+    return persons.length === 1 ? persons[0] : 0;
+  }
+
+  /** What a link and a file hold. @returns {import("./match.js").Viewer} */
+  get knower() {
+    return this.isBare ? "all" : this.teller;
+  }
+
+  /** @returns {import("./inputs.js").Recorded} */
+  recorded() {
+    return this.isBare ? { input: this.game.input() } : { log: this.game.log(this.teller) };
+  }
+
+  link() {
+    return this.isBare ? link("play", this.values()) : link("replay", { b: toAddress(this.recorded()) });
+  }
+
+  /** Begins the battle that the form asks for. */
   start() {
-    const checked = (/** @type {string} */ id) => (find(id, HTMLInputElement).checked ? 1 : 0);
-    const terms = {
-      one: this.team(1), two: this.team(2), seed: seedOf(find("play-seed", HTMLInputElement)),
-      rules: checked("play-sleep") + 2 * checked("play-freeze"), limit: limitOf(find("play-limit", HTMLInputElement)),
-    };
-    const who = SIDES.map((side) => find(`play-who-${side}`, HTMLSelectElement).value);
-    try {
-      this.begin(terms, [[0, 0]], who);
-    } catch (error) {
-      if (error instanceof Problem && error.side) error.field = find(`play-team-${error.side}`, HTMLTextAreaElement);
-      throw error;
-    }
+    const { terms, who, isOpen } = this.setup.read();
+    this.setup.blamingTeams(() => this.begin(terms, [[0, 0]], who, isOpen));
     find("play-now", HTMLElement).focus();
   }
 
-  /** @param {import("./engine.js").Terms} terms @param {number[][]} pairs @param {string[]} who plays the sides */
-  begin(terms, pairs, who) {
-    let battle = this.engine.begin(terms);
-    /** @type {Step[]} */
-    const steps = [];
-    for (const pair of pairs) {
-      const step = this.stepOf(battle, pair);
-      steps.push(step);
-      battle = step.battle;
-    }
-    this.open(terms, steps, who);
+  /** Begins a battle of the same teams, with another seed. */
+  rematch() {
+    const { terms, who } = this.game;
+    this.begin({ ...terms, seed: randomSeed() }, [[0, 0]], who, this.isOpen);
+    find("play-now", HTMLElement).focus();
   }
 
-  /** @param {import("./engine.js").Terms} terms @param {Step[]} steps @param {string[]} who */
-  open(terms, steps, who) {
-    this.terms = terms;
-    this.steps = steps;
-    this.who = who;
+  /** @param {import("./engine.js").Terms} terms @param {number[][]} pairs @param {string[]} who plays the sides @param {boolean} isOpen */
+  begin(terms, pairs, who, isOpen) {
+    const match = new Match(this.engine, terms, who);
+    for (const pair of pairs) match.update(pair);
+    this.open(match, isOpen);
+  }
+
+  /** @param {Match} match @param {boolean} isOpen */
+  open(match, isOpen) {
+    this.drop();
+    [this.match, this.isOpen] = [match, isOpen];
     find("play-setup", HTMLElement).hidden = true;
     find("play-game", HTMLElement).hidden = false;
+    this.retell();
     this.next();
   }
 
-  /** @param {Uint8Array} battle @param {number[]} pair @returns {Step} */
-  stepOf(battle, pair) {
-    const update = this.engine.update(battle, pair[0], pair[1]);
-    if (update.refused) throw new Problem(`The choices ${pair.join(" and ")} are refused: the battle cannot continue.`);
-    return { battle: update.battle, log: update.log, events: this.engine.events(update.log), pair };
+  /** Ends what is under way for the position that is shown. */
+  drop() {
+    this.asked++;
+    this.revealed = 0;
+    this.isMoving = false;
+    this.motion.stop();
+    this.players.cancel();
+    this.wait("");
   }
 
-  get battle() {
-    return this.steps[this.steps.length - 1].battle;
+  /** Writes the log anew. */
+  retell() {
+    const { game, teller } = this;
+    this.log.clear({ you: typeof teller === "number" ? teller : 0, hasPixels: teller !== "all" });
+    this.log.add(game.steps.flatMap((step) => game.events(step, teller)));
   }
 
   /**
@@ -169,71 +171,80 @@ export class Play {
     if (!code || code === this.code) return;
     const recorded = ofAddress(code, this.inputs);
     if (!("input" in recorded)) throw new Problem("The address is damaged: a log cannot be played on.");
-    const who = ["p1", "p2"].map((key, at) => (PLAYERS.includes(values.get(key) ?? "") ? String(values.get(key)) : this.who[at]));
+    const who = ["p1", "p2"].map((key, at) => (PLAYERS.includes(values.get(key) ?? "") ? String(values.get(key)) : this.setup.who[at]));
     const { choices, ...terms } = recorded.input;
-    this.begin(terms, choices.length ? choices : [[0, 0]], who);
-  }
-
-  /**
-   * Whether a person has to choose.
-   * @param {State} state
-   * @param {number} at the side from 0
-   */
-  isAsked(state, at) {
-    const { choices } = state.sides[at];
-    return this.who[at] === "person" && choices.length > 0 && choices[0] !== 0;
+    this.begin(terms, choices.length ? choices : [[0, 0]], who, values.get("hands") === "open");
   }
 
   /** Asks for the next pair. */
   next() {
     this.asked++;
-    const state = this.engine.state(this.battle);
+    this.revealed = 0;
     this.chosen = [null, null];
-    const isOver = state.outcome !== "ongoing";
-    const isWatched = !this.who.includes("person");
+    const { game } = this;
+    const isWatched = !game.persons.length;
     keepingFocus(find("play-now", HTMLElement), () => {
-      this.draw(state);
-      find("play-on", HTMLElement).hidden = isOver || !isWatched;
+      this.draw();
+      find("play-on", HTMLElement).hidden = game.isOver || !isWatched;
     });
-    if (!isOver && !isWatched && !SIDES.some((_, at) => this.isAsked(state, at))) void guarded(() => this.goOn());
+    this.think();
+    if (!game.isOver && !isWatched && !game.persons.some((side) => game.isAsked(side))) void guarded(() => this.goOn());
     this.toAddress();
   }
 
-  /** @param {number} at the side from 0 @param {number} choice */
-  choose(at, choice) {
-    const state = this.engine.state(this.battle);
-    if (!state.sides[at].choices.includes(choice)) return;
-    this.chosen[at] = choice;
-    this.drawChoices(state);
-    if (SIDES.every((_, side) => !this.isAsked(state, side) || this.chosen[side] !== null)) void guarded(() => this.goOn());
+  /** Has the computer begin to think, while the person does. */
+  think() {
+    const { game } = this;
+    this.thinking = SIDES.map((side) => {
+      if (game.who[side - 1] === "person" || game.offered(side).length < 2) return null;
+      const choice = this.players.choice(game.question(side, randomSeed().reduce((sum, byte) => (sum * 256 + byte) % 0x7fffffff, 1)));
+      // An error is shown when the choice is waited for.
+      choice.catch(() => {});
+      return choice;
+    });
   }
 
-  /** Has the computer choose where a person does not, and updates the battle. */
+  /** @param {Side} side @param {number} choice */
+  choose(side, choice) {
+    const { game } = this;
+    if (this.isMoving || !game.offered(side).includes(choice)) return;
+    this.chosen[side - 1] = choice;
+    if (!this.isOpen && game.persons.length === 2) {
+      this.revealed = 0;
+      this.draw();
+    }
+    for (const button of document.querySelectorAll(`#play-choices-${side} [data-choice]`))
+      button.setAttribute("aria-pressed", String(button.getAttribute("data-choice") === String(choice)));
+    if (SIDES.every((it) => !game.isAsked(it) || this.chosen[it - 1] !== null)) void guarded(() => this.goOn());
+    else if (!this.isOpen) find("play-reveal", HTMLElement).focus();
+  }
+
+  /** Has the computer choose where a person does not, updates the battle, and shows what happens. */
   async goOn() {
     const asked = ++this.asked;
-    const battle = this.battle;
-    const pair = await this.choices(battle).finally(() => {
-      if (asked === this.asked) this.wait("");
-    });
-    // A choice that comes after the battle was left, or an update undone, is dropped.
+    const { game } = this;
+    const pair = await Promise.all(SIDES.map((side) => this.choiceOf(side)));
+    // A choice that comes after the battle was left, an update undone, or a mind changed, is dropped.
     if (asked !== this.asked) return;
-    this.steps.push(this.stepOf(battle, pair));
+    this.wait("");
+    game.update(pair);
+    this.isMoving = true;
+    this.drawChoices();
+    find("play-game", HTMLElement).dataset.updates = String(game.steps.length);
+    const isWhole = await this.motion.play(game.events(game.last, this.teller), (event) => this.log.add([event]));
+    if (!isWhole || asked !== this.asked) return;
+    this.isMoving = false;
     this.next();
   }
 
-  /**
-   * The choices of both sides, from persons and from the computer.
-   * @param {Uint8Array} battle
-   */
-  async choices(battle) {
-    const state = this.engine.state(battle);
-    return Promise.all(SIDES.map((side, at) => {
-      const chosen = this.chosen[at];
-      if (chosen !== null) return chosen;
-      if (state.sides[at].choices.length < 2) return state.sides[at].choices[0];
-      this.wait(`Side ${side} is thinking.`);
-      return this.players.choice(battle, side, this.who[at], randomSeed().reduce((sum, byte) => (sum * 256 + byte) % 0x7fffffff, 1));
-    }));
+  /** @param {Side} side @returns {number | Promise<number>} */
+  choiceOf(side) {
+    const chosen = this.chosen[side - 1];
+    if (chosen !== null) return chosen;
+    const thinking = this.thinking[side - 1];
+    if (!thinking) return this.game.offered(side)[0];
+    this.wait(this.game.persons.length === 1 ? "The foe is thinking." : `Side ${side} is thinking.`);
+    return thinking;
   }
 
   /** @param {string} text what is waited for */
@@ -243,22 +254,22 @@ export class Play {
 
   /** Takes back what happened since a person last had a choice. */
   undo() {
+    const { game } = this;
+    if (!this.isOpen) return;
+    this.drop();
     do {
-      if (this.steps.length < 2) break;
-      this.steps.pop();
-    } while (this.who.includes("person") && !SIDES.some((_, at) => this.isAsked(this.engine.state(this.battle), at)));
-    this.wait("");
+      if (game.steps.length < 2) break;
+      game.steps.pop();
+    } while (game.persons.length && !game.persons.some((side) => game.isAsked(side)));
+    this.retell();
     this.next();
   }
 
   /** Back to the teams. The battle is kept until another is left. */
   leave() {
-    if (!this.terms) return;
-    this.left = { terms: this.terms, steps: this.steps, who: this.who };
-    this.asked++;
-    this.code = "";
-    this.terms = null;
-    this.wait("");
+    if (!this.match) return;
+    this.drop();
+    [this.left, this.match, this.code] = [this.match, null, ""];
     keepingFocus(find("play-teams", HTMLElement), () => {
       find("play-setup", HTMLElement).hidden = false;
       find("play-game", HTMLElement).hidden = true;
@@ -267,96 +278,214 @@ export class Play {
     setAddress("play", {});
   }
 
-  /** Back to the battle that was left. */
+  /** Back to the battle that was left, or that the tab showed before it was loaded anew. */
   goBack() {
-    if (!this.left) return;
-    this.open(this.left.terms, this.left.steps, this.left.who);
+    if (this.left) this.open(this.left, this.isOpen);
+    else {
+      /** @type {Saved} */
+      const { terms, pairs, who, isOpen } = JSON.parse(kept(SAVED, true) ?? "null");
+      this.begin(terms, pairs, who, isOpen);
+    }
     find("play-now", HTMLElement).focus();
   }
 
-  /** @param {State} state */
-  draw(state) {
-    const { tables } = this.engine;
-    for (const side of SIDES) showSide(find(`play-side-${side}`, HTMLElement), side, tables, whole(tables, state.sides[side - 1]));
-    const outcome = OUTCOMES[state.outcome];
-    find("play-now", HTMLElement).textContent = `Turn ${state.turn} of at most ${state.limit}${outcome ? `. ${outcome}.` : ""}`;
-    find("play-terms", HTMLElement).textContent = `Seed ${this.terms?.seed.join(" ")}. Next link number: ${state.numbers[state.index]}.`;
-    const events = this.steps[this.steps.length - 1].events;
-    find("play-lines", HTMLElement).replaceChildren(...lineItems(events, false));
-    find("play-undo", HTMLButtonElement).disabled = this.steps.length < 2;
-    this.drawChoices(state);
+  /** Which side is shown below. */
+  get near() {
+    return this.revealed || this.game.persons[0] || 1;
+  }
+
+  /**
+   * What is shown of a side.
+   * @param {Side} side
+   */
+  shownOf(side) {
+    const { game, engine: { tables } } = this;
+    if (this.isBare) return whole(tables, game.state().sides[side - 1]);
+    const isOwn = side === (this.revealed || this.teller);
+    const self = game.view(side).own;
+    if (isOwn && self) return own(tables, self);
+    const other = game.view(side === 1 ? 2 : 1);
+    return seen(tables, other.foe, other.foes ?? other.foe.members.length);
+  }
+
+  /**
+   * Where a side's active member is, if it cannot be reached, by the events of the last update.
+   * @param {Side} side
+   * @returns {import("./field.js").Hidden}
+   */
+  hiddenOf(side) {
+    const { game } = this;
+    // The foe sees that a member charges, not whether it can be reached.
+    if (!game.view(side === 1 ? 2 : 1).foe.active?.announced.includes("charging")) return "";
+    const prepared = game.events(game.last, "all").find((event) => event.kind === "-prepare" && event.side === side)?.line.split("|")[3];
+    return prepared === "Fly" ? "above" : prepared === "Dig" ? "under" : "";
+  }
+
+  draw() {
+    const { game } = this;
+    const isAlone = game.persons.length === 1 && !this.isOpen;
+    const titles = SIDES.map((side) => (isAlone ? (side === this.near ? "You" : "The foe") : `Side ${side}`));
+    this.field.show(SIDES.map((side) => this.shownOf(side)), titles, this.near, SIDES.map((side) => this.hiddenOf(side)));
+    const outcome = OUTCOMES[game.outcome];
+    find("play-now", HTMLElement).textContent = `Turn ${game.view(1).turn}${outcome ? `. ${outcome}.` : ""}`;
+    find("play-undo", HTMLButtonElement).hidden = !this.isOpen;
+    find("play-undo", HTMLButtonElement).disabled = game.steps.length < 2;
+    find("play-rematch", HTMLElement).hidden = !game.isOver;
+    find("play-game", HTMLElement).dataset.updates = String(game.steps.length);
+    this.drawCurious();
+    this.drawChoices();
+  }
+
+  /** The seed and the draws, for the curious. */
+  drawCurious() {
+    const place = find("play-curious", HTMLDetailsElement);
+    place.hidden = !this.isBare;
+    const { terms } = this.game;
+    const clauses = ["", " with the sleep clause", " with the freeze clause", " with the sleep and the freeze clause"][terms.rules];
+    find("play-rules", HTMLElement).textContent = `A battle${clauses}, which ends at the latest after turn ${terms.limit}.`;
+    if (!this.isBare) return find("play-terms", HTMLElement).replaceChildren();
+    const { numbers, index } = this.game.state();
+    const texts = [`Seed ${terms.seed.join(" ")}.`, `The next link number is ${numbers[index]}, number ${index + 1} of ${numbers.slice(0, 9).join(" ")}.`];
+    find("play-terms", HTMLElement).replaceChildren(...texts.map((text) => make("p", { class: "quiet" }, text)));
   }
 
   /** Shows what can be pressed anew, with its keys or without. */
   drawAgain() {
-    if (this.terms) this.drawChoices(this.engine.state(this.battle));
+    if (this.match) this.drawChoices();
   }
 
-  /** @param {State} state */
-  drawChoices(state) {
-    for (const [at, side] of SIDES.entries()) {
+  /** The sides whose choices are shown. */
+  get showing() {
+    const { game } = this;
+    if (this.isMoving || game.isOver) return [];
+    if (this.isOpen || game.persons.length < 2) return game.persons.filter((side) => game.isAsked(side));
+    return SIDES.filter((side) => side === this.revealed);
+  }
+
+  drawChoices() {
+    const { game } = this;
+    find("play-skip", HTMLElement).hidden = !this.isMoving || !this.motion.share;
+    for (const side of SIDES) {
       const place = find(`play-choices-${side}`, HTMLElement);
       const hadFocus = place.contains(document.activeElement);
-      place.replaceChildren(make("h3", {}, `Side ${side} chooses`), ...this.choiceItems(state, at));
-      const button = hadFocus && /** @type {HTMLElement | null} */ (place.querySelector("button[aria-pressed='true'], button"));
-      if (hadFocus) (button || find("play-now", HTMLElement)).focus();
+      const isShown = this.showing.includes(side);
+      place.hidden = !isShown;
+      place.replaceChildren(...(isShown ? [...this.heading(side), ...this.buttons(side)] : []));
+      if (isShown || hadFocus) this.focus(place, hadFocus);
     }
-  }
-
-  /** @param {State} state @param {number} at the side from 0 */
-  choiceItems(state, at) {
-    if (state.outcome !== "ongoing") return [make("p", { class: "quiet" }, "The battle is over.")];
-    if (!this.isAsked(state, at)) return [make("p", { class: "quiet" }, state.requests[at] === "pass" ? "It waits." : `The computer (${this.who[at]}) chooses.`)];
-    const odds = this.engine.odds(this.battle, SIDES[at]);
-    const hasKeys = find("keys", HTMLInputElement).checked;
-    return state.sides[at].choices.map((choice, place) => {
-      const key = this.keysOf(at)[place];
-      return make("button", {
-        type: "button", class: "choice", "data-choice": choice, "aria-pressed": String(this.chosen[at] === choice),
-        "aria-keyshortcuts": hasKeys && key, click: () => this.choose(at, choice),
-      }, hasKeys ? make("kbd", { "aria-hidden": "true" }, key) : null, ...this.choiceWords(state, at, choice, odds));
-    });
+    this.drawCover();
+    // The choices that come and go change the height of the log.
+    this.log.toEnd();
   }
 
   /**
-   * The keys for a side's choices: digits if only one person plays.
-   * @param {number} at
+   * Keeps the focus in a place of choices. While there are none, the heading has it, and gives it back.
+   * @param {HTMLElement} place @param {boolean} hadFocus
    */
-  keysOf(at) {
-    return KEYS[at === 1 && this.who[0] === "person" ? 1 : 0];
+  focus(place, hadFocus) {
+    const heading = find("play-now", HTMLElement);
+    const button = /** @type {HTMLElement | null} */ (place.querySelector("button[aria-pressed='true'], button"));
+    if (hadFocus) (button ?? heading).focus();
+    else if (button && this.isLent && document.activeElement === heading) button.focus();
+    this.isLent = hadFocus && !button;
   }
 
-  /** @param {State} state @param {number} at @param {number} choice @param {import("./engine.js").Odds[]} odds */
-  choiceWords(state, at, choice, odds) {
-    const { members, active } = state.sides[at];
-    if (choice > 0x20) {
-      const { species, hp, maxHp, status } = members[choice - 0x21];
-      return [make("strong", {}, `Switch to ${species}`), make("span", { class: "quiet" }, `${hp}/${maxHp} HP ${STATUS_TAGS[status]}`)];
-    }
-    const { moves, pp } = members[(active?.place ?? 1) - 1];
-    const going = active?.conditions.some((it) => GOING.includes(it)) && moves[active.currentMove - 1];
-    if (choice === 0x10) return [make("strong", {}, going ? `Continue ${going}` : "Use the only possible action")];
-    const move = this.engine.tables.moves[moves[choice - 0x11]];
-    const found = odds.find((it) => it.slot === choice - 0x10);
-    const foe = state.sides[1 - at];
-    const hp = foe.active ? foe.members[foe.active.place - 1].hp : 0;
-    const damage = found?.damage ? `damage ${damageText(found.damage, hp)}` : "no damage by the formula";
-    const hit = found ? hitWords(found, (bytes) => `hits with ${bytes} of 256 bytes`) : "";
-    const critical = found?.bound === null || found?.bound === undefined ? "" : `; critical with ${found.bound} of 256`;
-    return [make("strong", {}, move.name), badge(move.type),
-      make("span", { class: "quiet" }, `${pp[choice - 0x11]} PP`), make("span", { class: "odds" }, `${damage}; ${hit}${critical}`)];
+  /** @param {Side} side */
+  heading(side) {
+    const isSwitch = this.game.view(side).own?.request === "switch";
+    if (this.game.persons.length > 1) return [make("h3", {}, `Side ${side} ${isSwitch ? "sends out" : "chooses"}`)];
+    return isSwitch ? [make("h3", {}, "Who comes out?")] : [];
+  }
+
+  /** The screen between two persons, which says who chooses. */
+  drawCover() {
+    const { game } = this;
+    const place = find("play-cover", HTMLElement);
+    const side = SIDES.find((it) => game.isAsked(it) && this.chosen[it - 1] === null);
+    const isCovered = !this.isOpen && game.persons.length === 2 && !this.isMoving && !this.revealed && !game.isOver && side !== undefined;
+    place.hidden = !isCovered && !game.isOver;
+    if (game.isOver) return place.replaceChildren(make("p", { class: "end" }, `${this.ending()}`));
+    if (!isCovered || side === undefined) return place.replaceChildren();
+    place.replaceChildren(
+      make("p", {}, make("strong", {}, `Side ${side} chooses.`), ` Hand the screen to side ${side}; side ${3 - side} looks away.`),
+      make("button", { type: "button", id: "play-reveal", class: "main", click: () => this.reveal(side) }, `Show the choices of side ${side}`),
+    );
+  }
+
+  ending() {
+    const { persons, outcome } = this.game;
+    const won = { "win one": 1, "win two": 2 }[/** @type {string} */ (outcome)];
+    if (persons.length !== 1 || !won) return `${OUTCOMES[outcome]}.`;
+    return won === persons[0] ? "You have won." : "The foe has won.";
+  }
+
+  /** @param {Side} side */
+  reveal(side) {
+    this.revealed = side;
+    this.draw();
+    /** @type {HTMLElement | null} */ (find(`play-choices-${side}`, HTMLElement).querySelector("button"))?.focus();
+  }
+
+  /** @param {Side} side */
+  buttons(side) {
+    const use = { chosen: this.chosen[side - 1], keys: this.keysOf(side), choose: (/** @type {number} */ choice) => this.choose(side, choice) };
+    return choiceButtons(this.engine, this.offer(side), use);
+  }
+
+  /**
+   * A side's choices with the odds of its moves: in covered hands against a usual foe of the species that is out.
+   * @param {Side} side
+   * @returns {import("./choices.js").Offer}
+   */
+  offer(side) {
+    const { game, engine } = this;
+    const view = game.view(side);
+    const battle = this.isOpen ? engine.gen1.load(game.last.battle) : game.usual(side);
+    const foe = battle.state[side === 1 ? "two" : "one"];
+    const { members, active } = view.own ?? { members: [], active: null };
+    return {
+      offered: game.offered(side), members, place: active?.place ?? 1, going: this.going(side), odds: engine.oddsOf(battle, side),
+      foeHp: foe.active ? foe.members[foe.active.place - 1].maxHp : 0, isGuess: !this.isOpen,
+    };
+  }
+
+  /**
+   * The move that a side's active member is in the middle of; empty if there is none.
+   * @param {Side} side
+   */
+  going(side) {
+    const { game } = this;
+    const conditions = game.view(side).own?.active?.conditions ?? [];
+    if (!conditions.some((it) => GOING.includes(it))) return "";
+    if (!conditions.includes("charging")) return game.view(side).ownPublic.active?.lastMove ?? "";
+    // A move that is charged is not the last one that was used.
+    const prepared = game.steps.flatMap((step) => game.events(step, side)).filter((event) => event.kind === "-prepare" && event.side === side).pop();
+    return prepared?.line.split("|")[3] ?? "";
+  }
+
+  /**
+   * The keys for a side's choices: digits, but for the second of two persons in open hands.
+   * @param {Side} side
+   */
+  keysOf(side) {
+    return KEYS[side === 2 && this.isOpen && this.game.persons.length === 2 ? 1 : 0];
   }
 
   /** What stands here, as an address holds it. */
   values() {
-    return { b: toAddress({ input: this.input() }), p1: this.who[0], p2: this.who[1] };
+    const { who } = this.game;
+    return { b: toAddress({ input: this.game.input() }), p1: who[0], p2: who[1], hands: this.isOpen ? "open" : "" };
   }
 
+  /** In covered hands the address does not hold the battle, and the tab keeps it. */
   toAddress() {
-    if (!this.terms) return;
-    const values = this.values();
-    this.code = values.b;
-    setAddress("play", values);
+    const { match } = this;
+    if (!match) return;
+    const { terms, who } = match;
+    keepForTab(SAVED, JSON.stringify({ terms, who, pairs: match.steps.map((step) => step.pair), isOpen: this.isOpen }));
+    const values = this.isBare ? this.values() : null;
+    this.code = values?.b ?? "";
+    setAddress("play", values ?? {});
   }
 
   /**
@@ -365,12 +494,12 @@ export class Play {
    */
   key(event) {
     // Repeats of a key that is held down are ignored.
-    if (!this.terms || event.repeat || event.ctrlKey || event.metaKey || event.altKey) return;
-    const state = this.engine.state(this.battle);
+    if (!this.match || event.repeat || event.ctrlKey || event.metaKey || event.altKey) return;
+    if (this.isMoving) return this.motion.skip();
     if (event.key === "Backspace") return this.undo();
-    for (const at of [0, 1]) {
-      const place = this.keysOf(at).indexOf(event.key);
-      if (place >= 0 && this.isAsked(state, at) && place < state.sides[at].choices.length) return this.choose(at, state.sides[at].choices[place]);
+    for (const side of this.showing) {
+      const [place, offered] = [this.keysOf(side).indexOf(event.key), this.game.offered(side)];
+      if (place >= 0 && place < offered.length) return this.choose(side, offered[place]);
     }
   }
 }

@@ -2,7 +2,7 @@
 import { choose } from "./computer.js";
 import { find } from "./dom.js";
 
-/** @typedef {{ battle: Uint8Array, side: 1 | 2, player: string, seed: number }} Asked */
+/** @typedef {import("./computer.js").Asked} Asked */
 
 /** Asks a worker for choices; without one, or where it fails, the page's own engine answers. */
 export class Players {
@@ -22,6 +22,7 @@ export class Players {
   begun() {
     if (this.worker || this.hasFailed) return this.worker;
     try {
+      // The worker runs the page's own script (page.js).
       const url = URL.createObjectURL(new Blob([find("script", HTMLScriptElement).text], { type: "text/javascript" }));
       this.worker = new Worker(url);
       this.worker.onerror = (event) => {
@@ -58,26 +59,30 @@ export class Players {
    * The choice from the page's own engine.
    * @param {Asked} asked
    */
-  async own({ battle, side, player, seed }) {
-    return choose(this.engine, battle, side, player, seed);
+  async own(asked) {
+    return choose(this.engine, asked);
   }
 
   /**
    * The byte of a player's choice.
-   * @param {Uint8Array} battle
-   * @param {1 | 2} side
-   * @param {string} player
-   * @param {number} seed
+   * @param {Asked} asked
    * @returns {Promise<number>}
    */
-  choice(battle, side, player, seed) {
-    const asked = { battle, side, player, seed };
+  choice(asked) {
     const worker = this.begun();
     if (!worker) return this.own(asked);
     const id = ++this.count;
     return new Promise((settle) => {
       this.waiting.set(id, { asked, settle });
-      worker.postMessage({ id, ...asked });
+      worker.postMessage({ id, asked });
     });
+  }
+
+  /** Drops the questions that are open, because their battle has moved on. Their promises stay unsettled. */
+  cancel() {
+    if (!this.waiting.size) return;
+    this.waiting.clear();
+    this.worker?.terminate();
+    this.worker = null;
   }
 }

@@ -14,17 +14,45 @@ export function randomSeed() {
 }
 
 /**
+ * A random species.
+ * @param {import("./engine.js").Tables} tables
+ * @param {(bound: number) => number} [draw]
+ */
+export function randomSpecies(tables, draw = below) {
+  const names = Object.keys(tables.species);
+  return names[draw(names.length)];
+}
+
+/** Random moves that are drawn for their type or their power are this share of all. */
+const FITTING = 3;
+
+/**
+ * Random moves that complete the moves of a member to four. Most have one of its types, or much power.
+ * @param {import("./engine.js").Tables} tables
+ * @param {readonly string[]} types of the member
+ * @param {(bound: number) => number} draw
+ * @param {string[]} had
+ */
+export function randomMoves(tables, types, draw, had) {
+  const known = Object.values(tables.moves).filter((it) => it.isKnown);
+  const fitting = known.filter(({ type, power }) => power >= 80 || (power >= 50 && types.includes(type)));
+  const chosen = new Set(had);
+  while (chosen.size < 4) {
+    const pool = draw(FITTING) ? fitting : known;
+    chosen.add(pool[draw(pool.length)].name);
+  }
+  return [...chosen].slice(had.length);
+}
+
+/**
  * A random team as a team builder's text: members with four moves that a team may have.
  * @param {import("./engine.js").Tables} tables
  * @param {number} count
  */
 export function randomTeam(tables, count) {
-  const species = Object.keys(tables.species);
-  const moves = Object.values(tables.moves).filter((it) => it.isKnown);
   const members = Array.from({ length: count }, () => {
-    const chosen = new Set();
-    while (chosen.size < 4) chosen.add(moves[below(moves.length)].name);
-    return [species[below(species.length)], ...[...chosen].map((name) => `- ${name}`)].join("\n");
+    const species = randomSpecies(tables);
+    return [species, ...randomMoves(tables, tables.species[species], below, []).map((name) => `- ${name}`)].join("\n");
   });
   return members.join("\n\n");
 }

@@ -50,7 +50,7 @@ function toldBy(line, since) {
   return { species, level: Number(level ?? 100), max: Number(health.split(" ")[0].split("/")[1] ?? 0), since };
 }
 
-/** A battle with all its frames. */
+/** A battle with all its frames. `begun` and then `steps` make it, in pieces of work that take about a millisecond each. */
 export class Recording {
   /** @param {Engine} engine @param {Recorded} recorded */
   constructor(engine, recorded) {
@@ -64,16 +64,20 @@ export class Recording {
     this.told = new Map();
     const { one, two } = "log" in recorded ? { one: PLACEHOLDERS, two: PLACEHOLDERS } : recorded.input;
     this.spectator = engine.spectator(one, two);
-    if ("log" in recorded) this.follow(recorded.log);
-    else this.play(recorded.input);
+  }
+
+  /** Adds the frames, and yields after each piece of work the share that is done. */
+  *steps() {
+    if ("log" in this.recorded) yield* this.follow(this.recorded.log);
+    else yield* this.play(this.recorded.input);
   }
 
   get last() {
     return this.frames.length - 1;
   }
 
-  /** @param {import("./inputs.js").Input} input */
-  play(input) {
+  /** @param {import("./inputs.js").Input} input @returns {Generator<number>} */
+  *play(input) {
     let battle = this.engine.begin(input);
     this.add(new Uint8Array(), [], battle);
     for (const [number, [one, two]] of input.choices.entries()) {
@@ -84,18 +88,25 @@ export class Recording {
       }
       battle = update.battle;
       this.add(update.log, this.engine.events(update.log), battle);
+      yield number / input.choices.length;
     }
   }
 
-  /** @param {Uint8Array} log */
-  follow(log) {
-    const updates = updatesOf(this.engine.events(log));
+  /** @param {Uint8Array} log @returns {Generator<number>} */
+  *follow(log) {
+    /** @type {GameEvent[]} */
+    const all = [];
+    for (const events of this.engine.pieces(log)) {
+      all.push(...events);
+      yield all.length / log.length;
+    }
     this.add(new Uint8Array(), [], null);
     let at = 0;
-    for (const events of updates) {
+    for (const events of updatesOf(all)) {
       const length = events.reduce((sum, event) => sum + event.size, 0);
       this.add(log.slice(at, at + length), events, null);
       at += length;
+      yield at / log.length;
     }
     if (!this.told.size) throw new Problem("The log begins in the middle of a battle: no member is sent out in it.");
   }

@@ -1,19 +1,21 @@
 // Replay: a recorded battle, forward and back by update and by turn.
 import { find, guarded, inField, keepingFocus, make, Problem } from "./dom.js";
 import { link, setAddress } from "./address.js";
-import { isShort, ofAddress, toAddress } from "./inputs.js";
+import { isShort, mayBeShort, ofAddress, toAddress } from "./inputs.js";
 import { Recording } from "./recording.js";
 import { shareButtons } from "./share.js";
+import { Slices } from "./slices.js";
 import { showSide, watched, whole } from "./sides.js";
 import { inWords, OUTCOMES, sideOf } from "./words.js";
 
 /**
  * @param {import("./engine.js").GameEvent[]} events
  * @param {boolean} raw whether lines are shown as the program prints them
+ * @param {import("./words.js").Voice} [voice]
  */
-export function lineItems(events, raw) {
+export function lineItems(events, raw, voice) {
   return events.map((event) => make("li", { class: `line side-${sideOf(event.line)}${event.kind === "turn" ? " turn" : ""}`, "data-line": event.line },
-    raw ? event.line : inWords(event.line)));
+    raw ? event.line : inWords(event.line, voice)));
 }
 
 /** The part of the page that replays. */
@@ -24,6 +26,8 @@ export class Replay {
     this.inputs = inputs;
     /** @type {Recording | null} */
     this.recording = null;
+    this.reading = new Slices();
+    this.writing = new Slices();
     this.at = 0;
     this.timer = 0;
     this.code = "";
@@ -46,10 +50,10 @@ export class Replay {
     click("replay-forward", () => this.go(this.at + 1));
     click("replay-turn-forward", () => this.goTurns(1));
     click("replay-last", () => this.go(Infinity));
-    click("replay-example", () => void guarded(() => this.show(this.inputs.parse(find("example", HTMLScriptElement).text), { at: 1 })));
+    click("replay-example", () => void this.example());
     click("replay-read", () => void guarded(() => {
       const text = find("replay-text", HTMLTextAreaElement);
-      inField(text, () => this.show(this.inputs.parse(text.value), { at: 1 }));
+      return inField(text, () => this.show(this.inputs.parse(text.value), { at: 1 }));
     }));
     this.slider.addEventListener("input", () => this.go(Number(this.slider.value)));
     this.turn.addEventListener("change", () => this.go(this.recording?.updateOf(Number(this.turn.value)) ?? 0));
@@ -64,8 +68,18 @@ export class Replay {
     }));
     shareButtons(find("replay-share", HTMLElement), () => {
       if (!this.recording) throw new Problem("There is no battle yet.");
-      return { recorded: this.recording.recorded, log: this.recording.wholeLog(), inputs: this.inputs, link: link("replay", this.values()) };
+      const log = this.recording.wholeLog();
+      // What is shared in the spectator's view holds no seed, and no more of the teams than the log.
+      const recorded = this.see.value === "all" ? this.recording.recorded : { log };
+      const values = this.see.value === "all" ? this.values() : { ...this.values(), b: toAddress(recorded), see: "" };
+      const updates = this.recording.frames.slice(1).map((frame) => frame.events);
+      return { recorded, log, updates, inputs: this.inputs, link: link("replay", values) };
     });
+  }
+
+  /** Shows the page's own example. */
+  example() {
+    return guarded(() => this.show(this.inputs.parse(find("example", HTMLScriptElement).text), { at: 1 }));
   }
 
   /**
@@ -73,7 +87,7 @@ export class Replay {
    * @param {File} file
    */
   async open(file) {
-    this.show(await this.inputs.readFile(file), { at: 1 });
+    await this.show(await this.inputs.readFile(file), { at: 1 });
   }
 
   /**
@@ -81,10 +95,18 @@ export class Replay {
    * @param {import("./inputs.js").Recorded} recorded
    * @param {{ at: number, code?: string, isHeld?: boolean }} how the update that is shown first, the battle's text in an address,
    *   and whether the page's file holds the battle
+   * @returns {void | Promise<void>}
    */
   show(recorded, how) {
-    this.recording = new Recording(this.engine, recorded);
-    this.code = how.code ?? toAddress(recorded);
+    const recording = new Recording(this.engine, recorded);
+    return this.reading.run(recording.steps(), () => this.put(recording, how));
+  }
+
+  /** @param {Recording} recording @param {{ at: number, code?: string, isHeld?: boolean }} how */
+  put(recording, how) {
+    const { recorded } = recording;
+    this.recording = recording;
+    this.code = how.code ?? (mayBeShort(recorded) ? toAddress(recorded) : "");
     this.isHeld = Boolean(how.isHeld);
     this.pause();
     const isLog = "log" in recorded;
@@ -105,6 +127,7 @@ export class Replay {
    * Shows the battle in an address.
    * @param {URLSearchParams} values
    * @param {string} held the JSON that the page holds
+   * @returns {void | Promise<void>}
    */
   route(values, held) {
     const code = values.get("b") ?? "";
@@ -112,9 +135,9 @@ export class Replay {
     if (!this.see.options[0].disabled) this.see.value = this.wanted;
     this.raw.value = values.get("lines") === "raw" ? "raw" : "words";
     const at = Number(values.get("u") ?? 1);
-    if (code && code !== this.code) this.show(ofAddress(code, this.inputs), { at, code });
-    else if (!code && held && !this.recording) this.show(this.inputs.parse(held), { at, code: "", isHeld: true });
-    else if (this.recording) this.go(at);
+    if (code && code !== this.code) return this.show(ofAddress(code, this.inputs), { at, code });
+    if (!code && held && !this.recording) return this.show(this.inputs.parse(held), { at, code: "", isHeld: true });
+    if (this.recording) this.go(at);
   }
 
   /** @param {number} at */
@@ -131,6 +154,11 @@ export class Replay {
     const turn = this.recording.turn(this.at) + turns;
     if (turn < 0) this.go(0);
     else this.go(turns < 0 ? Math.min(this.recording.updateOf(turn), this.at - 1) : Math.max(this.recording.updateOf(turn), this.at + 1));
+  }
+
+  /** Begins to play, unless the person wants no motion. */
+  start() {
+    if (!this.timer && !window.matchMedia("(prefers-reduced-motion: reduce)").matches) this.playOrPause();
   }
 
   playOrPause() {
@@ -175,7 +203,7 @@ export class Replay {
     if (!this.recording) return;
     const { frames, last } = this.recording;
     const frame = frames[this.at];
-    for (const side of [1, 2]) showSide(find(`replay-side-${side}`, HTMLElement), side, this.engine.tables, this.shown(side));
+    for (const side of [1, 2]) showSide(find(`replay-side-${side}`, HTMLElement), side, this.engine, this.shown(side));
     const outcome = OUTCOMES[frame.view.outcome];
     find("replay-now", HTMLElement).textContent = `${this.at ? `Turn ${frame.view.turn}` : "Before the battle"}, update ${this.at} of ${last}${outcome ? `. ${outcome}.` : ""}`;
     this.slider.value = String(this.at);
@@ -193,8 +221,18 @@ export class Replay {
   drawWhole() {
     const details = find("replay-whole", HTMLDetailsElement);
     if (!details.open || !this.recording) return;
-    const events = this.recording.frames.slice(0, this.at + 1).flatMap((frame) => frame.events);
-    find("replay-whole-lines", HTMLElement).replaceChildren(...lineItems(events, this.raw.value === "raw"));
+    const place = find("replay-whole-lines", HTMLElement);
+    place.replaceChildren();
+    void this.writing.run(this.writeWhole(place), () => {});
+  }
+
+  /** @param {HTMLElement} place @returns {Generator<number>} */
+  *writeWhole(place) {
+    const frames = this.recording?.frames.slice(0, this.at + 1) ?? [];
+    for (const [at, frame] of frames.entries()) {
+      place.append(...lineItems(frame.events, this.raw.value === "raw"));
+      yield at / frames.length;
+    }
   }
 
   /** What stands here, as an address holds it. */

@@ -1,9 +1,10 @@
 // Sharing a battle: as a page that holds it, as a link, as an input and as log bytes.
 import { copy, guarded, Problem, save } from "./dom.js";
 import { isShort, toAddress } from "./inputs.js";
+import { showdownPage } from "./showdown.js";
 
-// The source of the page, copied before anything in it changes. In the worker there is none.
-const SOURCE = typeof document === "undefined" ? "" : `<!doctype html>\n${document.documentElement.outerHTML}`;
+// The source of the page, copied before anything in it changes.
+const SOURCE = `<!doctype html>\n${document.documentElement.outerHTML}`;
 
 /** The JSON of the battle that the page was saved with; empty where there is none. */
 export function heldBattle() {
@@ -21,8 +22,9 @@ export function pageWith(battle) {
 }
 
 /**
- * @typedef {{ recorded: import("./inputs.js").Recorded, log: Uint8Array, inputs: import("./inputs.js").Inputs, link: string }} Shown a
- *   battle, and the address of the position
+ * @typedef {{ recorded: import("./inputs.js").Recorded, log: Uint8Array, updates: import("./engine.js").GameEvent[][],
+ *   inputs: import("./inputs.js").Inputs, link: string }} Shown what is shared: a battle, or as a log what the viewer knows of it; its events by
+ *   update; and the address of the position
  */
 
 /**
@@ -39,6 +41,7 @@ export function shareButtons(place, shown) {
     },
     input: () => save("battle.json", shown().inputs.text(shown().recorded), "application/json"),
     log: () => save("battle.log", shown().log, "application/octet-stream"),
+    showdown: () => save("battle_showdown.html", showdownPage(shown()), "text/html"),
   };
   for (const [name, action] of Object.entries(actions))
     place.querySelector(`[data-share="${name}"]`)?.addEventListener("click", () => void guarded(action));

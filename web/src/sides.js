@@ -1,16 +1,18 @@
 // Showing a side: the member that is out, with an HP bar, status, stages and conditions, and all members of the team.
 import { make } from "./dom.js";
+import { token } from "./tokens.js";
 import { STATUS_TAGS, STATUS_WORDS } from "./words.js";
 
 /**
  * @typedef {import("./engine.js").Tables} Tables
  * @typedef {{ species: string, types: readonly string[], level: number, hp: number, max: number, status: string, sleep?: number,
- *   moves: [string, number][], isKnown: boolean }} ShownMember of a move its name and PP
+ *   moves: [string, number][], isKnown: boolean, hasPixels?: boolean, used?: string[] }} ShownMember of a move its name and PP; whether HP are in
+ *   48ths; and the moves that were seen
  * @typedef {{ active: number, members: ShownMember[], types: readonly string[], stages: number[], stats: number[] | null,
  *   own: number[] | null, conditions: string[] }} Shown
  */
 
-const STAGES = ["Attack", "Defense", "Speed", "Special", "Accuracy", "Evasion"];
+export const STAGES = ["Attack", "Defense", "Speed", "Special", "Accuracy", "Evasion"];
 /** @type {Record<import("gen1").Condition, (active: import("gen1").ActiveState) => string>} */
 const CONDITIONS = {
   bide: ({ turns }) => `Bide, ${turns} more`,
@@ -50,6 +52,51 @@ export function whole(tables, { members, active }) {
   if (!active) return { active: 0, members: shown, types: [], stages: [], stats: null, own: null, conditions: [] };
   const { place, types, stages, stats } = active;
   return { active: place, members: shown, types, stages, stats, own: members[place - 1].stats, conditions: conditionWords(active) };
+}
+
+/** @type {Record<string, string>} */
+const NAMES = {
+  bide: "Bide", thrash: "Thrashing", trapping: "Trapping", charging: "Charging", invulnerable: "Out of reach", confused: "Confused", mist: "Mist",
+  "focus energy": "Focus Energy", substitute: "Substitute", recharge: "Has to recharge", recharging: "Has to recharge", rage: "Rage", seeded: "Seeded",
+  "bad poison": "Bad poison", toxic: "Bad poison", "light screen": "Light Screen", reflect: "Reflect", disabled: "A move is disabled",
+};
+
+/**
+ * What a side is shown of itself.
+ * @param {Tables} tables
+ * @param {import("gen1").OwnSide} side
+ * @returns {Shown}
+ */
+export function own(tables, { members, active }) {
+  const shown = members.map(({ species, level, hp, maxHp, status, moves, pp }) => ({
+    species, types: tables.species[species], level, hp, max: maxHp, status: STATUS_TAGS[status], isKnown: true,
+    moves: moves.map((move, slot) => /** @type {[string, number]} */ ([move, pp[slot]])),
+  }));
+  if (!active) return { active: 0, members: shown, types: [], stages: [], stats: null, own: null, conditions: [] };
+  const { place, types, stages, stats, conditions, held } = active;
+  const words = [...conditions.map((it) => NAMES[it]), ...(held ? ["Trapped"] : [])];
+  return { active: place, members: shown, types, stages, stats, own: members[place - 1].stats, conditions: words };
+}
+
+/**
+ * What a side has shown of itself to its foe. HP are in 48ths.
+ * @param {Tables} tables
+ * @param {import("gen1").PublicSide} side
+ * @param {number} count of its members
+ * @returns {Shown}
+ */
+export function seen(tables, { members, active }, count) {
+  const shown = members.map(({ species, level, hp, maxHp, status, moves }) => ({
+    species, types: tables.species[species], level, hp, max: maxHp, status: STATUS_TAGS[status], isKnown: true, hasPixels: true, used: moves.map(({ name }) => name),
+    moves: /** @type {[string, number][]} */ ([]),
+  }));
+  const rest = Array.from({ length: count - shown.length }, () => ({
+    species: "Not seen yet", types: [], level: 0, hp: 0, max: 0, status: "", moves: [], isKnown: false,
+  }));
+  const all = [...shown, ...rest];
+  if (!active) return { active: 0, members: all, types: [], stages: [], stats: null, own: null, conditions: [] };
+  const { place, types, stages, announced } = active;
+  return { active: place, members: all, types, stages, stats: null, own: null, conditions: announced.map((it) => NAMES[it]) };
 }
 
 /**
@@ -131,12 +178,13 @@ function stats(shown) {
   return make("p", { class: "quiet stats" }, texts.join(" · "));
 }
 
-/** @param {Shown} shown */
-function out(shown) {
+/** @param {import("./engine.js").Engine} engine @param {Shown} shown */
+function out(engine, shown) {
   const member = shown.members[shown.active - 1];
   if (!member) return make("div", { class: "out" }, make("p", {}, "No member is out yet."));
   const types = [...new Set(shown.types)].map(badge);
-  return make("div", { class: "out" },
+  const states = [member.hp ? member.status : "fallen", shown.conditions.some((it) => it.startsWith("Substitute")) ? "substitute" : ""];
+  return make("div", { class: "out" }, make("div", { class: ["figure", ...states].join(" ") }, token(engine, member.species)),
     make("p", { class: "head" }, make("strong", {}, member.species), ` level ${member.level} `, ...types, " ", status(member)),
     make("p", { class: "health" }, bar(member), hp(member)), chips(shown));
 }
@@ -167,15 +215,15 @@ function behind(tables, member, place, isOut) {
  * Shows a side in an element.
  * @param {HTMLElement} place
  * @param {number} number
- * @param {Tables} tables
+ * @param {import("./engine.js").Engine} engine
  * @param {Shown} shown
  */
-export function showSide(place, number, tables, shown) {
+export function showSide(place, number, engine, shown) {
   // Open details stay open, and a focused summary stays focused, by the place of its member, as other members come and go.
   const before = new Map([...place.querySelectorAll("details")].map((it) => [it.dataset.of, it.open]));
   const focused = place.contains(document.activeElement) ? document.activeElement?.closest("details")?.dataset.of : undefined;
   if (!before.size) before.set("side", window.matchMedia("(min-width: 44.01rem)").matches);
-  place.replaceChildren(make("h3", {}, `Side ${number}`), out(shown), more(number, tables, shown));
+  place.replaceChildren(make("h3", {}, `Side ${number}`), out(engine, shown), more(number, engine.tables, shown));
   for (const it of place.querySelectorAll("details")) it.open = before.get(it.dataset.of) ?? false;
   /** @type {HTMLElement | null} */
   const summary = focused ? place.querySelector(`[data-of="${focused}"] > summary`) ?? place.querySelector("summary") : null;

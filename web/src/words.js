@@ -40,16 +40,51 @@ export const OUTCOMES = {
   "fault 2": "The battle stopped at a Psywave of level 1",
 };
 
+/**
+ * @typedef {{ you: number, hasPixels: boolean }} Voice the side that is called you, or 0; and whether the HP of other sides are in 48ths
+ */
+
+/** @type {Voice} */
+const PLAIN = { you: 0, hasPixels: false };
+/** Who tells the line that is being put into words. */
+let voice = PLAIN;
+
 /** @param {string} who as "p1a: Tauros" */
-function named(who) {
-  return `Side ${who[1]}'s ${who.slice(5)}`;
+function isYou(who) {
+  return voice.you === Number(who[1]);
 }
 
-/** @param {string} health as "120/353 par" or "0 fnt" */
-function hp(health) {
+/** @param {string} who */
+function named(who) {
+  if (!voice.you) return `Side ${who[1]}'s ${who.slice(5)}`;
+  return `${isYou(who) ? "Your" : "The foe's"} ${who.slice(5)}`;
+}
+
+/** @param {string} who */
+function inside(who) {
+  return named(who).replace(/^./, (letter) => letter.toLowerCase());
+}
+
+/** @param {string} who @param {string} verb of one side, as "sends" */
+function does(who, verb) {
+  if (!voice.you) return `Side ${who[1]} ${verb}`;
+  return isYou(who) ? `You ${verb.slice(0, -1)}` : `The foe ${verb}`;
+}
+
+/** @param {string} health as "120/353 par" or "0 fnt" @param {string} who */
+function hp(health, who) {
   const [numbers] = health.split(" ");
-  const [now, most] = numbers.split("/");
-  return most ? `${now} of ${most} HP` : "0 HP";
+  const [now, most] = numbers.split("/").map(Number);
+  if (!most) return "0 HP";
+  return voice.hasPixels && !isYou(who) ? `${percentage(now, most)}%` : `${now} of ${most} HP`;
+}
+
+/**
+ * HP in per cent, at least 1 while there are any.
+ * @param {number} hp @param {number} most
+ */
+export function percentage(hp, most) {
+  return most ? Math.max(Math.floor((100 * hp) / most), hp ? 1 : 0) : 0;
 }
 
 /** @param {string} health */
@@ -67,13 +102,13 @@ const SENTENCES = {
   turn: (turn) => `Turn ${turn}`,
   switch: (who, species, health) => {
     const [name, level] = species.split(", L");
-    return `Side ${who[1]} sends out ${name}, level ${level ?? 100}, with ${hp(health)}${ailing(health)}.`;
+    return `${does(who, "sends")} out ${name}, level ${level ?? 100}, with ${hp(health, who)}${ailing(health)}.`;
   },
   move: (who, move) => `${named(who)} uses ${move}.`,
   cant: (who, why) => `${named(who)} ${STOPS[why] ?? "cannot act"}.`,
-  "-damage": (who, health, source) => `${named(who)} is down to ${hp(health)}${source ? SOURCES[source] ?? "" : ""}.`,
-  "-heal": (who, health) => `${named(who)} is healed to ${hp(health)}.`,
-  "-crit": (who) => `It is a critical hit on side ${who[1]}'s ${who.slice(5)}.`,
+  "-damage": (who, health, source) => `${named(who)} is down to ${hp(health, who)}${source ? SOURCES[source] ?? "" : ""}.`,
+  "-heal": (who, health) => `${named(who)} is healed to ${hp(health, who)}.`,
+  "-crit": (who) => `It is a critical hit on ${inside(who)}.`,
   "-supereffective": () => "It is super effective.",
   "-resisted": () => "It is not very effective.",
   "-immune": (who) => `${named(who)} is not affected.`,
@@ -92,7 +127,7 @@ const SENTENCES = {
   "-hitcount": (who, count) => `${named(who)} was hit ${count === "1" ? "once" : `${count} times`}.`,
   "-ohko": () => "It is a one-hit knock-out.",
   faint: (who) => `${named(who)} faints.`,
-  win: (side) => `Side ${side[1]} wins.`,
+  win: (side) => `${does(side, "wins")}.`,
   tie: () => "The battle is a tie.",
   fault: (number) => `${OUTCOMES[`fault ${number}`] ?? "The battle stopped"}.`,
 };
@@ -100,10 +135,20 @@ const SENTENCES = {
 /**
  * A line in words.
  * @param {string} line as "|move|p1a: Tauros|Strength|p2a: Tauros"
+ * @param {Voice} [told]
  */
-export function inWords(line) {
+export function inWords(line, told = PLAIN) {
   const [, tag, ...fields] = line.split("|");
+  voice = told;
   return SENTENCES[tag]?.(...fields) ?? line;
+}
+
+/**
+ * The kind of the event of a line: "move", "-damage".
+ * @param {string} line
+ */
+export function kindOf(line) {
+  return line.split("|", 2)[1];
 }
 
 /**

@@ -1,0 +1,107 @@
+"""What a player may not know is nowhere in the page, nor in what it saves: facts are planted in 50 battles, and searched at each turn."""
+import json
+import random
+import re
+
+from checks.cases import address_of, names
+from checks.play import OFFERED, UPDATES
+from checks.tabs import COPIES
+
+BATTLES, TURNS, EXPORTS = 50, 5, 10
+OWN = ("Tauros", "Chansey", "Zapdos")
+FOES = ("Rhydon", "Lapras", "Gengar", "Jynx", "Cloyster", "Machamp", "Alakazam", "Golem", "Arcanine", "Pinsir", "Electabuzz", "Persian")
+OWN_MOVES = ("Body Slam", "Drill Peck", "Ice Beam")
+# Moves whose names are no other words of the page, such as types.
+FOE_MOVES = ("Rock Slide", "Surf", "Blizzard", "Clamp", "Submission", "Horn Attack", "Earthquake", "Fire Blast", "Vice Grip", "Thunder Punch", "Slash",
+             "Crabhammer", "Lick", "Aurora Beam", "Stomp")
+SEEN = """
+const form = [...document.querySelectorAll('#panel-play input, #panel-play textarea')].map((it) => it.value).join(' ');
+const shown = document.getElementById('panel-play').cloneNode(true);
+for (const it of shown.querySelectorAll('select')) it.remove();
+return [shown.outerHTML, form, document.title, location.href, document.getElementById('messages').textContent, JSON.stringify(history.state), JSON.stringify(localStorage)].join(' ');
+"""
+
+
+def member(species, moves, level):
+    return {"species": species, "level": level, "dvs": [15] * 4, "exp": [65535] * 5, "moves": [[move, 3] for move in moves]}
+
+
+def planted(number):
+    """An input with a foe whose members, moves, levels and HP are known to nobody else."""
+    draw = random.Random(number)
+    foes, moves, levels = draw.sample(FOES, 3), draw.sample(FOE_MOVES, 6), draw.sample(range(61, 91), 3)
+    two = [member(species, moves[2 * at : 2 * at + 2], levels[at]) for at, species in enumerate(foes)]
+    return {"seed": [201 + draw.randrange(50) for _ in range(10)], "one": [member(it, OWN_MOVES, 100) for it in OWN], "two": two, "choices": [[0, 0]]}
+
+
+def unknown(asked, lines):
+    """The facts that the lines have not shown: members, moves, the seed, and the foe's maximum HP."""
+    told = "\n".join(lines)
+    facts = [it["species"] for it in asked["two"] if f"|{it['species']}" not in told]
+    facts += [move for it in asked["two"] for move, _ in it["moves"] if f"|{move}|" not in told]
+    facts += [" ".join(map(str, asked["seed"])), ",".join(map(str, asked["seed"]))]
+    levels = [it["level"] for it in asked["two"] if f"|{it['species']}" not in told]
+    return facts + [text for level in levels for text in (f">L{level}<", f"level {level}", f", L{level}")]
+
+
+def exports(browser):
+    """Each file that is saved, and the link, as text."""
+    found = []
+    for name, file in (("page", "battle.html"), ("input", "battle.json"), ("log", "battle.log"), ("showdown", "battle_showdown.html")):
+        browser.run("document.getElementById('play-menu').open = true")
+        found.append(browser.saved(f"#play-share [data-share={name}]", file))
+    browser.run("window.copied = ''; document.getElementById('play-menu').open = true")
+    browser.click("#play-share [data-share=link]")
+    return found, browser.wait("return window.copied")
+
+
+def test_exports(browser, asked, lines):
+    """The files and the link hold the log that side 1 is told, and nothing besides."""
+    (page, held, log, showdown), link = exports(browser)
+    # Of the page, only the battle that it holds differs from the page that everybody has.
+    battle = re.search(r'<script id="battle" type="application/json">(.*?)</script>', page.decode())[1]
+    assert json.loads(battle) == json.loads(held) == {"log": log.hex()}
+    species = names("Species")
+    for it in asked["two"]:
+        if f"|{it['species']}" not in "\n".join(lines):
+            assert bytes([2, 2, species.index(it["species"]) + 1]) not in log
+    for fact in unknown(asked, lines):
+        assert fact not in showdown.decode(), fact
+    assert re.fullmatch(r"[^#]*#replay\?b=l[\w-]+", link), link
+    browser.open(f"#{link.partition('#')[2]}&u=9999")
+    browser.click("#replay-whole summary")
+    browser.wait("return document.querySelector('#replay-whole-lines li')")
+    assert browser.lines("#replay-whole-lines") == lines
+
+
+def what_a_player_may_not_know_is_nowhere(browser):
+    searched = 0
+    for number in range(BATTLES):
+        asked = planted(number)
+        browser.open(f"#play?b={address_of(asked, 1)}&p1=person&p2=random")
+        browser.wait("return location.hash === '#play'")
+        # The form's own sample team is not this battle's.
+        browser.run(f"document.getElementById('play-team-1').value = ''; {COPIES}")
+        for turn in range(TURNS):
+            lines, text = browser.lines("#play-lines"), browser.run(SEEN)
+            if lines[-1].startswith(("|win|", "|tie")):
+                # After the battle, everything is shown.
+                break
+            assert address_of(asked, 1)[20:60] not in text
+            for fact in unknown(asked, lines):
+                assert fact not in text, (number, turn, fact)
+                searched += 1
+            foe_hp = re.findall(r"^\|(?:switch|-damage|-heal)\|p2a: .*?\|\d+/(\d+)", "\n".join(lines), re.M)
+            assert set(foe_hp) == {"48"} and not re.search(r"\d+/\d+", browser.text("#play-field .far")), foe_hp
+            if not browser.run(OFFERED % 1):
+                break
+            before = browser.run(UPDATES)
+            browser.click("#play-choices-1 [data-choice]")
+            browser.wait(f"{UPDATES} > {before}")
+        if number < EXPORTS and not browser.lines("#play-lines")[-1].startswith(("|win|", "|tie")):
+            test_exports(browser, asked, browser.lines("#play-lines"))
+    print(f"    {searched} searches for facts in {BATTLES} battles")
+    assert searched > 10 * BATTLES
+
+
+CHECKS = [what_a_player_may_not_know_is_nowhere]

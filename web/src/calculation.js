@@ -1,0 +1,249 @@
+// The numbers of a move in words: per cent of HP, the uses that it takes to knock out, what the user gains and loses, and a line to copy.
+import { span } from "./words.js";
+
+/**
+ * @typedef {import("./engine.js").CalculatedMove} CalculatedMove
+ * @typedef {import("./engine.js").Calculated} Calculated
+ * @typedef {import("./engine.js").Standing} Standing
+ */
+
+/** A chance that a line shows as neither 0 nor 100 per cent. */
+const VISIBLE = 0.0005;
+/** How many uses a line looks at, and how many numbers of uses it names. */
+const [USES, NAMED] = [9, 3];
+const SHORT = ["atk", "def", "spe", "spc", "acc", "eva"];
+/** @type {Record<number, string>} */
+const AILING = { 0: "", 1: "sleeping ", 8: "poisoned ", 16: "burned ", 32: "frozen ", 64: "paralysed " };
+const SCREENS = ["Reflect", "Light Screen"];
+
+/**
+ * A number with one decimal, rounded as the program gen1 does: of two that are equally near, to the even one.
+ * @param {number} value
+ */
+export function tenth(value) {
+  return value % 1 === 0.25 ? (value - 0.05).toFixed(1) : value.toFixed(1);
+}
+
+/**
+ * A chance in per cent, which is 0% or 100% only if it is exactly that.
+ * @param {number} part
+ */
+export function percent(part) {
+  if (part === 0 || part === 1) return `${100 * part}%`;
+  return part < VISIBLE ? "<0.1%" : part > 1 - VISIBLE ? ">99.9%" : `${tenth(100 * part)}%`;
+}
+
+/** @param {number} part */
+function linePercent(part) {
+  return part === 1 ? "100%" : part > 1 - VISIBLE ? "over 99.9%" : `${tenth(100 * part)}%`;
+}
+
+/**
+ * The chance that a use hits.
+ * @param {CalculatedMove} odds
+ */
+export function hitChance({ hit, reason }) {
+  return reason ? 0 : hit === null ? 1 : hit / 256;
+}
+
+/**
+ * Whether a move deals all HP of the foe.
+ * @param {CalculatedMove} odds
+ */
+export function isOneHit({ fixed }) {
+  return fixed?.[0] === 65535;
+}
+
+/**
+ * The HP that uses have to take: those of the foe, or one more than its Substitute has.
+ * @param {Calculated} foe
+ */
+export function target({ hp, substitute }) {
+  return substitute ? substitute + 1 : hp;
+}
+
+/**
+ * The least and the most damage of a hit; null for a move without damage.
+ * @param {CalculatedMove} odds
+ * @param {Calculated} foe
+ * @returns {[number, number] | null}
+ */
+export function ofHit(odds, foe) {
+  if (isOneHit(odds)) return [foe.hp, foe.hp];
+  return odds.damage ? [odds.damage[0], odds.damage[odds.damage.length - 1]] : odds.fixed;
+}
+
+/**
+ * Why a move has no damage.
+ * @param {CalculatedMove} odds
+ */
+export function without({ bound }) {
+  // The engine has a bound for each move with the usual damage.
+  return bound === null ? "no damage" : "the damage would be divided by 0";
+}
+
+/**
+ * The fewest and the most hits of a use that hits.
+ * @param {CalculatedMove} odds
+ */
+export function hitCounts({ hits }) {
+  const counts = hits.flatMap((part, count) => (part ? [count] : []));
+  return counts.length ? [counts[0], counts[counts.length - 1]] : [1, 1];
+}
+
+/**
+ * The damage of a use, with all of its hits.
+ * @param {CalculatedMove} odds
+ * @param {Calculated} foe
+ */
+export function ofUse(odds, foe) {
+  const range = ofHit(odds, foe);
+  const counts = hitCounts(odds);
+  return range && range.map((number, at) => number * counts[at]);
+}
+
+/**
+ * The damage of one use with its chances. All hits of a use deal the same.
+ * @param {CalculatedMove} odds
+ */
+function damages(odds) {
+  const lands = hitChance(odds);
+  const critical = (odds.bound ?? 0) / 256;
+  const [least, most] = odds.fixed ?? [0, 0];
+  const each = (/** @type {number[]} */ numbers, /** @type {number} */ chance) => numbers.map((number) => [number, chance / numbers.length]);
+  const ofHit = odds.damage ? [...each(odds.damage, 1 - critical), ...each(odds.critical ?? [], critical)]
+    : each(Array.from({ length: most - least + 1 }, (_, at) => least + at), 1);
+  /** @type {Map<number, number>} */
+  const found = new Map([[0, 1 - lands]]);
+  odds.hits.forEach((part, count) => {
+    for (const [number, chance] of part ? ofHit : []) found.set(number * count, (found.get(number * count) ?? 0) + chance * part * lands);
+  });
+  return [...found].filter(([, chance]) => chance > 0);
+}
+
+/**
+ * The damage of a use on average, up to the HP that it has to take.
+ * @param {CalculatedMove} odds
+ * @param {Calculated} foe
+ */
+export function onAverage(odds, foe) {
+  if (!odds.damage && !odds.fixed) return 0;
+  return damages(odds).reduce((sum, [number, chance]) => sum + Math.min(number, target(foe)) * chance, 0);
+}
+
+/**
+ * The chances that 1, 2, .. uses take all HP, one after the other. Those of one and two are the engine's. The last is that of a use that
+ * does so for certain, or of the ninth.
+ * @param {CalculatedMove} odds
+ * @param {number} hp
+ */
+export function* usesToKnockOut(odds, hp) {
+  const each = damages(odds);
+  const halves = odds.move === "Super Fang" && !odds.knockOut.breaksSubstitute;
+  const exact = [odds.knockOut.chanceOnce, odds.knockOut.chanceTwice];
+  // The chance of each sum below the HP.
+  let sums = Float64Array.of(1, ...Array(hp - 1).fill(0));
+  for (let use = 0, reached = 0, isCertain = false; use < USES && !isCertain; use++) {
+    const next = new Float64Array(hp);
+    for (let sum = 0; sum < hp; sum++) {
+      for (const [number, part] of sums[sum] ? each : []) {
+        const to = sum + (halves && number ? Math.max(1, Math.floor((hp - sum) / 2)) : number);
+        if (to < hp) next[to] += sums[sum] * part;
+        else reached += sums[sum] * part;
+      }
+    }
+    sums = next;
+    isCertain = sums.every((chance) => chance === 0);
+    yield exact[use] ?? (isCertain ? 1 : Math.min(1, reached));
+  }
+}
+
+/**
+ * What the user of a move gains and loses, per cent of its maximum HP first; empty for nothing.
+ * @param {CalculatedMove} odds
+ * @param {string} effect as docs/TABLES.md writes it
+ * @param {Calculated} user
+ * @param {Calculated} foe
+ */
+export function costs(odds, effect, user, foe) {
+  const range = ofHit(odds, foe);
+  // A hit that breaks a Substitute has no effect on its user.
+  if (odds.reason || !range || (foe.substitute && range[0] > foe.substitute)) return "";
+  const dealt = range.map((number) => Math.min(number, foe.substitute || foe.hp));
+  const part = (/** @type {number} */ divisor) => {
+    const [least, most] = dealt.map((number) => Math.max(1, Math.floor(number / divisor)));
+    return `${span(tenth((100 * least) / user.max), tenth((100 * most) / user.max))}% (${span(least, most)})`;
+  };
+  switch (effect) {
+    case "Recoil": return `recoil ${part(odds.move === "Struggle" ? 2 : 4)}`;
+    case "Drain": case "DreamEater": return `drains ${part(2)}`;
+    case "Explode": return "the user faints";
+    case "CrashOnMiss": return "a miss costs 1 HP";
+    case "Recharge": return "recharges";
+    case "Charge": case "ChargeInvulnerable": return "charges first";
+    case "Trapping": return "2–5 turns";
+    case "Thrash": return "3–4 turns";
+    default: return "";
+  }
+}
+
+/**
+ * A member's name with its level, if that is not 100.
+ * @param {Standing} it
+ */
+function named({ member: { species, level } }) {
+  return level === 100 ? String(species) : `L${level} ${species}`;
+}
+
+/**
+ * Stages and status, before a name.
+ * @param {Standing} it
+ */
+function before({ stages, status }) {
+  const shifted = stages.flatMap((stage, at) => (stage === 6 ? [] : [`${stage > 6 ? "+" : ""}${stage - 6} ${SHORT[at]} `]));
+  return shifted.join("") + AILING[status > 0 && status < 8 ? 1 : status];
+}
+
+/** @param {CalculatedMove} odds @param {Calculated} foe */
+function damageWords(odds, foe) {
+  const range = ofHit(odds, foe);
+  if (!range) return without(odds);
+  if (isOneHit(odds)) return "all HP";
+  const [least, most] = range;
+  const share = (/** @type {number} */ number) => tenth((100 * number) / foe.max);
+  const text = least === most ? `${least} (${share(least)}%)` : `${least}-${most} (${share(least)} - ${share(most)}%)`;
+  const [fewest, highest] = hitCounts(odds);
+  return text + (highest < 2 || !odds.damage ? "" : fewest === highest ? ` each of ${fewest} hits` : ` each of ${fewest} to ${highest} hits`);
+}
+
+/** @param {CalculatedMove} odds @param {number} hp */
+function knockOutWords(odds, hp) {
+  if (!odds.damage && !odds.fixed) return "";
+  const what = odds.knockOut.breaksSubstitute ? "to break it" : "to KO";
+  const texts = [];
+  let uses = 0;
+  for (const chance of usesToKnockOut(odds, hp)) {
+    uses++;
+    if (chance < VISIBLE) continue;
+    texts.push(`${linePercent(chance)} ${texts.length ? "" : `${what} `}in ${uses} ${uses === 1 ? "use" : "uses"}`);
+    if (texts.length === NAMED || chance >= 1 - VISIBLE) break;
+  }
+  return texts.length ? `; ${texts.join(", ")}` : `; no chance ${what} in ${uses} uses`;
+}
+
+/**
+ * A line about a move, in the form of the program's `gen1 calc` and of Smogon's calculator.
+ * @param {CalculatedMove} odds
+ * @param {Standing} one the user
+ * @param {Standing} two the foe
+ * @param {Calculated} foe
+ */
+export function line(odds, one, two, foe) {
+  const screens = SCREENS.filter((_, bit) => (two.conditions >> bit) & 1);
+  const head = `${before(one)}${named(one)} ${odds.move} vs. ${before(two)}${named(two)}${screens.length ? ` with ${screens.join(" and ")}` : ""}`
+    + (foe.substitute ? ` behind a Substitute with ${foe.substitute} HP` : foe.hp < foe.max ? ` at ${foe.hp} HP` : "");
+  if (odds.reason) return `${head}: can't hit: ${odds.reason}`;
+  const critical = odds.critical && odds.bound ? `, ${linePercent(odds.bound / 256)} critical ${odds.critical[0]}-${odds.critical[odds.critical.length - 1]}` : "";
+  const miss = odds.hit === null ? "" : `, ${linePercent(1 - odds.hit / 256)} miss`;
+  return `${head}: ${damageWords(odds, foe)}${critical}${miss}${odds.charges ? ", after a turn of charging" : ""}${knockOutWords(odds, target(foe))}`;
+}

@@ -1,0 +1,294 @@
+// The field: both members that are out with their tokens, and what an event changes in it.
+import { make } from "./dom.js";
+import { badge, STAGES } from "./sides.js";
+import { token } from "./tokens.js";
+import { percentage, STATUS_WORDS } from "./words.js";
+
+/**
+ * @typedef {import("./sides.js").Shown} Shown
+ * @typedef {import("./sides.js").ShownMember} ShownMember
+ * @typedef {import("./engine.js").GameEvent} GameEvent
+ * @typedef {"" | "under" | "above"} Hidden where a member is that cannot be reached
+ */
+
+/** @type {Record<string, string>} */
+const STARTED = {
+  confusion: "Confused", Bide: "Bide", Substitute: "Substitute", "Leech Seed": "Seeded", Mist: "Mist", "Focus Energy": "Focus Energy", "Light Screen": "Light Screen",
+  Reflect: "Reflect", Disable: "A move is disabled", Rage: "Rage",
+};
+const STATS = ["atk", "def", "spe", "spc", "acc", "eva"];
+
+/** One side of the field. */
+class Stand {
+  /** @param {import("./engine.js").Engine} engine @param {number} side */
+  constructor(engine, side) {
+    this.engine = engine;
+    this.side = side;
+    this.species = "";
+    this.hp = -1;
+    this.counting = 0;
+    this.name = make("strong");
+    this.level = make("span", { class: "quiet" });
+    this.types = make("span", { class: "types" });
+    this.status = make("span");
+    this.filled = make("span");
+    this.bar = make("span", { class: "bar", role: "meter", "aria-valuemin": 0 }, this.filled);
+    this.number = make("span", { class: "hp" });
+    this.chips = make("ul", { class: "chips", "aria-label": "Stages and conditions" });
+    this.party = make("ol", { class: "party" });
+    this.used = make("p", { class: "used" });
+    this.figure = make("div", { class: "figure" });
+    this.title = make("span", { class: "whose" });
+    const plate = make("div", { class: "plate" }, make("p", { class: "head" }, this.name, " ", this.level, " ", this.types, " ", this.status),
+      make("p", { class: "health" }, this.bar, this.number), this.chips, this.used, make("p", { class: "crew" }, this.title, this.party));
+    this.place = make("section", { class: `stand side-${side}` }, plate, this.figure);
+  }
+
+  /** @param {string} title @param {Shown} shown @param {Hidden} hidden @param {boolean} isFar */
+  draw(title, shown, hidden, isFar) {
+    const member = shown.members[shown.active - 1];
+    this.place.setAttribute("aria-label", title);
+    this.place.classList.toggle("far", isFar);
+    this.title.textContent = title;
+    this.drawParty(title, shown);
+    this.place.classList.toggle("empty", !member);
+    if (!member) return;
+    this.name.textContent = member.species;
+    this.level.textContent = `L${member.level}`;
+    const types = [...new Set(shown.types)];
+    if (this.types.textContent !== types.join("")) this.types.replaceChildren(...types.map(badge));
+    this.drawStatus(member);
+    this.drawHp(member);
+    this.drawChips(shown);
+    this.used.textContent = member.used?.length ? `Seen: ${member.used.join(", ")}` : "";
+    this.used.title = this.used.textContent;
+    this.drawFigure(member, shown, hidden);
+  }
+
+  /** @param {ShownMember} member */
+  drawStatus(member) {
+    const isFallen = member.hp === 0;
+    this.status.className = isFallen || member.status ? `status ${isFallen ? "fallen" : member.status}` : "";
+    this.status.textContent = isFallen ? "fainted" : STATUS_WORDS[member.status] ?? "";
+  }
+
+  /** @param {ShownMember} member */
+  drawHp(member) {
+    const share = percentage(member.hp, member.max);
+    this.filled.className = share > 50 ? "high" : share > 20 ? "middle" : "low";
+    this.filled.style.width = `${share}%`;
+    const text = (/** @type {number} */ hp) => (member.hasPixels ? `${percentage(hp, member.max)}%` : `${hp}/${member.max}`);
+    this.bar.setAttribute("aria-label", `HP of ${member.species}`);
+    this.bar.setAttribute("aria-valuemax", String(member.hasPixels ? 100 : member.max));
+    this.bar.setAttribute("aria-valuenow", String(member.hasPixels ? share : member.hp));
+    this.bar.setAttribute("aria-valuetext", member.hasPixels ? `${share} per cent` : `${member.hp} of ${member.max}`);
+    this.number.textContent = text(member.hp);
+    this.hp = member.hp;
+    this.text = text;
+  }
+
+  /**
+   * Counts the number of HP from what it was.
+   * @param {number} from @param {number} to @param {number} time in milliseconds
+   */
+  count(from, to, time) {
+    const begun = performance.now();
+    const step = () => {
+      const share = Math.min(1, (performance.now() - begun) / time);
+      if (this.hp !== to) return;
+      this.number.textContent = this.text?.(Math.round(from + (to - from) * share)) ?? "";
+      if (share < 1) this.counting = requestAnimationFrame(step);
+    };
+    cancelAnimationFrame(this.counting);
+    if (time) step();
+  }
+
+  /** @param {Shown} shown */
+  drawChips(shown) {
+    const stages = shown.stages.flatMap((stage, at) => (stage ? [`${STAGES[at]} ${stage > 0 ? "+" : "−"}${Math.abs(stage)}`] : []));
+    const texts = [...stages, ...shown.conditions];
+    if (texts.join() !== [...this.chips.children].map((it) => it.textContent).join()) this.chips.replaceChildren(...texts.map((text) => make("li", {}, text)));
+  }
+
+  /** @param {string} title @param {Shown} shown */
+  drawParty(title, shown) {
+    this.party.setAttribute("aria-label", `Members of ${title}`);
+    const key = shown.members.map(({ species, hp, status, isKnown }) => `${species} ${isKnown && hp === 0} ${status}`).join();
+    if (this.party.dataset.key === key) return;
+    this.party.dataset.key = key;
+    this.party.replaceChildren(...shown.members.map((member) => {
+      const state = !member.isKnown ? "not seen yet" : member.hp === 0 ? "fainted" : STATUS_WORDS[member.status] ?? "";
+      const text = member.isKnown ? `${member.species}${state && `, ${state}`}` : state;
+      return make("li", { class: `ball ${member.isKnown && member.hp === 0 ? "fallen" : member.status}${member.isKnown ? "" : " unknown"}`, title: text },
+        make("span", { class: "unseen" }, text));
+    }));
+  }
+
+  /** @param {ShownMember} member @param {Shown} shown @param {Hidden} hidden */
+  drawFigure(member, shown, hidden) {
+    if (this.species !== member.species || !this.figure.firstChild) this.figure.replaceChildren(token(this.engine, member.species));
+    this.species = member.species;
+    const states = [member.hp ? member.status : "fallen", hidden, shown.conditions.some((it) => it.startsWith("Substitute")) ? "substitute" : ""];
+    this.figure.className = ["figure", ...states].filter(Boolean).join(" ");
+  }
+
+  /**
+   * Moves the token for an event; a text rises from it.
+   * @param {string} how "lunge", "hit", "enter", "rise", "sink", "fall"
+   * @param {number} time in milliseconds
+   * @param {string} [text]
+   */
+  move(how, time, text) {
+    const [way, up] = [this.place.classList.contains("far") ? -1 : 1, -1];
+    /** @type {Record<string, Keyframe[]>} */
+    const frames = {
+      lunge: [{}, { transform: `translate(${way * 14}%, ${way * up * 10}%)` }, {}],
+      hit: [{}, { transform: "translateX(-5%)", opacity: 0.5 }, { transform: "translateX(5%)" }, { opacity: 0.5 }, {}],
+      enter: [{ transform: `translateX(${-way * 60}%) scale(.3)`, opacity: 0 }, {}],
+      rise: [{}, { transform: "translateY(-8%) scale(1.06)" }, {}],
+      sink: [{}, { transform: "translateY(5%) scale(.96)" }, {}],
+      fall: [{}, { transform: "translateY(40%) scale(.8)", opacity: 0 }],
+    };
+    if (how) this.figure.animate(frames[how], { duration: time, easing: "ease-in-out" });
+    if (!text) return;
+    const label = make("span", { class: "floating", "aria-hidden": "true" }, text);
+    this.place.append(label);
+    label.animate([{ opacity: 0, transform: "translateY(40%)" }, { opacity: 1, transform: "none", offset: 0.25 }, { opacity: 1, transform: "none", offset: 0.8 },
+      { opacity: 0, transform: "translateY(-60%)" }], { duration: Math.max(time * 1.4, 500) }).finished.then(() => label.remove(), () => label.remove());
+  }
+}
+
+/** @type {Record<string, string>} */
+const FLOATING = {
+  "-crit": "Critical!", "-supereffective": "Super effective!", "-resisted": "Not very effective", "-immune": "No effect", "-miss": "Missed", "-fail": "Failed",
+  "-ohko": "One-hit knock-out!",
+};
+
+/** The field of a battle. */
+export class Field {
+  /** @param {import("./engine.js").Engine} engine @param {HTMLElement} place */
+  constructor(engine, place) {
+    this.engine = engine;
+    this.stands = [new Stand(engine, 1), new Stand(engine, 2)];
+    /** @type {Shown[]} */
+    this.shown = [];
+    /** @type {string[]} */
+    this.titles = [];
+    /** @type {Hidden[]} */
+    this.hidden = ["", ""];
+    this.near = 1;
+    this.place = place;
+    place.replaceChildren(...this.stands.map((stand) => stand.place));
+  }
+
+  /**
+   * Shows both sides.
+   * @param {Shown[]} shown @param {string[]} titles @param {number} near the side that is shown below @param {Hidden[]} hidden
+   */
+  show(shown, titles, near, hidden) {
+    [this.shown, this.titles, this.near, this.hidden] = [shown, titles, near, hidden];
+    for (const side of [1, 2]) this.draw(side);
+  }
+
+  /** @param {number} side */
+  draw(side) {
+    this.stands[side - 1].draw(this.titles[side - 1], this.shown[side - 1], this.hidden[side - 1], side !== this.near);
+  }
+
+  /**
+   * Shows what an event changes, and moves the token that it is about.
+   * @param {GameEvent} event @param {number} time in milliseconds
+   */
+  apply(event, time) {
+    if (event.kind === "-clearallboost") for (const shown of this.shown) shown.stages = shown.stages.map(() => 0);
+    if (!event.side) return;
+    const stand = this.stands[event.side - 1];
+    const before = stand.hp;
+    const [how, text] = this.change(event, this.shown[event.side - 1]);
+    this.draw(event.side);
+    if (!time) return;
+    stand.move(how, time, text);
+    if (event.kind === "-damage" || event.kind === "-heal") stand.count(before, stand.hp, time * 0.8);
+  }
+
+  /**
+   * Changes what is shown of a side by an event, and returns how the token moves, and a text.
+   * @param {GameEvent} event @param {Shown} shown
+   * @returns {[string, string?]}
+   */
+  change(event, shown) {
+    const [, , , what, ...rest] = event.line.split("|");
+    const member = shown.members[shown.active - 1];
+    switch (event.kind) {
+      case "switch":
+        this.send(event, shown, what, rest[0]);
+        return ["enter"];
+      case "move":
+        this.hidden[event.side - 1] = "";
+        if (member?.used && !member.used.includes(what)) member.used.push(what);
+        return ["lunge", what];
+      case "-prepare":
+        this.hidden[event.side - 1] = what === "Dig" ? "under" : what === "Fly" ? "above" : "";
+        return ["rise", what];
+      case "-damage":
+        heal(member, what);
+        return ["hit"];
+      case "-heal":
+        heal(member, what);
+        return ["rise"];
+      case "faint":
+        if (member) [member.hp, member.status] = [0, ""];
+        return ["fall"];
+      default:
+        return this.affect(event, shown, what, rest[0]);
+    }
+  }
+
+  /** @param {GameEvent} event @param {Shown} shown @param {string} what @param {string} by @returns {[string, string?]} */
+  affect({ kind }, shown, what, by) {
+    const member = shown.members[shown.active - 1];
+    if (!member) return [""];
+    if (kind === "-status" || kind === "-curestatus") {
+      member.status = kind === "-status" ? what : "";
+      return [kind === "-status" ? "sink" : "rise", kind === "-status" ? STATUS_WORDS[what] : "cured"];
+    }
+    if (kind === "-boost" || kind === "-unboost") {
+      const [at, isUp] = [STATS.indexOf(what), kind === "-boost"];
+      shown.stages = shown.stages.map((stage, place) => (place === at ? Math.max(-6, Math.min(6, stage + (isUp ? 1 : -1) * Number(by))) : stage));
+      return [isUp ? "rise" : "sink", `${isUp ? "▲" : "▼"} ${STAGES[at]}`];
+    }
+    const started = STARTED[what];
+    if (kind === "-start" && started) shown.conditions = [...new Set([...shown.conditions, started])];
+    if (kind === "-end" && started) shown.conditions = shown.conditions.filter((it) => !it.startsWith(started));
+    if (kind === "-start" || kind === "-end" || kind === "-activate") return [kind === "-end" ? "sink" : "rise", started];
+    return ["", FLOATING[kind]];
+  }
+
+  /** @param {GameEvent} event @param {Shown} shown @param {string} name as "Tauros, L50" @param {string} health */
+  send({ side, place }, shown, name, health) {
+    const [species, level] = name.split(", L");
+    const types = this.engine.tables.species[species];
+    const known = shown.members[place - 1];
+    if (!known?.isKnown) {
+      shown.members = shown.members.map((it, at) =>
+        at === place - 1 ? { species, types, level: Number(level ?? 100), hp: 0, max: 0, status: "", moves: [], used: [], isKnown: true, hasPixels: true } : it);
+    }
+    Object.assign(shown, { active: place, types, stages: Array(6).fill(0), conditions: [] });
+    heal(shown.members[place - 1], health);
+    this.hidden[side - 1] = "";
+  }
+}
+
+/**
+ * Gives a member the HP and the status of a line.
+ * @param {ShownMember | undefined} member
+ * @param {string} health as "120/353 par" or "0 fnt"
+ */
+function heal(member, health) {
+  if (!member) return;
+  const [numbers, status] = health.split(" ");
+  const [now, most] = numbers.split("/").map(Number);
+  member.hp = now;
+  if (most) member.max = most;
+  member.status = status && status !== "fnt" ? status : "";
+}

@@ -1,0 +1,57 @@
+// Guesses of what a player may not know: the foe's team, and battles with such a team. A search in them does not cheat.
+import { Battle } from "gen1";
+import { randomMoves, randomSpecies } from "./random.js";
+
+/**
+ * @typedef {import("./engine.js").Engine} Engine
+ * @typedef {import("./engine.js").Member} Member
+ * @typedef {import("gen1").Player} Player
+ * @typedef {(bound: number) => number} Draw a random whole number from 0, below a bound
+ * @typedef {{ seed: number[], rules: number, limit: number }} Frame what a battle has besides its sides
+ * @typedef {{ side: 1 | 2, team: Member[], foes: number, told: Uint8Array, guess: Uint8Array }} Sight what a side knows: its team, how many members
+ *   the foe has, what it was told, and a battle that shows its own side as it is now
+ */
+
+const MAX = { dvs: [15, 15, 15, 15], exp: Array(5).fill(65535) };
+
+/**
+ * A guess of the foe's team: the members that appeared with the moves that they used, and others at random.
+ * @param {Engine} engine
+ * @param {import("gen1").PlayerView} view
+ * @param {Draw} draw
+ * @returns {Member[]}
+ */
+function guessedTeam({ tables }, view, draw) {
+  const member = (/** @type {string} */ species, /** @type {number} */ level, /** @type {string[]} */ used) => ({
+    ...MAX, species, level,
+    moves: [...used, ...randomMoves(tables, tables.species[species], draw, used)].slice(0, 4).map((name) => /** @type {[string, number]} */ ([name, 3])),
+  });
+  const seen = view.foe.members.map(({ species, level, moves }) =>
+    member(species, level, moves.map(({ name }) => String(name)).filter((name) => tables.moves[name].isKnown)));
+  const rest = Math.max(0, (view.foes ?? 6) - seen.length);
+  return [...seen, ...Array.from({ length: rest }, () => member(randomSpecies(tables, draw), seen[0]?.level ?? 100, []))];
+}
+
+/**
+ * A battle that fits what a player knows, after its beginning and before its end.
+ * @param {Engine} engine
+ * @param {Player} player
+ * @param {Draw} draw draws what is not known
+ * @param {Frame} frame
+ */
+export function guessed(engine, player, draw, { seed, rules, limit }) {
+  const team = /** @type {any} */ (guessedTeam(engine, player.view, draw));
+  return Battle.fromPlayer(player, { team, seed, rules, limit });
+}
+
+/**
+ * The player with what a side knows.
+ * @param {Engine} engine
+ * @param {Sight} sight
+ */
+export function playerOf({ gen1 }, { side, team, foes, told, guess }) {
+  const player = gen1.player({ side, team: /** @type {any} */ (team), foes });
+  player.feed(told);
+  player.show(gen1.load(guess));
+  return player;
+}

@@ -1,0 +1,176 @@
+// A battle that is played: its updates, and what each side is told and shown of them.
+import { byteOf } from "gen1";
+import { joined } from "./bytes.js";
+import { Problem } from "./dom.js";
+import { guessed } from "./guesses.js";
+
+/**
+ * @typedef {import("./engine.js").GameEvent} GameEvent
+ * @typedef {1 | 2} Side
+ * @typedef {Side | 0 | "all"} Viewer a side, what both sides know, or everything
+ * @typedef {{ pair: number[], battle: Uint8Array, log: Uint8Array, told: Uint8Array[], tellers: import("gen1").Teller[],
+ *   players: import("gen1").Player[], views: import("gen1").PlayerView[], usual: import("gen1").Battle[] }} Step what stands after a pair of
+ *   choices; each list has an item for each side, and the last two are filled when they are asked for
+ */
+
+/** @type {Side[]} */
+export const SIDES = [1, 2];
+
+/** A battle with its updates. */
+export class Match {
+  /** @param {import("./engine.js").Engine} engine @param {import("./engine.js").Terms} terms @param {string[]} who plays the sides */
+  constructor(engine, terms, who) {
+    this.engine = engine;
+    this.terms = terms;
+    this.who = who;
+    /** @type {Step[]} */
+    this.steps = [];
+    const [one, two] = [terms.one, terms.two];
+    /** @type {Step} before the first update */
+    this.before = {
+      pair: [], battle: engine.begin(terms), log: new Uint8Array(), told: [], views: [], usual: [],
+      tellers: SIDES.map((side) => engine.gen1.teller({ side, pixels: true })),
+      players: SIDES.map((side) => engine.gen1.player({ side, team: side === 1 ? one : two, foes: (side === 1 ? two : one).length })),
+    };
+  }
+
+  get last() {
+    return this.steps[this.steps.length - 1] ?? this.before;
+  }
+
+  /** The sides that persons play. */
+  get persons() {
+    return SIDES.filter((side) => this.who[side - 1] === "person");
+  }
+
+  /**
+   * Updates the battle with a pair of choices.
+   * @param {number[]} pair
+   */
+  update(pair) {
+    const { last, engine } = this;
+    const { refused, battle, log } = engine.update(last.battle, pair[0], pair[1]);
+    if (refused) throw new Problem(`The choices ${pair.join(" and ")} are refused: the battle cannot continue.`);
+    const [tellers, players] = [last.tellers.map((it) => it.clone()), last.players.map((it) => it.clone())];
+    const told = tellers.map((teller) => teller.tell(log));
+    const loaded = engine.gen1.load(battle);
+    players.forEach((player, at) => {
+      player.feed(told[at]);
+      player.show(loaded);
+    });
+    this.steps.push({ pair, battle, log, told, tellers, players, views: [], usual: [] });
+  }
+
+  /** Everything about the battle. */
+  state() {
+    return this.engine.state(this.last.battle);
+  }
+
+  /**
+   * What a side knows.
+   * @param {Side} side
+   */
+  view(side) {
+    const { players, views } = this.last;
+    return (views[side - 1] ??= players[side - 1].view);
+  }
+
+  /**
+   * The bytes of the choices that a side is offered.
+   * @param {Side} side
+   */
+  offered(side) {
+    return this.last.players[side - 1].choices.map(byteOf);
+  }
+
+  get outcome() {
+    return this.view(1).outcome;
+  }
+
+  get isOver() {
+    return this.outcome !== "ongoing";
+  }
+
+  /**
+   * Whether a person has to choose for a side.
+   * @param {Side} side
+   */
+  isAsked(side) {
+    const [first] = this.offered(side);
+    return this.who[side - 1] === "person" && first !== undefined && first !== 0;
+  }
+
+  /**
+   * The question to the computer that plays a side.
+   * @param {Side} side
+   * @param {number} seed
+   * @returns {import("./computer.js").Asked}
+   */
+  question(side, seed) {
+    const player = this.who[side - 1];
+    const isCheating = player === "cheating";
+    return {
+      side, player, seed, offered: this.offered(side), rules: this.terms.rules, limit: this.terms.limit,
+      sight: isCheating ? null : this.sight(side), battle: isCheating ? this.last.battle : null,
+    };
+  }
+
+  /**
+   * What a side knows, in a form that a worker can be sent.
+   * @param {Side} side
+   * @returns {import("./guesses.js").Sight}
+   */
+  sight(side) {
+    const [team, others] = side === 1 ? [this.terms.one, this.terms.two] : [this.terms.two, this.terms.one];
+    return { side, team, foes: others.length, told: this.log(side), guess: this.usual(side).bytes };
+  }
+
+  /**
+   * A battle that fits what a side knows: the foe's members have the highest stats, and those that did not appear are any.
+   * @param {Side} side
+   */
+  usual(side) {
+    const { terms: { rules, limit }, last } = this;
+    let drawn = 0;
+    const draw = (/** @type {number} */ bound) => drawn++ % bound;
+    return (last.usual[side - 1] ??= guessed(this.engine, last.players[side - 1], draw, { seed: Array(10).fill(0), rules, limit }));
+  }
+
+  /**
+   * The events of an update, as a viewer is told them.
+   * @param {Step} step
+   * @param {Viewer} viewer
+   * @returns {GameEvent[]}
+   */
+  events(step, viewer) {
+    if (viewer === "all") return this.engine.events(step.log);
+    if (viewer) return this.engine.events(step.told[viewer - 1]);
+    // Both sides know what is told of a side to the other.
+    const [one, two] = step.told.map((told) => this.engine.events(told));
+    return one.map((event, at) => (event.side === 1 ? two[at] : event));
+  }
+
+  /**
+   * The log of all updates, as a viewer is told it.
+   * @param {Viewer} viewer
+   */
+  log(viewer) {
+    if (viewer === "all") return joined(...this.steps.map((step) => step.log));
+    if (viewer) return joined(...this.steps.map((step) => step.told[viewer - 1]));
+    return joined(...this.steps.flatMap((step) => this.pieces(step)));
+  }
+
+  /**
+   * The events that both sides know, as bytes.
+   * @param {Step} step
+   */
+  pieces(step) {
+    let at = 0;
+    return this.engine.events(step.told[0]).map(({ side, size }) => step.told[side === 1 ? 1 : 0].slice(at, (at += size)));
+  }
+
+  /** @returns {import("./inputs.js").Input} */
+  input() {
+    return { ...this.terms, choices: this.steps.map((step) => step.pair) };
+  }
+}

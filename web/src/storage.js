@@ -1,0 +1,32 @@
+// What a browser keeps: settings for good, and a battle as long as its tab is open.
+
+/**
+ * What was kept under a name; null if nothing was, or if storage is forbidden.
+ * @param {string} name
+ * @param {boolean} [isForTab]
+ */
+export function kept(name, isForTab) {
+  try {
+    return (isForTab ? sessionStorage : localStorage).getItem(name);
+  } catch {
+    return null;
+  }
+}
+
+/** @param {string} name @param {string} value */
+export function keep(name, value) {
+  try {
+    localStorage.setItem(name, value);
+  } catch {
+    // The setting lasts until the page is closed.
+  }
+}
+
+/** @param {string} name @param {string} value */
+export function keepForTab(name, value) {
+  try {
+    sessionStorage.setItem(name, value);
+  } catch {
+    // The battle lasts until the page is loaded anew.
+  }
+}
