@@ -166,6 +166,19 @@ fn a_recharge_is_the_only_move() {
     assert_eq!(messages[7][..2], ["update", "|cant|p1a: Bob|recharge"]);
 }
 
+/// A charge and Bide begin without the line of a move, so the request can't name the last one.
+#[test]
+fn a_move_that_began_without_its_line_is_named() {
+    for (name, id) in [("Dig", "dig"), ("Bide", "bide")] {
+        let foe = format!("Rhydon||||{id},tailwhip|||||||");
+        let commands = [">p1 switch 2", ">p2 move 2", ">p1 move 1", ">p2 move 1"];
+        let (text, messages) = played_against(&foe, &[], &commands);
+        let request = requested(messages.last().expect("a request"));
+        let due = json!([{"move": name, "id": id, "disabled": false}]);
+        assert_eq!(request["active"][0]["moves"], due, "{text}");
+    }
+}
+
 #[test]
 fn pixels_stand_beside_the_hp() {
     let (text, _) = played(&["--pixels"], &[">p1 switch 2", ">p2 move 1"]);

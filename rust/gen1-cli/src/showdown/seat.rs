@@ -3,7 +3,7 @@ use super::log::names_of;
 use crate::commands::events_of;
 use crate::fault::Fault;
 use crate::input::Members;
-use gen1::{Battle, Choice, Conditions, Event, Kind, MoveId, Player, Side, Team, Teller};
+use gen1::{Battle, Choice, Conditions, Event, Kind, MoveId, Player, Side, Team, Teller, Volatile};
 
 /// A player of a game. Requests and choices are made of what is in here, and so of nothing that the player may not know.
 pub struct Seat {
@@ -16,6 +16,8 @@ pub struct Seat {
     teller: Teller,
     /// The places in the order of the request: the active member is first, and each switch swaps two of them.
     pub order: Vec<usize>,
+    /// The move that the active member used last, or began without a use: Bide, and a move that it charges.
+    current: Option<MoveId>,
     /// The PP of each member's moves at the start of the battle.
     most_pp: Vec<[u8; 4]>,
     pub chosen: Option<Choice>,
@@ -43,6 +45,7 @@ impl Seat {
                 true => Teller::in_pixels(side),
                 false => Teller::new(side),
             },
+            current: None,
             most_pp: Vec::new(),
             chosen: None,
         }
@@ -66,7 +69,24 @@ impl Seat {
         let choices = self.player.choices();
         let passes = choices.as_slice() == [Choice::Pass];
         self.chosen = passes.then_some(Choice::Pass);
-        events_of(&told)
+        let events = events_of(&told)?;
+        self.note_moves(&events);
+        Ok(events)
+    }
+
+    fn note_moves(&mut self, events: &[Event]) {
+        for event in events {
+            match event {
+                Event::Switch(who, ..) if who.side == self.side => self.current = None,
+                Event::Move(who, id, _) | Event::Prepare(who, id) if who.side == self.side => {
+                    self.current = Some(*id);
+                }
+                Event::Start(who, Volatile::Bide) if who.side == self.side => {
+                    self.current = Some(MoveId::BIDE);
+                }
+                _ => (),
+            }
+        }
     }
 
     /// Whether the player has nothing to choose.
@@ -114,8 +134,7 @@ impl Seat {
         if on(Conditions::RECHARGE) {
             "Recharge"
         } else if goes_on.into_iter().any(on) {
-            let last = self.player.public(self.side).last_move();
-            last.map_or("Fight", MoveId::name)
+            self.current.map_or("Fight", MoveId::name)
         } else if own.held == 1 || matches!(status, Some(Kind::Sleep | Kind::Freeze)) {
             "Fight"
         } else {
