@@ -67,7 +67,7 @@ pub fn state(given: &Given, bytes: bool, json: bool) -> Result<(), Fault> {
 }
 
 /// The state of a battle with what both sides may choose, and its bytes.
-fn state_json(battle: &Battle) -> String {
+pub fn state_json(battle: &Battle) -> String {
     #[derive(Serialize)]
     struct StateObject {
         #[serde(flatten)]

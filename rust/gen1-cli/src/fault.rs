@@ -63,6 +63,11 @@ impl Fault {
         Fault::new(1, "showdown", format!("line {line}: {why}"))
     }
 
+    /// The guess of a team does not fit what was seen of it.
+    pub fn guess(why: &str) -> Fault {
+        Fault::new(1, "guess", why)
+    }
+
     /// No name has the pattern.
     pub fn names(why: &str) -> Fault {
         Fault::new(1, "names", why)
@@ -164,7 +169,7 @@ impl Fault {
 
     /// Whether the error is one of the forms that only this program has, so that its explanation is always printed.
     fn is_own(&self) -> bool {
-        let own = ["text", "choices", "names", "page", "showdown"];
+        let own = ["text", "choices", "names", "page", "showdown", "guess"];
         self.status == 2 || own.contains(&self.line.as_str()) || self.line.starts_with("lines ")
     }
 

@@ -64,7 +64,10 @@ The log is one that `gen1 run --showdown` or `gen1 showdown` prints, a log of Sh
 or a replay page (docs/SHOWDOWN.md):
   gen1 run --showdown examples/tauros.json | gen1 follow --side p2
 
-Without --team the player's own side too is known as far as the log shows it.";
+Without --team the player's own side too is known as far as the log shows it.
+
+With the requests of the side in the log, a battle to search can be made of it:
+  gen1 follow --team mine.txt --guess theirs.txt --battle stream.txt > battle.bin";
 
 pub const TEAM: &str = "\
 The form of the input is recognized: JSON begins with [, the first line of a packed line

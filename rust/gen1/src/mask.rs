@@ -15,7 +15,9 @@ use crate::generated::requests::{choice_at, count_of};
 /// assert!(mask.iter().map(Choice::from).eq(battle.choices(Side::One)));
 /// # Ok::<(), gen1::Refusal>(())
 /// ```
-#[derive(Clone, Copy, Debug, PartialEq, Eq, Hash)]
+///
+/// The default has no choice.
+#[derive(Clone, Copy, Debug, Default, PartialEq, Eq, Hash)]
 pub struct OfferedMask(pub(crate) u16);
 
 impl OfferedMask {

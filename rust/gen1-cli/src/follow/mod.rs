@@ -1,16 +1,22 @@
 //! `gen1 follow`: a battle log of Showdown, read back as what a player knows (docs/SHOWDOWN.md, "Reading a log back").
+mod battle;
 mod fields;
 mod known;
 mod lines;
+mod own;
 mod reader;
+mod request;
 mod roster;
 
+use crate::commands::state_json;
 use crate::fault::{self, Fault};
 use crate::files::{self, put};
-use crate::input::{Members, team, team_named};
+use crate::input::{Members, Seed, seed_in, team, team_named};
 use crate::json::line_of;
+use crate::random::Random;
+use crate::showdown::names_of;
 use clap::{Args, ValueEnum};
-use gen1::{Event, EventList, LogBuf, Player, Side, Team, member, write_log};
+use gen1::{Battle, Event, EventList, LogBuf, Player, Side, Team, member, write_log};
 use known::Known;
 use reader::Reader;
 use roster::Roster;
@@ -31,6 +37,15 @@ pub struct Follow {
     /// Writes the events as bytes, the log, which print and a player of the libraries read
     #[arg(long, conflicts_with = "json")]
     log: bool,
+    /// Writes the 384 bytes of a battle that fits what the player knows, or with --json its state
+    #[arg(long, requires_all = ["team", "guess"], conflicts_with = "log")]
+    battle: bool,
+    /// With --battle: the foe's whole team as it is guessed, in the forms of --team
+    #[arg(long, value_name = "TEAM", requires = "battle")]
+    guess: Option<PathBuf>,
+    /// With --battle: the numbers that it draws, as ten numbers with commas between them or one that they are made from; without it by chance
+    #[arg(long, value_parser = seed_in, requires = "battle")]
+    seed: Option<Seed>,
     /// Refuses lines that may say something of the battle and are not known; without it a note names them
     #[arg(long)]
     strict: bool,
@@ -55,25 +70,52 @@ impl Followed {
 
 /// Reads a log, and prints what the player of a side knows after it.
 pub fn follow(asked: &Follow) -> Result<(), Fault> {
+    one_standard_input(asked)?;
     let (file, side) = (asked.file.as_deref(), asked.side.side());
     let own = own_team(asked)?;
+    let guess = asked.guess.as_deref().map(team_named).transpose()?;
     let bytes = files::read_battle_log(file)?;
-    let mut read = Reader::new(Side::BOTH.map(|it| match &own {
+    let read = Reader::new(Side::BOTH.map(|it| match &own {
         Some((team, members)) if it == side => Roster::of_team(it, team, members),
         _ => Roster::new(it),
     }));
-    let refused =
-        |(line, why): (usize, String)| Fault::protocol(line, &why).within(&files::name_of(file));
+    let mut read = if asked.battle {
+        read.with_requests(side)
+    } else {
+        read
+    };
+    let name = files::name_of(file);
+    let refused = |(line, why): (usize, String)| Fault::protocol(line, &why).within(&name);
     read_all(&mut read, side, &bytes).map_err(refused)?;
     if let Some(first) = read.unknown.first().filter(|_| asked.strict) {
         return Err(refused((first.line, first.why())));
     }
-    let player = player_of_log(side, own.map(|(team, _)| team), &read)?;
-    put_known(asked, &player, &read)?;
+    let player = player_of_log(side, own.as_ref().map(|(team, _)| team.clone()), &read)?;
+    match (&own, &guess) {
+        (Some((team, members)), Some(guess)) => {
+            let shown = own::shown(&read, &player, team, &names_of(members)).map_err(refused)?;
+            let seed = asked
+                .seed
+                .map_or_else(|| Random::any().seed(), |seed| seed.0);
+            let battle = battle::fitting(player, &shown, &read, guess, seed);
+            put_battle(asked, &battle.map_err(|why| why.within(&name))?)?;
+        }
+        _ => put_known(asked, &player, &read)?,
+    }
     for it in &read.unknown {
         fault::note(&format!("line {}: {}", it.line, it.why()));
     }
     Ok(())
+}
+
+/// Refuses two inputs that are standard input.
+fn one_standard_input(asked: &Follow) -> Result<(), Fault> {
+    let named = [&asked.team, &asked.guess].into_iter().flatten();
+    let streams = named.filter(|path| files::named(Some(path)).is_none());
+    match streams.count() + usize::from(files::named(asked.file.as_deref()).is_none()) {
+        0 | 1 => Ok(()),
+        _ => Err(Fault::one_standard_input()),
+    }
 }
 
 /// The team of the player's own side, if it is given.
@@ -81,9 +123,6 @@ fn own_team(asked: &Follow) -> Result<Option<(Team, Members)>, Fault> {
     let Some(path) = asked.team.as_deref() else {
         return Ok(None);
     };
-    if files::named(Some(path)).is_none() && files::named(asked.file.as_deref()).is_none() {
-        return Err(Fault::one_standard_input());
-    }
     let members = team_named(path)?;
     let team = team(asked.side.side().number(), &members.specs)?;
     Ok(Some((team, members)))
@@ -146,6 +185,13 @@ fn log_of(events: &[Event]) -> Vec<u8> {
         log
     });
     each.collect()
+}
+
+fn put_battle(asked: &Follow, battle: &Battle) -> Result<(), Fault> {
+    match asked.json {
+        true => put(state_json(battle)),
+        false => put(battle.as_bytes()),
+    }
 }
 
 fn put_known(asked: &Follow, player: &Player, read: &Reader) -> Result<(), Fault> {

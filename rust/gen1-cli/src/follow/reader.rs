@@ -3,20 +3,24 @@ use super::fields::{
     KINDS, REASONS, SOURCES, STATS, VOLATILES, details_in, health_in, known_value, member_in,
     move_in, number_in, side_in, unexpected, value_of,
 };
+use super::own::Placed;
+use super::request::request_in;
 use super::roster::{Entry, Roster};
 use crate::input::near::{did_you_mean, nearest_word};
 use crate::input::shown;
 use crate::showdown::index;
-use gen1::{DamageSource, Event, FaultCode, Health, HitCount, Side, StageCount, TurnNumber, Who};
+use gen1::{
+    DamageSource, Event, FaultCode, Health, HitCount, Rules, Side, StageCount, TurnNumber, Who,
+};
 
 /// Words of lines that say nothing of the battle.
 const PASSED_OVER: &str = "\
-    start upkeep tier rule rated t: request error c c: chat j J join l L leave n N name raw html \
+    start upkeep tier rated t: request error c c: chat j J join l L leave n N name raw html \
     uhtml uhtmlchange inactive inactiveoff init title debug bigerror askreg message -hint -center \
     -nothing -notarget -anim clearpoke poke teampreview";
 /// Words of lines that are read.
 const WORDS: &str = "\
-    player teamsize gametype gen split turn win tie switch drag move cant faint -damage -heal -crit \
+    player teamsize gametype gen rule split turn win tie switch drag move cant faint -damage -heal -crit \
     -supereffective -resisted -immune -miss -fail -status -curestatus -boost -unboost \
     -clearallboost -start -end -activate -prepare -mustrecharge -hitcount -ohko -message fault";
 
@@ -28,6 +32,13 @@ pub struct Reader {
     pub events: Vec<Event>,
     /// What the log has that is not known, each once.
     pub unknown: Vec<Unknown>,
+    /// The clauses that the log names.
+    pub clauses: [bool; 2],
+    /// The requests of the side whose requests are read.
+    pub requests: Vec<Placed>,
+    asked: Option<Side>,
+    /// The last line that was taken.
+    pub last_line: usize,
     turn: u16,
     /// The line in which the battle ended.
     end: Option<usize>,
@@ -84,13 +95,32 @@ impl Reader {
             names: Default::default(),
             events: Vec::new(),
             unknown: Vec::new(),
+            clauses: [false; 2],
+            requests: Vec::new(),
+            asked: None,
+            last_line: 1,
             turn: 0,
             end: None,
         }
     }
 
+    /// The same, which reads the requests of a side too.
+    pub fn with_requests(self, side: Side) -> Reader {
+        Reader {
+            asked: Some(side),
+            ..self
+        }
+    }
+
+    /// The rules of the battle.
+    pub fn rules(&self) -> Rules {
+        let [sleep, freeze] = self.clauses.map(u8::from);
+        Rules::new(sleep + 2 * freeze).unwrap_or_default()
+    }
+
     /// Takes the next line. Lines that don't begin with a bar are passed over.
     pub fn take(&mut self, number: usize, line: &str) -> Result<(), String> {
+        self.last_line = number;
         let mut parts = line.split('|');
         let (Some(""), Some(word)) = (parts.next(), parts.next()) else {
             return Ok(());
@@ -98,7 +128,8 @@ impl Reader {
         let fields = Fields(parts.collect());
         let inside = |why| format!("in |{word}|: {why}");
         let read = match word {
-            "player" | "teamsize" | "gametype" | "gen" => self.header(word, &fields),
+            "player" | "teamsize" | "gametype" | "gen" | "rule" => self.header(word, &fields),
+            "request" => self.request(number, line),
             "turn" => self.begin_turn(&fields),
             "win" | "tie" | "fault" | "-message" => self.finish(number, word, &fields),
             "" => Ok(()),
@@ -140,8 +171,29 @@ impl Reader {
                 }
                 Ok(())
             }
+            "rule" => {
+                self.clauses[0] |= first.starts_with("Sleep Clause Mod");
+                self.clauses[1] |= first.starts_with("Freeze Clause Mod");
+                Ok(())
+            }
             _ => Ok(()),
         }
+    }
+
+    fn request(&mut self, number: usize, line: &str) -> Result<(), String> {
+        let text = line.strip_prefix("|request|").unwrap_or_default();
+        let Some(side) = self.asked else {
+            return Ok(());
+        };
+        if let Some(request) = request_in(side, text)? {
+            let after = self.events.len();
+            self.requests.push(Placed {
+                line: number,
+                after,
+                request,
+            });
+        }
+        Ok(())
     }
 
     fn begin_turn(&mut self, fields: &Fields) -> Result<(), String> {

@@ -10,12 +10,11 @@ use crate::fault::Fault;
 use crate::files;
 use chosen::Chosen;
 use gen1::{Battle, MemberSpec, Rules, Team, TurnLimit};
-pub use options::{Input, ReadTerms, Terms};
+pub use options::{Input, ReadTerms, Seed, Terms, seed_in};
 use serde_json::Value;
 use std::path::Path;
 pub use teams::Members;
-use typed::optional_key;
-pub use typed::{Misfit, Typed, key, shown};
+pub use typed::{Misfit, Typed, key, optional_key, shown};
 
 /// An input before it is read: a JSON object, or a text of choices; and what the command line has in its place.
 pub struct Given {

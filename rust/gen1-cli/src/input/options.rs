@@ -57,7 +57,7 @@ pub struct Terms {
 
 /// The ten numbers of a seed.
 #[derive(Clone, Copy, Debug)]
-pub struct Seed([u8; 10]);
+pub struct Seed(pub [u8; 10]);
 
 /// The terms once their files are read.
 #[derive(Clone, Default)]
@@ -94,7 +94,7 @@ impl Terms {
     }
 }
 
-fn seed_in(text: &str) -> Result<Seed, String> {
+pub fn seed_in(text: &str) -> Result<Seed, String> {
     if let Ok(number) = text.parse() {
         return Ok(Seed(Random::new(number).seed()));
     }

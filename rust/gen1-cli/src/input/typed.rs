@@ -78,6 +78,7 @@ macro_rules! single_values {
 
 single_values! {
     bool: Value::as_bool, "true or false";
+    String: |value| value.as_str().map(String::from), "a text";
     u8: whole, "a whole number from 0 to 255";
     u16: whole, "a whole number from 0 to 65535";
     u32: whole, "a whole number from 0 to 4294967295";

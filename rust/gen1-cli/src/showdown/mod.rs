@@ -11,7 +11,7 @@ use crate::fault::Fault;
 use crate::game::play;
 use crate::input::Given;
 use log::Log;
-pub use log::{index, numbered, player_of};
+pub use log::{index, names_of, numbered, player_of};
 pub use protocol::{Simulator, simulate};
 
 /// The battle log of an input.

@@ -1,5 +1,7 @@
 //! Runs of the program. Each test takes what it needs.
 #![allow(dead_code)]
+pub mod played;
+
 use std::io::Write;
 use std::process::{Command, Output, Stdio};
 
