@@ -13,6 +13,7 @@ from gen1._library import PATH
 ROOT = Path(__file__).resolve().parents[3]
 RECORDED = ROOT / "tests" / "battles"
 LEFT_OUT = {Move.MIMIC, Move.METRONOME, Move.MIRROR_MOVE, Move.TRANSFORM, Move.STRUGGLE}
+ALL_SPECIES, MOVES = list(Species), [it for it in Move if it not in LEFT_OUT]
 sys.path.insert(0, str(ROOT / "tools"))
 
 # The library itself, without the types that the package gives its calls.
@@ -43,9 +44,9 @@ def battle(team):
 
 
 def random_member(dice: random.Random) -> Member:
-    moves = dice.sample([it for it in Move if it not in LEFT_OUT], dice.randint(1, 4))
+    moves = dice.sample(MOVES, dice.randint(1, 4))
     return Member(
-        dice.choice(list(Species)),
+        dice.choice(ALL_SPECIES),
         moves,
         level=dice.randint(1, 100),
         dvs=[dice.randint(0, 15) for _ in range(4)],
