@@ -7,6 +7,7 @@ It needs numpy, src on PYTHONPATH, and the library of tools/python_wheel --libra
 import argparse
 import pickle
 import random
+import resource
 import sys
 from pathlib import Path
 
@@ -196,7 +197,7 @@ def stepped_in_arrays(count, seed):
 
 def resident():
     """The memory of this process that is resident, in MB."""
-    return int(Path("/proc/self/statm").read_text().split()[1]) * 4096 / MEGABYTE
+    return int(Path("/proc/self/statm").read_text().split()[1]) * resource.getpagesize() / MEGABYTE
 
 
 def grown(steps, seed):

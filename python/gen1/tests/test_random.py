@@ -1,6 +1,7 @@
 """Random battles, bytes and logs: the package returns the same as direct calls of the C library, and keeps its memory."""
 
 import ctypes
+import importlib
 import random
 
 import pytest
@@ -8,17 +9,20 @@ from alone import raw_lines
 from conftest import LIB
 from gen1 import BadBytes, BadLog, Battle, events, lines
 
-np = pytest.importorskip("numpy")
 
-import fuzz  # noqa: E402
+@pytest.fixture
+def fuzz():
+    """fuzz.py, which needs numpy."""
+    pytest.importorskip("numpy")
+    return importlib.import_module("fuzz")
 
 
-def test_battles():
+def test_battles(fuzz):
     """Of any teams, by choices of which some are refused, alone and in arrays."""
     assert fuzz.played(battles=100, seed=2) > 1000
 
 
-def test_memory():
+def test_memory(fuzz):
     assert fuzz.grown(steps=20_000, seed=3) < 16
 
 
