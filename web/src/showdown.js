@@ -23,6 +23,8 @@ let daily = Math.floor(Date.now() / 1000 / 60 / 60 / 24);
 document.write('<script src="https://play.pokemonshowdown.com/js/replay-embed.js?version' + daily + '"></' + 'script>');
 </script>
 `;
+/** Showdown names the Special by one of the two stats that it became, and has no short names of accuracy and evasion. @type {Record<string, string>} */
+const STATS = { spc: "spa", acc: "accuracy", eva: "evasion" };
 const RULES = ["rule|Sleep Clause Mod: Limit one foe put to sleep", "rule|Freeze Clause Mod: Limit one foe frozen"];
 
 /**
@@ -62,8 +64,7 @@ function linesOf({ kind, line }, names, out) {
   if (kind === "turn") return [...(fields[1] === "1" ? [] : ["", "upkeep"]), `turn|${fields[1]}`];
   if (kind === "win") return [`win|Side ${fields[1][1]}`];
   if (kind === "fault") return [`-message|The battle cannot go on (fault ${fields[1]}).`, "tie"];
-  // Showdown names the Special by one of the two stats that it became.
-  if (kind.endsWith("boost") && fields[2] === "spc") fields[2] = "spa";
+  if (kind.endsWith("boost")) fields[2] = STATS[fields[2]] ?? fields[2];
   return [fields.map((field) => (/^p[12]a: /.test(field) ? field.slice(0, 5) + names[Number(field[1]) - 1][out[Number(field[1]) - 1] - 1] : field)).join("|")];
 }
 
