@@ -240,13 +240,13 @@ def the_log_is_whole_and_searched(browser):
 
 def two_persons_cover_their_choices(browser):
     browser.open("#play")
-    for side, move in ((1, "Body Slam"), (2, "Strength")):
+    for side, move in ((1, "Tackle"), (2, "Pound")):
         browser.fill(f"#play-who-{side}", "person")
         browser.fill(f"#play-team-{side}", f"Tauros\n- {move}\n\nChansey\n- Sing")
     browser.click("#play-start")
     shown = "return [1, 2].map((side) => document.querySelectorAll(`#play-choices-${side} [data-choice]`).length)"
     for turn in (1, 2):
-        for side, words in ((1, ("Body Slam", "Strength")), (2, ("Strength", "Body Slam"))):
+        for side, words in ((1, ("Tackle", "Pound")), (2, ("Pound", "Tackle"))):
             assert browser.run(shown) == [0, 0] and f"Side {side} chooses" in browser.text("#play-cover")
             browser.click("#play-reveal")
             own, foe = words

@@ -23,7 +23,10 @@ let daily = Math.floor(Date.now() / 1000 / 60 / 60 / 24);
 document.write('<script src="https://play.pokemonshowdown.com/js/replay-embed.js?version' + daily + '"></' + 'script>');
 </script>
 `;
-/** Showdown names the Special by one of the two stats that it became, and has no short names of accuracy and evasion. @type {Record<string, string>} */
+/**
+ * Showdown names the Special by one of the two stats that it became, and has no short names of accuracy and evasion.
+ * @type {Record<string, string>}
+ */
 const STATS = { spc: "spa", acc: "accuracy", eva: "evasion" };
 const RULES = ["rule|Sleep Clause Mod: Limit one foe put to sleep", "rule|Freeze Clause Mod: Limit one foe frozen"];
 
