@@ -6,7 +6,7 @@ ghost use Rattle.gen1_machine.specs.EarlyEffects.{confuse, confused_by};
 use gen1_events::EventSink;
 use gen1_layout::Packed;
 use gen1_machine::{Event, Side, Volatile};
-use gen1_rolls::Rolls;
+use gen1_rolls::{Look, Rolls};
 
 /// Confuses the member of `side` that is out for two to five turns, by one draw (docs/MECHANICS.md, "Early effects").
 ///
@@ -22,7 +22,7 @@ pub fn confuse<R: Rolls, S: EventSink>(
     ensures shown { Draws R.drawing random (scene S.tells battle events) false (confuse side) }
     ensures room { AddsAtMost S.room 1 events.old events.new }
 {
-    let byte = random.draw();
+    let byte = random.draw_as(Look::Remainder(4));
     confuse_by(battle, side, byte, events);
 }
 

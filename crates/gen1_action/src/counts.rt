@@ -2,7 +2,7 @@
 ghost use Rattle.std.specs.Prelude.{◌≤◌};
 ghost use Rattle.gen1_action.specs.Counts.{DrawsCount};
 
-use gen1_rolls::Rolls;
+use gen1_rolls::{Look, Rolls};
 
 /// Draws how many times a move hits, or how long it holds, less 2: 0 to 3 (docs/MECHANICS.md, "Many hits").
 ///
@@ -11,9 +11,9 @@ pub fn draw_count<R: Rolls>(random: &mut R) -> u8
     ensures shown { DrawsCount R.drawing random result }
     ensures most { result ≤ 3 }
 {
-    let first = random.draw() % 4;
+    let first = random.draw_as(Look::Remainder(4)) % 4;
     if first <= 1 {
         return first;
     }
-    random.draw() % 4
+    random.draw_as(Look::Remainder(4)) % 4
 }

@@ -9,7 +9,7 @@ ghost use Rattle.gen1_machine.specs.CriticalHits.{critical_bound, roll_critical,
 
 use gen1_layout::{Conditions, Packed};
 use gen1_machine::Side;
-use gen1_rolls::Rolls;
+use gen1_rolls::{Look, Rolls};
 use gen1_tables::{MoveId, Species};
 
 const KARATE_CHOP: u8 = 2;
@@ -29,9 +29,9 @@ pub fn critical<R: Rolls>(battle: &Packed, side: Side, id: MoveId, random: &mut 
     ensures shown { (told : List Event) → Draws R.drawing random
         (learns (with_critical result) (unchanged told battle)) false (roll_critical side (move_at id)) }
 {
-    let rotated = rotated_left_3(random.draw());
     let focused = battle.is_on(side, Conditions::FOCUS_ENERGY);
-    rotated < critical_bound(battle.species(side), focused, id)
+    let bound = critical_bound(battle.species(side), focused, id);
+    rotated_left_3(random.draw_as(Look::RotatedBelow(bound))) < bound
 }
 
 /// The bound of a critical hit, 0 to 255: a draw, rotated left by 3 bits, must be below it (docs/MECHANICS.md,

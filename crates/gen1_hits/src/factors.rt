@@ -6,7 +6,7 @@ ghost use Rattle.gen1_hits.specs.Factors.{Varies, damages, varied};
 
 use crate::damage_formula::{Numbers, damage};
 use crate::types::type_steps;
-use gen1_rolls::{Rolls, until};
+use gen1_rolls::{Look, Rolls};
 
 /// Damage times a drawn factor, in 255ths (docs/MECHANICS.md, "Factors").
 ///
@@ -16,10 +16,18 @@ pub fn factor<R: Rolls>(damage: u16, random: &mut R) -> u16
     ensures varies { Varies R.drawing random damage result }
     ensures most { result ≤ damage }
 {
+    factor_up_to(damage, u16::MAX, random)
+}
+
+/// The same for a caller to whom all damage from `limit` on is alike, as it is where the foe has so many HP.
+pub fn factor_up_to<R: Rolls>(damage: u16, limit: u16, random: &mut R) -> u16
+    ensures varies { Varies R.drawing random damage result }
+    ensures most { result ≤ damage }
+{
     if damage <= 1 {
         return damage;
     }
-    match until(random, is_factor) {
+    match random.until_as(is_factor, Look::Factor { damage, limit }) {
         Some(byte) => times_factor(rotated(byte), damage),
         None => unreachable!(),
     }

@@ -8,7 +8,7 @@ ghost use Rattle.gen1_hits.specs.HitTests.{with_miss_unless, with_test};
 
 use gen1_layout::{Conditions, Packed};
 use gen1_machine::Side;
-use gen1_rolls::Rolls;
+use gen1_rolls::{Look, Rolls};
 use gen1_stats::Status;
 use gen1_tables::{Effect, MoveId, Stat};
 
@@ -157,7 +157,7 @@ fn draw_below<R: Rolls>(battle: &mut Packed, side: Side, byte: u8, random: &mut 
     ensures shown { (told : List Event) → Draws R.drawing random
         (learns (with_miss_unless result) (quiet told battle)) false (draw (hits_below side byte)) }
 {
-    if random.draw() < byte {
+    if random.draw_as(Look::Below(byte)) < byte {
         return true;
     }
     miss(battle, side);

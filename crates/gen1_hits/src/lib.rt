@@ -25,7 +25,7 @@ mod usual_damage;
 pub use critical_hits::{critical, critical_bound};
 pub use damage_formula::{Numbers, damage};
 pub use damage_numbers::{numbers, own_numbers};
-pub use factors::{damage_list, factor, is_factor};
+pub use factors::{damage_list, factor, factor_up_to, is_factor};
 pub use hit_tests::{Hit, hit_test, scaled_accuracy, settled_hit};
 pub use hp::{gain_hp, lose_hp};
 pub use landing::{Landed, land, land_on_hp, land_on_substitute};

@@ -49,9 +49,10 @@ pub record FindsNone {A : Type 0} (d : Drawing A) (test : ℕ → Bool) (old new
 -- origin s n r.old` holds, the same holds of r.new with its own count of draws. It gives its result by
 -- `byte_at s` and `first s`. Its proof uses the lemmas of proofs/Standing.antt, where a is the fact about the place
 -- of r:
---     r.draw()         `byte_drawn a c.draw.ensures.drawn` : the byte is `byte_at s n`
---                      `stands_after_draw a c.draw.ensures.left` : r is at n + 1
---     until(r, test)   is used at a test p of numbers, with `settles`: the closure returns `p x` for x
+--     r.draw_as(look)  `byte_drawn a c.draw_as.ensures.drawn` : the byte is `byte_at s n`
+--                      `stands_after_draw a c.draw_as.ensures.left` : r is at n + 1
+--     r.until_as(test, look)
+--                      is used at a test p of numbers, with `settles`: the closure returns `p x` for x
 --       Some(b)        `found_then a (c.in-Some.ensures.found p settles) (λ m at byte stands. ..)`, where
 --                      at : `first s n p ≡ Some m`, byte : `b ≡ byte_at s m`, stands : r is at m + 1
 --       None           `none_then a (c.in-None.ensures.none p settles) (λ none stands. ..)`, where

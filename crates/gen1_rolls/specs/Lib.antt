@@ -1,5 +1,6 @@
 -- Draws, and the generators that make them.
 pub mod Draws
 pub mod Link
+pub mod Looks
 pub mod Streams
 pub mod Sweep

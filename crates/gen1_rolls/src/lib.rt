@@ -2,6 +2,7 @@
 //! draw that passes a test.
 //!
 //! - `rolls`: what a generator is
+//! - `look`: what is looked at of a drawn byte
 //! - `link`: the generator of a link battle
 //! - `sweep`: a generator that counts up
 //! - `search`: the first draw that passes a test
@@ -10,12 +11,14 @@
 
 mod laws;
 mod link;
+mod look;
 mod rolls;
 mod search;
 mod sweep;
 
 pub use laws::{draws_a_stream, every_generator_stands};
 pub use link::{LinkRandom, renew};
+pub use look::Look;
 pub use rolls::Rolls;
 pub use search::until;
 pub use sweep::Sweep;

@@ -1,7 +1,9 @@
 //! A generator of bytes, which all draws of a battle come from (docs/MECHANICS.md, "Link numbers").
-ghost use Rattle.std.specs.Prelude.{◌≡◌, ℕ, ◌<◌};
-ghost use Rattle.gen1_rolls.specs.Draws.{Drawing, stream_of};
+ghost use Rattle.std.specs.Prelude.{◌≡◌, ℕ, ◌<◌, Bool, IfSome, IfNone};
+ghost use Rattle.gen1_rolls.specs.Draws.{Drawing, stream_of, Settles, Finds, FindsNoDraw};
 ghost use Rattle.gen1_rolls.specs.Streams.{IsStream};
+
+use crate::look::Look;
 
 /// A generator of bytes (docs/MECHANICS.md, "Link numbers").
 ///
@@ -23,6 +25,38 @@ pub trait Rolls {
         ensures drawn { result ≡ drawing.byte self.old }
         ensures left { self.new ≡ drawing.next self.old }
         ensures stream { IsStream (stream_of drawing self.old) };
+
+    /// Draws the next byte, of which no more is looked at than the look sees.
+    ///
+    /// A generator that goes through all results of a draw writes its own. Others draw as by `draw`.
+    fn draw_as(&mut self, _look: Look) -> u8
+        ensures drawn { result ≡ drawing.byte self.old }
+        ensures left { self.new ≡ drawing.next self.old }
+        ensures stream { IsStream (stream_of drawing self.old) }
+    {
+        self.draw()
+    }
+
+    /// Draws until a byte passes the test, and returns that byte, of which no more is looked at than the look sees.
+    ///
+    /// Returns `None` after `SPAN` draws, if no byte from 0 to 255 passes. The result of the test must depend on the
+    /// byte alone.
+    #[inline] // docs/SPEED.md, "Hints on inlining"
+    fn until_as<F: Fn(u8) -> bool>(&mut self, test: F, _look: Look) -> Option<u8>
+        requires callable { F.IsAlwaysCallable test }
+        ensures found { (p : ℕ → Bool) → Settles (F.post test) p
+            → IfSome result (λ b. Finds drawing p self b) }
+        ensures none { (p : ℕ → Bool) → Settles (F.post test) p
+            → IfNone result (FindsNoDraw drawing p self) }
+    {
+        'draws: for _ in 0..Self::SPAN {
+            let byte = self.draw();
+            if test(byte) {
+                return Some(byte);
+            }
+        }
+        None
+    }
 
     ghost positive: { 0 < SPAN };
 

@@ -2,6 +2,7 @@
 ghost use Rattle.std.specs.Prelude.{ℕ, Bool, IfSome, IfNone};
 ghost use Rattle.gen1_rolls.specs.Draws.{Settles, Finds, FindsNoDraw};
 
+use crate::look::Look;
 use crate::rolls::Rolls;
 
 /// Draws until a byte passes the test, and returns that byte.
@@ -15,11 +16,5 @@ pub fn until<R: Rolls, F: Fn(u8) -> bool>(r: &mut R, test: F) -> Option<u8>
     ensures none { (p : ℕ → Bool) → Settles (F.post test) p
         → IfNone result (FindsNoDraw R.drawing p r) }
 {
-    'draws: for _ in 0..R::SPAN {
-        let byte = r.draw();
-        if test(byte) {
-            return Some(byte);
-        }
-    }
-    None
+    r.until_as(test, Look::Remainder(256))
 }

@@ -1,15 +1,16 @@
 //! The damage of an action (docs/MECHANICS.md, "Action", step 7).
 ghost use Rattle.std.specs.Prelude.{◌≡◌};
 ghost use Rattle.gen1_layout.specs.Operations.{Draws, quiet};
-ghost use Rattle.gen1_layout.specs.Words.{Event, List, move_at, nat_lt};
+ghost use Rattle.gen1_layout.specs.Words.{Event, List, Reads, conditions_in, member_in, move_at, nat_lt};
 ghost use Rattle.gen1_machine.specs.Action.{damage_of, usual_damage};
 ghost use Rattle.gen1_machine.specs.Damage.{roll_damage};
 ghost use Rattle.gen1_machine.specs.Progress.{choose, set_last_damage};
 ghost use Rattle.gen1_action.specs.Knowing.{IsUncounted, aware};
 ghost use Rattle.gen1_turn.specs.ByEffect.{way_of};
+ghost use Rattle.gen1_turn.specs.DamageLimit.{damage_limit};
 
 use gen1_action::{Known, hit_or_miss};
-use gen1_hits::{critical, damage, factor, numbers, type_steps};
+use gen1_hits::{critical, damage, factor_up_to, numbers, type_steps};
 use gen1_layout::Packed;
 use gen1_machine::{Outcome, Side};
 use gen1_multiturn::{counter_knowing, fixed_knowing, knock_out};
@@ -106,7 +107,19 @@ fn roll_damage<R: Rolls>(
     let after = type_steps(before, &numbers);
     known.through_types = true;
     known.missed = after == 0;
-    let varied = factor(after, random);
+    let limit = damage_limit(battle, side.other());
+    let varied = factor_up_to(after, limit, random);
     battle.put_last_damage(varied);
     false
+}
+
+// All damage from here on is alike: it fells the foe. A Substitute takes damage uncut.
+fn damage_limit(battle: &Packed, foe: Side) -> u16
+    ensures stands { Reads battle.now result λ f.
+        damage_limit (conditions_in foe f).substitute (member_in foe f).hp }
+{
+    match battle.substitute(foe) {
+        Some(_) => u16::MAX,
+        None => battle.hp(foe),
+    }
 }

@@ -1,6 +1,6 @@
 //! A generator as two types, one for the action of each side (docs/MECHANICS.md, "Order of a turn").
 
-use gen1_rolls::Rolls;
+use gen1_rolls::{Look, Rolls};
 use std::marker::Model;
 
 /// A generator as a second type that draws the same.
@@ -28,6 +28,14 @@ impl<R: Rolls> Rolls for BySide<R> {
 
     fn draw(&mut self) -> u8 {
         self.0.draw()
+    }
+
+    fn draw_as(&mut self, look: Look) -> u8 {
+        self.0.draw_as(look)
+    }
+
+    fn until_as<F: Fn(u8) -> bool>(&mut self, test: F, look: Look) -> Option<u8> {
+        self.0.until_as(test, look)
     }
 
     ghost positive = { R.positive };

@@ -29,4 +29,7 @@ mod used_move;
 
 pub use action::act;
 pub use gen1_requests::{Choices, offered, replace, send_out, start};
+pub use turn_choices::{end_flinch, set_picked};
+pub use turn_order::first_side;
+pub use turn_parts::{act_and_suffer_as, end_turn, sends_and_suffers};
 pub use turn_update::turn;

@@ -42,7 +42,8 @@ pub(crate) fn take_turn<R: Rolls, S: EventSink>(
     act_on_choices(battle, one, two, known, random, events);
 }
 
-fn end_flinch(battle: &mut Packed, side: Side)
+/// Ends the flinch of `side`, with which a turn begins (docs/MECHANICS.md, "Order of a turn").
+pub fn end_flinch(battle: &mut Packed, side: Side)
     ensures shown { (told : List Event) → Does (quiet told battle) false
         (on_conditions side without_flinch) }
 {
@@ -109,7 +110,8 @@ fn both_pick<R: Rolls, S: EventSink>(
     }
 }
 
-fn set_picked(battle: &mut Packed, side: Side, pick: Pick)
+/// Writes down what `side` has picked, before anyone acts (docs/MECHANICS.md, "Picks").
+pub fn set_picked(battle: &mut Packed, side: Side, pick: Pick)
     ensures shown { (told : List Event) → DoesWhere
         (holding λ p. IsUsedMove (length (member_in side p.field).moves)
         (picked_after pick (active_in side p.field).picked_move)) (quiet told battle) false

@@ -7,7 +7,7 @@ ghost use Rattle.gen1_turn.specs.TurnParts.{Orders};
 use crate::taken_move::number_of;
 use gen1_layout::Packed;
 use gen1_machine::Side;
-use gen1_rolls::Rolls;
+use gen1_rolls::{Look, Rolls};
 use gen1_tables::{COUNTER, Stat};
 
 const QUICK_ATTACK: u8 = 98;
@@ -15,9 +15,9 @@ const QUICK_ATTACK: u8 = 98;
 // At equal Speed, a draw below this puts side 1 first.
 const SIDE_1_BELOW: u8 = 128;
 
-// The side that acts first: by the picked moves, then by Speed, then by a draw.
+/// The side that acts first: by the picked moves, then by Speed, then by a draw (docs/MECHANICS.md, "Order of a turn").
 #[inline(always)] // docs/SPEED.md, "Hints on inlining"
-pub(crate) fn first_side<R: Rolls>(battle: &Packed, random: &mut R) -> Side
+pub fn first_side<R: Rolls>(battle: &Packed, random: &mut R) -> Side
     ensures shown { Orders R.drawing random battle.now result in_order }
 {
     let one = rank_of(battle, Side::One);
@@ -42,7 +42,7 @@ fn faster_side<R: Rolls>(battle: &Packed, random: &mut R) -> Side
     if one < two {
         return Side::Two;
     }
-    if random.draw() < SIDE_1_BELOW {
+    if random.draw_as(Look::Below(SIDE_1_BELOW)) < SIDE_1_BELOW {
         return Side::One;
     }
     Side::Two

@@ -43,9 +43,12 @@ pub(crate) fn act_and_suffer<R: Rolls, S: EventSink>(
     }
 }
 
-// The same, by code that is compiled for one side.
+/// The action of `side` in a turn, and then its residual damage (docs/MECHANICS.md, "Order of a turn").
+///
+/// It does what `known` says of the turn so far: Haze may have ended the action. Returns whether the rest of the turn is
+/// skipped. It needs 24 free places in `events`.
 #[inline(never)] // docs/SPEED.md, "Hints on inlining"
-fn act_and_suffer_as<R: Rolls, S: EventSink>(
+pub fn act_and_suffer_as<R: Rolls, S: EventSink>(
     battle: &mut Packed,
     side: Side,
     pick: Pick,
@@ -85,9 +88,11 @@ fn act_unless_skipped<R: Rolls, S: EventSink>(
     act(battle, side, pick, known, random, events)
 }
 
-// A member that comes out, and its residual damage. Returns whether the rest of the turn is skipped.
+/// Sends out a member of `side`, and then takes its residual damage (docs/MECHANICS.md, "Order of a turn").
+///
+/// Returns whether the rest of the turn is skipped. It needs 4 free places in `events`.
 #[inline(always)] // docs/SPEED.md, "Hints on inlining"
-pub(crate) fn sends_and_suffers<S: EventSink>(
+pub fn sends_and_suffers<S: EventSink>(
     battle: &mut Packed,
     side: Side,
     place: Place,
@@ -135,8 +140,8 @@ fn is_cut(battle: &Packed) -> bool
     battle.has_fallen(Side::One) || battle.has_fallen(Side::Two) || battle.outcome().is_over()
 }
 
-// Trapping with a count of 0 ends when a turn is played to its end.
-pub(crate) fn end_turn(battle: &mut Packed)
+/// Ends a turn whose rest was not skipped: trapping with a count of 0 ends (docs/MECHANICS.md, "Order of a turn").
+pub fn end_turn(battle: &mut Packed)
     ensures shown { (told : List Event) → Does (quiet told battle) false end_turn }
 {
     end_spent_trapping(battle, Side::One);

@@ -10,7 +10,7 @@ use gen1_action::{Known, fail, has_marked_sleeper, must_hit};
 use gen1_events::EventSink;
 use gen1_layout::{Conditions, Packed};
 use gen1_machine::{Kind, Side};
-use gen1_rolls::{Rolls, until};
+use gen1_rolls::{Look, Rolls};
 use gen1_stats::Status;
 use gen1_status::inflict_status;
 use gen1_tables::MoveId;
@@ -115,7 +115,7 @@ fn fall_asleep<R: Rolls, S: EventSink>(
         (scene S.tells battle events) false (λ r. fall_asleep marked side) }
     ensures room { AddsAtMost S.room 1 events.old events.new }
 {
-    let Some(byte) = until(random, |byte| byte % 8 != 0) else {
+    let Some(byte) = random.until_as(|byte| byte % 8 != 0, Look::Remainder(8)) else {
         return;
     };
     sleep_for(battle, side, marked, byte, events);

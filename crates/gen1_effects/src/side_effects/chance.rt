@@ -1,12 +1,12 @@
 //! Effects by chance, which happen if a draw is below a number (docs/MECHANICS.md, "Side effects").
 ghost use Rattle.std.specs.Prelude.{nat_lt, ◌≡◌};
 
-use gen1_rolls::Rolls;
+use gen1_rolls::{Look, Rolls};
 
 // Draws, and returns whether the draw is below the bound.
 pub(super) fn is_drawn_below<R: Rolls>(bound: u8, random: &mut R) -> bool
     ensures drawn { result ≡ nat_lt (R.drawing.byte random.old) bound }
     ensures left { random.new ≡ R.drawing.next random.old }
 {
-    random.draw() < bound
+    random.draw_as(Look::Below(bound)) < bound
 }

@@ -1,5 +1,6 @@
 //! Disable, with its draws (docs/MECHANICS.md, "Side effects").
-ghost use Rattle.std.specs.Prelude.{◌≡◌};
+ghost use Rattle.std.specs.Prelude.{if◌then◌else◌, ◌≡◌};
+ghost use Rattle.gen1_rolls.specs.declared.look.Look.TheVariants.{Remainder};
 ghost use Rattle.gen1_layout.specs.Operations.{DoesWhere, Draws, DrawsWhere, holding, scene};
 ghost use Rattle.gen1_layout.specs.Words.{AddsAtMost, Field, HasRoom, Reads, Setting, Within, false, member_in, move_at, other, true};
 ghost use Rattle.gen1_machine.specs.Progress.{member};
@@ -11,7 +12,7 @@ use gen1_action::{Known, fail, must_hit};
 use gen1_events::EventSink;
 use gen1_layout::{Conditions, Packed};
 use gen1_machine::{DisabledSlot, Event, Side, Volatile};
-use gen1_rolls::{Rolls, until};
+use gen1_rolls::{Look, Rolls};
 use gen1_tables::MoveId;
 
 pub(super) fn disable<R: Rolls, S: EventSink>(
@@ -53,7 +54,7 @@ fn draw_slot<R: Rolls, S: EventSink>(
     let any_pp = has_pp(battle, foe);
     let found = {
         let now: &Packed = battle;
-        until(random, |byte| names_slot(now, foe, any_pp, byte))
+        random.until_as(|byte| names_slot(now, foe, any_pp, byte), slot_look(any_pp))
     };
     match found {
         Some(byte) => disable_slot(battle, side, any_pp, byte, random, events),
@@ -80,7 +81,7 @@ fn disable_slot<R: Rolls, S: EventSink>(
         fail(battle, side, events);
         return true;
     }
-    let count = random.draw();
+    let count = random.draw_as(Look::Remainder(8));
     disable_for(battle, side.other(), byte, count, events);
     false
 }
@@ -97,6 +98,17 @@ fn disable_for<S: EventSink>(battle: &mut Packed, foe: Side, byte: u8, count: u8
     };
     battle.put_disabled(foe, Some(disabled));
     events.push(Event::Start(battle.who(foe), Volatile::Disable));
+}
+
+// If no slot has PP, Disable fails at each slot.
+fn slot_look(any_pp: bool) -> Look
+    ensures { result ≡ (if any_pp then Remainder 4 else Remainder 1) }
+{
+    if any_pp {
+        Look::Remainder(4)
+    } else {
+        Look::Remainder(1)
+    }
 }
 
 // A drawn slot has to hold a move. If any move has PP, that move must have PP.

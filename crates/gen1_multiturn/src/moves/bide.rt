@@ -18,7 +18,7 @@ use gen1_action::Known;
 use gen1_events::EventSink;
 use gen1_layout::{Conditions, Packed};
 use gen1_machine::{Event, Side, Volatile};
-use gen1_rolls::Rolls;
+use gen1_rolls::{Look, Rolls};
 
 /// Uses Bide (docs/MECHANICS.md, "Going on").
 ///
@@ -94,7 +94,7 @@ pub fn start_bide<R: Rolls, S: EventSink>(
         (λ r. start_bide side) }
     ensures room { AddsAtMost S.room 1 events.old events.new }
 {
-    let byte = random.draw();
+    let byte = random.draw_as(Look::Remainder(2));
     bide_for(battle, side, byte, events);
 }
 

@@ -10,7 +10,7 @@ ghost use Rattle.gen1_multiturn.specs.FixedDamage.{DealsAs};
 use gen1_action::{Known, hit_or_miss};
 use gen1_layout::Packed;
 use gen1_machine::{Outcome, Side};
-use gen1_rolls::{Rolls, until};
+use gen1_rolls::{Look, Rolls};
 use gen1_tables::MoveId;
 
 const SONIC_BOOM: u8 = 49;
@@ -86,7 +86,7 @@ fn psywave<R: Rolls>(level: u8, random: &mut R) -> Option<u16>
     if level <= 1 {
         return None;
     }
-    match until(random, |byte| is_psywave(level, byte)) {
+    match random.until_as(|byte| is_psywave(level, byte), Look::Remainder(256)) {
         Some(byte) => Some(u16::from(byte)),
         None => unreachable!(),
     }

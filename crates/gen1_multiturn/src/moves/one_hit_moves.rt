@@ -11,7 +11,7 @@ use gen1_action::{Known, hit_or_miss, is_immune};
 use gen1_hits::{critical, is_factor};
 use gen1_layout::Packed;
 use gen1_machine::Side;
-use gen1_rolls::{Rolls, until};
+use gen1_rolls::{Look, Rolls};
 use gen1_tables::{MoveId, Stat};
 
 /// A one-hit move of `side`, in an action of which something is known (docs/MECHANICS.md, "Fixed damage and one-hit
@@ -73,7 +73,7 @@ fn deal_everything<R: Rolls>(battle: &mut Packed, random: &mut R)
     ensures shown { (told : List Event) → Draws R.drawing random (quiet told battle) false
         (draw_until is_factor deal_everything) }
 {
-    let Some(_) = until(random, |byte| is_factor(byte)) else {
+    let Some(_) = random.until_as(|byte| is_factor(byte), Look::Remainder(1)) else {
         return;
     };
     battle.put_last_damage(u16::MAX);

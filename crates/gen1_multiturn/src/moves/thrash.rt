@@ -18,7 +18,7 @@ use gen1_action::{Known, confuse};
 use gen1_events::EventSink;
 use gen1_layout::Packed;
 use gen1_machine::Side;
-use gen1_rolls::Rolls;
+use gen1_rolls::{Look, Rolls};
 use gen1_tables::MoveId;
 
 // The accuracy byte of Thrash and of Petal Dance.
@@ -115,7 +115,7 @@ fn begin_thrashing<R: Rolls>(battle: &mut Packed, side: Side, accuracy: u8, rand
         R.drawing random (λ g p Then. (underway side p).bide ≡ None → (underway side p).trapping ≡
         None → Then) (quiet told battle) false (λ r. draw (thrash_for side move)) }
 {
-    let byte = random.draw();
+    let byte = random.draw_as(Look::Remainder(2));
     battle.put_thrash(side, byte % 2 + 2);
     battle.put_kept_accuracy(side, accuracy);
 }

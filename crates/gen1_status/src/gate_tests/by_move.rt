@@ -12,7 +12,7 @@ use crate::{Gate, used_by};
 use gen1_events::EventSink;
 use gen1_layout::{Conditions, Packed};
 use gen1_machine::{CantReason, DisabledSlot, Pick, Side, UsedMove};
-use gen1_rolls::Rolls;
+use gen1_rolls::{Look, Rolls};
 use gen1_stats::Status;
 
 pub(super) fn gate_of_move<R: Rolls, S: EventSink>(
@@ -75,7 +75,7 @@ fn paralysis_test<R: Rolls, S: EventSink>(
     if !is_paralysed(battle.status(side)) {
         return false;
     }
-    if random.draw() >= FULLY_PARALYSED_BELOW {
+    if random.draw_as(Look::Below(FULLY_PARALYSED_BELOW)) >= FULLY_PARALYSED_BELOW {
         return false;
     }
     battle.break_off(side);

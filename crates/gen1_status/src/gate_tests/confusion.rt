@@ -13,7 +13,7 @@ use crate::hit_on_itself::hurt_itself;
 use gen1_events::EventSink;
 use gen1_layout::Packed;
 use gen1_machine::{Event, Side, Volatile};
-use gen1_rolls::Rolls;
+use gen1_rolls::{Look, Rolls};
 
 pub(super) fn confusion_test<R: Rolls, S: EventSink>(
     battle: &mut Packed,
@@ -68,7 +68,7 @@ fn confusion_lasts<R: Rolls, S: EventSink>(
 {
     battle.put_confused(side, Some(turns.saturating_sub(1)));
     events.push(Event::Activate(battle.who(side), Volatile::Confusion));
-    if random.draw() < HITS_ITSELF_FROM {
+    if random.draw_as(Look::Below(HITS_ITSELF_FROM)) < HITS_ITSELF_FROM {
         return Gate::Go;
     }
     hurt_itself(battle, side, events)

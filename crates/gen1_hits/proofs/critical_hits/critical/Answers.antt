@@ -10,10 +10,10 @@ returns t c =
     record {
       shown = λ told origin g p h.
           let w = h.shows.within in
-          let bound : c.critical_bound.result ≡ critical_bound_in c.args.side (move_at c.args.id) p.field =
-          rw (c.species.ensures.stands _ _ w, c.is_on-focused.ensures.stands 8 refl _ _ w) at c.critical_bound.ensures in
-          rw c.rotated_left_3-rotated.ensures
-          (drawing (critical_by c.args.side (move_at c.args.id)) h c.draw.ensures.drawn c.draw.ensures.left (λ a.
-          drawn_seeing _ (λ (b : ℕ). set_critical (nat_lt (rotated_left_3 c.draw.result) b)) bound
-          (still a (acted (λ (x : Action). record x { critical = nat_lt (rotated_left_3 c.draw.result) c.critical_bound.result }) a.shows) refl)));
+          let bound : c.critical_bound-bound.result ≡ critical_bound_in c.args.side (move_at c.args.id) p.field =
+          rw (c.species.ensures.stands _ _ w, c.is_on-focused.ensures.stands 8 refl _ _ w) at c.critical_bound-bound.ensures in
+          rw c.rotated_left_3.ensures
+          (drawing (critical_by c.args.side (move_at c.args.id)) h c.draw_as.ensures.drawn c.draw_as.ensures.left (λ a.
+          drawn_seeing _ (λ (b : ℕ). set_critical (nat_lt (rotated_left_3 c.draw_as.result) b)) bound
+          (still a (acted (λ (x : Action). record x { critical = nat_lt (rotated_left_3 c.draw_as.result) c.critical_bound-bound.result }) a.shows) refl)));
     }

@@ -3,13 +3,13 @@ use Rattle.gen1_layout.proofs.Words.{arith, drawing, false, if_not, if_so, nat_l
 use Rattle.gen1_machine.specs.HitTest.{hits_below}
 use Rattle.gen1_hits.proofs.hit_tests.draw_below.Goals as goal
 
-pub returns-then-draw-byte : goal.returns-then-draw-byte
+pub returns-then-draw_as-byte : goal.returns-then-draw_as-byte
 unfolding hits_below
-returns-then-draw-byte t c =
+returns-then-draw_as-byte t c =
     record {
       shown = λ told origin g p h.
-          let below : nat_lt c.draw.result c.args.byte ≡ true = grind (arith, nat_tests) in
-          drawing (hits_below c.args.side c.args.byte) h c.draw.ensures.drawn c.draw.ensures.left (λ a. still a (if_so _ _ _ below (stays a.shows)) refl);
+          let below : nat_lt c.draw_as.result c.args.byte ≡ true = grind (arith, nat_tests) in
+          drawing (hits_below c.args.side c.args.byte) h c.draw_as.ensures.drawn c.draw_as.ensures.left (λ a. still a (if_so _ _ _ below (stays a.shows)) refl);
     }
 
 pub returns : goal.returns
@@ -17,7 +17,7 @@ unfolding hits_below
 returns t c =
     record {
       shown = λ told origin g p h.
-          let above : nat_lt c.draw.result c.args.byte ≡ false = grind (arith, nat_tests) in
-          drawing (hits_below c.args.side c.args.byte) h c.draw.ensures.drawn c.draw.ensures.left
+          let above : nat_lt c.draw_as.result c.args.byte ≡ false = grind (arith, nat_tests) in
+          drawing (hits_below c.args.side c.args.byte) h c.draw_as.ensures.drawn c.draw_as.ensures.left
           (λ a. still a (if_not _ _ _ above (c.miss.ensures.shown _ _ _ a.shows)) refl);
     }

@@ -24,6 +24,6 @@ returns-clause-shown t c events origin g p h =
     let after : c.type_steps-after.result ≡ type_steps c.in-Some.before c.numbers-numbers.result = c.type_steps-after.ensures.steps in
     let a = drawn_acted (λ (x : Action). record x { through_types = true }) h in
     let b = drawn_acted (λ (x : Action). record x { missed = (c.type_steps-after.result == 0) }) a in
-    let d = varying _ c.factor-varied.result b c.factor-varied.ensures.varies (c.put_last_damage.ensures.stands _ _ b.shows.within) in
+    let d = varying _ c.factor_up_to-varied.result b c.factor_up_to-varied.ensures.varies (c.put_last_damage.ensures.stands _ _ b.shows.within) in
     drawn_seeing _ (λ (n : DamageNumbers). damage_from n (before_types n)) n
     (rw some (drawn_goes _ _ a (rw (← after) (drawn_goes _ _ b d))))

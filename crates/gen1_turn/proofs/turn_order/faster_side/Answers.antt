@@ -29,18 +29,18 @@ returns-then-one-two t c = record {
       (p.drawn, h, λ begins. choose-false _ _ _ p e ∙ choose-true _ _ _ p e');
 }
 
-pub returns-then-draw-lt-SIDE_1_BELOW : goal.returns-then-draw-lt-SIDE_1_BELOW
+pub returns-then-draw_as-lt-SIDE_1_BELOW : goal.returns-then-draw_as-lt-SIDE_1_BELOW
 unfolding in_order_of_speed
-returns-then-draw-lt-SIDE_1_BELOW t c = record {
+returns-then-draw_as-lt-SIDE_1_BELOW t c = record {
   shown = λ origin g events p h.
       let one = c.current_stat-one.ensures.stands _ _ h.shows.within refl in
       let two = c.current_stat-two.ensures.stands _ _ h.shows.within refl in
       let e : nat_lt (now_in Speed Two p.field) (now_in Speed One p.field) ≡ false = rw (← two, ← one) (not_below _ _ c.if-two-one.false) in
       let e' : nat_lt (now_in Speed One p.field) (now_in Speed Two p.field) ≡ false = rw (← two, ← one) (not_below _ _ c.if-one-two.false) in (
         p.drawn + 1,
-        drawn_next h c.draw.ensures.left,
+        drawn_next h c.draw_as.ensures.left,
         λ begins. choose-false _ _ _ p e ∙ choose-false _ _ _ p e'
-            ∙ tossed_one begins p c.draw.result (drawn_byte c.draw.result h c.draw.ensures.drawn) (below _ _ c.if-draw-lt-SIDE_1_BELOW.true),
+            ∙ tossed_one begins p c.draw_as.result (drawn_byte c.draw_as.result h c.draw_as.ensures.drawn) (below _ _ c.if-draw_as-lt-SIDE_1_BELOW.true),
       );
 }
 
@@ -53,8 +53,8 @@ returns t c = record {
       let e : nat_lt (now_in Speed Two p.field) (now_in Speed One p.field) ≡ false = rw (← two, ← one) (not_below _ _ c.if-two-one.false) in
       let e' : nat_lt (now_in Speed One p.field) (now_in Speed Two p.field) ≡ false = rw (← two, ← one) (not_below _ _ c.if-one-two.false) in (
         p.drawn + 1,
-        drawn_next h c.draw.ensures.left,
+        drawn_next h c.draw_as.ensures.left,
         λ begins. choose-false _ _ _ p e ∙ choose-false _ _ _ p e'
-            ∙ tossed_two begins p c.draw.result (drawn_byte c.draw.result h c.draw.ensures.drawn) (not_below _ _ c.if-draw-lt-SIDE_1_BELOW.false),
+            ∙ tossed_two begins p c.draw_as.result (drawn_byte c.draw_as.result h c.draw_as.ensures.drawn) (not_below _ _ c.if-draw_as-lt-SIDE_1_BELOW.false),
       );
 }

@@ -16,4 +16,4 @@ unfolding disable_slot fails_if
 returns-clause-shown t c origin g p any named h =
     let does = rw c.other.ensures at c.disable_for.ensures.shown in
     drawn_past _ _ _ (ap not (sym any ∙ c.if-not-any_pp.false)) h
-    (drawing (disable_for (other c.args.side) c.args.byte) h c.draw-count.ensures.drawn c.draw-count.ensures.left (λ d. still d (does _ _ named d.shows) refl))
+    (drawing (disable_for (other c.args.side) c.args.byte) h c.draw_as-count.ensures.drawn c.draw_as-count.ensures.left (λ d. still d (does _ _ named d.shows) refl))

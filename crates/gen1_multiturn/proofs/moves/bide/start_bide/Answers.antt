@@ -7,4 +7,4 @@ pub returns-clause-shown : goal.returns-clause-shown
 unfolding start_bide
 returns-clause-shown t c known effect tie origin g p plan doing v h =
     let alone = alone-biding g.setting.terms plan c.args.side effect p doing tie v in
-    drawing (bide_for c.args.side) h c.draw-byte.ensures.drawn c.draw-byte.ensures.left (λ d. still d (c.bide_for.ensures.shown _ _ alone.0 alone.1 d.shows) refl)
+    drawing (bide_for c.args.side) h c.draw_as-byte.ensures.drawn c.draw_as-byte.ensures.left (λ d. still d (c.bide_for.ensures.shown _ _ alone.0 alone.1 d.shows) refl)

@@ -11,8 +11,8 @@ unfolding thrash_for with_thrash with_kept_accuracy on_conditions on_field
 returns t c = record {
   shown = λ told move is origin g p bide trapping h.
       let s = c.args.side in
-      let byte = c.draw-byte.result in
-      drawing (thrash_for s move) h c.draw-byte.ensures.drawn c.draw-byte.ensures.left (λ d.
+      let byte = c.draw_as-byte.result in
+      drawing (thrash_for s move) h c.draw_as-byte.ensures.drawn c.draw_as-byte.ensures.left (λ d.
       let w = c.put_thrash.ensures.stands _ _ (with_thrash (byte % 2 + 2)) d.shows.within refl (omega arith) bide trapping in
       let a = still {g' = g} d (put_on_conditions d.shows s (with_thrash (byte % 2 + 2)) w) refl in
       let v = c.put_kept_accuracy.ensures.stands _ _ (with_kept_accuracy (accuracy_byte move)) a.shows.within

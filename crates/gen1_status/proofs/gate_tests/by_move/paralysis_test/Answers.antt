@@ -11,17 +11,17 @@ returns-then-not-is_paralysed-clause-shown t c origin g p h =
     let is = c.is_paralysed.ensures ∙ ap is_paralysed (c.status.ensures.stands _ p.field h.shows.within) in
     drawn_if_not _ _ _ (sym is ∙ c.if-not-is_paralysed.true) (still h (stays h.shows) refl)
 
-pub returns-then-draw-ge-FULLY_PARALYSED_BELOW-clause-shown : goal.returns-then-draw-ge-FULLY_PARALYSED_BELOW-clause-shown
+pub returns-then-draw_as-ge-FULLY_PARALYSED_BELOW-clause-shown : goal.returns-then-draw_as-ge-FULLY_PARALYSED_BELOW-clause-shown
 unfolding paralysis_test may_be_paralysed
-returns-then-draw-ge-FULLY_PARALYSED_BELOW-clause-shown t c origin g p h =
+returns-then-draw_as-ge-FULLY_PARALYSED_BELOW-clause-shown t c origin g p h =
     let is = c.is_paralysed.ensures ∙ ap is_paralysed (c.status.ensures.stands _ p.field h.shows.within) in
-    drawn_if_so _ _ _ (sym is ∙ c.if-not-is_paralysed.false) (drawing (may_be_paralysed c.args.side) h c.draw.ensures.drawn c.draw.ensures.left
-    (λ d. still d (if_not _ _ _ (not_below _ 63 c.if-draw-ge-FULLY_PARALYSED_BELOW.true) (stays d.shows)) refl))
+    drawn_if_so _ _ _ (sym is ∙ c.if-not-is_paralysed.false) (drawing (may_be_paralysed c.args.side) h c.draw_as.ensures.drawn c.draw_as.ensures.left
+    (λ d. still d (if_not _ _ _ (not_below _ 63 c.if-draw_as-ge-FULLY_PARALYSED_BELOW.true) (stays d.shows)) refl))
 
 pub returns-clause-shown : goal.returns-clause-shown
 unfolding paralysis_test may_be_paralysed
 returns-clause-shown t c origin g p h =
     let is = c.is_paralysed.ensures ∙ ap is_paralysed (c.status.ensures.stands _ p.field h.shows.within) in
-    drawn_if_so _ _ _ (sym is ∙ c.if-not-is_paralysed.false) (drawing (may_be_paralysed c.args.side) h c.draw.ensures.drawn c.draw.ensures.left
+    drawn_if_so _ _ _ (sym is ∙ c.if-not-is_paralysed.false) (drawing (may_be_paralysed c.args.side) h c.draw_as.ensures.drawn c.draw_as.ensures.left
     (λ d. let a = put_on_conditions d.shows c.args.side broken_off (c.break_off.ensures.stands _ _ d.shows.within) in
-    still d (if_so _ _ _ (below _ 63 (omega (arith, c.if-draw-ge-FULLY_PARALYSED_BELOW.false))) (goes _ _ a (c.cant.ensures.shown _ _ a))) refl))
+    still d (if_so _ _ _ (below _ 63 (omega (arith, c.if-draw_as-ge-FULLY_PARALYSED_BELOW.false))) (goes _ _ a (c.cant.ensures.shown _ _ a))) refl))

@@ -12,9 +12,9 @@ use Rattle.gen1_status.proofs.Counting.{less_confused}
 use Rattle.gen1_status.proofs.Told.{conditions-spare, drawn_tells, still_tells, tells, tells_drawing, tells_goes, tells_if_not, tells_if_so}
 use Rattle.gen1_status.proofs.gate_tests.confusion.confusion_lasts.Goals as goal
 
-pub returns-then-draw-lt-HITS_ITSELF_FROM-clause-shown : goal.returns-then-draw-lt-HITS_ITSELF_FROM-clause-shown
+pub returns-then-draw_as-lt-HITS_ITSELF_FROM-clause-shown : goal.returns-then-draw_as-lt-HITS_ITSELF_FROM-clause-shown
 unfolding lasts may_hurt_itself
-returns-then-draw-lt-HITS_ITSELF_FROM-clause-shown t c origin g p is h =
+returns-then-draw_as-lt-HITS_ITSELF_FROM-clause-shown t c origin g p is h =
     let known = subst (λ (o : Option ℕ). IsCount 0 5 o) is (active_ok c.args.side h.shows.within).conditions.confused in
     let less = less_confused (conditions_in c.args.side p.field) c.args.turns is
     ∙ ap (λ (n : ℕ). record (conditions_in c.args.side p.field) { confused = Some n }) (sym c.saturating_sub.ensures) in
@@ -22,8 +22,8 @@ returns-then-draw-lt-HITS_ITSELF_FROM-clause-shown t c origin g p is h =
     let a = told_so h.shows {events' = t.S.EventSink.tells c.push.new.self} (changed_conditions c.args.side with_confusion_one_less) (λ (f : Field). events.Activate (who_in c.args.side f) volatiles.Confusion) w c.push.ensures.told
     (ap (λ (who : Who). events.Activate who volatiles.Confusion) (c.who.ensures.stands _ _ w)) in
     let b = still_tells h (tells Go (lasts c.args.side volatiles.Confusion with_confusion_one_less) refl (lasts-keeps c.args.side volatiles.Confusion with_confusion_one_less (conditions-spare _ c.args.side with_confusion_one_less)) a) in
-    tells_goes _ _ b (tells_drawing (may_hurt_itself c.args.side) b.shows c.draw.ensures.drawn c.draw.ensures.left
-    (λ d. tells_if_not _ _ _ (not_at_most 128 _ c.if-draw-lt-HITS_ITSELF_FROM.true) (drawn_tells Go stay refl stay-keeps (still d (stays d.shows) refl))))
+    tells_goes _ _ b (tells_drawing (may_hurt_itself c.args.side) b.shows c.draw_as.ensures.drawn c.draw_as.ensures.left
+    (λ d. tells_if_not _ _ _ (not_at_most 128 _ c.if-draw_as-lt-HITS_ITSELF_FROM.true) (drawn_tells Go stay refl stay-keeps (still d (stays d.shows) refl))))
 
 pub returns-clause-shown : goal.returns-clause-shown
 unfolding lasts may_hurt_itself
@@ -35,5 +35,5 @@ returns-clause-shown t c origin g p is h =
     let a = told_so h.shows {events' = t.S.EventSink.tells c.push.new.self} (changed_conditions c.args.side with_confusion_one_less) (λ (f : Field). events.Activate (who_in c.args.side f) volatiles.Confusion) w c.push.ensures.told
     (ap (λ (who : Who). events.Activate who volatiles.Confusion) (c.who.ensures.stands _ _ w)) in
     let b = still_tells h (tells Go (lasts c.args.side volatiles.Confusion with_confusion_one_less) refl (lasts-keeps c.args.side volatiles.Confusion with_confusion_one_less (conditions-spare _ c.args.side with_confusion_one_less)) a) in
-    tells_goes _ _ b (tells_drawing (may_hurt_itself c.args.side) b.shows c.draw.ensures.drawn c.draw.ensures.left
-    (λ d. tells_if_so _ _ _ (at_most 128 _ c.if-draw-lt-HITS_ITSELF_FROM.false) (still_tells d (c.hurt_itself.ensures.shown _ _ d.shows))))
+    tells_goes _ _ b (tells_drawing (may_hurt_itself c.args.side) b.shows c.draw_as.ensures.drawn c.draw_as.ensures.left
+    (λ d. tells_if_so _ _ _ (at_most 128 _ c.if-draw_as-lt-HITS_ITSELF_FROM.false) (still_tells d (c.hurt_itself.ensures.shown _ _ d.shows))))

@@ -3,7 +3,7 @@ use Rattle.gen1_layout.proofs.Words.{arith, false, lit<, nat_le, nat_tests, refl
 use Rattle.gen1_rolls.proofs.Standing.{found_then}
 use Rattle.gen1_machine.specs.Damage.{is_factor}
 use Rattle.gen1_hits.proofs.Varying.{vary-draws, vary-keeps}
-use Rattle.gen1_hits.proofs.factors.factor.Goals as goal
+use Rattle.gen1_hits.proofs.factors.factor_up_to.Goals as goal
 
 pub returns-then-damage-le1-clause-varies : goal.returns-then-damage-le1-clause-varies
 returns-then-damage-le1-clause-varies g c origin stream n a =

@@ -1,0 +1,21 @@
+-- What is looked at of a drawn byte (docs/MECHANICS.md, "Link numbers").
+use Rattle.std.specs.Prelude.{ℕ, ◌+◌, ◌*◌, ◌/◌, ◌%◌, Bool, ◌==◌, nat_lt, min, if◌then◌else◌}
+use Rattle.gen1_rolls.specs.declared.look.Look.{Look}
+use Rattle.gen1_rolls.specs.declared.look.Look.TheVariants.{Below, RotatedBelow, Remainder, Factor}
+
+abbrev pub rotated_left_3 : ℕ → ℕ
+rotated_left_3 b = b * 8 % 256 + b / 32
+
+abbrev pub rotated_right_1 : ℕ → ℕ
+rotated_right_1 b = b / 2 + b % 2 * 128
+
+-- What a look sees of a byte.
+abbrev pub sees : Look → ℕ → ℕ
+sees (Below bound) b = if nat_lt b bound then 1 else 0
+sees (RotatedBelow bound) b = if nat_lt (rotated_left_3 b) bound then 1 else 0
+sees (Remainder divisor) b = b % divisor
+sees (Factor damage limit) b = min (damage * rotated_right_1 b / 255) limit
+
+-- Two bytes are alike under a look that sees the same of both.
+abbrev pub alike : Look → ℕ → ℕ → Bool
+alike look x y = sees look x == sees look y

@@ -1,0 +1,62 @@
+//! What is looked at of a drawn byte (docs/MECHANICS.md, "Link numbers").
+ghost use Rattle.std.specs.Prelude.{◌*◌, ◌/◌, ◌≡◌};
+ghost use Rattle.gen1_rolls.specs.Looks.{alike, rotated_left_3, rotated_right_1, sees};
+
+/// What is looked at of a drawn byte (docs/MECHANICS.md, "Link numbers").
+///
+/// A function that draws tells the generator by a `Look` which bytes are alike to it: those of which the look sees the
+/// same lead to the same battle and the same events. A generator of random bytes ignores it. One that goes through all
+/// results of a draw needs only one byte of those that are alike.
+#[derive(Clone, Copy, PartialEq, Eq, Debug, Drop)]
+pub enum Look {
+    /// Whether the byte is below the bound.
+    Below(u8),
+    /// Whether the byte, rotated left by 3 bits, is below the bound.
+    RotatedBelow(u8),
+    /// The remainder of the byte by a number: by 2, 4 and 8 its lowest bits, by 256 the whole byte, by 1 nothing of it.
+    Remainder(u16),
+    /// The damage times the byte, rotated right by 1 bit, in 255ths, up to the limit. From there on all damage is alike.
+    Factor { damage: u16, limit: u16 },
+}
+
+impl Look {
+    /// What is seen of a byte, as a number.
+    ///
+    /// The remainder by 0 is the byte itself.
+    pub fn sees(self, byte: u8) -> u16
+        ensures { result ≡ sees self byte }
+    {
+        match self {
+            Look::Below(bound) => u16::from(byte < bound),
+            Look::RotatedBelow(bound) => u16::from(rotated_left_3(byte) < bound),
+            Look::Remainder(0) => u16::from(byte),
+            Look::Remainder(divisor) => u16::from(byte) % divisor,
+            Look::Factor { damage, limit } => scaled(damage, rotated_right_1(byte)).min(limit),
+        }
+    }
+
+    /// Whether the same is seen of both bytes.
+    pub fn alike(self, one: u8, other: u8) -> bool
+        ensures { result ≡ alike self one other }
+    {
+        self.sees(one) == self.sees(other)
+    }
+}
+
+fn scaled(damage: u16, factor: u8) -> u16
+    ensures { result ≡ damage * factor / 255 }
+{
+    (u32::from(damage) * u32::from(factor) / 255) as u16
+}
+
+fn rotated_left_3(byte: u8) -> u8
+    ensures { result ≡ rotated_left_3 byte }
+{
+    byte.rotate_left(3)
+}
+
+fn rotated_right_1(byte: u8) -> u8
+    ensures { result ≡ rotated_right_1 byte }
+{
+    byte.rotate_right(1)
+}
