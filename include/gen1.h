@@ -1,9 +1,9 @@
 /*
  * gen1.h - first-generation Pokemon link battles, for C and for languages that call C.
  *
- * The library is libgen1.so (shared) or libgen1_c.a (static). From the C library it needs only memcpy, memmove and memset. A
- * library built from the plain sources (docs/PLAIN.md) also refers to abort, and never reaches it. packaging/README.md
- * describes how to install the library and how to build a program with it.
+ * The library is libgen1.so (shared) or libgen1_c.a (static). From the C library it needs at most memcpy, memmove, memset,
+ * memcmp and bcmp. A library built from the plain sources (docs/PLAIN.md) also refers to abort, and never reaches it.
+ * packaging/README.md describes how to install the library and how to build a program with it.
  *
  * docs/MECHANICS.md has the rules of battle, docs/TABLES.md the numbers of species, moves and types, and docs/LAYOUT.md the 384
  * bytes of a battle. crates/gen1_c/CALLING.md says in which order to call the functions, and which proved contract states what
@@ -14,8 +14,9 @@
  *   - Threads. There is no global state. Calls on different battles may run in different threads at the same time. Calls on the
  *     same battle may do so only if all of them take it as const.
  *   - Errors. Any number may be passed as an argument. A number out of its range makes the function return a code, one of
- *     GEN1_ERROR_.. below. If a function returns a code, it has changed nothing that its pointers point to. The only exception
- *     is `fault` of gen1_team_from_text and gen1_team_from_packed, which then says what is wrong with the text.
+ *     GEN1_ERROR_.. below. If a function returns a code, it has changed nothing that its pointers point to. The only exceptions
+ *     are `fault` of gen1_team_from_text and gen1_team_from_packed, which then says what is wrong with the text, and the two
+ *     arrays of gen1_outcomes.
  *   - Pointers. The library cannot check these, so the caller has to. A pointer must not be NULL, and must point to as much
  *     memory as its type says, or as the size next to it says. A NULL is allowed where that size is 0.
  *   - Overlap. Memory that a function may write must not overlap anything else that is passed to it. What it takes as const may
@@ -270,6 +271,9 @@ enum {
     GEN1_ERROR_NOT_OFFERED_TWO = 26, /* side 2's was not */
     GEN1_ERROR_SMALL_LOG = 27,      /* the room for the log is less than 512 bytes, or than the log */
     GEN1_ERROR_LONG_LOG = 28,       /* the log is longer than that of an update, 512 bytes */
+    GEN1_ERROR_OUTCOMES = 29,       /* the array has fewer places than there are outcomes */
+    GEN1_ERROR_TABLE = 30,          /* the table has fewer places than there are outcomes */
+    GEN1_ERROR_DRAWS = 31,          /* the update has too many draws to list its outcomes; none is known that has */
 
     /* Logs. */
     GEN1_ERROR_LOG_TAG = 32,        /* a byte in a tag's place is no tag */
@@ -657,32 +661,95 @@ typedef struct gen1_batch_update {
  */
 uint8_t gen1_update_many(gen1_battle *battles, size_t count, gen1_batch_update *updates, size_t update_count);
 
+/* How gen1_playout plays. With weights of 0 alone, all offered choices are equally likely. */
+typedef struct gen1_playout_options {
+    uint64_t seed;        /* the state of the generator before its first draw */
+    uint32_t rounds;      /* how many copies are played */
+    uint32_t depth;       /* the number of updates after which a round is decided by the HP left; 0: rounds are played to their end */
+    uint8_t weights[166]; /* of each move by its number, 1 to 164; [165], Struggle, of Move 0; [0] of each switch */
+    uint8_t reserved[2];  /* ignored */
+} gen1_playout_options;
+
 /* How playouts ended. The four numbers add up to `rounds`. */
 typedef struct gen1_playouts {
-    uint32_t wins_one; /* side 1 won */
-    uint32_t wins_two; /* side 2 won */
-    uint32_t ties;     /* nobody won */
+    uint32_t wins_one; /* side 1 won, or is ahead */
+    uint32_t wins_two; /* side 2 won, or is ahead */
+    uint32_t ties;     /* nobody won, and nobody is ahead */
     uint32_t faults;   /* the battle had to stop: GEN1_OUTCOME_FAULT_ONE or GEN1_OUTCOME_FAULT_TWO */
 } gen1_playouts;
 
 /*
- * Plays `rounds` copies of a battle to their end, with choices made at random, and writes to `*counts` how they ended.
+ * Plays copies of a battle with numbers and choices at random, to their end or to a depth, and writes to `*counts` how they
+ * ended.
  *
  * The battle itself does not change. Copies of a battle that is over count as that battle ended. The same arguments give the
  * same counts.
  *
- * In each update each side takes one of the choices that it is offered, side 1 before side 2. Of n choices it takes the one at
- * index (draw modulo n) of the list of gen1_choices. The draws come from a generator of this call alone, whose state has 64
- * bits and is `seed` at first. Each draw replaces the state by 6364136223846793005 times the state plus 1442695040888963407,
- * modulo 2 to the power of 64, and is the upper 32 bits of the new state.
+ * A round first draws the ten numbers of its copy, each (draw modulo 256), and sets them as gen1_reseed does with index 0. So
+ * rounds are independent, and none knows the numbers that the battle itself will draw. Then in each update each side takes one
+ * of the choices that it is offered, side 1 before side 2.
  *
- * Hits, damage and all else that the battle itself draws come from its own link numbers, which are the same in each round. A
- * search that must not know them passes copies that have other numbers (gen1_reseed).
+ * A side draws from the list of gen1_choices in which each choice is repeated as often as its weight says. If all its choices have
+ * the weight 0, each is in the list once. Of a list of n it takes the one at index (draw modulo n). So a choice of weight 6 is
+ * twice as likely as one of weight 3, and one of weight 0 is taken only if the others have 0 too. Move 0, with which a member goes
+ * on or uses Struggle, has the weight of Struggle. Pass is always the only choice.
+ *
+ * A round that is still going on after `depth` updates is decided by the HP that each side has left, as a share of what its
+ * members have unhurt: the side with the larger share wins, and equal shares are a tie.
+ *
+ * The draws come from a generator of this call alone, whose state has 64 bits and is `seed` at first. Each draw replaces the
+ * state by 6364136223846793005 times the state plus 1442695040888963407, modulo 2 to the power of 64, and is the upper 32 bits
+ * of the new state.
  *
  * Returns 0, or the number of the first test of gen1_load that the battle's bytes fail (GEN1_ERROR_LOAD_VERSION, ..); then
  * nothing is written.
  */
-uint8_t gen1_playout(const gen1_battle *battle, uint64_t seed, uint32_t rounds, gen1_playouts *counts);
+uint8_t gen1_playout(const gen1_battle *battle, const gen1_playout_options *options, gen1_playouts *counts);
+
+/* ---- exact outcomes ---- */
+
+/* A battle that an update can lead to, with its weight. */
+typedef struct gen1_successor {
+    gen1_battle battle; /* after the update; bytes 5 to 15, the numbers to draw, are those from before */
+    uint64_t low;       /* the low 64 bits of the weight */
+    uint64_t high;      /* the high 64 bits */
+} gen1_successor;
+
+/* The list that gen1_outcomes wrote. */
+typedef struct gen1_outcome_list {
+    uint64_t low;   /* the low 64 bits of the sum of all weights */
+    uint64_t high;  /* the high 64 bits */
+    uint64_t count; /* how many outcomes there are, at least 1 */
+} gen1_outcome_list;
+
+#define GEN1_SUCCESSOR_SIZE 400 /* the size of a gen1_successor, for other languages; its alignment is at most 8 */
+
+/*
+ * Lists all battles that an update by a choice of each side can lead to, each once, with its exact probability: its weight over
+ * the sum of all weights, which `*list` has. Both are whole numbers of up to 128 bits.
+ *
+ * The probabilities are exact for draws that are independent uniform bytes. A link battle draws other numbers
+ * (docs/MECHANICS.md, "Link numbers"). If its seed is unknown they are an approximation, off by about 0.01 in total variation;
+ * with a known seed there is one outcome, that of gen1_update. The numbers to draw of `battle` are not used, and its outcomes
+ * keep them. So reseed an outcome before you play it on.
+ *
+ * The outcomes are written to the first places of `successors`, in no particular order. `table` is for the call's own use, and
+ * needs at least as many places as there are outcomes; twice as many make the call faster. Most updates have fewer than 100
+ * outcomes, and all that were met have fewer than 65,536.
+ *
+ * Returns 0, or the first of these codes that applies, and then nothing has changed: GEN1_ERROR_OVER,
+ * GEN1_ERROR_NOT_OFFERED_ONE, GEN1_ERROR_NOT_OFFERED_TWO. Otherwise it returns GEN1_ERROR_OUTCOMES or GEN1_ERROR_TABLE if that
+ * array has too few places, or GEN1_ERROR_DRAWS. Then `*list` has not changed, and both arrays may have any content.
+ */
+uint8_t gen1_outcomes(const gen1_battle *battle, uint8_t one, uint8_t two, gen1_successor *successors, size_t capacity,
+                      uint32_t *table, size_t table_size, gen1_outcome_list *list);
+
+/* Returns the probability of an outcome of a list, as a double near it. */
+static inline double GEN1_PROBABILITY(const gen1_successor *successor, const gen1_outcome_list *list)
+{
+    const double high = 18446744073709551616.0; /* 2 to the power of 64 */
+    return ((double)successor->high * high + (double)successor->low) / ((double)list->high * high + (double)list->low);
+}
 
 /* ---- teams out of text ---- */
 

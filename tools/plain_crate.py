@@ -5,6 +5,7 @@ within the crate. Contracts, ghost code and laws are off (tools/plain_source.py)
 """
 import re
 
+from plain_hints import hinted
 from plain_source import Source, in_plain_rust, laws_of
 from plain_tokens import tokens_of
 from repository import ROOT
@@ -40,7 +41,7 @@ def generated():
     folder, files = RUST / "gen1" / "src" / "generated", {}
     for name, library in libraries.items():
         if name in modules:
-            files[folder / f"{short(name)}.rs"] = library.whole(inside, inside[name])
+            files[folder / f"{short(name)}.rs"] = hinted(name, library.whole(inside, inside[name]))
         elif name.startswith("test_"):
             files[RUST / "gen1-tests" / "tests" / f"{name.removeprefix('test_')}.rs"] = library.whole(outside | {"gen1_adapter": "gen1_tests"}, "crate")
         else:

@@ -1,4 +1,4 @@
-/* Calls of many battles and of playouts with arguments out of their ranges (hostile.c). */
+/* Calls of many battles, of playouts and of exact outcomes with arguments out of their ranges (hostile.c). */
 #include "lawful.h"
 
 #include <string.h>
@@ -96,13 +96,58 @@ static void try_playout(void)
     bool is_valid;
     gen1_battle from = some_battle(&is_valid), loaded;
     uint32_t rounds = draw(3);
+    gen1_playout_options asked = { .seed = draw(UINT32_MAX), .rounds = rounds, .depth = draw(2) * draw(9) };
+    for (size_t at = 0; at < sizeof asked.weights && rounds != 0; at++)
+        asked.weights[at] = one_in(2) ? 0 : any_byte();
     const gen1_battle *battle = block_of(0, &from, sizeof from);
     gen1_playouts *counts = block(1, sizeof *counts);
+    const gen1_playout_options *options = block_of(2, &asked, sizeof asked);
     note();
-    uint8_t got = gen1_playout(battle, draw(UINT32_MAX), rounds, counts), want = gen1_load(&loaded, from.bytes, sizeof from.bytes);
+    uint8_t got = gen1_playout(battle, options, counts), want = gen1_load(&loaded, from.bytes, sizeof from.bytes);
     bool is_kept = got != 0 ? unchanged()
         : changed_only(1, sizeof *counts) && counts->wins_one + counts->wins_two + counts->ties + counts->faults == rounds;
     tell("gen1_playout", got == want && is_kept, got, want);
 }
 
-try_call *const tries_of_batches[] = {try_offered, try_offered_many, try_update_many, try_playout, NULL};
+/* Whether the weights sum to what the list says, and an ordinary update leads to one of the outcomes. */
+static bool is_whole(const gen1_battle *from, uint8_t one, uint8_t two, const gen1_successor *found, const gen1_outcome_list *list)
+{
+    uint64_t low = 0, high = 0;
+    gen1_battle next = *from;
+    bool is_there = false;
+    gen1_update_silent(&next, one, two);
+    memcpy(next.bytes + 5, from->bytes + 5, 11); /* the numbers to draw */
+    for (uint64_t at = 0; at < list->count; at++) {
+        low += found[at].low;
+        high += found[at].high + (low < found[at].low);
+        is_there |= memcmp(&found[at].battle, &next, sizeof next) == 0;
+    }
+    return low == list->low && high == list->high && is_there;
+}
+
+static void try_outcomes(void)
+{
+    bool is_valid;
+    gen1_battle from = some_battle(&is_valid), next = from;
+    uint8_t one = one_in(8) ? any_byte() : offered(&from, GEN1_ONE), two = one_in(8) ? any_byte() : offered(&from, GEN1_TWO);
+    size_t capacity = draw(GUARDED_ROOM / sizeof(gen1_successor) + 1), places = draw(2) * draw(2 * MANY) + draw(2) * 64;
+    const gen1_battle *battle = block_of(0, &from, sizeof from);
+    gen1_successor *found = block(1, capacity * sizeof *found);
+    uint32_t *table = block(2, places * sizeof *table);
+    gen1_outcome_list *list = block(3, sizeof *list);
+    note();
+    uint8_t got = gen1_outcomes(battle, one, two, found, capacity, table, places, list);
+    uint8_t want = is_valid ? gen1_update_silent(&next, one, two) : 0;
+    bool is_short = got == GEN1_ERROR_OUTCOMES || got == GEN1_ERROR_TABLE;
+    size_t sizes[BLOCKS] = {0, capacity * sizeof *found, places * sizeof *table, got == 0 ? sizeof *list : 0};
+    bool is_right = want == 0 && (got == 0 || is_short) ? changed_only_these(sizes) : got == want && unchanged();
+    if (!is_valid)
+        is_right = changed_only_these(sizes);
+    if (got == 0)
+        is_right &= list->count <= capacity && list->count <= places;
+    if (got == 0 && is_valid)
+        is_right &= is_whole(&from, one, two, found, list);
+    tell("gen1_outcomes", is_right, got, want);
+}
+
+try_call *const tries_of_batches[] = {try_offered, try_offered_many, try_update_many, try_playout, try_outcomes, NULL};

@@ -150,11 +150,11 @@ same-itself (choices.Move k) = is-same k
     is-same n = elim (eqb_tells n n) [ inl h ↦ h.0 | inr h ↦ absurd (h.1 refl) ]
 same-itself (choices.Switch k) = elim (eqb_tells k k) [ inl h ↦ h.0 | inr h ↦ absurd (h.1 refl) ]
 
+pub or-yes : (b : Bool) {c : Bool} → c ≡ true → (b || c) ≡ true
+or-yes true h = refl
+or-yes false h = h
+
 pub among-at : (xs : List Choice) (k : ℕ) (d : Choice) → k < length xs → is_among (get_or xs k d) xs ≡ true
 among-at [] k d inside = absurd (omega (arith, inside))
 among-at (x ∷ xs) zero d inside = rw (same-itself x) refl
 among-at (x ∷ xs) (suc k) d inside = or-yes (same_choice (get_or xs k d) x) (among-at xs k d (omega (arith, inside)))
-  where
-    or-yes : (b : Bool) {c : Bool} → c ≡ true → (b || c) ≡ true
-    or-yes true h = refl
-    or-yes false h = h

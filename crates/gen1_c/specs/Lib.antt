@@ -18,6 +18,8 @@ pub mod EventBytes
 pub mod Damage
 -- Masks, and many battles.
 pub mod Batches
+-- The battles that an update can lead to.
+pub mod Outcomes
 -- How playouts end.
 pub mod Playouts
 -- Teams read from text.

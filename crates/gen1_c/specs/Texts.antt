@@ -45,6 +45,9 @@ update_sentences =
     codes "the choice of side 2 was not offered" ∷
     codes "the room for the log is less than 512 bytes" ∷
     codes "the log is longer than that of an update, 512 bytes" ∷
+    codes "the array has fewer places than there are outcomes" ∷
+    codes "the table has fewer places than there are outcomes" ∷
+    codes "the update has too many draws to list its outcomes" ∷
     []
 
 -- logs, from 32 on

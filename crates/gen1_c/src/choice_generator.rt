@@ -1,6 +1,6 @@
-//! The generator of random choices (include/gen1.h, "many battles").
+//! The generator of playouts (include/gen1.h, "many battles").
 ghost use Rattle.std.specs.Prelude.{◌%◌, ◌/◌, ◌<◌, ◌≡◌, ◌≤◌};
-ghost use Rattle.gen1_c.specs.Playouts.{next_state};
+ghost use Rattle.gen1_c.specs.Playouts.{next_state, numbers_from};
 
 // A linear congruential generator modulo 2 to the power of 64. A draw is the upper 32 bits of its state.
 #[derive(Drop)]
@@ -24,6 +24,18 @@ impl ChoiceGenerator {
     {
         self.state = next_state(self.state);
         (self.state / 4294967296) as usize % count
+    }
+
+    // Draws the ten numbers of a battle.
+    pub(crate) fn ten_numbers(&mut self) -> [u8; 10]
+        ensures drawn { result ≡ (numbers_from self.old.state 10).drawn }
+        ensures state { self.new.state ≡ (numbers_from self.old.state 10).random }
+    {
+        let mut numbers = [0; 10];
+        for place in 0..10 {
+            numbers[place] = self.below(256) as u8;
+        }
+        numbers
     }
 }
 

@@ -1,11 +1,12 @@
 //! The codes that functions return (include/gen1.h, "errors"). Each number is the same error in every function.
 ghost use Rattle.std.specs.Prelude.{◌≡◌, ◌≤◌};
-ghost use Rattle.gen1_c.specs.Codes.{load_code, log_code, refusal_code};
+ghost use Rattle.gen1_c.specs.Codes.{load_code, log_code, outcomes_code, refusal_code};
 
 use gen1_engine::Refusal;
 use gen1_events::LogFault;
 use gen1_layout::LoadFault;
 use gen1_machine::Side;
+use gen1_outcomes::OutcomesFault;
 
 // Terms.
 pub(crate) const RULES: u32 = 12;
@@ -13,6 +14,10 @@ pub(crate) const RULES: u32 = 12;
 pub(crate) const TURN_LIMIT: u32 = 13;
 
 // Updates.
+pub(crate) const NOT_OFFERED_ONE: u8 = 25;
+
+pub(crate) const NOT_OFFERED_TWO: u8 = 26;
+
 pub(crate) const SMALL_LOG: u8 = 27;
 
 // Logs.
@@ -82,6 +87,19 @@ pub(crate) fn of_refusal(why: Refusal) -> u8
         Refusal::Over => 24,
         Refusal::NotOffered(Side::One) => 25,
         Refusal::NotOffered(Side::Two) => 26,
+    }
+}
+
+// Why no outcomes were listed.
+pub(crate) fn of_outcomes(why: OutcomesFault) -> u8
+    ensures value { result ≡ outcomes_code why }
+    ensures some { 1 ≤ result }
+{
+    match why {
+        OutcomesFault::Refused(why) => of_refusal(why),
+        OutcomesFault::Places => 29,
+        OutcomesFault::Table => 30,
+        OutcomesFault::Size => 31,
     }
 }
 

@@ -7,8 +7,11 @@
 //! - `choices`: offered choices as bytes
 //! - `masks`: offered choices as a mask
 //! - `batches`: many battles in one call
-//! - `playouts`: battles played to their end by random choices
-//! - `choice_generator`: the generator of those choices
+//! - `outcomes`: all battles that an update can lead to
+//! - `playouts`: battles played by random choices
+//! - `choice_generator`: the generator of their numbers and choices
+//! - `weights`: choices drawn by weights
+//! - `ahead`: which side is ahead
 //! - `team_text`: teams read from text
 //! - `events`: the events of a log
 //! - `event_bytes`: the bytes of an event
@@ -30,6 +33,7 @@
 //! - `fronts`: writing to the beginning of a caller's memory
 #![tactic(auto)]
 
+mod ahead;
 pub mod batches;
 pub mod battle;
 pub mod chart;
@@ -47,6 +51,7 @@ pub mod masks;
 pub mod member_stats;
 pub mod names;
 pub mod odds;
+pub mod outcomes;
 pub mod players;
 pub mod playouts;
 pub mod reseed;
@@ -57,12 +62,14 @@ mod teams;
 pub mod texts;
 pub mod update;
 pub mod view;
+mod weights;
 
 pub use batches::BatchUpdate;
 pub use events::EventFields;
 pub use gen1_states::{ActiveState, BattleState, MemberState, SideState};
 pub use names::{BaseForm, MoveForm};
-pub use playouts::PlayoutCounts;
+pub use outcomes::OutcomeList;
+pub use playouts::{PlayoutCounts, PlayoutOptions};
 pub use team_text::TextFaultForm;
 pub use teams::{MemberForm, TeamForm};
 pub use view::StateFaultForm;

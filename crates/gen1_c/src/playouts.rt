@@ -1,19 +1,37 @@
-//! Battles played to their end by random choices (include/gen1.h, "many battles").
-ghost use Rattle.std.specs.Prelude.{IfOk, IsOk, length, ◌+◌, ◌<◌, ◌≡◌, ◌≢◌, ◌≤◌};
-ghost use Rattle.gen1_machine.specs.State.{State};
+//! Battles played by random choices, to their end or a number of updates long (include/gen1.h, "many battles").
+ghost use Rattle.std.specs.Prelude.{IfOk, IsOk, false, ◌+◌, ◌<◌, ◌≡◌, ◌≢◌};
+ghost use Rattle.gen1_machine.specs.State.{State, is_over};
 ghost use Rattle.gen1_layout.specs.Within.{Stands};
-ghost use Rattle.gen1_requests.specs.OfferedMask.{choices_in};
-ghost use Rattle.gen1_c.specs.Playouts.{EndsAs, IsDrawn, IsPlayedOut, Plays, PlaysOut, counting, total};
+ghost use Rattle.gen1_c.specs.Playouts.{EndsAs, IsDrawn, IsPlayedOut, IsRound, IsZeros, MayEndAs, Plays, PlaysOut, counting, drawn_from, end_in, most_updates, total};
 ghost use Rattle.gen1_layout.specs.Parts.{joined};
 
+use crate::ahead::leader;
 use crate::choice_generator::ChoiceGenerator;
 use crate::codes::of_load;
-use gen1_engine::Battle;
-use gen1_engine::packed::{choice_at, count_of};
+use crate::weights::{has_weights, pick, pick_weighted, weights_of};
+use gen1_engine::packed::{count_of, offered_mask, reseed, result, update_offered};
 use gen1_events::Silent;
 use gen1_layout::Packed;
 use gen1_machine::{Choice, Outcome, Side};
+use gen1_rolls::LinkRandom;
 use std::alloc::AllocError;
+
+/// How playouts are played.
+#[repr(C)]
+#[derive(Clone, Copy)]
+pub struct PlayoutOptions {
+    /// The state of the generator before its first draw.
+    pub seed: u64,
+    /// How many rounds are played.
+    pub rounds: u32,
+    /// The number of updates after which a round is decided by the HP left, or 0 to play each round to its end.
+    pub depth: u32,
+    /// How often each choice is made compared to others: by the move's number, where Move 0 counts as Struggle, 165. The first is
+    /// the weight of each switch. Where all have the weight 0, all are alike.
+    pub weights: [u8; 166],
+    /// Ignored.
+    pub reserved: [u8; 2],
+}
 
 /// How playouts ended.
 #[repr(C)]
@@ -29,43 +47,44 @@ pub struct PlayoutCounts {
     pub faults: u32,
 }
 
-/// Plays copies of a battle to their end, by random choices among those offered, and counts how they end (include/gen1.h, "many
-/// battles"). Returns 0, or the code of the first of the seven tests of loading that the bytes fail (docs/LAYOUT.md, "Loading");
-/// then nothing is written.
+/// Plays copies of a battle, each with random numbers to draw and by random choices among those offered, and counts how they end
+/// (include/gen1.h, "many battles"). Returns 0, or the code of the first of the seven tests of loading that the bytes fail
+/// (docs/LAYOUT.md, "Loading"); then nothing is written.
 #[unsafe(no_mangle)]
 pub extern "C" fn gen1_playout(
     battle: &Packed,
-    seed: u64,
-    rounds: u32,
+    options: &PlayoutOptions,
     counts: &mut PlayoutCounts,
 ) -> u8
-    ensures plays { Plays (joined battle.now) seed rounds counts.old counts.new result }
-    ensures total { result ≡ 0 → total counts.new ≡ rounds }
+    ensures plays { Plays (joined battle.now) options.now counts.old counts.new result }
+    ensures total { result ≡ 0 → total counts.new ≡ options.now.rounds }
     ensures kept { result ≢ 0 → counts.new ≡ counts.old }
 {
-    match Battle::load(battle.as_bytes()) {
+    match Packed::read(battle.as_bytes()) {
         Ok(start) => {
-            *counts = counted(&start, seed, rounds);
+            *counts = counted(&start, options);
             0
         }
         Err(fault) => of_load(fault),
     }
 }
 
-// How that many playouts end.
-fn counted(start: &Battle, seed: u64, rounds: u32) -> PlayoutCounts
-    ensures plays { (s : State) → Stands start.now s → PlaysOut s seed rounds result }
-    ensures total { total result ≡ rounds }
+// How the rounds end.
+fn counted(start: &Packed, options: &PlayoutOptions) -> PlayoutCounts
+    ensures plays { (s : State) → Stands start.now s
+        → PlaysOut options.now s options.now.rounds result }
+    ensures total { total result ≡ options.now.rounds }
 {
-    let mut random = ChoiceGenerator::new(seed);
+    let by_weights = has_weights(&options.weights);
+    let mut random = ChoiceGenerator::new(options.seed);
     let mut counts = PlayoutCounts {
         wins_one: 0,
         wins_two: 0,
         ties: 0,
         faults: 0,
     };
-    'rounds: for _ in 0..rounds {
-        let end = end_of(start, &mut random);
+    'rounds: for _ in 0..options.rounds {
+        let end = end_of(start, options, by_weights, &mut random);
         count(end, &mut counts);
     }
     counts
@@ -85,58 +104,114 @@ fn count(end: Outcome, counts: &mut PlayoutCounts)
     }
 }
 
-// How a copy of a battle ends.
-fn end_of(start: &Battle, random: &mut ChoiceGenerator) -> Outcome
-    ensures ends { (s : State) → Stands start.now s → EndsAs s result }
+// How a round ends: a copy of a battle that draws from ten numbers of its own.
+fn end_of(
+    start: &Packed,
+    options: &PlayoutOptions,
+    by_weights: bool,
+    random: &mut ChoiceGenerator,
+) -> Outcome
+    requires none { by_weights ≡ false → IsZeros options.now.weights }
+    ensures ends { (s : State) → Stands start.now s → MayEndAs options.now.depth s result }
     ensures played { (s : State) → Stands start.now s
-        → IsPlayedOut s random.old.state result random.new.state }
+        → IsRound options.now s random.old.state result random.new.state }
 {
     match copy_of(start) {
         Ok(copy) => {
             let mut copy = copy;
-            run_to_end(&mut copy, random)
+            reseed(&mut copy, &LinkRandom::new(random.ten_numbers()));
+            run(&mut copy, options, by_weights, random)
         }
         // A copy allocates nothing, so this does not happen.
-        Err(_) => start.result().outcome,
+        Err(_) => start.outcome(),
     }
 }
 
-fn copy_of(battle: &Battle) -> Result<Battle, AllocError>
+pub(crate) fn copy_of(battle: &Packed) -> Result<Packed, AllocError>
     ensures copy { IfOk result (λ copy. copy ≡ battle.now) }
     ensures always { IsOk result }
 {
     Ok(battle.clone()?)
 }
 
-// Plays a battle to its end by random choices, and returns how it ended.
-fn run_to_end(battle: &mut Battle, random: &mut ChoiceGenerator) -> Outcome
-    ensures ends { (s : State) → Stands battle.old s → EndsAs s result }
+// Plays a battle by random choices to its end, or so many updates long, and returns how it ended.
+fn run(
+    battle: &mut Packed,
+    options: &PlayoutOptions,
+    by_weights: bool,
+    random: &mut ChoiceGenerator,
+) -> Outcome
+    requires none { by_weights ≡ false → IsZeros options.now.weights }
+    ensures ends { (s : State) → Stands battle.old s → EndsAs options.now.depth s result }
     ensures played { (s : State) → Stands battle.old s
-        → IsPlayedOut s random.old.state result random.new.state }
+        → IsPlayedOut options.now s random.old.state result random.new.state }
 {
-    // No battle takes more updates (docs/MECHANICS.md, "Turn limit").
-    'updates: for _ in 0..u32::from(battle.limit()) + 11 {
-        let now = battle.result();
+    'updates: for _ in 0..most_updates(battle.limit(), options.depth) {
+        let now = result(battle);
         if now.outcome.is_over() {
             return now.outcome;
         }
-        let one = pick(battle.offered_mask(Side::One), random);
-        let two = pick(battle.offered_mask(Side::Two), random);
-        battle.update_offered(one, two, &mut Silent);
+        let one = draw(battle, Side::One, options, by_weights, random);
+        let two = draw(battle, Side::Two, options, by_weights, random);
+        update_offered(battle, one, two, &mut Silent);
     }
-    battle.result().outcome
+    end_now(battle)
 }
 
-// One of the choices of a mask, at random. If it has none, nothing is drawn.
-fn pick(mask: u16, random: &mut ChoiceGenerator) -> Choice
-    requires { mask < 4096 }
-    ensures { 1 ≤ length (choices_in mask)
-        → IsDrawn random.old.state (choices_in mask) result random.new.state }
+// A choice of a side, at random.
+#[inline(always)] // docs/SPEED.md, "Hints on inlining"
+fn draw(
+    battle: &Packed,
+    side: Side,
+    options: &PlayoutOptions,
+    by_weights: bool,
+    random: &mut ChoiceGenerator,
+) -> Choice
+    requires none { by_weights ≡ false → IsZeros options.now.weights }
+    ensures { (s : State) → Stands battle.now s → is_over s.field.outcome ≡ false
+        → IsDrawn random.old.state (drawn_from options.now.weights side s.field) result random.new.state }
 {
-    let count = count_of(mask);
-    if count == 0 {
-        return Choice::Pass;
+    if by_weights {
+        return draw_by_weights(battle, side, options, random);
     }
-    let place = random.below(count as usize) as u8;
-    choice_at(mask, place)
+    pick(offered_mask(battle, side), random)
+}
+
+#[inline(never)] // docs/SPEED.md, "Hints on inlining"
+fn draw_by_weights(
+    battle: &Packed,
+    side: Side,
+    options: &PlayoutOptions,
+    random: &mut ChoiceGenerator,
+) -> Choice
+    ensures { (s : State) → Stands battle.now s → is_over s.field.outcome ≡ false
+        → IsDrawn random.old.state (drawn_from options.now.weights side s.field) result random.new.state }
+{
+    let mask = offered_mask(battle, side);
+    // Before the first update no member is out whose moves could have weights, but then a side can only pass.
+    if count_of(mask) < 2 {
+        return pick(mask, random);
+    }
+    let weights = weights_of(battle, side, &options.weights);
+    pick_weighted(mask, &weights, random)
+}
+
+// How many updates a round takes at most: as many as any battle (docs/MECHANICS.md, "Turn limit"), or the depth, if it is not 0.
+fn most_updates(limit: u16, depth: u32) -> u32
+    ensures { result ≡ most_updates limit depth }
+{
+    let all = u32::from(limit) + 11;
+    if depth == 0 { all } else { all.min(depth) }
+}
+
+// How a battle ended, or which side is ahead in it.
+fn end_now(battle: &Packed) -> Outcome
+    ensures { (s : State) → Stands battle.now s → result ≡ end_in s.field }
+{
+    let now = result(battle);
+    if now.outcome.is_over() {
+        now.outcome
+    } else {
+        leader(battle)
+    }
 }

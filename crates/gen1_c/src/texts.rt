@@ -38,12 +38,15 @@ static LOAD_TEXTS: [&str; 8] = [
     "a field of the state is wrong",
 ];
 
-static UPDATE_TEXTS: [&str; 5] = [
+static UPDATE_TEXTS: [&str; 8] = [
     "the battle is over",
     "the choice of side 1 was not offered",
     "the choice of side 2 was not offered",
     "the room for the log is less than 512 bytes",
     "the log is longer than that of an update, 512 bytes",
+    "the array has fewer places than there are outcomes",
+    "the table has fewer places than there are outcomes",
+    "the update has too many draws to list its outcomes",
 ];
 
 static LOG_TEXTS: [&str; 4] = [

@@ -32,6 +32,7 @@
 //! | battles | [`Battle`], [`Choice`], [`Update`], [`Event`], [`Line`] |
 //! | the whole state of a battle | [`Battle::state`], [`State`], [`Battle::from_state`], [`Battle::with_hp`] |
 //! | damage and exact chances | [`Battle::damage`], [`Battle::odds`], [`Battle::knock_out`] |
+//! | all that an update can lead to, with exact probabilities | `Battle::outcomes`, [`Battle::outcomes_into`], [`Battle::ways`] |
 //! | searches | [`Battle::offered_mask`], [`Battle::update_silent`], [`Battle::reseed`], [`Battle::key`] |
 //! | events without a list, logs | [`Battle::update_with`], [`EventSink`], [`events_of`] |
 //! | what a player knows | [`Player`], [`Teller`], [`Battle::own_side`], [`Battle::from_player`] |
@@ -46,7 +47,8 @@
 //!
 //! # Features
 //!
-//! The crate is `no_std` and needs no allocator. `serde` adds `Serialize` and `Deserialize` for members, names, choices, sides, events,
+//! The crate is `no_std` and needs no allocator. `alloc` adds `Battle::outcomes`, whose list grows; [`Battle::outcomes_into`] and
+//! [`Battle::ways`] do without. `serde` adds `Serialize` and `Deserialize` for members, names, choices, sides, events,
 //! states, outcomes, odds and battles. A [`Team`] is only deserialized, from a list of members. A member is the object of
 //! [docs/PROGRAM.md][program], a battle its 384 bytes, and a name its text:
 //!
@@ -94,6 +96,7 @@ mod guess;
 mod lines;
 mod mask;
 mod odds;
+mod outcomes;
 mod player;
 mod room;
 #[cfg(feature = "serde")]
@@ -118,6 +121,8 @@ pub use crate::generated::machine::{
 #[doc(inline)]
 pub use crate::generated::odds::Reason as OddsReason;
 #[doc(inline)]
+pub use crate::generated::outcomes::{Chance, Outcomes, OutcomesFault, Successor};
+#[doc(inline)]
 pub use crate::generated::player::{
     Announced, OwnMember, OwnSide, Public, PublicSide, Seen, SeenMove, SeenStages,
 };
@@ -138,6 +143,9 @@ pub use guess::{Guess, GuessFault};
 pub use lines::{Events, Line, Lines, events_of};
 pub use mask::OfferedMask;
 pub use odds::{Chances, DamageRefusal, Odds};
+#[cfg(feature = "alloc")]
+pub use outcomes::OutcomeList;
+pub use outcomes::{Way, Ways};
 pub use player::{Player, Teller};
 pub use room::Room;
 pub use spectator::Spectator;

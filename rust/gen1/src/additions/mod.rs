@@ -6,6 +6,7 @@ mod events;
 mod layout;
 mod machine;
 mod odds;
+mod outcomes;
 mod player;
 mod room;
 mod stats;

@@ -28,7 +28,7 @@ mod action_hit_test {
     /// It takes at most one draw. `known` then holds the byte that was tested, and whether the action has missed. An
     /// earlier miss stays. A miss sets the last damage to 0 and ends the user's Trapping. Nothing else of the battle
     /// changes.
-    pub fn hit_or_miss<R: Rolls>(
+    #[inline(always)] pub fn hit_or_miss<R: Rolls>(
         battle: &mut Packed,
         side: Side,
         id: MoveId,
@@ -155,7 +155,7 @@ mod confusion {
     use crate::generated::events::EventSink;
     use crate::generated::layout::Packed;
     use crate::generated::machine::{Event, Side, Volatile};
-    use crate::generated::rolls::Rolls;
+    use crate::generated::rolls::{Look, Rolls};
 
     /// Confuses the member of `side` that is out for two to five turns, by one draw ([docs/MECHANICS.md, "Early effects"](https://hibsuloy.example/gen1/blob/main/docs/MECHANICS.md#early-effects)).
     ///
@@ -167,7 +167,7 @@ mod confusion {
         random: &mut R,
         events: &mut S,
     ) {
-        let byte = random.draw();
+        let byte = random.draw_as(Look::Remainder(4));
         confuse_by(battle, side, byte, events);
     }
 
@@ -180,17 +180,17 @@ mod confusion {
 mod counts {
     //! How many times a move hits or holds ([docs/MECHANICS.md, "Many hits"](https://hibsuloy.example/gen1/blob/main/docs/MECHANICS.md#many-hits), "Going on").
 
-    use crate::generated::rolls::Rolls;
+    use crate::generated::rolls::{Look, Rolls};
 
     /// Draws how many times a move hits, or how long it holds, less 2: 0 to 3 ([docs/MECHANICS.md, "Many hits"](https://hibsuloy.example/gen1/blob/main/docs/MECHANICS.md#many-hits)).
     ///
     /// 2 and 3 are rarer. It takes one draw, and a second if the first has 2 or 3 in its low bits.
     pub fn draw_count<R: Rolls>(random: &mut R) -> u8 {
-        let first = random.draw() % 4;
+        let first = random.draw_as(Look::Remainder(4)) % 4;
         if first <= 1 {
             return first;
         }
-        random.draw() % 4
+        random.draw_as(Look::Remainder(4)) % 4
     }
 }
 

@@ -521,7 +521,7 @@ mod late_effects {
         use crate::generated::events::EventSink;
         use crate::generated::layout::{Conditions, Packed};
         use crate::generated::machine::{Kind, Side};
-        use crate::generated::rolls::{Rolls, until};
+        use crate::generated::rolls::{Look, Rolls};
         use crate::generated::stats::Status;
         use crate::generated::status::inflict_status;
         use crate::generated::tables::MoveId;
@@ -601,7 +601,7 @@ mod late_effects {
             random: &mut R,
             events: &mut S,
         ) {
-            let Some(byte) = until(random, |byte| byte % 8 != 0) else {
+            let Some(byte) = random.until_as(|byte| byte % 8 != 0, Look::Remainder(8)) else {
                 return;
             };
             sleep_for(battle, side, marked, byte, events);
@@ -744,11 +744,11 @@ mod side_effects {
     mod chance {
         //! Effects by chance, which happen if a draw is below a number ([docs/MECHANICS.md, "Side effects"](https://hibsuloy.example/gen1/blob/main/docs/MECHANICS.md#side-effects)).
 
-        use crate::generated::rolls::Rolls;
+        use crate::generated::rolls::{Look, Rolls};
 
         // Draws, and returns whether the draw is below the bound.
         pub(super) fn is_drawn_below<R: Rolls>(bound: u8, random: &mut R) -> bool {
-            random.draw() < bound
+            random.draw_as(Look::Below(bound)) < bound
         }
     }
 
@@ -788,7 +788,7 @@ mod side_effects {
         use crate::generated::events::EventSink;
         use crate::generated::layout::{Conditions, Packed};
         use crate::generated::machine::{DisabledSlot, Event, Side, Volatile};
-        use crate::generated::rolls::{Rolls, until};
+        use crate::generated::rolls::{Look, Rolls};
         use crate::generated::tables::MoveId;
 
         pub(super) fn disable<R: Rolls, S: EventSink>(
@@ -820,7 +820,7 @@ mod side_effects {
             let any_pp = has_pp(battle, foe);
             let found = {
                 let now: &Packed = battle;
-                until(random, |byte| names_slot(now, foe, any_pp, byte))
+                random.until_as(|byte| names_slot(now, foe, any_pp, byte), slot_look(any_pp))
             };
             match found {
                 Some(byte) => disable_slot(battle, side, any_pp, byte, random, events),
@@ -840,7 +840,7 @@ mod side_effects {
                 fail(battle, side, events);
                 return true;
             }
-            let count = random.draw();
+            let count = random.draw_as(Look::Remainder(8));
             disable_for(battle, side.other(), byte, count, events);
             false
         }
@@ -852,6 +852,15 @@ mod side_effects {
             };
             battle.put_disabled(foe, Some(disabled));
             events.push(Event::Start(battle.who(foe), Volatile::Disable));
+        }
+
+        // If no slot has PP, Disable fails at each slot.
+        fn slot_look(any_pp: bool) -> Look {
+            if any_pp {
+                Look::Remainder(4)
+            } else {
+                Look::Remainder(1)
+            }
         }
 
         // A drawn slot has to hold a move. If any move has PP, that move must have PP.

@@ -17,7 +17,7 @@ mod critical_hits {
 
     use crate::generated::layout::{Conditions, Packed};
     use crate::generated::machine::Side;
-    use crate::generated::rolls::Rolls;
+    use crate::generated::rolls::{Look, Rolls};
     use crate::generated::tables::{MoveId, Species};
 
     const KARATE_CHOP: u8 = 2;
@@ -34,9 +34,9 @@ mod critical_hits {
     /// It takes one draw. The battle stays as it is, and no event is written.
     #[inline(always)] // docs/SPEED.md, "Hints on inlining"
     pub fn critical<R: Rolls>(battle: &Packed, side: Side, id: MoveId, random: &mut R) -> bool {
-        let rotated = rotated_left_3(random.draw());
         let focused = battle.is_on(side, Conditions::FOCUS_ENERGY);
-        rotated < critical_bound(battle.species(side), focused, id)
+        let bound = critical_bound(battle.species(side), focused, id);
+        rotated_left_3(random.draw_as(Look::RotatedBelow(bound))) < bound
     }
 
     /// The bound of a critical hit, 0 to 255: a draw, rotated left by 3 bits, must be below it ([docs/MECHANICS.md](https://hibsuloy.example/gen1/blob/main/docs/MECHANICS.md),
@@ -170,12 +170,12 @@ mod damage_numbers {
         doubled_if(critical, u16::from(battle.level(side))).min(255) as u8
     }
 
-    fn types(battle: &Packed, side: Side) -> [Element; 2] {
+    #[inline(always)] fn types(battle: &Packed, side: Side) -> [Element; 2] {
         [battle.first_type(side), battle.second_type(side)]
     }
 
     // The user's own stat and the foe's.
-    fn own_stats(battle: &Packed, side: Side, kind: Element) -> (u32, u32) {
+    #[inline(always)] fn own_stats(battle: &Packed, side: Side, kind: Element) -> (u32, u32) {
         let foe = side.other();
         let attack = u32::from(battle.unmodified(side, attacking(kind)));
         let defense = u32::from(battle.unmodified(foe, defending(kind)));
@@ -183,7 +183,7 @@ mod damage_numbers {
     }
 
     // The current stats of both, with the foe's screen.
-    fn current_stats(battle: &Packed, side: Side, kind: Element) -> (u32, u32) {
+    #[inline(always)] fn current_stats(battle: &Packed, side: Side, kind: Element) -> (u32, u32) {
         let foe = side.other();
         let attack = battle.current_stat(side, attacking(kind));
         let defense = battle.current_stat(foe, defending(kind));
@@ -249,17 +249,22 @@ mod factors {
 
     use crate::generated::hits::damage_formula::{Numbers, damage};
     use crate::generated::hits::types::type_steps;
-    use crate::generated::rolls::{Rolls, until};
+    use crate::generated::rolls::{Look, Rolls};
 
     /// Damage times a drawn factor, in 255ths ([docs/MECHANICS.md, "Factors"](https://hibsuloy.example/gen1/blob/main/docs/MECHANICS.md#factors)).
     ///
     /// Damage of 0 and 1 stays as it is, without a draw. Otherwise it draws until a byte is a factor, at most `R::SPAN`
     /// times.
     pub fn factor<R: Rolls>(damage: u16, random: &mut R) -> u16 {
+        factor_up_to(damage, u16::MAX, random)
+    }
+
+    /// The same for a caller to whom all damage from `limit` on is alike, as it is where the foe has so many HP.
+    pub fn factor_up_to<R: Rolls>(damage: u16, limit: u16, random: &mut R) -> u16 {
         if damage <= 1 {
             return damage;
         }
-        match until(random, is_factor) {
+        match random.until_as(is_factor, Look::Factor { damage, limit }) {
             Some(byte) => times_factor(rotated(byte), damage),
             None => unreachable!(),
         }
@@ -307,7 +312,7 @@ mod hit_tests {
 
     use crate::generated::layout::{Conditions, Packed};
     use crate::generated::machine::Side;
-    use crate::generated::rolls::Rolls;
+    use crate::generated::rolls::{Look, Rolls};
     use crate::generated::stats::Status;
     use crate::generated::tables::{Effect, MoveId, Stat};
 
@@ -427,7 +432,7 @@ mod hit_tests {
 
     // Draws, and returns whether the draw is below the byte. Otherwise the move misses.
     fn draw_below<R: Rolls>(battle: &mut Packed, side: Side, byte: u8, random: &mut R) -> bool {
-        if random.draw() < byte {
+        if random.draw_as(Look::Below(byte)) < byte {
             return true;
         }
         miss(battle, side);
@@ -616,7 +621,7 @@ mod types {
     ///
     /// A move of one of the user's types does half as much again. Then each row that applies has its effect, in the order
     /// of the table. Each step rounds down.
-    pub fn type_steps(damage: u16, numbers: &Numbers) -> u16 {
+    #[inline(always)] pub fn type_steps(damage: u16, numbers: &Numbers) -> u16 {
         let [first, second] = numbers.foe;
         let (one, two) = effectiveness(numbers.kind, first, second);
         let changed = with_own_type(damage, numbers);
@@ -649,7 +654,7 @@ mod usual_damage {
 pub use critical_hits::{critical, critical_bound};
 pub use damage_formula::{Numbers, damage};
 pub use damage_numbers::{numbers, own_numbers};
-pub use factors::{damage_list, factor, is_factor};
+pub use factors::{damage_list, factor, factor_up_to, is_factor};
 pub use hit_tests::{Hit, hit_test, scaled_accuracy, settled_hit};
 pub use hp::{gain_hp, lose_hp};
 pub use landing::{Landed, land, land_on_hp, land_on_substitute};

@@ -13,6 +13,7 @@ pub mod machine;
 pub mod multiturn;
 pub mod names;
 pub mod odds;
+pub mod outcomes;
 pub mod player;
 pub mod printer;
 pub mod requests;

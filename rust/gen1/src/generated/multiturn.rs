@@ -20,7 +20,7 @@ mod first_hit {
     use crate::generated::tables::{MoveId, effectiveness};
 
     // Writes `Crit`, and `SuperEffective` or `Resisted`, for the foe of `side`, if the damage went through the types.
-    pub(crate) fn note_first_hit<S: EventSink>(
+    #[inline(always)] pub(crate) fn note_first_hit<S: EventSink>(
         battle: &Packed,
         side: Side,
         id: MoveId,
@@ -147,7 +147,7 @@ mod hit_effects {
     }
 
     // At most one event is written.
-    pub(crate) fn hit_effect<S: EventSink>(battle: &mut Packed, side: Side, id: MoveId, events: &mut S) {
+    #[inline(always)] pub(crate) fn hit_effect<S: EventSink>(battle: &mut Packed, side: Side, id: MoveId, events: &mut S) {
         match consequence_of(id.effect()) {
             Consequence::Recoil => recoil(battle, side, id, events),
             Consequence::Drain => drain(battle, side, events),
@@ -293,7 +293,7 @@ mod many_hits {
     }
 
     // The last damage lands on the foe.
-    fn land_hit<S: EventSink>(battle: &mut Packed, side: Side, known: &mut Known, events: &mut S) {
+    #[inline(always)] fn land_hit<S: EventSink>(battle: &mut Packed, side: Side, known: &mut Known, events: &mut S) {
         let damage = battle.last_damage();
         let landed = land(battle, side, damage, events);
         let broke = has_broken(landed);
@@ -420,7 +420,7 @@ mod moves {
         use crate::generated::events::EventSink;
         use crate::generated::layout::{Conditions, Packed};
         use crate::generated::machine::{Event, Side, Volatile};
-        use crate::generated::rolls::Rolls;
+        use crate::generated::rolls::{Look, Rolls};
 
         /// Uses Bide ([docs/MECHANICS.md, "Going on"](https://hibsuloy.example/gen1/blob/main/docs/MECHANICS.md#going-on)).
         ///
@@ -478,7 +478,7 @@ mod moves {
             random: &mut R,
             events: &mut S,
         ) {
-            let byte = random.draw();
+            let byte = random.draw_as(Look::Remainder(2));
             bide_for(battle, side, byte, events);
         }
 
@@ -703,7 +703,7 @@ mod moves {
         use crate::generated::action::{Known, hit_or_miss};
         use crate::generated::layout::Packed;
         use crate::generated::machine::{Outcome, Side};
-        use crate::generated::rolls::{Rolls, until};
+        use crate::generated::rolls::{Look, Rolls};
         use crate::generated::tables::MoveId;
 
         const SONIC_BOOM: u8 = 49;
@@ -770,7 +770,7 @@ mod moves {
             if level <= 1 {
                 return None;
             }
-            match until(random, |byte| is_psywave(level, byte)) {
+            match random.until_as(|byte| is_psywave(level, byte), Look::Remainder(256)) {
                 Some(byte) => Some(u16::from(byte)),
                 None => unreachable!(),
             }
@@ -819,7 +819,7 @@ mod moves {
         use crate::generated::hits::{critical, is_factor};
         use crate::generated::layout::Packed;
         use crate::generated::machine::Side;
-        use crate::generated::rolls::{Rolls, until};
+        use crate::generated::rolls::{Look, Rolls};
         use crate::generated::tables::{MoveId, Stat};
 
         /// A one-hit move of `side`, in an action of which something is known ([docs/MECHANICS.md](https://hibsuloy.example/gen1/blob/main/docs/MECHANICS.md), "Fixed damage and one-hit
@@ -867,7 +867,7 @@ mod moves {
 
         // The draws of a factor, which isn't used.
         fn deal_everything<R: Rolls>(battle: &mut Packed, random: &mut R) {
-            let Some(_) = until(random, |byte| is_factor(byte)) else {
+            let Some(_) = random.until_as(|byte| is_factor(byte), Look::Remainder(1)) else {
                 return;
             };
             battle.put_last_damage(u16::MAX);
@@ -958,7 +958,7 @@ mod moves {
         use crate::generated::events::EventSink;
         use crate::generated::layout::Packed;
         use crate::generated::machine::Side;
-        use crate::generated::rolls::Rolls;
+        use crate::generated::rolls::{Look, Rolls};
         use crate::generated::tables::MoveId;
 
         // The accuracy byte of Thrash and of Petal Dance.
@@ -1030,7 +1030,7 @@ mod moves {
         // Bide and trapping are off. The accuracy is kept from here on, since a fault may come before the hit test
         // (docs/MECHANICS.md, "Going on", "Kept accuracy").
         fn begin_thrashing<R: Rolls>(battle: &mut Packed, side: Side, accuracy: u8, random: &mut R) {
-            let byte = random.draw();
+            let byte = random.draw_as(Look::Remainder(2));
             battle.put_thrash(side, byte % 2 + 2);
             battle.put_kept_accuracy(side, accuracy);
         }

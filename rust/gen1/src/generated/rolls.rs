@@ -3,6 +3,7 @@
 //! draw that passes a test.
 //!
 //! - `rolls`: what a generator is
+//! - `look`: what is looked at of a drawn byte
 //! - `link`: the generator of a link battle
 //! - `sweep`: a generator that counts up
 //! - `search`: the first draw that passes a test
@@ -102,8 +103,63 @@ mod link {
     }
 }
 
+mod look {
+    //! What is looked at of a drawn byte ([docs/MECHANICS.md, "Link numbers"](https://hibsuloy.example/gen1/blob/main/docs/MECHANICS.md#link-numbers)).
+
+    /// What is looked at of a drawn byte ([docs/MECHANICS.md, "Link numbers"](https://hibsuloy.example/gen1/blob/main/docs/MECHANICS.md#link-numbers)).
+    ///
+    /// A function that draws tells the generator by a `Look` which bytes are alike to it: those of which the look sees the
+    /// same lead to the same battle and the same events. A generator of random bytes ignores it. One that goes through all
+    /// results of a draw needs only one byte of those that are alike.
+    #[derive(Clone, Copy, PartialEq, Eq, Debug)]
+    pub enum Look {
+        /// Whether the byte is below the bound.
+        Below(u8),
+        /// Whether the byte, rotated left by 3 bits, is below the bound.
+        RotatedBelow(u8),
+        /// The remainder of the byte by a number: by 2, 4 and 8 its lowest bits, by 256 the whole byte, by 1 nothing of it.
+        Remainder(u16),
+        /// The damage times the byte, rotated right by 1 bit, in 255ths, up to the limit. From there on all damage is alike.
+        Factor { damage: u16, limit: u16 },
+    }
+
+    impl Look {
+        /// What is seen of a byte, as a number.
+        ///
+        /// The remainder by 0 is the byte itself.
+        pub fn sees(self, byte: u8) -> u16 {
+            match self {
+                Look::Below(bound) => u16::from(byte < bound),
+                Look::RotatedBelow(bound) => u16::from(rotated_left_3(byte) < bound),
+                Look::Remainder(0) => u16::from(byte),
+                Look::Remainder(divisor) => u16::from(byte) % divisor,
+                Look::Factor { damage, limit } => scaled(damage, rotated_right_1(byte)).min(limit),
+            }
+        }
+
+        /// Whether the same is seen of both bytes.
+        pub fn alike(self, one: u8, other: u8) -> bool {
+            self.sees(one) == self.sees(other)
+        }
+    }
+
+    fn scaled(damage: u16, factor: u8) -> u16 {
+        (u32::from(damage) * u32::from(factor) / 255) as u16
+    }
+
+    fn rotated_left_3(byte: u8) -> u8 {
+        byte.rotate_left(3)
+    }
+
+    fn rotated_right_1(byte: u8) -> u8 {
+        byte.rotate_right(1)
+    }
+}
+
 mod rolls {
     //! A generator of bytes, which all draws of a battle come from ([docs/MECHANICS.md, "Link numbers"](https://hibsuloy.example/gen1/blob/main/docs/MECHANICS.md#link-numbers)).
+
+    use crate::generated::rolls::look::Look;
 
     /// A generator of bytes ([docs/MECHANICS.md, "Link numbers"](https://hibsuloy.example/gen1/blob/main/docs/MECHANICS.md#link-numbers)).
     ///
@@ -119,12 +175,35 @@ mod rolls {
         ///
         /// The draws from this one on are a stream: bytes, of which any `SPAN` in a row hold every number from 0 to 255.
         fn draw(&mut self) -> u8;
+
+        /// Draws the next byte, of which no more is looked at than the look sees.
+        ///
+        /// A generator that goes through all results of a draw writes its own. Others draw as by `draw`.
+        fn draw_as(&mut self, _look: Look) -> u8 {
+            self.draw()
+        }
+
+        /// Draws until a byte passes the test, and returns that byte, of which no more is looked at than the look sees.
+        ///
+        /// Returns `None` after `SPAN` draws, if no byte from 0 to 255 passes. The result of the test must depend on the
+        /// byte alone.
+        #[inline] // docs/SPEED.md, "Hints on inlining"
+        fn until_as<F: Fn(u8) -> bool>(&mut self, test: F, _look: Look) -> Option<u8> {
+            for _ in 0..Self::SPAN {
+                let byte = self.draw();
+                if test(byte) {
+                    return Some(byte);
+                }
+            }
+            None
+        }
     }
 }
 
 mod search {
     //! The first draw that passes a test ([docs/MECHANICS.md, "Link numbers"](https://hibsuloy.example/gen1/blob/main/docs/MECHANICS.md#link-numbers)).
 
+    use crate::generated::rolls::look::Look;
     use crate::generated::rolls::rolls::Rolls;
 
     /// Draws until a byte passes the test, and returns that byte.
@@ -132,13 +211,7 @@ mod search {
     /// Returns `None` after `SPAN` draws, if no byte from 0 to 255 passes. The result of the test must depend on the byte
     /// alone.
     pub fn until<R: Rolls, F: Fn(u8) -> bool>(r: &mut R, test: F) -> Option<u8> {
-        for _ in 0..R::SPAN {
-            let byte = r.draw();
-            if test(byte) {
-                return Some(byte);
-            }
-        }
-        None
+        r.until_as(test, Look::Remainder(256))
     }
 }
 
@@ -182,6 +255,7 @@ mod sweep {
 
 pub use laws::draws_a_stream;
 pub use link::{LinkRandom, renew};
+pub use look::Look;
 pub use rolls::Rolls;
 pub use search::until;
 pub use sweep::Sweep;

@@ -52,7 +52,7 @@ mod gate_tests {
         use crate::generated::events::EventSink;
         use crate::generated::layout::{Conditions, Packed};
         use crate::generated::machine::{CantReason, DisabledSlot, Pick, Side, UsedMove};
-        use crate::generated::rolls::Rolls;
+        use crate::generated::rolls::{Look, Rolls};
         use crate::generated::stats::Status;
 
         pub(super) fn gate_of_move<R: Rolls, S: EventSink>(
@@ -100,7 +100,7 @@ mod gate_tests {
             if !is_paralysed(battle.status(side)) {
                 return false;
             }
-            if random.draw() >= FULLY_PARALYSED_BELOW {
+            if random.draw_as(Look::Below(FULLY_PARALYSED_BELOW)) >= FULLY_PARALYSED_BELOW {
                 return false;
             }
             battle.break_off(side);
@@ -271,7 +271,7 @@ mod gate_tests {
         use crate::generated::events::EventSink;
         use crate::generated::layout::Packed;
         use crate::generated::machine::{Event, Side, Volatile};
-        use crate::generated::rolls::Rolls;
+        use crate::generated::rolls::{Look, Rolls};
 
         pub(super) fn confusion_test<R: Rolls, S: EventSink>(
             battle: &mut Packed,
@@ -307,7 +307,7 @@ mod gate_tests {
         ) -> Gate {
             battle.put_confused(side, Some(turns.saturating_sub(1)));
             events.push(Event::Activate(battle.who(side), Volatile::Confusion));
-            if random.draw() < HITS_ITSELF_FROM {
+            if random.draw_as(Look::Below(HITS_ITSELF_FROM)) < HITS_ITSELF_FROM {
                 return Gate::Go;
             }
             hurt_itself(battle, side, events)

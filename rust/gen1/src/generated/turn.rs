@@ -90,7 +90,7 @@ mod action_damage {
     //! The damage of an action ([docs/MECHANICS.md, "Action"](https://hibsuloy.example/gen1/blob/main/docs/MECHANICS.md#action), step 7).
 
     use crate::generated::action::{Known, hit_or_miss};
-    use crate::generated::hits::{critical, damage, factor, numbers, type_steps};
+    use crate::generated::hits::{critical, damage, factor_up_to, numbers, type_steps};
     use crate::generated::layout::Packed;
     use crate::generated::machine::{Outcome, Side};
     use crate::generated::multiturn::{counter_knowing, fixed_knowing, knock_out};
@@ -172,9 +172,18 @@ mod action_damage {
         let after = type_steps(before, &numbers);
         known.through_types = true;
         known.missed = after == 0;
-        let varied = factor(after, random);
+        let limit = damage_limit(battle, side.other());
+        let varied = factor_up_to(after, limit, random);
         battle.put_last_damage(varied);
         false
+    }
+
+    // All damage from here on is alike: it fells the foe. A Substitute takes damage uncut.
+    fn damage_limit(battle: &Packed, foe: Side) -> u16 {
+        match battle.substitute(foe) {
+            Some(_) => u16::MAX,
+            None => battle.hp(foe),
+        }
     }
 }
 
@@ -245,7 +254,7 @@ mod action_steps {
         strike(battle, side, id, known, random, events)
     }
 
-    fn damage_unless_landing<R: Rolls>(
+    #[inline(always)] fn damage_unless_landing<R: Rolls>(
         battle: &mut Packed,
         side: Side,
         id: MoveId,
@@ -301,7 +310,7 @@ mod action_steps {
 mod by_side {
     //! A generator as two types, one for the action of each side ([docs/MECHANICS.md, "Order of a turn"](https://hibsuloy.example/gen1/blob/main/docs/MECHANICS.md#order-of-a-turn)).
 
-    use crate::generated::rolls::Rolls;
+    use crate::generated::rolls::{Look, Rolls};
 
     /// A generator as a second type that draws the same.
     ///
@@ -316,6 +325,14 @@ mod by_side {
 
         fn draw(&mut self) -> u8 {
             self.0.draw()
+        }
+
+        fn draw_as(&mut self, look: Look) -> u8 {
+            self.0.draw_as(look)
+        }
+
+        fn until_as<F: Fn(u8) -> bool>(&mut self, test: F, look: Look) -> Option<u8> {
+            self.0.until_as(test, look)
         }
     }
 }
@@ -494,7 +511,7 @@ mod taken_move {
     }
 
     // The move that a pick uses. An action that comes this far always has one.
-    pub(crate) fn move_taken(battle: &Packed, side: Side, pick: Pick) -> MoveId {
+    #[inline(always)] pub(crate) fn move_taken(battle: &Packed, side: Side, pick: Pick) -> MoveId {
         let used = used_by(battle, side, pick);
         match MoveId::new(number_of(battle, side, used)) {
             Some(id) => id,
@@ -544,7 +561,8 @@ mod turn_choices {
         act_on_choices(battle, one, two, known, random, events);
     }
 
-    fn end_flinch(battle: &mut Packed, side: Side) {
+    /// Ends the flinch of `side`, with which a turn begins ([docs/MECHANICS.md, "Order of a turn"](https://hibsuloy.example/gen1/blob/main/docs/MECHANICS.md#order-of-a-turn)).
+    pub fn end_flinch(battle: &mut Packed, side: Side) {
         battle.put_flag(side, Conditions::FLINCH, false);
     }
 
@@ -597,7 +615,8 @@ mod turn_choices {
         }
     }
 
-    fn set_picked(battle: &mut Packed, side: Side, pick: Pick) {
+    /// Writes down what `side` has picked, before anyone acts ([docs/MECHANICS.md, "Picks"](https://hibsuloy.example/gen1/blob/main/docs/MECHANICS.md#picks)).
+    pub fn set_picked(battle: &mut Packed, side: Side, pick: Pick) {
         match pick {
             Pick::Use(used) => battle.put_picked_move(side, used),
             Pick::Held => battle.put_picked_move(side, UsedMove::Nothing),
@@ -670,7 +689,7 @@ mod turn_order {
     use crate::generated::turn::taken_move::number_of;
     use crate::generated::layout::Packed;
     use crate::generated::machine::Side;
-    use crate::generated::rolls::Rolls;
+    use crate::generated::rolls::{Look, Rolls};
     use crate::generated::tables::{COUNTER, Stat};
 
     const QUICK_ATTACK: u8 = 98;
@@ -678,9 +697,9 @@ mod turn_order {
     // At equal Speed, a draw below this puts side 1 first.
     const SIDE_1_BELOW: u8 = 128;
 
-    // The side that acts first: by the picked moves, then by Speed, then by a draw.
+    /// The side that acts first: by the picked moves, then by Speed, then by a draw ([docs/MECHANICS.md, "Order of a turn"](https://hibsuloy.example/gen1/blob/main/docs/MECHANICS.md#order-of-a-turn)).
     #[inline(always)] // docs/SPEED.md, "Hints on inlining"
-    pub(crate) fn first_side<R: Rolls>(battle: &Packed, random: &mut R) -> Side {
+    pub fn first_side<R: Rolls>(battle: &Packed, random: &mut R) -> Side {
         let one = rank_of(battle, Side::One);
         let two = rank_of(battle, Side::Two);
         if one < two {
@@ -701,7 +720,7 @@ mod turn_order {
         if one < two {
             return Side::Two;
         }
-        if random.draw() < SIDE_1_BELOW {
+        if random.draw_as(Look::Below(SIDE_1_BELOW)) < SIDE_1_BELOW {
             return Side::One;
         }
         Side::Two
@@ -750,9 +769,12 @@ mod turn_parts {
         }
     }
 
-    // The same, by code that is compiled for one side.
+    /// The action of `side` in a turn, and then its residual damage ([docs/MECHANICS.md, "Order of a turn"](https://hibsuloy.example/gen1/blob/main/docs/MECHANICS.md#order-of-a-turn)).
+    ///
+    /// It does what `known` says of the turn so far: Haze may have ended the action. Returns whether the rest of the turn is
+    /// skipped. It needs 24 free places in `events`.
     #[inline(never)] // docs/SPEED.md, "Hints on inlining"
-    fn act_and_suffer_as<R: Rolls, S: EventSink>(
+    pub fn act_and_suffer_as<R: Rolls, S: EventSink>(
         battle: &mut Packed,
         side: Side,
         pick: Pick,
@@ -782,9 +804,11 @@ mod turn_parts {
         act(battle, side, pick, known, random, events)
     }
 
-    // A member that comes out, and its residual damage. Returns whether the rest of the turn is skipped.
+    /// Sends out a member of `side`, and then takes its residual damage ([docs/MECHANICS.md, "Order of a turn"](https://hibsuloy.example/gen1/blob/main/docs/MECHANICS.md#order-of-a-turn)).
+    ///
+    /// Returns whether the rest of the turn is skipped. It needs 4 free places in `events`.
     #[inline(always)] // docs/SPEED.md, "Hints on inlining"
-    pub(crate) fn sends_and_suffers<S: EventSink>(
+    pub fn sends_and_suffers<S: EventSink>(
         battle: &mut Packed,
         side: Side,
         place: Place,
@@ -811,12 +835,12 @@ mod turn_parts {
     }
 
     // Whether an active member has fallen, or the battle is over.
-    fn is_cut(battle: &Packed) -> bool {
+    #[inline(always)] fn is_cut(battle: &Packed) -> bool {
         battle.has_fallen(Side::One) || battle.has_fallen(Side::Two) || battle.outcome().is_over()
     }
 
-    // Trapping with a count of 0 ends when a turn is played to its end.
-    pub(crate) fn end_turn(battle: &mut Packed) {
+    /// Ends a turn whose rest was not skipped: trapping with a count of 0 ends ([docs/MECHANICS.md, "Order of a turn"](https://hibsuloy.example/gen1/blob/main/docs/MECHANICS.md#order-of-a-turn)).
+    pub fn end_turn(battle: &mut Packed) {
         end_spent_trapping(battle, Side::One);
         end_spent_trapping(battle, Side::Two);
     }
@@ -944,4 +968,7 @@ mod used_move {
 
 pub use action::act;
 pub use crate::generated::requests::{Choices, offered, replace, send_out, start};
+pub use turn_choices::{end_flinch, set_picked};
+pub use turn_order::first_side;
+pub use turn_parts::{act_and_suffer_as, end_turn, sends_and_suffers};
 pub use turn_update::turn;

@@ -3,7 +3,7 @@ use Rattle.gen1_c.proofs.Counting.{plays-more, plays-none}
 use Rattle.gen1_c.proofs.playouts.counted.Goals as goal
 
 pub rounds-init : goal.rounds-init
-rounds-init c = (refl, λ s h. (plays-none s _ _ refl, c.new-random.ensures))
+rounds-init c = (refl, λ s h. (plays-none c.args.options.now s _ refl, c.new-random.ensures))
 
 pub rounds-preserved : goal.rounds-preserved
 rounds-preserved c = (

@@ -8,4 +8,4 @@ use Rattle.gen1_c.proofs.playouts.counted.Given as goal
 abbrev pub invariant-rounds : goal.invariant-rounds
 invariant-rounds l =
     (total l.counts ≡ l.counter)
-    × ((s : State) → Stands l.start s → PlaysOut s l.seed l.counter l.counts × (l.random.state ≡ (tally s l.seed l.counter).random))
+    × ((s : State) → Stands l.start s → PlaysOut l.options s l.counter l.counts × (l.random.state ≡ (tally l.options s l.counter).random))

@@ -1,5 +1,5 @@
 use Rattle.std.proofs.Common.{arith, refl}
-use Rattle.gen1_c.proofs.playouts.pick.Goals as goal
+use Rattle.gen1_c.proofs.weights.pick.Goals as goal
 
 pub returns-then-count-eq0 : goal.returns-then-count-eq0
 returns-then-count-eq0 c some = absurd (omega (arith, some, c.if-count-eq0.true, c.count_of-count.ensures.value))

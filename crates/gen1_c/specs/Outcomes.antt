@@ -1,0 +1,40 @@
+-- A list of the battles that an update can lead to (include/gen1.h, "exact outcomes").
+use Rattle.std.specs.Prelude.{List, Some, length, ℕ, ◌*◌, ◌+◌, ◌≡◌, ◌≤◌}
+use Rattle.gen1_machine.specs.declared.choice.Choice.{Choice}
+use Rattle.gen1_machine.specs.State.{State}
+use Rattle.gen1_machine.specs.Step.{Accepted, Answer, Refused}
+use Rattle.gen1_engine.specs.Replay.{choices_at, step_by_bytes}
+use Rattle.gen1_engine.specs.Update.{refusal_of}
+use Rattle.gen1_outcomes.specs.declared.successor.Successor.{Successor}
+use Rattle.gen1_outcomes.specs.Listing.{EachFollows, sum_of}
+use Rattle.gen1_c.specs.Codes.{refusal_code}
+use Rattle.gen1_c.specs.declared.outcomes.OutcomeList.{OutcomeList}
+
+-- the arrays that a call may write
+pub record Arrays : Type 0 where
+  pub successors : List Successor
+  pub table : List ℕ
+
+-- the code of a refused pair; 0 of any other
+abbrev pub refusal_due : Answer → ℕ
+refusal_due (Refused why) = refusal_code (refusal_of why)
+refusal_due (Accepted events) = 0
+
+-- the sum of all weights, in two words
+abbrev pub whole_of : OutcomeList → ℕ
+whole_of list = list.low + list.high * 18446744073709551616
+
+-- each battle in the first places can follow from the pair, and the weights sum to the whole
+pub record AreListed (s : State) (one two : Choice) (successors : List Successor) (list : OutcomeList) : Type 0 where
+  pub within : list.count ≤ length successors
+  pub follow : EachFollows s one two list.count successors
+  pub sum : sum_of list.count successors ≡ whole_of list
+
+-- for a refused pair its code, and nothing has changed; for any other a list, if the code is 0
+abbrev pub ListsAs : Answer → State → ℕ × ℕ → Arrays → Arrays → OutcomeList → ℕ → Type 0
+ListsAs (Refused why) s bytes old new list code = (code ≡ refusal_code (refusal_of why)) × (new ≡ old)
+ListsAs (Accepted events) s bytes old new list code =
+    code ≡ 0 → (pair : Choice × Choice) × (choices_at bytes ≡ Some pair) × AreListed s pair.0 pair.1 new.successors list
+
+abbrev pub Lists : State → ℕ × ℕ → Arrays → Arrays → OutcomeList → ℕ → Type 0
+Lists s bytes = ListsAs (step_by_bytes s bytes).answer s bytes

@@ -1,0 +1,82 @@
+-- Lists of successors: what is added, and what of it follows.
+use Rattle.std.proofs.Common.{◌≡◌, ◌≢◌, ℕ, Err, IfOk, IfSome, None, Ok, Option, Result, Some, ◌+◌, ◌<◌, List, length, get_or-set_other, get_or-set_same, set, ◌⊎◌, inl, inr, ap, subst, sym, ◌∙◌, arith}
+use Rattle.std.proofs.lemmas.List.{get_or_default}
+use Rattle.gen1_machine.specs.declared.choice.Choice.{Choice}
+use Rattle.gen1_machine.specs.State.{State}
+use Rattle.gen1_layout.specs.Parts.{Parts}
+use Rattle.gen1_outcomes.specs.declared.fault.OutcomesFault.{OutcomesFault}
+use Rattle.gen1_outcomes.specs.declared.nodes.Chance.{Chance}
+use Rattle.gen1_outcomes.specs.declared.outcomes.Outcomes.{Outcomes}
+use Rattle.gen1_outcomes.specs.declared.successor.Successor.{Successor}
+use Rattle.gen1_layout.specs.Within.{Stands}
+use Rattle.gen1_engine.specs.Update.{AreOffered}
+use Rattle.gen1_outcomes.specs.Following.{CanFollow, Walk}
+use Rattle.gen1_outcomes.specs.Listing.{AreThose, AreThoseOr, EachFollows, battle_at, untold}
+
+same_or : (m n : ℕ) → (m ≡ n) ⊎ (m ≢ n)
+same_or m n = grind arith
+
+-- The same battles are those from before.
+pub those_or : (battle : Parts) (count : ℕ) (old new : List Successor) → AreThose old new → AreThoseOr battle count old count new
+those_or battle count old new those k none lt = inl (lt, those k none)
+
+-- First the same battles, then one more.
+pub those_then : (battle : Parts) (before count : ℕ) (old now new : List Successor) → AreThose old now → AreThoseOr battle before now count new
+    → AreThoseOr battle before old count new
+those_then battle before count old now new those more k none lt =
+    elim (more k none lt) [
+      | inl h ↦ inl (h.0, h.1 ∙ those k none)
+      | inr e ↦ inr e
+    ]
+
+-- A place is written.
+pub written : (xs : List Successor) (at : ℕ) (x : Successor) → at < length xs → AreThoseOr x.battle at xs (at + 1) (set xs at x)
+written xs at x within k none lt =
+    elim (same_or k at) [
+      | inl e ↦ inr (ap (λ (j : ℕ). battle_at (set xs at x) j none) e ∙ ap (λ (y : Successor). y.battle) (get_or-set_same xs at x none within))
+      | inr ne ↦ inl (omega (arith, ne), ap (λ (y : Successor). y.battle) (get_or-set_other xs at k x none ne))
+    ]
+
+-- A place is written with the battle that it has.
+pub rewritten : (xs : List Successor) (at : ℕ) (x : Successor) → at < length xs → ((none : Successor) → x.battle ≡ battle_at xs at none) → AreThose xs (set xs at x)
+rewritten xs at x within e k none =
+    elim (same_or k at) [
+      | inl same ↦
+          ap (λ (j : ℕ). battle_at (set xs at x) j none) same ∙ ap (λ (y : Successor). y.battle) (get_or-set_same xs at x none within) ∙ e none
+          ∙ sym (ap (λ (j : ℕ). battle_at xs j none) same)
+      | inr ne ↦ ap (λ (y : Successor). y.battle) (get_or-set_other xs at k x none ne)
+    ]
+
+-- Where each battle follows, and one that follows is added, each follows.
+pub follows_more : (s : State) (one two : Choice) (battle : Parts) (before count : ℕ) (old new : List Successor) → EachFollows s one two before old
+    → CanFollow s one two battle untold → AreThoseOr battle before old count new → EachFollows s one two count new
+follows_more s one two battle before count old new each follows those k none lt =
+    elim (those k none lt) [
+      | inl h ↦ subst (λ (p : Parts). CanFollow s one two p untold) (sym h.1) (each k none h.0)
+      | inr e ↦ subst (λ (p : Parts). CanFollow s one two p untold) (sym e) follows
+    ]
+
+-- The same of a place that is read at some default.
+pub rewritten_at : (xs : List Successor) (at : ℕ) (x d : Successor) → at < length xs → x.battle ≡ battle_at xs at d → AreThose xs (set xs at x)
+rewritten_at xs at x d within e = rewritten xs at x within (λ none. e ∙ ap (λ (y : Successor). y.battle) (get_or_default xs at d none within))
+
+-- A result that has so many outcomes.
+pub finished_follows : (s : State) (one two : Choice) (count : ℕ) (xs : List Successor) (r : Result Outcomes OutcomesFault) → EachFollows s one two count xs
+    → IfOk r (λ o. o.count ≡ count) → IfOk r (λ o. EachFollows s one two o.count xs)
+finished_follows s one two count xs (Ok o) each e = subst (λ (n : ℕ). EachFollows s one two n xs) (sym e) each
+finished_follows s one two count xs (Err fault) each e = tt
+
+-- What a walk lists follows from the pair that it was made of.
+pub follows_walk : (s : State) (one two : Choice) (battle : Parts) (w : Walk) → w ≡ record { start = battle; one = one; two = two } → Stands battle s
+    → AreOffered s one two → (xs : List Successor) (r : Result Outcomes OutcomesFault)
+    → (Stands w.start s → AreOffered s w.one w.two → IfOk r (λ o. EachFollows s w.one w.two o.count xs)) → IfOk r (λ o. EachFollows s one two o.count xs)
+follows_walk s one two battle w is stands offered xs r all =
+    subst (λ (v : Walk). Stands v.start s → AreOffered s v.one v.two → IfOk r (λ o. EachFollows s v.one v.two o.count xs)) is all stands offered
+
+-- A way of a walk that was found follows, also under another name of the walk.
+pub found_follows : (s : State) (w v : Walk) (way : Option Chance) (chance : Chance) (battle : Parts) → w ≡ v → way ≡ Some chance
+    → (Stands w.start s → AreOffered s w.one w.two → IfSome way (λ _. CanFollow s w.one w.two battle untold))
+    → Stands v.start s → AreOffered s v.one v.two → CanFollow s v.one v.two battle untold
+found_follows s w v (Some found) chance battle e is f =
+    subst (λ (u : Walk). Stands u.start s → AreOffered s u.one u.two → CanFollow s u.one u.two battle untold) e f
+found_follows s w v None chance battle e is f = absurd (cc)

@@ -1,0 +1,5 @@
+use Rattle.std.proofs.Common.{length, ◌<◌}
+use Rattle.gen1_outcomes.proofs.merging.find.Given as goal
+
+abbrev pub invariant-slots : goal.invariant-slots
+invariant-slots l = l.slot < length l.table

@@ -1,0 +1,41 @@
+-- What can follow from a pair of choices: what the machine makes of it, with some stream of bytes for its draws
+-- (docs/MECHANICS.md, "Link numbers", "Falls and requests").
+use Rattle.std.specs.Prelude.{ℕ, ◌≡◌, ◌≢◌}
+use Rattle.gen1_rolls.specs.Streams.{Drawn, IsStream, Stream}
+use Rattle.gen1_machine.specs.declared.choice.Choice.{Choice}
+use Rattle.gen1_machine.specs.declared.terms.Request.TheVariants.{Move}
+use Rattle.gen1_machine.specs.State.{State}
+use Rattle.gen1_machine.specs.Progress.{Progress}
+use Rattle.gen1_machine.specs.Ruling.{ruling_of}
+use Rattle.gen1_machine.specs.Turn.{turn}
+use Rattle.gen1_machine.specs.Step.{close_update}
+use Rattle.gen1_layout.specs.Parts.{Parts}
+use Rattle.gen1_layout.specs.Shows.{Telling}
+use Rattle.gen1_layout.specs.Within.{Within, setting_of}
+use Rattle.gen1_requests.specs.Updates.{Steps, drawing_on}
+
+-- What a walk goes through: the ways of an update of a battle by a pair of choices.
+pub record Walk : Type 0 where
+  pub start : Parts
+  pub one : Choice
+  pub two : Choice
+
+-- A turn, and its close, with the draws of a stream from a place on.
+abbrev pub turn_on : State → Choice → Choice → Stream → ℕ → Progress
+turn_on s one two stream n = close_update (ruling_of s.terms) (turn (ruling_of s.terms) one two (drawing_on stream n s))
+
+-- The bytes represent the field that it leaves, in the setting from before, and the events are its.
+pub record AreOf (s : State) (parts : Parts) (events : Telling) (q : Progress) : Type 0 where
+  pub within : Within (setting_of s) parts q.field
+  pub written : events q.events
+
+-- The battle and the events follow from a pair of choices with the draws of a stream: those of the turn, or where no
+-- turn is due, which draws nothing, those of the machine's step.
+pub record Follows (s : State) (one two : Choice) (stream : Stream) (parts : Parts) (events : Telling) : Type 0 where
+  pub by_turn : s.field.request_one ≡ Move → AreOf s parts events (turn_on s one two stream 0)
+  pub by_step : s.field.request_one ≢ Move → Steps s one two parts events
+
+-- They follow with the draws of some stream: of bytes, of which any 280 in a row hold every one.
+abbrev pub CanFollow : State → Choice → Choice → Parts → Telling → Type 0
+CanFollow s one two parts events =
+    (bytes : ℕ → ℕ) × (IsStream (Drawn bytes 280) × Follows s one two (Drawn bytes 280) parts events)

@@ -1,0 +1,7 @@
+-- Definitions that the contracts cite.
+pub mod Bytes
+pub mod Nodes
+pub mod Script
+pub mod Following
+pub mod Listing
+pub mod Merging

@@ -1,0 +1,35 @@
+-- The draws of a way, and how one way leads to the next.
+use Rattle.std.specs.Prelude.{ℕ, slice_index_or, ◌+◌, ◌<◌, ◌≡◌, if◌then◌else◌}
+use Rattle.gen1_rolls.specs.Looks.{alike}
+use Rattle.gen1_outcomes.specs.declared.nodes.Node.{Node}
+use Rattle.gen1_outcomes.specs.declared.nodes.Nodes.{Nodes}
+use Rattle.gen1_outcomes.specs.Bytes.{has}
+
+-- A draw takes a byte. The rest loses what is alike to it, and nothing else.
+pub record Takes (taken : ℕ) (old new : Node) : Type 0 where
+  pub byte : new.byte ≡ taken
+  pub look : new.look ≡ old.look
+  pub total : new.total ≡ old.total
+  pub rest : (x : ℕ) → x < 256 → has new.rest x ≡ (if alike old.look taken x then 0 else has old.rest x)
+
+-- A draw goes on to a byte of its rest.
+pub record GoesOn (old new : Node) : Type 0 where
+  pub remained : has old.rest new.byte ≡ 1
+  pub takes : Takes new.byte old new
+
+-- Nothing is left to be tried.
+abbrev pub IsDone : Node → Type 0
+IsDone node = (x : ℕ) → x < 256 → has node.rest x ≡ 0
+
+-- The next way: up to a draw it is the same, this draw goes on, and after it nothing was left.
+pub record LeadsOn (old new : Nodes) : Type 0 where
+  pub place : ℕ
+  pub within : place < old.len
+  pub length : new.len ≡ place + 1
+  pub before : (k : ℕ) → (none : Node) → k < place → slice_index_or new.list k none ≡ slice_index_or old.list k none
+  pub here : (none : Node) → GoesOn (slice_index_or old.list place none) (slice_index_or new.list place none)
+  pub after : (k : ℕ) → (none : Node) → place < k → k < old.len → IsDone (slice_index_or old.list k none)
+
+-- All ways were gone through.
+abbrev pub AllDone : Nodes → Type 0
+AllDone nodes = (k : ℕ) → (none : Node) → k < nodes.len → IsDone (slice_index_or nodes.list k none)

@@ -1,0 +1,32 @@
+//! All battles that an update can lead to, each with its exact probability if every draw is an independent uniform byte
+//! (docs/MECHANICS.md, "Link numbers").
+//!
+//! - `byte_set`: sets of bytes
+//! - `script`: a generator whose first bytes are given
+//! - `nodes`: the draws of a way, each with the bytes that are still to be tried
+//! - `explorer`: a generator that takes an update through all its ways, one after the other
+//! - `playing`: an update whose draws come from any generator
+//! - `ways`: [`Ways`], each way of an update apart
+//! - `successor`: [`Successor`], a battle with its weight
+//! - `merging`: battles that are equal become one
+//! - `outcomes`: [`list_outcomes`], all battles that an update can lead to
+//! - `fault`: why there is no result
+#![tactic(auto)]
+
+mod byte_set;
+mod explorer;
+mod fault;
+mod merging;
+mod nodes;
+mod outcomes;
+mod playing;
+mod script;
+mod successor;
+mod ways;
+
+pub use fault::OutcomesFault;
+pub use nodes::Chance;
+pub use outcomes::{Outcomes, list_outcomes};
+pub use playing::play;
+pub use successor::Successor;
+pub use ways::Ways;

@@ -1,0 +1,118 @@
+//! All battles that an update can lead to (docs/MECHANICS.md, "Link numbers").
+ghost use Rattle.std.specs.Prelude.{IfOk, IsTrue, length, ◌≡◌, ◌≤◌};
+ghost use Rattle.gen1_machine.specs.State.{State};
+ghost use Rattle.gen1_layout.specs.Within.{Stands};
+ghost use Rattle.gen1_engine.specs.Update.{AreOffered};
+ghost use Rattle.gen1_outcomes.specs.Listing.{EachFollows, sum_of};
+
+use crate::fault::OutcomesFault;
+use crate::merging::{Tally, add};
+use crate::successor::Successor;
+use crate::ways::{Ways, copy_of};
+use gen1_events::Silent;
+use gen1_layout::Packed;
+use gen1_machine::Choice;
+
+/// A list of outcomes.
+#[derive(Clone, Copy, PartialEq, Eq, Debug, Drop)]
+pub struct Outcomes {
+    /// How many outcomes there are.
+    pub count: usize,
+    /// The sum of their weights.
+    pub whole: u128,
+    /// How many ways were played.
+    pub ways: u32,
+}
+
+/// Lists all battles that an update of the battle can lead to by a choice of each side, each once, with its weight.
+///
+/// They are written to the first places of `successors`. The weights sum to `whole`. The probability of a battle is its
+/// weight over `whole`, if every draw is an independent uniform byte. `table` is for the call's own use, and has at
+/// least as many places as there are outcomes; twice as many make the call faster.
+///
+/// # Errors
+///
+/// The battle is over, or a choice is not offered: then nothing is written. There are more outcomes than places in
+/// `successors` or in `table`: then both may have any content.
+pub fn list_outcomes(
+    battle: &Packed,
+    one: Choice,
+    two: Choice,
+    successors: &mut [Successor],
+    table: &mut [u32],
+) -> Result<Outcomes, OutcomesFault>
+    ensures follow { (s : State) → Stands battle.now s
+        → IfOk result (λ o. EachFollows s one two o.count successors.new) }
+    ensures sum { IfOk result (λ o. sum_of o.count successors.new ≡ o.whole) }
+    ensures within { IfOk result (λ o. o.count ≤ length successors.new) }
+{
+    match Ways::new(battle, one, two) {
+        Err(why) => Err(OutcomesFault::Refused(why)),
+        Ok(ways) => {
+            clear(table);
+            let mut ways = ways;
+            list_ways(battle, &mut ways, successors, table)
+        }
+    }
+}
+
+fn clear(table: &mut [u32]) {
+    for number in table.iter_mut() {
+        *number = 0;
+    }
+}
+
+// The same for the ways of an update of the battle, with an empty table.
+fn list_ways(
+    battle: &Packed,
+    ways: &mut Ways,
+    successors: &mut [Successor],
+    table: &mut [u32],
+) -> Result<Outcomes, OutcomesFault>
+    ensures follow { (s : State) → Stands ways.old.start s
+        → AreOffered s ways.old.one ways.old.two
+        → IfOk result (λ o. EachFollows s ways.old.one ways.old.two o.count successors.new) }
+    ensures sum { IfOk result (λ o. sum_of o.count successors.new ≡ o.whole) }
+    ensures within { IfOk result (λ o. o.count ≤ length successors.new) }
+{
+    let mut tally = Tally { count: 0, whole: 1 };
+    'walk: for played in 0..u32::MAX {
+        let mut next = copy_of(battle);
+        match ways.next(&mut next, &mut Silent)? {
+            Some(chance) => add(successors, table, &mut tally, next, chance)?,
+            None => return finished(successors, tally, played),
+        }
+    }
+    Err(OutcomesFault::Size)
+}
+
+// The result, if the weights sum to their denominator.
+fn finished(successors: &[Successor], tally: Tally, ways: u32) -> Result<Outcomes, OutcomesFault>
+    requires within { tally.count ≤ length successors.now }
+    ensures count { IfOk result (λ o. o.count ≡ tally.count) }
+    ensures within { IfOk result (λ o. o.count ≤ length successors.now) }
+    ensures sum { IfOk result (λ o. sum_of o.count successors.now ≡ o.whole) }
+{
+    if sums_to(&successors[..tally.count], tally.whole) {
+        Ok(Outcomes {
+            count: tally.count,
+            whole: tally.whole,
+            ways,
+        })
+    } else {
+        Err(OutcomesFault::Size)
+    }
+}
+
+fn sums_to(successors: &[Successor], whole: u128) -> bool
+    ensures { IsTrue result → sum_of (length successors.now) successors.now ≡ whole }
+{
+    let mut sum: u128 = 0;
+    for successor in successors {
+        match sum.checked_add(successor.weight()) {
+            Some(more) => sum = more,
+            None => return false,
+        }
+    }
+    sum == whole
+}

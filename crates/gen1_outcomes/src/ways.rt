@@ -1,0 +1,145 @@
+//! Each way of an update apart (docs/MECHANICS.md, "Link numbers").
+ghost use Rattle.std.specs.Prelude.{IfOk, IfSome, IsOk, [], ◌≡◌};
+ghost use Rattle.gen1_machine.specs.State.{State};
+ghost use Rattle.gen1_layout.specs.Within.{Stands};
+ghost use Rattle.gen1_layout.specs.Words.{AddsAtMost, HasRoom};
+ghost use Rattle.gen1_engine.specs.Update.{AreOffered};
+ghost use Rattle.gen1_outcomes.specs.Following.{CanFollow};
+
+use crate::explorer::Explorer;
+use crate::fault::OutcomesFault;
+use crate::nodes::Chance;
+use crate::playing::play;
+use gen1_engine::Refusal;
+use gen1_engine::packed::update_silent;
+use gen1_events::EventSink;
+use gen1_layout::Packed;
+use gen1_machine::Choice;
+use std::alloc::AllocError;
+use std::marker::Model;
+
+/// The ways of an update. Each plays it with other bytes for its draws, which exclude those of all other ways.
+///
+/// For contracts it is the battle with the choices.
+#[derive(Drop)]
+pub struct Ways {
+    start: Packed,
+    one: Choice,
+    two: Choice,
+    explorer: Explorer,
+    over: bool,
+}
+
+impl Model for Ways {
+    ghost use Rattle.gen1_outcomes.specs.Following.{Walk};
+
+    ghost Value = { Walk };
+
+    ghost view = { λ w. record { start = w.start; one = w.one; two = w.two } };
+}
+
+impl Ways {
+    /// The ways of an update of the battle by a choice of each side, before the first.
+    ///
+    /// # Errors
+    ///
+    /// The first that applies: the battle is over, side 1's choice is not offered, side 2's is not.
+    pub fn new(battle: &Packed, one: Choice, two: Choice) -> Result<Ways, Refusal>
+        ensures walk { IfOk result (λ w. w ≡ record { start = battle.now; one = one; two = two }) }
+        ensures offered { (s : State) → Stands battle.now s
+            → IfOk result (λ _. AreOffered s one two) }
+    {
+        // The update itself says whether it is refused.
+        let mut copy = copy_of(battle);
+        match update_silent(&mut copy, copied(&one), copied(&two)) {
+            Err(why) => Err(why),
+            Ok(_) => Ok(Ways {
+                start: copy_of(battle),
+                one,
+                two,
+                explorer: Explorer::new(),
+                over: false,
+            }),
+        }
+    }
+
+    /// Plays the next way, and returns its probability. `None`: all were played. The battle that it leads to is written
+    /// to `battle`, and its events to a sink that is still empty.
+    ///
+    /// # Errors
+    ///
+    /// `Size`, if the way has too many draws. No update is known that has.
+    pub fn next<S: EventSink>(
+        &mut self,
+        battle: &mut Packed,
+        events: &mut S,
+    ) -> Result<Option<Chance>, OutcomesFault>
+        requires empty { S.tells events.old [] }
+        requires room { HasRoom S.room 51 events.old }
+        ensures follows { (s : State) → Stands self.old.start s
+            → AreOffered s self.old.one self.old.two → IfOk result (λ way. IfSome way (λ _.
+            CanFollow s self.old.one self.old.two battle.new (S.tells events.new))) }
+        ensures same { self.new ≡ self.old }
+    {
+        if self.over {
+            return Ok(None);
+        }
+        let explorer = std::mem::replace(&mut self.explorer, Explorer::new());
+        *battle = copy_of(&self.start);
+        self.explorer = play_way(
+            battle,
+            copied(&self.one),
+            copied(&self.two),
+            explorer,
+            events,
+        );
+        match self.explorer.chance() {
+            Some(chance) => {
+                self.over = !self.explorer.advance();
+                Ok(Some(chance))
+            }
+            None => Err(OutcomesFault::Size),
+        }
+    }
+}
+
+/// Plays an update by two offered choices in the way that the explorer is at.
+pub fn play_way<S: EventSink>(
+    battle: &mut Packed,
+    one: Choice,
+    two: Choice,
+    explorer: Explorer,
+    events: &mut S,
+) -> Explorer
+    requires empty { S.tells events.old [] }
+    requires room { HasRoom S.room 51 events.old }
+    ensures follows { (s : State) → Stands battle.old s → AreOffered s one two
+        → CanFollow s one two battle.new (S.tells events.new) }
+    ensures room { AddsAtMost S.room 51 events.old events.new }
+{
+    explorer.draws_a_stream();
+    play(battle, one, two, explorer, events)
+}
+
+/// A copy of the battle.
+pub fn copy_of(battle: &Packed) -> Packed
+    ensures { result ≡ battle.now }
+{
+    match try_copy(battle) {
+        Ok(copy) => copy,
+        Err(_) => unreachable!(),
+    }
+}
+
+fn copied(choice: &Choice) -> Choice
+    ensures { result ≡ choice.now }
+{
+    *choice
+}
+
+fn try_copy(battle: &Packed) -> Result<Packed, AllocError>
+    ensures copy { IfOk result (λ copy. copy ≡ battle.now) }
+    ensures always { IsOk result }
+{
+    Ok(battle.clone()?)
+}

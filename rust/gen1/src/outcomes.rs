@@ -1,0 +1,205 @@
+//! All battles that an update can lead to, with their exact probabilities.
+use crate::generated::outcomes;
+use crate::update::Chosen;
+use crate::{Battle, Chance, Choice, EventList, Outcomes, OutcomesFault, Refusal, Side, Successor};
+use core::iter::FusedIterator;
+
+/// One way of an update: a battle that it can lead to, its probability, and its events.
+///
+/// [`Battle::ways`] plays them one after the other.
+#[derive(Clone, Debug, PartialEq, Eq)]
+#[non_exhaustive]
+pub struct Way {
+    /// The battle after the update. The numbers to draw are those from before.
+    pub battle: Battle,
+    /// Its exact probability.
+    pub chance: Chance,
+    /// What happens on the way.
+    pub events: EventList,
+}
+
+/// The ways of an update, each with other bytes for its draws: an iterator of [`Battle::ways`].
+#[derive(Debug)]
+pub struct Ways {
+    ways: outcomes::Ways,
+    start: Battle,
+    is_over: bool,
+}
+
+impl Iterator for Ways {
+    type Item = Result<Way, OutcomesFault>;
+
+    fn next(&mut self) -> Option<Self::Item> {
+        if self.is_over {
+            return None;
+        }
+        let mut way = Way {
+            battle: self.start.clone(),
+            chance: Chance { num: 0, whole: 1 },
+            events: EventList::new(),
+        };
+        let found = self.ways.next(&mut way.battle.packed, &mut way.events).transpose()?;
+        self.is_over = found.is_err();
+        Some(found.map(|chance| Way { chance, ..way }))
+    }
+}
+
+impl FusedIterator for Ways {}
+
+impl Battle {
+    /// Plays all ways of an update by a choice of each side, one after the other, without a list.
+    ///
+    /// Two ways may lead to equal battles with other events, such as a critical hit and a usual one that both knock out. Ways exclude each
+    /// other, and their probabilities sum to 1. They are exact for draws that are independent uniform bytes; `Battle::outcomes` says what
+    /// that means for a link battle.
+    ///
+    /// ```
+    /// use gen1::{Battle, Choice, Event, Side, Team, member};
+    ///
+    /// # fn main() -> Result<(), Box<dyn std::error::Error>> {
+    /// let one = Team::new(&[member("Persian", &["Slash"])?])?;
+    /// let two = Team::new(&[member("Slowbro", &["Splash"])?])?;
+    /// let mut battle = Battle::new(&one, &two, [0; 10]);
+    /// battle.update(Choice::Pass, Choice::Pass)?;
+    /// let mut critical = 0.0;
+    /// for way in battle.ways(Choice::MOVE_1, Choice::MOVE_1)? {
+    ///     let way = way?;
+    ///     if way.events.iter().any(|event| matches!(event, Event::Crit(_))) {
+    ///         critical += way.chance.probability();
+    ///     }
+    /// }
+    /// // It hits with 255 of 256 bytes, and then is critical with 255 of 256.
+    /// assert!((critical - 255.0 * 255.0 / 65536.0).abs() < 1e-12);
+    /// # Ok(())
+    /// # }
+    /// ```
+    ///
+    /// # Errors
+    ///
+    /// As for [`Battle::update`]. An item is [`OutcomesFault::Size`], and the last, if a way has too many draws. No update is known that has.
+    pub fn ways<A: Chosen, B: Chosen>(&self, one: A, two: B) -> Result<Ways, Refusal> {
+        let (one, two) = self.pair(one, two)?;
+        Ok(Ways {
+            ways: outcomes::Ways::new(&self.packed, one, two)?,
+            start: self.clone(),
+            is_over: false,
+        })
+    }
+
+    /// As `Battle::outcomes`, in the caller's memory: writes the outcomes to the first places of `successors`.
+    ///
+    /// `table` is for the call's own use. It needs as many places as there are outcomes; twice as many make the call faster. Most updates
+    /// have fewer than 100 outcomes, and all that were met have fewer than 65,536.
+    ///
+    /// ```
+    /// use core::array::from_fn;
+    /// use gen1::{Battle, Choice, OutcomesFault, Successor, Team, member};
+    ///
+    /// # fn main() -> Result<(), Box<dyn std::error::Error>> {
+    /// let team = Team::new(&[member("Snorlax", &["Bide"])?])?;
+    /// let mut battle = Battle::new(&team, &team, [0; 10]);
+    /// battle.update(Choice::Pass, Choice::Pass)?;
+    /// // Each lasts two turns or three. Which of the two acts first makes no difference.
+    /// let mut successors: [Successor; 4] = from_fn(|_| Successor::from(&battle));
+    /// let found = battle.outcomes_into(Choice::MOVE_1, Choice::MOVE_1, &mut successors, &mut [0; 8])?;
+    /// assert_eq!((found.count, successors[0].weight() * 4), (4, found.whole));
+    /// let few = battle.outcomes_into(Choice::MOVE_1, Choice::MOVE_1, &mut successors[..3], &mut [0; 8]);
+    /// assert_eq!(few, Err(OutcomesFault::Places));
+    /// # Ok(())
+    /// # }
+    /// ```
+    ///
+    /// # Errors
+    ///
+    /// A refusal as of [`Battle::update`], and then nothing is written. With any other error both slices may have any content.
+    pub fn outcomes_into<A: Chosen, B: Chosen>(
+        &self,
+        one: A,
+        two: B,
+        successors: &mut [Successor],
+        table: &mut [u32],
+    ) -> Result<Outcomes, OutcomesFault> {
+        let (one, two) = self.pair(one, two)?;
+        outcomes::list_outcomes(&self.packed, one, two, successors, table)
+    }
+
+    /// The choices of both sides, if they are offered now.
+    fn pair<A: Chosen, B: Chosen>(&self, one: A, two: B) -> Result<(Choice, Choice), Refusal> {
+        Ok((one.checked(self, Side::One)?, two.checked(self, Side::Two)?))
+    }
+}
+
+/// The list of [`Battle::outcomes`].
+#[cfg(feature = "alloc")]
+#[derive(Clone, Debug, PartialEq, Eq)]
+pub struct OutcomeList {
+    successors: alloc::vec::Vec<Successor>,
+    whole: u128,
+}
+
+#[cfg(feature = "alloc")]
+impl OutcomeList {
+    /// The outcomes with their exact weights, in no particular order. There is at least one.
+    #[must_use]
+    pub fn successors(&self) -> &[Successor] {
+        &self.successors
+    }
+
+    /// The sum of all weights, of which each weight is its outcome's part.
+    #[must_use]
+    pub const fn whole(&self) -> u128 {
+        self.whole
+    }
+
+    /// Each outcome with its probability.
+    pub fn iter(&self) -> impl ExactSizeIterator<Item = (Battle, f64)> + '_ {
+        let whole = self.whole as f64;
+        self.successors.iter().map(move |it| (it.battle(), it.weight() as f64 / whole))
+    }
+}
+
+#[cfg(feature = "alloc")]
+impl Battle {
+    /// All battles that an update by a choice of each side can lead to, each once, with its exact probability. Needs the feature `alloc`.
+    ///
+    /// The probabilities are exact for draws that are independent uniform bytes. A link battle draws other numbers
+    /// ([docs/MECHANICS.md, "Link numbers"](https://hibsuloy.example/gen1/blob/main/docs/MECHANICS.md#link-numbers)). If its seed is
+    /// unknown they are an approximation, off by about 0.01 in total variation; with a known seed there is one outcome, that of
+    /// [`Battle::update`]. The numbers to draw are not used, and the outcomes keep them. So reseed an outcome before you play it on.
+    ///
+    /// ```
+    /// use gen1::{Battle, Choice, Side, Team, member};
+    ///
+    /// # fn main() -> Result<(), Box<dyn std::error::Error>> {
+    /// let team = Team::new(&[member("Tauros", &["Body Slam"])?])?;
+    /// let mut battle = Battle::new(&team, &team, [0; 10]);
+    /// battle.update(Choice::Pass, Choice::Pass)?;
+    /// let outcomes = battle.outcomes(Choice::MOVE_1, Choice::MOVE_1)?;
+    /// let hp = |next: &Battle| f64::from(next.state().side(Side::One).members[0].hp);
+    /// let expected: f64 = outcomes.iter().map(|(next, probability)| probability * hp(&next)).sum();
+    /// assert!(hp(&battle) > expected);
+    /// # Ok(())
+    /// # }
+    /// ```
+    ///
+    /// # Errors
+    ///
+    /// A refusal as of [`Battle::update`], or [`OutcomesFault::Size`], of which no update is known.
+    pub fn outcomes<A: Chosen, B: Chosen>(&self, one: A, two: B) -> Result<OutcomeList, OutcomesFault> {
+        let pair = self.pair(one, two)?;
+        let mut places = 256;
+        loop {
+            let mut successors = alloc::vec![Successor::from(self); places];
+            let mut table = alloc::vec![0; 2 * places];
+            match self.outcomes_into(pair.0, pair.1, &mut successors, &mut table) {
+                Ok(found) => {
+                    successors.truncate(found.count);
+                    successors.shrink_to_fit();
+                    return Ok(OutcomeList { successors, whole: found.whole });
+                }
+                Err(OutcomesFault::Places | OutcomesFault::Table) => places *= 8,
+                Err(fault) => return Err(fault),
+            }
+        }
+    }
+}

@@ -1,0 +1,41 @@
+"""Hints on inlining for the plain build alone (docs/SPEED.md, "Hints on inlining"). In the proved build the same ones cost instructions."""
+import re
+
+# What reads or writes a field: all functions of these modules of gen1_layout.
+FIELDS = {"active", "codes", "condition_fields", "conditions", "event_fields", "header", "member", "packed"}
+NOT_FIELDS = {"clone", "flags", "of_bytes"}
+INLINED = {
+    "gen1_action": {"hit_or_miss"},
+    "gen1_engine": {"result"},
+    "gen1_hits": {"current_stats", "own_stats", "type_steps", "types"},
+    "gen1_multiturn": {"hit_effect", "land_hit", "note_first_hit"},
+    "gen1_requests": {"coming_out", "faint_and_settle", "put_out", "tell_coming_out"},
+    "gen1_turn": {"damage_unless_landing", "is_cut", "move_taken"},
+}
+COLD = {"gen1_requests": {"put_out_with_penalty"}}
+FUNCTION = re.compile(r"( *)((?:pub(?:\([a-z]+\))? )?(?:const )?fn (\w+)\b.*)")
+MODULE = re.compile(r"(?:pub )?mod (\w+) \{")
+
+
+def hinted(name, text):
+    """The text of a library with its hints."""
+    lines, module = [], None
+    for line in text.split("\n"):
+        started = MODULE.match(line)
+        module = started[1] if started else module
+        function = FUNCTION.fullmatch(line)
+        hint = function and hint_of(name, module, function[3])
+        if hint:
+            while lines[-1].strip().startswith("#[inline"):
+                lines.pop()
+            line = f"{function[1]}{hint} {function[2]}"
+        lines.append(line)
+    return "\n".join(lines)
+
+
+def hint_of(name, module, function):
+    """The hint of a function of a library's module, if it has one."""
+    if function in COLD.get(name, ()):
+        return "#[cold] #[inline(never)]"
+    is_field = name == "gen1_layout" and module in FIELDS and function not in NOT_FIELDS
+    return "#[inline(always)]" if is_field or function in INLINED.get(name, ()) else None
