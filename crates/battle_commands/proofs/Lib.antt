@@ -7,4 +7,5 @@ pub mod Heard
 pub mod Pieces
 pub mod Serving
 pub mod Asking
+pub mod Replying
 mod WorkedWords

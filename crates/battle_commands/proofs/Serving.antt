@@ -29,9 +29,9 @@ pub without_file : {A : Type 0} (f : A → List ℕ) (found : Option A) (file : 
 without_file f found file e none = sym e ∙ ap (option_map f) none
 
 pub standard_serves : (file : Option (List ℕ)) (named : List ℕ → Option (List ℕ)) (name : List ℕ) (told old new : Option (List ℕ)) (result : Result (Unit {0}) ToolFault)
-    → file ≡ None → IfSome told (λ input. Serves name input old new result) → IfSome (given file named told) (λ input. Serves name input old new result)
+    → file ≡ None → IfSome told (λ input. Serves name input old new result) → IfSome (given named told file) (λ input. Serves name input old new result)
 standard_serves file named name told old new result none h =
-    subst (λ (o : Option (List ℕ)). IfSome (given o named told) (λ input. Serves name input old new result)) (sym none) h
+    subst (λ (o : Option (List ℕ)). IfSome (given named told o) (λ input. Serves name input old new result)) (sym none) h
 
 pub file_is_none : (file : Option (List ℕ)) → file ≡ None → is_some file ≡ true → ⊥
 file_is_none None e h = let k : false ≡ true = h in cc
@@ -41,10 +41,13 @@ file_is_none (Some x) e h = cc
 pub with_file : {A : Type 0} (f : A → List ℕ) (found : Option A) (x : A) (file : Option (List ℕ)) → option_map f found ≡ file → found ≡ Some x → file ≡ Some (f x)
 with_file f found x file e some = sym e ∙ ap (option_map f) some
 
+pub file_is_some : (file : Option (List ℕ)) (path : List ℕ) → file ≡ Some path → is_some file ≡ false → ⊥
+file_is_some file path e h = let k : true ≡ is_some file = sym (ap is_some e) in let x : true ≡ false = k ∙ h in cc
+
 file_serves : (file : Option (List ℕ)) (path : List ℕ) (named : List ℕ → Option (List ℕ)) (name : List ℕ) (standard old new : Option (List ℕ)) (result : Result (Unit {0}) ToolFault)
-    → file ≡ Some path → IfSome (named path) (λ input. Serves name input old new result) → IfSome (given file named standard) (λ input. Serves name input old new result)
+    → file ≡ Some path → IfSome (named path) (λ input. Serves name input old new result) → IfSome (given named standard file) (λ input. Serves name input old new result)
 file_serves file path named name standard old new result some h =
-    subst (λ (o : Option (List ℕ)). IfSome (given o named standard) (λ input. Serves name input old new result)) (sym some) h
+    subst (λ (o : Option (List ℕ)). IfSome (given named standard o) (λ input. Serves name input old new result)) (sym some) h
 
 -- what was opened by its name has the bytes that are known of it
 by_bytes : (known told : Option (List ℕ)) (P : List ℕ → Type 0) → IfSome known (λ bytes. told ≡ Some bytes) → IfSome told P → IfSome known P
@@ -53,13 +56,13 @@ by_bytes (Some bytes) told P e h = subst (λ (o : Option (List ℕ)). IfSome o P
 
 pub opened_serves : (file : Option (List ℕ)) (path : List ℕ) (named : List ℕ → Option (List ℕ)) (name : List ℕ) (standard told old new : Option (List ℕ)) (result : Result (Unit {0}) ToolFault)
     → file ≡ Some path → IfSome (named path) (λ bytes. told ≡ Some bytes) → IfSome told (λ input. Serves name input old new result)
-    → IfSome (given file named standard) (λ input. Serves name input old new result)
+    → IfSome (given named standard file) (λ input. Serves name input old new result)
 opened_serves file path named name standard told old new result some bytes h =
     file_serves file path named name standard old new result some (by_bytes (named path) told _ bytes h)
 
 -- nothing was opened, and nothing is written
 pub unopened_serves : (file : Option (List ℕ)) (path : List ℕ) (named : List ℕ → Option (List ℕ)) (name : List ℕ) (standard old : Option (List ℕ))
-    → file ≡ Some path → IfSome (given file named standard) (λ input. Serves name input old old (Err Read))
+    → file ≡ Some path → IfSome (given named standard file) (λ input. Serves name input old old (Err Read))
 unopened_serves file path named name standard old some = file_serves file path named name standard old old (Err Read) some (some_all (named path) _ (λ input. unread input))
   where
     unread : (input : List ℕ) → Serves name input old old (Err Read)

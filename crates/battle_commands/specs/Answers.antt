@@ -1,6 +1,7 @@
 -- What a run has written and returns, compared with what is expected (docs/PROGRAM.md, "Faults and statuses").
 use Rattle.std.specs.Prelude.{◌≡◌, ◌<◌, ℕ, List, length, Bool, true, false, Option, Some, None, IfSome, Result, Ok, Err}
 use Rattle.std.specs.Io.KnownBytes.{Appends}
+use Rattle.gen1_rolls.specs.Draws.{Ref}
 use Rattle.gen1_machine.specs.Output.{AppendsFront, Sends}
 use Rattle.gen1_machine.specs.declared.io.DeviceFault.{DeviceFault}
 use Rattle.battle_commands.specs.Asked.{input_limit}
@@ -45,6 +46,21 @@ IsInputFault Memory told = Unit {0}
 IsInputFault TooLong told = IfSome told (λ input. input_limit < length input)
 IsInputFault fault told = ⊥
 
--- a text is sent, about which nothing is returned: all of it, or a prefix if the sink has failed
-abbrev pub Tells : Option (List ℕ) → Option (List ℕ) → Bool → Bool → List ℕ → Type 0
-Tells old new failed fails text = (sent : Result (Unit {0}) DeviceFault) × Sends old new failed fails text sent
+-- what was sent to a sink in a call: the bytes that it held and holds, if it reports them, and whether a write had failed and has failed
+pub record Sent : Type 0 where
+  pub held : Option (List ℕ)
+  pub holds : Option (List ℕ)
+  pub failed : Bool
+  pub fails : Bool
+
+-- to a parameter, in the words of its type
+abbrev pub sent_to : {S : Type 0} → (S → Option (List ℕ)) → (S → Bool) → Ref S → Sent
+sent_to contents has_failed s = record { held = contents s.entry.now; holds = contents s.exit.now; failed = has_failed s.entry.now; fails = has_failed s.exit.now }
+
+-- a text was sent, about which nothing is returned: all of it, or a prefix if the sink has failed
+abbrev pub Tells : Sent → List ℕ → Type 0
+Tells to text = (result : Result (Unit {0}) DeviceFault) × Sends to.held to.holds to.failed to.fails text result
+
+-- nothing was sent
+abbrev pub IsQuiet : Sent → Type 0
+IsQuiet to = (to.holds ≡ to.held) × (to.fails ≡ to.failed)

@@ -11,4 +11,6 @@ pub mod Explanations
 pub mod Logs
 pub mod Rooms
 pub mod Served
+pub mod Replies
+pub mod Folders
 pub mod CommandLine

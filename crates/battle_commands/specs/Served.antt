@@ -3,7 +3,7 @@ use Rattle.std.specs.Prelude.{Bool, Err, IfSome, List, None, Ok, Option, Result,
 use Rattle.clap.specs.Matches.{first_value, found_of, one_text}
 use Rattle.clap.specs.Walk.{Row, rows_of}
 use Rattle.clap.specs.declared.parser.matches.ArgMatches.{ArgMatches}
-use Rattle.battle_commands.specs.Answers.{Answers, Tells}
+use Rattle.battle_commands.specs.Answers.{Answers, IsQuiet, Sent, Tells}
 use Rattle.battle_commands.specs.Calc.{PrintsDamages, damages_due}
 use Rattle.battle_commands.specs.Due.{log_due, run_due}
 use Rattle.battle_commands.specs.Explanations.{told_of}
@@ -14,9 +14,9 @@ use Rattle.battle_commands.specs.declared.fault.ToolFault.{ToolFault}
 use Rattle.battle_commands.specs.declared.fault.ToolFault.TheVariants.{Memory}
 
 -- the bytes of a subcommand's input, if they are known: those of the FILE that is named, or else those of standard input
-abbrev pub given : Option (List ℕ) → (List ℕ → Option (List ℕ)) → Option (List ℕ) → Option (List ℕ)
-given None named standard = standard
-given (Some file) named standard = named file
+abbrev pub given : (List ℕ → Option (List ℕ)) → Option (List ℕ) → Option (List ℕ) → Option (List ℕ)
+given named standard None = standard
+given named standard (Some file) = named file
 
 -- what a subcommand prints and returns for an input is what its name asks for
 pub record Serves (name input : List ℕ) (old new : Option (List ℕ)) (result : Result (Unit {0}) ToolFault) : Type 0 where
@@ -27,9 +27,9 @@ pub record Serves (name input : List ℕ) (old new : Option (List ℕ)) (result 
   pub run : name ≡ codes "run" → Answers (run_due input) old new result
 
 -- nothing is reported if all was done, and otherwise the line of the error, with its explanation if one is asked for
-abbrev pub TellsEnd : Bool → Option (List ℕ) → Option (List ℕ) → Bool → Bool → Result (Unit {0}) ToolFault → Type 0
-TellsEnd explains old new failed fails (Ok done) = (new ≡ old) × (fails ≡ failed)
-TellsEnd explains old new failed fails (Err fault) = Tells old new failed fails (told_of explains fault)
+abbrev pub TellsEnd : Bool → Sent → Result (Unit {0}) ToolFault → Type 0
+TellsEnd explains err (Ok done) = IsQuiet err
+TellsEnd explains err (Err fault) = Tells err (told_of explains fault)
 
 -- an explanation is asked for by the value `true`, and not by `false` or none
 pub record IsAskedFor (explains : Bool) (value : Option (List ℕ)) : Type 0 where
@@ -42,29 +42,21 @@ abbrev pub status_after : Result (Unit {0}) ToolFault → ℕ
 status_after (Ok done) = 0
 status_after (Err fault) = status_of fault
 
--- no read and no write has failed in a call, and no error was reported
-pub record IsUndisturbed (read reads written writes told tells : Bool) (old new : Option (List ℕ)) : Type 0 where
-  pub read_well : reads ≡ read
-  pub written_well : writes ≡ written
-  pub told_well : tells ≡ told
-  pub nothing_told : new ≡ old
-
 -- a subcommand that these matches ask for is served to its end, and its error reported
-pub record IsServed (name : List ℕ) (matches : ArgMatches) (named : List ℕ → Option (List ℕ)) (standard old new told tells : Option (List ℕ)) (failed fails : Bool) (status : ℕ) : Type 0 where
+pub record IsServed (name : List ℕ) (matches : ArgMatches) (inputs : Option (List ℕ) → Option (List ℕ)) (out err : Sent) (status : ℕ) : Type 0 where
   pub end : Result (Unit {0}) ToolFault
   pub explains : Bool
   pub status_is : status ≡ status_after end
-  pub serves : IfSome (given (first_value (found_of matches) (codes "FILE")) named standard) (λ input. Serves name input old new end)
-  pub ends : TellsEnd explains told tells failed fails end
+  pub serves : IfSome (inputs (first_value (found_of matches) (codes "FILE"))) (λ input. Serves name input out.held out.holds end)
+  pub ends : TellsEnd explains err end
   pub asked : IsAskedFor explains (one_text (found_of matches) (codes "explain"))
 
 -- memory ran out before the words were understood, which is reported
-pub record IsUnheld (told tells : Option (List ℕ)) (failed fails : Bool) (status : ℕ) : Type 0 where
+pub record IsUnheld (err : Sent) (status : ℕ) : Type 0 where
   pub status_is : status ≡ status_of Memory
-  pub line : Tells told tells failed fails (error_line Memory)
+  pub line : Tells err (error_line Memory)
 
 -- one of both, by the name of the subcommand and what was found after it
-abbrev pub Ends : List ℕ → List Row → (List ℕ → Option (List ℕ)) → Option (List ℕ) → Option (List ℕ) → Option (List ℕ) → Option (List ℕ) → Option (List ℕ) → Bool → Bool → ℕ → Type 0
-Ends name rows named standard old new told tells failed fails status =
-    ((matches : ArgMatches) × (rows_of (found_of matches) ≡ rows) × IsServed name matches named standard old new told tells failed fails status)
-    ⊎ IsUnheld told tells failed fails status
+abbrev pub Ends : List ℕ × List Row → (Option (List ℕ) → Option (List ℕ)) → Sent → Sent → ℕ → Type 0
+Ends asked inputs out err status =
+    ((matches : ArgMatches) × (rows_of (found_of matches) ≡ asked.1) × IsServed asked.0 matches inputs out err status) ⊎ IsUnheld err status

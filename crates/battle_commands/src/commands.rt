@@ -1,19 +1,20 @@
 //! The command line (docs/PROGRAM.md, "The program battle_tool").
-ghost use Rattle.std.specs.Prelude.{◌≡◌, ◌≤◌, ◌||◌, IfOk, IfSome, IsOk, List, Some, codes, false, is_some, map, true, ℕ};
+ghost use Rattle.std.specs.Prelude.{◌<◌, ◌≡◌, ◌≢◌, ◌≤◌, ◌||◌, IfOk, IfSome, IsOk, List, [], codes, false, is_some, length, map, true, ℕ};
 ghost use Rattle.gen1_machine.specs.Output.{Sends};
 ghost use Rattle.clap.specs.Matches.{first_value, found_of};
 ghost use Rattle.clap.specs.Values.{kind_of};
-ghost use Rattle.clap.specs.Words.{Row, app_of, subcommand_of, takes};
+ghost use Rattle.clap.specs.Words.{Row, app_of};
 ghost use Rattle.clap.specs.declared.builder.command.Command.TheViews.{out-Command as fields_of};
-ghost use Rattle.battle_commands.specs.CommandLine.{reading, tool_app};
-ghost use Rattle.battle_commands.specs.Answers.{Answers, Tells, is_read_fault, is_write_fault};
+ghost use Rattle.battle_commands.specs.CommandLine.{AskFor, faults, names_file, reading, tool_app};
+ghost use Rattle.battle_commands.specs.Answers.{Answers, Tells, is_read_fault, is_write_fault, sent_to};
 ghost use Rattle.battle_commands.specs.Calc.{PrintsDamages, damages_due};
 ghost use Rattle.battle_commands.specs.Due.{log_due, run_due};
 ghost use Rattle.battle_commands.specs.Explanations.{told_of};
 ghost use Rattle.battle_commands.specs.Faults.{status_of};
 ghost use Rattle.battle_commands.specs.Logs.{PrintsLog};
+ghost use Rattle.battle_commands.specs.Replies.{Replies, RepliesTo};
 ghost use Rattle.battle_commands.specs.Rooms.{room_due};
-ghost use Rattle.battle_commands.specs.Served.{Ends, IsServed, IsUndisturbed, IsUnheld, Serves, given};
+ghost use Rattle.battle_commands.specs.Served.{Ends, IsServed, IsUnheld, Serves, given};
 
 use crate::battles::{play, play_log};
 use crate::calc::play_calc;
@@ -63,6 +64,9 @@ const ROOM_INPUT: &str =
 const EXPLAIN_HELP: &str = "Says where the error is and what was expected, after its line";
 
 const FILE_HELP: &str = "The input (default: standard input)";
+
+/// What is written if clap's text is empty, which its contracts don't rule out.
+const USAGE: &str = "usage: battle_tool SUBCOMMAND [--explain] [FILE]\n";
 
 /// A subcommand that reads a FILE, or standard input if none is named.
 fn reading<'a>(
@@ -114,8 +118,7 @@ fn command<'a>(alloc: Global) -> Result<Command<'a>, AllocError>
 pub fn report<E: Sink>(fault: &ToolFault, explains: bool, err: &mut E) -> u8
     ensures status { result ≡ status_of fault.now }
     ensures most { result ≤ 4 }
-    ensures told { Tells (E.contents err.old) (E.contents err.new) (E.has_failed err.old)
-        (E.has_failed err.new) (told_of explains fault.now) }
+    ensures told { Tells (sent_to E.contents E.has_failed err) (told_of explains fault.now) }
 {
     let _ = tell(fault, explains, err);
     fault.status()
@@ -134,23 +137,32 @@ fn tell<E: Sink>(fault: &ToolFault, explains: bool, err: &mut E) -> Result<(), D
     send_all(err, &[line.as_str().as_bytes(), behind.as_str().as_bytes()])
 }
 
+/// clap's text, or `USAGE` if that is empty.
+fn text_or_usage(text: &str) -> &str
+    ensures some { 0 < length result.now }
+    ensures same { 0 < length text.now → result.now ≡ text.now }
+{
+    if text.is_empty() { USAGE } else { text }
+}
+
 /// Writes clap's reply to words that do not ask for anything to run: requested help to standard output, and what is wrong with the
 /// words to standard error.
 fn answer_words<O: Sink, E: Sink>(alloc: Global, error: &Error, out: &mut O, err: &mut E) -> u8
     ensures most { result ≤ 4 }
+    ensures replies { RepliesTo (kind_of error.now) (sent_to O.contents O.has_failed out)
+        (sent_to E.contents E.has_failed err) result }
     ensures unheld { kind_of error.now ≡ ErrorKind.OutOfMemory
-        → IsUnheld (E.contents err.old) (E.contents err.new) (E.has_failed err.old)
-        (E.has_failed err.new) result }
-    ensures undisturbed { result ≡ 0
-        → (O.has_failed out.new ≡ O.has_failed out.old) × (E.has_failed err.new ≡ E.has_failed err.old)
-        × (E.contents err.new ≡ E.contents err.old) }
+        → IsUnheld (sent_to E.contents E.has_failed err) result }
+    ensures written { result ≡ 0 → O.has_failed out.new ≡ O.has_failed out.old }
+    ensures untold { result ≡ 0 → err.new ≡ err.old }
 {
     if error.kind() == ErrorKind::OutOfMemory {
         return report(&ToolFault::Memory, false, err);
     }
-    let Ok(text) = error.to_string(alloc) else {
+    let Ok(said) = error.to_string(alloc) else {
         return report(&ToolFault::Memory, false, err);
     };
+    let text = text_or_usage(said.as_str());
     if error.use_stderr() {
         let _ = send(err, text.as_bytes());
         return COMMAND_LINE_REFUSED;
@@ -199,25 +211,28 @@ fn run_named<A: AllocGlobal, I: Source, O: Sink>(
 /// Runs a subcommand on its FILE, or on `input`, which is not read if a FILE is named.
 fn run<A: AllocGlobal, F: Folder, I: Source, O: Sink>(
     rt: &A,
-    folder: &F,
+    folder: &mut F,
     name: &str,
     matches: &ArgMatches,
     input: &mut I,
     out: &mut O,
 ) -> Result<(), ToolFault>
     ensures serves { IfSome
-        (given (first_value (found_of matches.now) (codes "FILE")) (F.named folder.now)
-        (I.remaining input.old))
+        (given (F.named folder.old) (I.remaining input.old)
+        (first_value (found_of matches.now) (codes "FILE")))
         (λ asked. Serves name.now asked (O.contents out.old) (O.contents out.new) result) }
     ensures alone { is_some (first_value (found_of matches.now) (codes "FILE")) ≡ true
         → input.new ≡ input.old }
+    ensures unopened { is_some (first_value (found_of matches.now) (codes "FILE")) ≡ false
+        → folder.new ≡ folder.old }
     ensures read { IsOk result → I.has_failed input.new ≡ I.has_failed input.old }
+    ensures file { IsOk result → F.has_failed folder.new ≡ F.has_failed folder.old }
     ensures write { O.has_failed out.new ≡ (O.has_failed out.old || is_write_fault result) }
 {
     match matches.get_str("FILE") {
         None => run_named(rt, name, input, out),
         Some(file) => match folder.open(file) {
-            Ok(mut opened) => run_named(rt, name, &mut opened, out),
+            Ok(()) => run_named(rt, name, folder, out),
             Err(_) => Err(ToolFault::Read),
         },
     }
@@ -227,7 +242,7 @@ fn run<A: AllocGlobal, F: Folder, I: Source, O: Sink>(
 /// all was done.
 fn run_and_tell<A: AllocGlobal, F: Folder, I: Source, O: Sink, E: Sink>(
     rt: &A,
-    folder: &F,
+    folder: &mut F,
     name: &str,
     matches: &ArgMatches,
     input: &mut I,
@@ -235,13 +250,16 @@ fn run_and_tell<A: AllocGlobal, F: Folder, I: Source, O: Sink, E: Sink>(
     err: &mut E,
 ) -> u8
     ensures most { result ≤ 4 }
-    ensures ends { IsServed name.now matches.now (F.named folder.now) (I.remaining input.old)
-        (O.contents out.old) (O.contents out.new) (E.contents err.old) (E.contents err.new)
-        (E.has_failed err.old) (E.has_failed err.new) result }
-    ensures undisturbed { result ≡ 0
-        → IsUndisturbed (I.has_failed input.old) (I.has_failed input.new) (O.has_failed out.old)
-        (O.has_failed out.new) (E.has_failed err.old) (E.has_failed err.new) (E.contents err.old)
-        (E.contents err.new) }
+    ensures ends { IsServed name.now matches.now (given (F.named folder.old) (I.remaining input.old))
+        (sent_to O.contents O.has_failed out) (sent_to E.contents E.has_failed err) result }
+    ensures alone { is_some (first_value (found_of matches.now) (codes "FILE")) ≡ true
+        → input.new ≡ input.old }
+    ensures unopened { is_some (first_value (found_of matches.now) (codes "FILE")) ≡ false
+        → folder.new ≡ folder.old }
+    ensures read { result ≡ 0 → I.has_failed input.new ≡ I.has_failed input.old }
+    ensures file { result ≡ 0 → F.has_failed folder.new ≡ F.has_failed folder.old }
+    ensures written { result ≡ 0 → O.has_failed out.new ≡ O.has_failed out.old }
+    ensures untold { result ≡ 0 → err.new ≡ err.old }
 {
     let explains = matches.get_flag("explain");
     match run(rt, folder, name, matches, input, out) {
@@ -255,7 +273,7 @@ fn run_and_tell<A: AllocGlobal, F: Folder, I: Source, O: Sink, E: Sink>(
 /// errors to `err`.
 pub fn tool<A: AllocGlobal, F: Folder, S: AsStr, I: Source, O: Sink, E: Sink>(
     rt: &A,
-    folder: &F,
+    folder: &mut F,
     words: &[S],
     input: &mut I,
     out: &mut O,
@@ -263,17 +281,24 @@ pub fn tool<A: AllocGlobal, F: Folder, S: AsStr, I: Source, O: Sink, E: Sink>(
 ) -> u8
     ensures most { result ≤ 4 }
     // If the command line accepts the words, the subcommand that they ask for is served.
-    ensures ends { (asked : List ℕ × List Row)
-        → takes tool_app (map S.text words.now) ≡ true
-        → subcommand_of tool_app (map S.text words.now) ≡ Some asked
-        → Ends asked.0 asked.1 (F.named folder.now) (I.remaining input.old) (O.contents out.old)
-        (O.contents out.new) (E.contents err.old) (E.contents err.new) (E.has_failed err.old)
-        (E.has_failed err.new) result }
-    // No read and no write has failed, and no error was reported.
-    ensures undisturbed { result ≡ 0
-        → IsUndisturbed (I.has_failed input.old) (I.has_failed input.new) (O.has_failed out.old)
-        (O.has_failed out.new) (E.has_failed err.old) (E.has_failed err.new) (E.contents err.old)
-        (E.contents err.new) }
+    ensures ends { (asked : List ℕ × List Row) → AskFor (map S.text words.now) asked
+        → Ends asked (given (F.named folder.old) (I.remaining input.old))
+        (sent_to O.contents O.has_failed out) (sent_to E.contents E.has_failed err) result }
+    // Standard input is not read if they name a FILE, also after an error. No file is opened if they name none.
+    ensures alone { (asked : List ℕ × List Row) → AskFor (map S.text words.now) asked
+        → names_file asked ≡ true → input.new ≡ input.old }
+    ensures unopened { (asked : List ℕ × List Row) → AskFor (map S.text words.now) asked
+        → names_file asked ≡ false → folder.new ≡ folder.old }
+    // If the words have a fault or ask for help, they get a reply, and nothing is read.
+    ensures replies { Replies (faults (map S.text words.now)) (sent_to O.contents O.has_failed out)
+        (sent_to E.contents E.has_failed err) result }
+    ensures unread { faults (map S.text words.now) ≢ [] → input.new ≡ input.old }
+    ensures shut { faults (map S.text words.now) ≢ [] → folder.new ≡ folder.old }
+    // With status 0 no read and no write has failed, and no error was reported.
+    ensures read { result ≡ 0 → I.has_failed input.new ≡ I.has_failed input.old }
+    ensures file { result ≡ 0 → F.has_failed folder.new ≡ F.has_failed folder.old }
+    ensures written { result ≡ 0 → O.has_failed out.new ≡ O.has_failed out.old }
+    ensures untold { result ≡ 0 → err.new ≡ err.old }
 {
     let alloc = rt.alloc();
     let Ok(command) = command(alloc) else {
@@ -283,8 +308,9 @@ pub fn tool<A: AllocGlobal, F: Folder, S: AsStr, I: Source, O: Sink, E: Sink>(
         Ok(matches) => matches,
         Err(error) => return answer_words(alloc, &error, out, err),
     };
+    // Words that name no subcommand are refused above.
     let Some((name, inner)) = matches.subcommand() else {
-        return COMMAND_LINE_REFUSED;
+        unreachable!()
     };
     run_and_tell(rt, folder, name, inner, input, out, err)
 }

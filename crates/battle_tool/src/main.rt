@@ -24,10 +24,10 @@ fn main(rt: HostRuntime) -> ExitCode {
         Ok(words) => {
             let mut input = Device::new(rt.stdin());
             let mut out = Device::new(rt.stdout());
-            let folder = Disk::new(&rt);
+            let mut folder = Disk::new(&rt);
             tool(
                 &rt,
-                &folder,
+                &mut folder,
                 words.as_slice(),
                 &mut input,
                 &mut out,

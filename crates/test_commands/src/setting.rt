@@ -160,13 +160,13 @@ pub(crate) fn ran_words(
     words: &[&str],
     input: &[u8],
 ) -> (u8, Vec<u8>, Vec<u8>) {
-    ran_in(rt, &Disk::new(rt), words, input)
+    ran_in(rt, &mut Disk::new(rt), words, input)
 }
 
 /// The same with the files of a folder.
 pub(crate) fn ran_in(
     rt: &impl AllocGlobal,
-    folder: &impl Folder,
+    folder: &mut impl Folder,
     words: &[&str],
     input: &[u8],
 ) -> (u8, Vec<u8>, Vec<u8>) {
@@ -177,20 +177,52 @@ pub(crate) fn ran_in(
     (status, out.into_inner(), err.into_inner())
 }
 
-/// A folder with one file.
+/// A folder with one file. Nothing is read of it until that is opened.
 #[derive(Drop)]
 pub(crate) struct Shelf<'a> {
-    pub(crate) name: &'a str,
-    pub(crate) bytes: &'a [u8],
+    name: &'a str,
+    bytes: &'a [u8],
+    opened: Option<Device<&'a [u8]>>,
+    has_failed: bool,
 }
 
-impl<'a> Folder for Shelf<'a> {
-    type Input = Device<&'a [u8]>;
+impl<'a> Shelf<'a> {
+    pub(crate) fn new(name: &'a str, bytes: &'a [u8]) -> Self {
+        Shelf {
+            name,
+            bytes,
+            opened: None,
+            has_failed: false,
+        }
+    }
+}
 
-    fn open(&self, name: &str) -> Result<Device<&'a [u8]>, DeviceFault> {
+impl Source for Shelf<'_> {
+    ghost has_failed = { λ shelf. shelf.has_failed };
+
+    fn read(&mut self, bytes: &mut [u8]) -> Result<usize, DeviceFault> {
+        let result = match &mut self.opened {
+            Some(input) => input.read(bytes),
+            None => Err(DeviceFault),
+        };
+        if result.is_err() {
+            self.has_failed = true;
+        }
+        result
+    }
+
+    fn failed(&self) -> bool {
+        self.has_failed
+    }
+}
+
+impl Folder for Shelf<'_> {
+    fn open(&mut self, name: &str) -> Result<(), DeviceFault> {
         if name == self.name {
-            Ok(Device::new(self.bytes))
+            self.opened = Some(Device::new(self.bytes));
+            Ok(())
         } else {
+            self.has_failed = true;
             Err(DeviceFault)
         }
     }

@@ -1,0 +1,113 @@
+-- What is replied to words that ask for nothing to run, and that other words ask for a subcommand.
+use Rattle.std.proofs.Common.{Bool, List, None, Option, Some, [], ap, codes, false, inl, inr, refl, subst, sym, true, ℕ, ◌∙◌, ◌∷◌, ◌≡◌}
+use Rattle.std.specs.Prelude.{Box, is_some, ◌≢◌, ◌⊎◌}
+use Rattle.clap.proofs.WalkLemmas.{first_value-rows}
+use Rattle.clap.specs.Faults.{check_fault, defaults_fault, entered_fault, level_fault, settle_fault, walk_fault}
+use Rattle.clap.specs.Kinds.{IsAmong, Kinds, or_else}
+use Rattle.clap.specs.Matches.{first_value, found_of, has_subcommand}
+use Rattle.clap.specs.Simple.{HasMatchesOf, Shape, argument_words, built, names_of, subcommand_rows}
+use Rattle.clap.specs.Walk.{Held, Names, finished, nothing_held, settled, stop_after, walk, walk_from}
+use Rattle.clap.specs.Words.{App, Row, Text, fault_of, first_of, is_simple_and_free, rows_of, subcommand_of}
+use Rattle.clap.specs.declared.error.kind.ErrorKind.{ErrorKind}
+use Rattle.clap.specs.declared.error.kind.ErrorKind.TheVariants.{DisplayHelp, DisplayVersion, MissingSubcommand, OutOfMemory}
+use Rattle.clap.specs.declared.parser.matches.ArgMatches.{ArgMatches}
+use Rattle.clap.specs.declared.parser.matches.ArgMatches.TheViews.{out-ArgMatches}
+use Rattle.clap.specs.declared.parser.matches.SubCommand.{SubCommand}
+use Rattle.battle_commands.specs.Answers.{Sent}
+use Rattle.battle_commands.specs.CommandLine.{faults, names_file, tool_app}
+use Rattle.battle_commands.specs.Replies.{IsHelp, IsRefusal, IsReply, Replies, RepliesTo}
+use Rattle.battle_commands.specs.Served.{IsUnheld}
+use Rattle.battle_commands.proofs.Asking.{rows_found}
+
+-- the words are mistaken
+pub refuses : (kind : ErrorKind) (out err : Sent) (status : ℕ) → (kind ≢ DisplayHelp) × (kind ≢ DisplayVersion) → IsRefusal out err status → IsReply kind out err status
+refuses kind out err status mistaken r = record { asked = asks; refused = λ a b. r }
+  where
+    asks : (kind ≡ DisplayHelp) ⊎ (kind ≡ DisplayVersion) → IsHelp out err status
+    asks (inl e) = absurd (mistaken.0 e)
+    asks (inr e) = absurd (mistaken.1 e)
+
+-- help is asked for
+pub helps : (kind : ErrorKind) (out err : Sent) (status : ℕ) → ((kind ≢ DisplayHelp) × (kind ≢ DisplayVersion) → ⊥) → IsHelp out err status → IsReply kind out err status
+helps kind out err status asked r = record { asked = λ e. r; refused = λ a b. absurd (asked (a, b)) }
+
+pub not_both : (b : Bool) → b ≡ true → b ≡ false → ⊥
+not_both b t f = let x : true ≡ false = sym t ∙ f in cc
+
+-- memory ran out, whatever the words are
+pub replies_unheld : (kinds : Kinds) (out err : Sent) (status : ℕ) → IsUnheld err status → Replies kinds out err status
+replies_unheld [] out err status u = tt
+replies_unheld (k ∷ ks) out err status u = inr u
+
+-- words without a fault get no reply
+pub unreplied : (kinds : Kinds) (out err : Sent) (status : ℕ) → kinds ≡ [] → Replies kinds out err status
+unreplied [] out err status e = tt
+unreplied (k ∷ ks) out err status e = absurd (let x : (k ∷ ks) ≡ [] = e in cc)
+
+-- the reply to an error is that to one of the kinds that it may have
+replied : (kinds : Kinds) (kind : ErrorKind) (out err : Sent) (status : ℕ) → (kind ≡ OutOfMemory) ⊎ IsAmong kind kinds
+    → (kind ≡ OutOfMemory → IsUnheld err status) → RepliesTo kind out err status → Replies kinds out err status
+replied [] kind out err status among unheld reply = tt
+replied (k ∷ ks) kind out err status (inl e) unheld reply = inr (unheld e)
+replied (k ∷ ks) kind out err status (inr a) unheld (inl reply) = inl (kind, a, reply)
+replied (k ∷ ks) kind out err status (inr a) unheld (inr u) = inr u
+
+-- clap says of this command line which kinds of error words may give
+simple_and_free : is_simple_and_free tool_app ≡ true
+simple_and_free = refl
+
+-- words that give an error have one of its kinds as a fault
+pub error_replied : (app : App) (words : List Text) (kind : ErrorKind) (out err : Sent) (status : ℕ) → app ≡ tool_app
+    → (is_simple_and_free app ≡ true → (kind ≡ OutOfMemory) ⊎ IsAmong kind (fault_of app words)) → (kind ≡ OutOfMemory → IsUnheld err status)
+    → RepliesTo kind out err status → Replies (faults words) out err status
+error_replied app words kind out err status app_is fails unheld reply =
+    replied (faults words) kind out err status
+    (subst (λ (kinds : Kinds). (kind ≡ OutOfMemory) ⊎ IsAmong kind kinds) (ap (λ (x : App). fault_of x words) app_is)
+    (fails (ap is_simple_and_free app_is ∙ simple_and_free)))
+    unheld reply
+
+-- and words that give none have no fault
+pub faultless : (app : App) (words : List Text) → app ≡ tool_app → (is_simple_and_free app ≡ true → fault_of app words ≡ []) → faults words ≡ []
+faultless app words app_is none = sym (ap (λ (x : App). fault_of x words) app_is) ∙ none (ap is_simple_and_free app_is ∙ simple_and_free)
+
+later : (a b : Kinds) → or_else a b ≡ [] → b ≡ []
+later [] b e = e
+later (k ∷ ks) b e = absurd (let x : (k ∷ ks) ≡ [] = e in cc)
+
+-- of one level of words the check for a subcommand comes last
+last_fault : (s : Shape) (names : Names) (h : Held) (words : List Text) (has : Bool) (below : Kinds) → level_fault s names h words has below ≡ []
+    → check_fault s (finished s.rules (walk s.rules names h words).held) has ≡ []
+last_fault s names h words has below e =
+    let end = (walk s.rules names h words).held in
+    let first = walk_fault s names (walk_from h) words in
+    let settling = settle_fault s.rules s.args_override_self end in
+    let default = defaults_fault (settled s.rules end).rows s.rules in
+    let checked = check_fault s (finished s.rules end) has in
+    later default checked
+    (later settling (or_else default checked)
+    (later below (or_else settling (or_else default checked))
+    (later first (or_else below (or_else settling (or_else default checked))) e)))
+
+needs_one : (rows : List Row) (has : Bool) → check_fault (built tool_app).top rows has ≡ [] → has ≡ true
+needs_one rows true e = refl
+needs_one rows false e = absurd (let x : (MissingSubcommand ∷ []) ≡ [] = e in cc)
+
+-- words without a fault ask for a subcommand
+asks_for_one : (words : List Text) → faults words ≡ [] → is_some (subcommand_of tool_app words) ≡ true
+asks_for_one words e =
+    let a = built tool_app in
+    let behind = argument_words tool_app words in
+    needs_one (finished a.top.rules (walk a.top.rules (names_of a) nothing_held behind).held) (is_some (subcommand_of tool_app words))
+    (last_fault a.top (names_of a) nothing_held behind (is_some (subcommand_of tool_app words)) (entered_fault a (stop_after a.top.rules (names_of a) behind)) e)
+
+rows_there : {Z : Type 0} (o : Option (Box SubCommand Z)) → is_some (subcommand_rows o) ≡ is_some o
+rows_there None = refl
+rows_there (Some b) = refl
+
+-- which is found
+pub one_found : (app : App) (m : ArgMatches) (words : List Text) → app ≡ tool_app → HasMatchesOf app words m → faults words ≡ [] → has_subcommand m ≡ true
+one_found app m words app_is has none = sym (rows_there (out-ArgMatches m).subcommand) ∙ ap is_some (rows_found app m words app_is has) ∙ asks_for_one words none
+
+-- whether a FILE is named, by the rows
+pub file_named : (m : ArgMatches) (asked : Text × List Row) → rows_of (found_of m) ≡ asked.1 → is_some (first_value (found_of m) (codes "FILE")) ≡ names_file asked
+file_named m asked e = ap is_some (first_value-rows (found_of m) (codes "FILE") ∙ ap (first_of (codes "FILE")) e)
