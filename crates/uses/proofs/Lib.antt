@@ -4,3 +4,5 @@ pub mod Offers
 pub mod Accepting
 -- What a viewer has shown, event by event.
 pub mod Viewing
+-- The calls of a battle, one after the other.
+pub mod TheTheorem

@@ -8,3 +8,5 @@ pub mod Viewing
 pub mod Showing
 -- What a player does next.
 pub mod Players
+-- What the calls of a battle return.
+pub mod TheTheorem
