@@ -4,11 +4,13 @@ import copy
 import dataclasses
 import pickle
 import random
+import sys
 
 import gen1
 import pytest
 from conftest import random_team
-from gen1 import Battle, Choice, Events, State
+from gen1 import BadLog, Battle, Choice, State
+from gen1.names import LogFault
 
 
 def battles(count=3):
@@ -21,38 +23,32 @@ def battles(count=3):
 
 
 def test_events_are_those_of_the_log():
-    """Read by index from either end, by slice, or one after the other."""
+    """They are read when they are first used, and then kept."""
     for _, update in battles():
-        wanted = gen1.events(update.log)
-        assert type(wanted) is tuple and type(update.events) is Events and update.events is update.events
-        fresh = [Events(update.log) for _ in range(6)]
-        assert [fresh[0][at] for at in range(len(wanted))] == list(wanted)
-        assert fresh[1][-1] == wanted[-1] and fresh[2][:2] == wanted[:2] and len(fresh[3]) == len(wanted)
-        assert tuple(fresh[4]) == tuple(fresh[4]) == wanted and tuple(reversed(fresh[5])) == wanted[::-1]
-        it = iter(Events(update.log))
-        assert next(it) == wanted[0] and tuple(it) == wanted[1:]
+        assert "events" not in vars(update)
+        told = update.events
+        assert type(told) is tuple and told is update.events and told == gen1.events(update.log)
 
 
-def test_events_as_a_tuple(battle):
-    """Equal to the tuple of the same events, from both sides, with its hash and its text."""
-    events = battle.update(Choice.MOVE_1, Choice.MOVE_1).events
-    held = tuple(events)
-    assert events == held and held == events and hash(events) == hash(held) and repr(events) == repr(held) and events != held[1:]
-    assert events + held == held + events == events + events == held + held and events != list(held)
-    assert held[0] in events and events.index(held[1]) == 1 and events.count(held[0]) >= 1
-    for again in (copy.copy(events), copy.deepcopy(events), pickle.loads(pickle.dumps(events))):
-        assert type(again) is Events and again == held
-    for at in (len(held), -len(held) - 1, 10**30):
-        with pytest.raises(IndexError):
-            events[at]
-    with pytest.raises(TypeError):
-        events["0"]
+def test_events_that_are_kept_are_those_that_the_library_reads():
+    """A log is read from the events that came before where it can be, and from the library where it cannot: with the same result."""
+    read = sys.modules["gen1.events"]
+    for _, update in battles():
+        told, lines = gen1.events(update.log), update.lines
+        assert (told, lines) == (gen1.events(update.log), update.lines)
+        read._event.cache_clear()
+        read._line.cache_clear()
+        assert (told, lines) == (gen1.events(update.log), update.lines)
 
 
-def test_two_loops_over_the_same_events(battle):
-    """Each loop has its own place."""
-    events = battle.update(Choice.MOVE_1, Choice.MOVE_1).events
-    assert [(one, two) for one in events for two in events] == [(one, two) for one in tuple(events) for two in tuple(events)]
+def test_a_log_that_is_wrong_after_events_that_are_kept(battle):
+    """The fault and its place are the same each time."""
+    log = battle.update(Choice.MOVE_1, Choice.MOVE_1).log
+    for wrong, code in ((b"\x00" + log, LogFault.TAG), (b"\x0d\x01\x80\x00" + log, LogFault.FIELD), (log[:3], LogFault.CUT)):
+        for read in (gen1.events, gen1.lines) * 2:
+            with pytest.raises(BadLog) as found:
+                read(log + wrong)
+            assert (found.value.code, found.value.at) == (code, len(log))
 
 
 def test_a_state_that_is_read_after_an_update(battle):

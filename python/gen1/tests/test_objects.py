@@ -155,7 +155,7 @@ def test_the_classes_of_events_are_exported():
 
     assert gen1.DamageEvent is DamageEvent and gen1.Who is Who and callable(gen1.events)
     kinds = {it for it in vars(sys.modules["gen1.events"]).values() if isinstance(it, type) and it.__module__ == "gen1.events"}
-    assert len(kinds) == 33 and all(getattr(gen1, it.__name__) is it and it.__name__ in gen1.__all__ for it in kinds)
+    assert len(kinds) == 32 and all(getattr(gen1, it.__name__) is it and it.__name__ in gen1.__all__ for it in kinds)
 
 
 def test_the_version_of_the_library(tmp_path):

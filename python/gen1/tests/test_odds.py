@@ -2,6 +2,7 @@
 
 import ctypes
 import json
+import math
 import random
 import subprocess
 import sys
@@ -34,7 +35,7 @@ from gen1 import (
     odds,
     recoil,
 )
-from gen1._structs import ChancesStruct, OddsStruct, PlayoutsStruct
+from gen1._structs import ChancesStruct, OddsStruct, PlayoutOptionsStruct, PlayoutsStruct
 
 if RECORDED.is_dir():
     from battles import cases, recorded
@@ -259,19 +260,45 @@ def test_odds_with_wrong_arguments(battle, team, tauros):
 # Playouts
 
 
-def played_out(battle, seed, rounds):
-    """The same update by update, with the generator that include/gen1.h describes."""
-    ends, state = [0] * 4, seed
+def draws(state):
+    """The draws of the generator that include/gen1.h describes."""
+    while True:
+        state = (state * 6364136223846793005 + 1442695040888963407) % 2**64
+        yield state >> 32
+
+
+def leader(battle):
+    """The outcome by the shares of the HP left."""
+    one, two = (Fraction(sum(it.hp for it in side.members), sum(it.max_hp for it in side.members)) for side in (battle.state.one, battle.state.two))
+    return Outcome.WIN_ONE if one > two else Outcome.WIN_TWO if two > one else Outcome.TIE
+
+
+def weighted(battle, side, weights):
+    """The offered choices of a side, each as often as its weight says."""
+    if weights is None:
+        return battle.choices(side)
+    own = (battle.state.one, battle.state.two)[side - 1]
+
+    def weight(choice):
+        if not choice.is_move:
+            return weights.get("switch", 1)
+        used = own.members[own.active.place - 1].moves[choice.slot - 1] if choice.slot else Move.STRUGGLE
+        return weights.get(used.label, weights.get("move", 1))
+
+    copies = [choice for choice in battle.choices(side) for _ in range(weight(choice))]
+    return copies or battle.choices(side)
+
+
+def played_out(battle, seed, rounds, depth=math.inf, weights=None):
+    """The same update by update."""
+    ends, draw = [0] * 4, draws(seed)
     for _ in range(rounds):
-        it = battle.copy()
-        while not it.result.is_over:
-            pair = []
-            for side in (1, 2):
-                offered = it.choices(side)
-                state = (state * 6364136223846793005 + 1442695040888963407) % 2**64
-                pair.append(offered[(state >> 32) % len(offered)])
-            it.update_silent(*pair)
-        ends[min(it.result.outcome, Outcome.FAULT_ONE) - 1] += 1
+        it, updates = battle.copy(), 0
+        it.reseed([next(draw) % 256 for _ in range(10)])
+        while not it.result.is_over and updates < depth:
+            it.update_silent(*[offered[next(draw) % len(offered)] for offered in (weighted(it, 1, weights), weighted(it, 2, weights))])
+            updates += 1
+        ends[min(it.result.outcome or leader(it), Outcome.FAULT_ONE) - 1] += 1
     return Playouts(*ends)
 
 
@@ -282,8 +309,43 @@ def test_playouts_update_by_update():
         before, raw = battle.bytes, PlayoutsStruct()
         found = battle.playout(seed, 9)
         assert found == played_out(battle, seed, 9) == battle.playout(seed, 9) and found.rounds == 9 and battle.bytes == before
-        assert LIB.gen1_playout(battle.bytes, ctypes.c_uint64(seed), 9, ctypes.byref(raw)) & 0xFF == 0
+        assert LIB.gen1_playout(battle.bytes, ctypes.byref(PlayoutOptionsStruct(seed, 9, 0)), ctypes.byref(raw)) & 0xFF == 0
         assert found == Playouts(raw.wins_one, raw.wins_two, raw.ties, raw.faults)
+        for depth in (1, 2, 15, 40):
+            assert battle.playout(seed, 9, depth=depth) == played_out(battle, seed, 9, depth)
+
+
+def test_playouts_by_weights():
+    dice = random.Random(6)
+    for turn in range(40):
+        battle, seed = Battle(random_team(dice), random_team(dice), dice.randbytes(10), limit=60), dice.getrandbits(64)
+        known = [move.label for side in (battle.state.one, battle.state.two) for member in side.members for move in member.moves]
+        keys = dice.sample([*known, "move", "switch", "Struggle"], dice.randrange(6))
+        weights = {key: dice.choice((0, 1, 2, 7, 255)) for key in keys}
+        depth = dice.choice((None, 8))
+        assert battle.playout(seed, 9, depth=depth, weights=weights) == played_out(battle, seed, 9, depth or math.inf, weights), (turn, weights)
+
+
+def test_weights_that_are_all_alike(battle):
+    """Weights of 1, and of 0 alone, change nothing, also not by their own numbers. Weights of 0 are never chosen."""
+    plain, raw = battle.playout(9, 500), PlayoutsStruct()
+    for weights in ({}, {"move": 1}, {"move": 0, "switch": 0}, {it: 1 for it in Move}, {it.label: 0 for it in Move} | {"switch": 0}):
+        assert battle.playout(9, 500, weights=weights) == plain, weights
+    for weight in (0, 1):
+        options = PlayoutOptionsStruct(9, 500, 0, (ctypes.c_uint8 * 166)(*[weight] * 166), (ctypes.c_uint8 * 2)(7, 255))
+        assert LIB.gen1_playout(battle.bytes, ctypes.byref(options), ctypes.byref(raw)) & 0xFF == 0
+        assert plain == Playouts(raw.wins_one, raw.wins_two, raw.ties, raw.faults)
+
+
+def test_weights_decide_what_is_chosen():
+    """A side that never uses its harmless move wins, and by the share of the weights where the first choice decides."""
+    duel = Battle([Member("Gengar", ["Explosion", "Splash"])], [Member("Onix", ["Splash"])], range(10))
+    duel.update_silent(Choice.PASS, Choice.PASS)
+    assert duel.playout(1, 200, depth=1, weights={"Explosion": 0}).ties == 200
+    rounds = 4000
+    for weights, share in (({}, 1 / 2), ({"Splash": 3}, 1 / 4), ({"Explosion": 9}, 9 / 10)):
+        exploded = rounds - duel.playout(1, rounds, depth=1, weights=weights).ties
+        assert abs(exploded - share * rounds) < 5 * math.sqrt(rounds * share * (1 - share)), weights
 
 
 def test_playouts_in_slices(battle):
@@ -291,7 +353,7 @@ def test_playouts_in_slices(battle):
     dice, counts = random.Random(5), [0, 0, 0, 0]
     for seed, rounds in ((5, 1000), (dice.getrandbits(64), 1000), (dice.getrandbits(64), 400)):
         raw = (ctypes.c_uint32 * 4)()
-        assert LIB.gen1_playout(battle.bytes, ctypes.c_uint64(seed), rounds, ctypes.byref(raw)) & 0xFF == 0
+        assert LIB.gen1_playout(battle.bytes, ctypes.byref(PlayoutOptionsStruct(seed, rounds, 0)), ctypes.byref(raw)) & 0xFF == 0
         counts = [known + new for known, new in zip(counts, raw)]
     found = battle.playout(5, 2400)
     assert [found.wins_one, found.wins_two, found.ties, found.faults] == counts
@@ -322,11 +384,22 @@ def test_playouts_with_wrong_arguments(battle):
     before = battle.bytes
     calls = [(lambda it=it: battle.playout(it, 1), BadArgument) for it in (-1, 1 << 64, -(1 << 70))]
     calls += [(lambda it=it: battle.playout(1, it), BadArgument) for it in (-1, 1 << 32, 1 << 64)]
+    calls += [(lambda it=it: battle.playout(1, 1, depth=it), BadArgument) for it in (-1, 0, 1 << 32, 1 << 64)]
     calls += [(lambda it=it: battle.playout(it, 1), BadType) for it in NO_NUMBERS]
+    calls += [(lambda it=it: battle.playout(1, 1, depth=it), BadType) for it in NO_NUMBERS if it is not None]
     calls += [(lambda it=it: battle.playout(1, it), BadType) for it in NO_NUMBERS]
+    calls += [(lambda it=it: battle.playout(1, 1, weights=it), BadType) for it in (5, "move", ["Pound"], [("Pound", 1)])]
+    for key in ("move", "switch", "Pound", Move.POUND, 1):
+        calls += [(lambda key=key, it=it: battle.playout(1, 1, weights={key: it}), BadArgument) for it in (-1, 256, 1 << 64)]
+        calls += [(lambda key=key, it=it: battle.playout(1, 1, weights={key: it}), BadType) for it in NO_NUMBERS]
+    calls += [(lambda it=it: battle.playout(1, 1, weights={it: 1}), BadTeam) for it in (0, 166, -1)]
     for at, (call, kind) in enumerate(calls):
         with pytest.raises(kind) as fault:
             call()
         assert isinstance(fault.value, Error) and " must be " in str(fault.value) and battle.bytes == before, at
+    with pytest.raises(BadTeam, match="there is no 'Explosoin'; did you mean 'Explosion'"):
+        battle.playout(1, 1, weights={"Explosoin": 2})
+    with pytest.raises(BadArgument, match=r"weights\['switch'\] must be 0 to 255, not 300"):
+        battle.playout(1, 1, weights={"switch": 300})
     with pytest.raises(AttributeError):
         battle.playout(1, 1).ties = 5

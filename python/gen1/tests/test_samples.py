@@ -48,6 +48,17 @@ def test_random_teams():
     assert len(species) == 151 and len(moves) == 160
 
 
+def test_random_teams_of_numpy():
+    """So an environment draws a new team for each battle."""
+    numpy = pytest.importorskip("numpy")
+    one, two = (numpy.random.default_rng(1) for _ in range(2))
+    assert [random_team(one), random_team(one)] == [random_team(two), random_team(two)]
+    env = gen1.VectorEnv(8, random_team, random_team)
+    env.reset(seed=1)
+    species = env.battles.fields["sides"]["members"]["species"]
+    assert len({it.tobytes() for it in species}) == 8 and (species > 0).all()
+
+
 def test_random_teams_of_wrong_arguments():
     dice = random.Random(1)
     for call in (lambda: random_team(dice, count=0), lambda: random_team(dice, count=7)):

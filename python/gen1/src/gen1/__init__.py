@@ -37,6 +37,7 @@ from typing import TYPE_CHECKING
 from gen1._library import LIBRARY_BUILD as library_build
 from gen1._library import LIBRARY_VERSION as library_version
 from gen1._odds import Chances, Damages, Odds, damage, drained, odds, recoil
+from gen1._outcomes import Outcomes
 from gen1.battle import Battle, Playouts, Result, Update
 from gen1.choices import Choice, Rules, Side
 from gen1.errors import (
@@ -66,7 +67,6 @@ from gen1.events import (
     DamageEvent,
     EndEvent,
     Event,
-    Events,
     FailEvent,
     FaintEvent,
     FaultEvent,
@@ -198,7 +198,6 @@ __all__ = [
     "Error",
     "Event",
     "EventKind",
-    "Events",
     "FailEvent",
     "FaintEvent",
     "FaultEvent",
@@ -224,6 +223,7 @@ __all__ = [
     "OfOne",
     "OneHitEvent",
     "Outcome",
+    "Outcomes",
     "OwnMember",
     "OwnSide",
     "Player",

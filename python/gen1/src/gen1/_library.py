@@ -17,13 +17,16 @@ from gen1._structs import (
     ChancesStruct,
     MoveStruct,
     OddsStruct,
+    OutcomeListStruct,
     OwnSideStruct,
     PlayerStruct,
+    PlayoutOptionsStruct,
     PlayoutsStruct,
     RoomStruct,
     SpectatorStruct,
     StateFaultStruct,
     StateStruct,
+    SuccessorStruct,
     TellerStruct,
 )
 from gen1.errors import LibraryMissing
@@ -34,6 +37,8 @@ LINE_ROOM = 96
 WORDS_ROOM = 32
 LOG_END = 35
 WORDS_CHOICE = 43
+FEW_PLACES = (29, 30)
+TOO_MANY_DRAWS = 31
 
 SeedBytes = c_uint8 * 10
 
@@ -159,7 +164,9 @@ recoil = bind("gen1_recoil", c_uint16, c_uint8, c_uint16)
 effectiveness = bind("gen1_effectiveness", c_uint8, c_uint8, c_uint8, POINTER(c_uint8))
 move_row = bind("gen1_move_data", c_uint8, c_uint8, POINTER(MoveStruct))
 member_stats = bind("gen1_member_stats", c_uint8, _MEMBER, c_uint16 * 5)
-playout = bind("gen1_playout", c_uint8, _BATTLE, c_uint64, c_uint32, POINTER(PlayoutsStruct), of=LONG)
+playout = bind("gen1_playout", c_uint8, _BATTLE, POINTER(PlayoutOptionsStruct), POINTER(PlayoutsStruct), of=LONG)
+_LIST = POINTER(OutcomeListStruct)
+outcomes = bind("gen1_outcomes", c_uint8, _BATTLE, c_uint8, c_uint8, POINTER(SuccessorStruct), c_size_t, POINTER(c_uint32), c_size_t, _LIST, of=LONG)
 get_state = bind("gen1_get_state", None, _BATTLE, POINTER(StateStruct))
 set_state = bind("gen1_set_state", c_uint8, _BATTLE, POINTER(StateStruct), POINTER(StateFaultStruct))
 choice_words = bind("gen1_choice_words", c_uint8, _BATTLE, c_uint8, c_uint8, _TEXT, c_size_t, _SIZES)

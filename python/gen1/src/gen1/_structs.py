@@ -1,6 +1,9 @@
 """The structs of include/gen1.h for ctypes, with their fields in its order; those of teams and events are in `_library`."""
 
-from ctypes import Structure, c_int8, c_uint8, c_uint16, c_uint32, c_uint64
+from collections.abc import Callable
+from ctypes import Structure, c_int8, c_uint8, c_uint16, c_uint32, c_uint64, sizeof
+from struct import Struct
+from typing import Any
 
 LOG_ROOM = 512
 DAMAGES = 39
@@ -132,10 +135,34 @@ class ChancesStruct(Structure):
     ]
 
 
+class PlayoutOptionsStruct(Structure):
+    """gen1_playout_options."""
+
+    _fields_ = [
+        ("seed", c_uint64),
+        ("rounds", c_uint32),
+        ("depth", c_uint32),
+        ("weights", c_uint8 * 166),
+        ("reserved", c_uint8 * 2),
+    ]
+
+
 class PlayoutsStruct(Structure):
     """gen1_playouts."""
 
     _fields_ = [("wins_one", c_uint32), ("wins_two", c_uint32), ("ties", c_uint32), ("faults", c_uint32)]
+
+
+class SuccessorStruct(Structure):
+    """gen1_successor."""
+
+    _fields_ = [("battle", BattleBytes), ("low", c_uint64), ("high", c_uint64)]
+
+
+class OutcomeListStruct(Structure):
+    """gen1_outcome_list."""
+
+    _fields_ = [("low", c_uint64), ("high", c_uint64), ("count", c_uint64)]
 
 
 class RoomStruct(Structure):
@@ -304,3 +331,16 @@ class TellerStruct(Structure):
     """gen1_teller."""
 
     _fields_ = [("side", c_uint8), ("pixels", c_uint8), ("places", c_uint8 * 6)]
+
+
+def reader(kind: type[Structure]) -> Callable[[bytes], dict[str, Any]]:
+    """Reads all fields of a struct at once, which is faster than one by one: numbers, and of arrays the bytes."""
+    numbers: dict[Any, str] = {c_uint8: "B", c_uint16: "H", c_uint32: "I"}
+    form, end = "=", 0
+    names = [name for name, *_ in kind._fields_]
+    for name, of, *_ in kind._fields_:
+        place = getattr(kind, name)
+        form += f"{place.offset - end}x{numbers.get(of) or f'{place.size}s'}"
+        end = place.offset + place.size
+    unpack = Struct(f"{form}{sizeof(kind) - end}x").unpack
+    return lambda held: dict(zip(names, unpack(held)))

@@ -12,19 +12,22 @@ from typing import TYPE_CHECKING, Any, TypeAlias, TypeVar
 from gen1 import _library
 from gen1._check import byte as a_byte
 from gen1._check import move as a_move
-from gen1._check import digits, octets, seed_bytes, truth, whole, within
+from gen1._check import digits, octets, seed_bytes, shown, truth, whole, within
 from gen1._odds import Chances, Odds, chances_of, no_damage, odds_of
+from gen1._outcomes import Outcomes, outcomes_of
 from gen1._pack import bad_state, packed
-from gen1._structs import DAMAGES, LOG_ROOM, BattleBytes, ChancesStruct, OddsStruct, PlayoutsStruct, StateFaultStruct
+from gen1._structs import DAMAGES, LOG_ROOM, BattleBytes, ChancesStruct, OddsStruct, PlayoutOptionsStruct, PlayoutsStruct, StateFaultStruct
 from gen1.choices import Choice, Rules, Side, a_choice, a_side, choice_text, not_offered
 from gen1.errors import BadArgument, BadBytes, BadTeam, BadType, NoDamage, Refused
-from gen1.events import Events, lines
+from gen1.events import Event, events, lines
 from gen1.names import DamageFault, LoadFault, Move, NewFault, Outcome, Refusal, Request, Stat, Status
 from gen1.own_sides import OwnSide, own_side_of
 from gen1.states import State, changed, state_of, struct_of_state
 from gen1.teams import Member, Team, as_team
 
 if TYPE_CHECKING:
+    from ctypes import Array
+
     from _typeshed import ReadableBuffer
 
     from gen1.players import Player
@@ -32,6 +35,7 @@ if TYPE_CHECKING:
 B = TypeVar("B", bound="Battle")
 TeamLike: TypeAlias = Team | Iterable[Member | Mapping[str, Any]]
 SeedLike: TypeAlias = bytes | Iterable[int]
+WeightsLike: TypeAlias = Mapping[Move | str | int, int]
 
 
 @dataclass(frozen=True)
@@ -57,9 +61,9 @@ class Update:
     log: bytes
 
     @cached_property
-    def events(self) -> Events:
-        """The events of the log, each of which is read when it is first used."""
-        return Events(self.log)
+    def events(self) -> tuple[Event, ...]:
+        """The events of the log, which are read when they are first used."""
+        return events(self.log)
 
     @property
     def lines(self) -> list[str]:
@@ -332,26 +336,46 @@ class Battle:
         if _library.reseed(byref(self._held), _library.SeedBytes(*numbers), a_byte(place)):
             raise BadArgument(f"index must be 0 to 8, not {digits(place)}")
 
-    def playout(self, seed: int, rounds: int) -> Playouts:
-        """Plays `rounds` copies of the battle to their end with random
-        choices, and counts how they end. The battle is unchanged.
+    def playout(self, seed: int, rounds: int, *, depth: int | None = None, weights: WeightsLike | None = None) -> Playouts:
+        """Plays `rounds` copies of the battle with random choices, to their
+        end or to a depth, and counts how they end. The battle is unchanged.
 
-        `seed`, 0 to 2**64 - 1, is for the choices; the same seed gives the
-        same counts. `rounds` is 0 to 2**32 - 1. The first thousand are
-        those of gen1_playout (include/gen1.h, "many battles"); for each
-        further thousand `random.Random(seed).getrandbits(64)` gives the
-        next seed. The copies draw the numbers that the battle will draw; a
-        search that must not know them reseeds a copy first.
+        Each copy gets ten random numbers to draw, so it does not know those
+        of the battle. Numbers and choices come from `seed`, 0 to 2**64 - 1:
+        the same seed gives the same counts. `rounds` is 0 to 2**32 - 1. The
+        first thousand are those of gen1_playout (include/gen1.h, "many
+        battles"); for each further thousand
+        `random.Random(seed).getrandbits(64)` gives the next seed.
 
-        About ten thousand are played in a second. Other threads run
-        meanwhile, and `KeyboardInterrupt` ends the call after at most a
-        thousand. Raises `BadArgument`, `BadType`.
+        With a `depth`, 1 to 2**32 - 1, a copy is played for that many
+        updates at most. If it still goes on, the side with the larger
+        share of its HP left wins, and equal shares are a tie.
+
+        Without `weights` all offered choices are equally likely. With them
+        a choice of weight 6 is twice as likely as one of weight 3, and one
+        of weight 0 is made only if the others have 0 too. The keys are
+        moves, "switch" for each switch and "move" for all other moves; the
+        weights are 0 to 255, and 1 for a key that is left out. Move 0, with
+        which a member goes on or uses Struggle, has the weight of Struggle.
+
+        >>> from gen1 import Member
+        >>> team = [Member("Gengar", ["Explosion", "Psychic"])]
+        >>> battle = Battle(team, team, seed=range(10))
+        >>> weights = {"move": 4, "switch": 1, "Explosion": 0}
+        >>> battle.playout(7, 100, weights=weights).rounds
+        100
+
+        About ten thousand whole battles are played in a second. Other
+        threads run meanwhile, and `KeyboardInterrupt` ends the call after
+        at most a thousand. Raises `BadArgument`, `BadType`.
         """
         number, left = within(seed, "seed", 0, (1 << 64) - 1), within(rounds, "rounds", 0, (1 << 32) - 1)
+        updates = 0 if depth is None else within(depth, "depth", 1, (1 << 32) - 1)
+        table = WEIGHTS() if weights is None else table_of(weights)
         counts, dice = [0, 0, 0, 0], Random(number)
         while True:
             of, slice_rounds = PlayoutsStruct(), min(left, PLAYOUT_SLICE)
-            test = _library.playout(byref(self._held), number, slice_rounds, byref(of))
+            test = _library.playout(byref(self._held), byref(PlayoutOptionsStruct(number, slice_rounds, updates, table)), byref(of))
             if test:
                 raise BadBytes(LoadFault(test), _load_text(LoadFault(test), self.bytes))
             counts = [known + new for known, new in zip(counts, (of.wins_one, of.wins_two, of.ties, of.faults))]
@@ -359,6 +383,20 @@ class Battle:
             if not left:
                 return Playouts(*counts)
             number = dice.getrandbits(64)
+
+    def outcomes(self, one: Choice | int, two: Choice | int) -> Outcomes:
+        """All battles that an update by a choice of each side can lead to,
+        each with its exact probability (`Outcomes` says of what draws).
+
+        The battle is unchanged. Most updates have fewer than a hundred
+        outcomes, and the most that were met are some fifty thousand. Raises
+        `Refused` and `BadArgument` as `update` does.
+        """
+        pair = a_choice(one, 1), a_choice(two, 2)
+        code, found = outcomes_of(self._held, *pair)
+        if found is None:
+            raise self._refused(Refusal(code), pair)
+        return found
 
     def odds(self, side: Side | int, move: Move | str | int) -> Odds:
         """The odds of a side's move in the current state: its damage, and its
@@ -440,6 +478,17 @@ def _side(number: int, given: TeamLike) -> Team:
         raise BadType(f"side {number}{', ' if str(fault).startswith('member ') else ': '}{fault}") from None
 
 
+def table_of(given: WeightsLike) -> "Array[c_uint8]":
+    """The weights of gen1_playout_options: of each move by its number, and first that of a switch."""
+    if not isinstance(given, Mapping):
+        raise BadType(f"weights must be a mapping of moves to numbers, not {shown(given)}")
+    known = {key: within(weight, f"weights[{key!r}]", 0, 255) for key, weight in given.items()}
+    table = WEIGHTS(known.pop("switch", 1), *[known.pop("move", 1)] * len(Move))
+    for key, weight in known.items():
+        table[a_move(key, f"weights[{key!r}]")] = weight
+    return table
+
+
 def _load_text(code: LoadFault, given: "bytes") -> str:
     """Why bytes are not a battle."""
     tests = {
@@ -452,6 +501,7 @@ def _load_text(code: LoadFault, given: "bytes") -> str:
 # How many playouts run in one call of the library, which nothing interrupts.
 PLAYOUT_SLICE = 1000
 CHOICES = c_uint8 * 9
+WEIGHTS = c_uint8 * 166
 CHOICE = {int(it): it for it in Choice}
 _DAMAGES, _WORDS = c_uint16 * DAMAGES, c_char * _library.WORDS_ROOM
 RESULTS = {

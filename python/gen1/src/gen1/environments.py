@@ -167,12 +167,12 @@ class BattleEnv(_Environment, _Base):  # type: ignore[misc, valid-type]
     """One player, side 1, against an opponent on side 2, with Gymnasium's API.
     It plays the battles of a `VectorEnv` of one.
 
-    `one` and `two` are teams, or functions of a numpy generator that return
-    the team for each new battle; None is `environments.DEFAULT_TEAM`, three
-    members. `opponent` is "random", "greedy" or a function of observations,
-    (1, columns), and action masks, (1, 12), as in `VectorEnv`; it sees what
-    the player of side 2 knows. `observations` is "player", or an
-    `Encoding`.
+    `one` and `two` are teams, or functions of a numpy generator, such as
+    `random_team`, that return the team for each new battle; None is
+    `environments.DEFAULT_TEAM`, three members. `opponent` is "random",
+    "greedy" or a function of observations, (1, columns), and action masks,
+    (1, 12), as in `VectorEnv`; it sees what the player of side 2 knows.
+    `observations` is "player", or an `Encoding`.
 
     The reward is 1 for a win, -1 for a loss, and 0 otherwise. At the turn
     limit the battle ends in a tie, as its rules say, so no episode is

@@ -4,11 +4,11 @@ and the bytes of events.
 
 from __future__ import annotations
 
-from collections.abc import Callable, Iterable, Iterator, Sequence
-from ctypes import byref, c_size_t, c_uint8, create_string_buffer
+from collections.abc import Callable, Iterable, Iterator
+from ctypes import c_size_t, c_uint8, create_string_buffer
 from dataclasses import dataclass, fields
-from functools import cache
-from typing import TYPE_CHECKING, Any, ClassVar, TypeAlias, overload
+from functools import cache, lru_cache
+from typing import TYPE_CHECKING, Any, ClassVar, TypeAlias, TypeVar
 
 from gen1 import _library
 from gen1._check import by_number, cut, listed, octets, shown, whole
@@ -18,6 +18,10 @@ from gen1.names import EventKind, LogFault, Move, Reason, Source, Species, Stat,
 
 if TYPE_CHECKING:
     from _typeshed import ReadableBuffer
+
+T = TypeVar("T")
+# How many events are kept, and how many lines, by their bytes: most of those of a battle have come before.
+KEPT = 1 << 13
 
 
 @dataclass(frozen=True)
@@ -275,91 +279,49 @@ class FaultEvent(Event):
     fault: int
 
 
-class Events(Sequence[Event]):
-    """The events of an update. Each is read when it is first used, so those
-    that are not used cost nothing.
-
-    It is equal to a tuple of the same events, and has its hash and its
-    text. `+` makes a tuple.
-    """
-
-    __slots__ = ("_log", "_at", "_found", "_ended")
-
-    def __init__(self, log: bytes) -> None:
-        """The events of a log that the library wrote."""
-        self._log, self._at, self._ended = log, c_size_t(0), False
-        self._found: list[Event] = []
-
-    def _more(self) -> bool:
-        """Reads the next event; whether there was one."""
-        if self._ended:
-            return False
-        event = _next(self._log, self._at)
-        self._ended = event is None
-        if event is not None:
-            self._found.append(event)
-        return event is not None
-
-    def _all(self) -> tuple[Event, ...]:
-        while self._more():
-            pass
-        return tuple(self._found)
-
-    def __len__(self) -> int:
-        return len(self._all())
-
-    @overload
-    def __getitem__(self, at: int) -> Event: ...
-
-    @overload
-    def __getitem__(self, at: slice) -> tuple[Event, ...]: ...
-
-    def __getitem__(self, at: int | slice) -> Event | tuple[Event, ...]:
-        """The event at an index from 0, or those of a slice as a tuple. Raises
-        `IndexError`.
-        """
-        if isinstance(at, int) and at >= 0:
-            while len(self._found) <= at and self._more():
-                pass
-            return self._found[at]
-        return self._all()[at]
-
-    def __iter__(self) -> Iterator[Event]:
-        at = 0
-        while at < len(self._found) or self._more():
-            yield self._found[at]
-            at += 1
-
-    def __add__(self, other: "Events | tuple[Event, ...]") -> tuple[Event, ...]:
-        return self._all() + tuple(other)
-
-    def __radd__(self, other: tuple[Event, ...]) -> tuple[Event, ...]:
-        return other + self._all()
-
-    def __eq__(self, other: object) -> bool:
-        if not isinstance(other, (Events, tuple)):
-            return NotImplemented
-        return self._all() == tuple(other)
-
-    def __hash__(self) -> int:
-        return hash(self._all())
-
-    def __repr__(self) -> str:
-        return repr(self._all())
-
-    def __reduce__(self) -> tuple[Any, ...]:
-        return Events, (self._log,)
+def _bytes_of(of: _library.EventStruct) -> bytes:
+    """The bytes of an event in a log; none if a field is out of its range."""
+    room, length = _EVENT_BYTES(), c_size_t(0)
+    return b"" if _library.event_bytes(of, room, length) else bytes(room[: length.value])
 
 
-def _next(log: bytes, at: c_size_t) -> Event | None:
-    """The event that begins at an offset, which is moved to the event's end; None at the end of the log. Raises `BadLog`."""
+def _length(tag: int) -> int:
+    """How many bytes an event with a tag has in a log; 1 if no event has it."""
+    ones = {name: 1 for name, *_ in _library.EventStruct._fields_}
+    return len(_bytes_of(_library.EventStruct(**{**ones, "tag": tag, "max_hp": 11}))) or 1
+
+
+def _read(log: bytes, read: Callable[[bytes], T]) -> list[T]:
+    """What `read` makes of the bytes of each event of a log. Raises `BadLog`."""
+    found, at = [], 0
+    while at < len(log):
+        end = at + _LENGTHS[log[at]]
+        try:
+            found.append(read(log[at:end]))
+        except BadLog as fault:
+            raise BadLog(fault.code, at) from None
+        at = end
+    return found
+
+
+@lru_cache(KEPT)
+def _event(code: bytes) -> Event:
+    """The event with these bytes. Raises `BadLog`."""
     of = _library.EventStruct()
-    code = _library.next_event(log, len(log), byref(at), byref(of))
-    if code == 0:
-        return _EVENTS[of.tag](of)
-    if code != _library.LOG_END:
-        raise BadLog(LogFault(code), at.value)
-    return None
+    fault = _library.next_event(code, len(code), c_size_t(0), of)
+    if fault:
+        raise BadLog(LogFault(fault), 0)
+    return _EVENTS[of.tag](of)
+
+
+@lru_cache(KEPT)
+def _line(code: bytes) -> str:
+    """The line of the event with these bytes. Raises `BadLog`."""
+    text, length = create_string_buffer(_library.LINE_ROOM), c_size_t(0)
+    fault = _library.next_line(code, len(code), c_size_t(0), text, _library.LINE_ROOM, length)
+    if fault:
+        raise BadLog(LogFault(fault), 0)
+    return text.raw[: length.value - 1].decode("ascii")
 
 
 @cache
@@ -385,6 +347,9 @@ def _of_one(kind: type[OfOne]) -> _Reader:
 
 
 _Reader: TypeAlias = Callable[[_library.EventStruct], Event]
+_EVENT_BYTES = c_uint8 * 10
+# The length of an event, by its tag. The library knows it.
+_LENGTHS = bytes(_length(tag) for tag in range(256))
 _MOVE, _STATUS, _STAT = by_number(Move), by_number(Status), by_number(Stat)
 _VOLATILE, _SOURCE, _REASON = by_number(Volatile), by_number(Source), by_number(Reason)
 # What makes the event of a struct, by its tag.
@@ -418,20 +383,14 @@ def events(log: ReadableBuffer) -> tuple[Event, ...]:
     """The events of a log, of any number of updates one after the other.
     Raises `BadLog`.
     """
-    return Events(octets(log, "log"))._all()
+    return tuple(_read(octets(log, "log"), _event))
 
 
 def lines(log: ReadableBuffer) -> list[str]:
     """The line of each event of a log (docs/MECHANICS.md, "Lines"), without
     line feeds. Raises `BadLog`.
     """
-    given, at, length = octets(log, "log"), c_size_t(0), c_size_t(0)
-    text, found = create_string_buffer(_library.LINE_ROOM), []
-    while (code := _library.next_line(given, len(given), byref(at), text, _library.LINE_ROOM, byref(length))) == 0:
-        found.append(text.raw[: length.value - 1].decode("ascii"))
-    if code != _library.LOG_END:
-        raise BadLog(LogFault(code), at.value)
-    return found
+    return _read(octets(log, "log"), _line)
 
 
 def log_bytes(given: Iterable[Event]) -> bytes:
@@ -441,7 +400,7 @@ def log_bytes(given: Iterable[Event]) -> bytes:
     Raises `BadArgument` for an event with a field that is out of its range,
     `BadType`.
     """
-    found, room, length = [], _EVENT_BYTES(), c_size_t(0)
+    found = []
     for at, it in enumerate(listed(given, "events")):
         if not isinstance(it, Event) or not hasattr(it, "kind"):
             raise BadType(f"events[{at}] must be an event, not {shown(it)}")
@@ -450,9 +409,10 @@ def log_bytes(given: Iterable[Event]) -> bytes:
             most = 65_535 if name in ("hp", "max_hp", "turn") else 255
             number = whole(value, f"events[{at}]: {name}")
             setattr(of, name, number if 0 <= number <= most else most)
-        if _library.event_bytes(byref(of), room, byref(length)):
+        code = _bytes_of(of)
+        if not code:
             raise BadArgument(f"events[{at}] must have fields in their ranges: {cut(shown(it))}")
-        found.append(bytes(room[: length.value]))
+        found.append(code)
     return b"".join(found)
 
 
@@ -472,7 +432,6 @@ def _numbers(event: Event, what: str) -> Iterator[tuple[str, Any]]:
             yield _DETAILS.get(name, name), value
 
 
-_EVENT_BYTES = c_uint8 * 10
 _DETAILS = {
     **dict.fromkeys(("reason", "source", "volatile", "stat", "fault"), "detail"),
     **dict.fromkeys(("stages", "hits"), "amount"),

@@ -8,14 +8,19 @@ against a table of what each species can learn, since there is none.
 
 from __future__ import annotations
 
+import sys
 from functools import cache
 from random import Random
+from typing import TYPE_CHECKING
 
 from gen1._check import shown, truth, within
 from gen1.errors import BadType
 from gen1.names import Move, Species
 from gen1.sample_texts import TEXTS
 from gen1.teams import Member, Team
+
+if TYPE_CHECKING:
+    from numpy.random import Generator
 
 # The moves that no team may have.
 _REFUSED = (Move.MIMIC, Move.METRONOME, Move.MIRROR_MOVE, Move.TRANSFORM, Move.STRUGGLE)
@@ -47,9 +52,10 @@ def sample_sets(species: Species | str | int | None = None) -> tuple[Member, ...
     return tuple(it for it in found if known in (None, it.species))
 
 
-def random_team(dice: Random, legal: bool = True, count: int = 6) -> Team:
+def random_team(dice: Random | Generator, legal: bool = True, count: int = 6) -> Team:
     """A random team of `count` members, 1 to 6, of different species at level
-    100.
+    100. `dice` is a `random.Random`, or a generator of numpy, such as an
+    environment passes.
 
     With `legal`, each member is one of the sample teams, `sample_sets()`:
     so it has a species and moves that such a set has, and no others.
@@ -58,12 +64,20 @@ def random_team(dice: Random, legal: bool = True, count: int = 6) -> Team:
 
     Equal generators make equal teams. Raises `BadArgument`, `BadType`.
     """
-    if not isinstance(dice, Random):
-        raise BadType(f"dice must be a random.Random, not {shown(dice)}")
-    size = within(count, "count", 1, 6)
+    draws, size = _draws(dice), within(count, "count", 1, 6)
     if truth(legal, "legal"):
         sets = sample_sets()
-        chosen = dice.sample(sorted({it.species for it in sets}), size)
-        return Team(dice.choice([it for it in sets if it.species == species]) for species in chosen)
+        chosen = draws.sample(sorted({it.species for it in sets}), size)
+        return Team(draws.choice([it for it in sets if it.species == species]) for species in chosen)
     moves = [it for it in Move if it not in _REFUSED]
-    return Team(Member(species, dice.sample(moves, 4)) for species in dice.sample(list(Species), size))
+    return Team(Member(species, draws.sample(moves, 4)) for species in draws.sample(list(Species), size))
+
+
+def _draws(dice: Random | Generator) -> Random:
+    """A `random.Random` itself, or one with a seed from a generator of numpy, which the package also runs without."""
+    if isinstance(dice, Random):
+        return dice
+    numpy = sys.modules.get("numpy")
+    if numpy is None or not isinstance(dice, numpy.random.Generator):
+        raise BadType(f"dice must be a random.Random or a numpy.random.Generator, not {shown(dice)}")
+    return Random(int(dice.integers(1 << 63)))

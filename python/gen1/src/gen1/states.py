@@ -5,20 +5,23 @@ battle of a state that was changed.
 from __future__ import annotations
 
 from collections.abc import Callable
-from ctypes import byref
+from ctypes import byref, sizeof
 from dataclasses import dataclass, fields, replace
-from functools import cache
+from functools import cache, lru_cache
 from operator import attrgetter
+from struct import Struct
 from typing import TYPE_CHECKING, Any, ClassVar, TypeVar
 
 from gen1 import _library
 from gen1._check import by_number, shown, within
-from gen1._structs import SideStateStruct, StateStruct
+from gen1._structs import ActiveStateStruct, MemberStateStruct, SideStateStruct, StateStruct, reader
 from gen1.choices import Rules, Side, a_side
 from gen1.errors import BadArgument, BadType
 from gen1.names import Conditions, Move, Outcome, Request, Species, Stat, Status, Type
 
 S = TypeVar("S", "MemberState", "ActiveState", "SideState", "State")
+# How many members are kept, and how many active ones, by their bytes: most of a state are as they were in the one before.
+KEPT = 1 << 12
 
 
 class Lazy:
@@ -44,7 +47,7 @@ class Lazy:
 
 
 @dataclass(frozen=True)
-class MemberState(Lazy):
+class MemberState:
     """The state of a member.
 
     `hp` is 0 to `max_hp`. `stats` are Attack, Defense, Speed and Special
@@ -66,7 +69,7 @@ class MemberState(Lazy):
 
 
 @dataclass(frozen=True)
-class ActiveState(Lazy):
+class ActiveState:
     """The member of a side that is out, with the state that lasts only while
     it is.
 
@@ -198,7 +201,7 @@ def state_of(held: Any) -> State:
 
 def stages_of(given: Any) -> tuple[int, ...]:
     """Six stages as -6 to 6, from their bytes, which are 0 to 12."""
-    return tuple(it - 6 for it in given)
+    return tuple([it - 6 for it in given])
 
 
 def _lazy(kind: type[S], held: Any) -> S:
@@ -209,11 +212,29 @@ def _lazy(kind: type[S], held: Any) -> S:
 
 
 def _members(of: SideStateStruct) -> tuple[MemberState, ...]:
-    return tuple([_lazy(MemberState, it) for it in of.members if it.species])
+    return tuple([_member(it) for it in _SIX(bytes(of.members)) if it[MemberStateStruct.species.offset]])
 
 
-def _active(of: SideStateStruct) -> ActiveState | None:
-    return _lazy(ActiveState, of.active) if of.active.place else None
+@lru_cache(KEPT)
+def _member(held: bytes) -> MemberState:
+    """The member with these bytes."""
+    of = _MEMBER(held)
+    moves, pp = of["moves"], of["pp"]
+    of["species"], of["status"], of["marked"] = _SPECIES[of["species"]], _STATUS[of["status"]], bool(of["marked"])
+    of["moves"] = tuple([_MOVE[it] for it in moves if it])
+    of["pp"] = tuple([it for move, it in zip(moves, pp) if move])
+    of["stats"] = _STATS(of["stats"])
+    return MemberState(**of)
+
+
+@lru_cache(KEPT)
+def _active(held: bytes) -> ActiveState | None:
+    """The active member with these bytes."""
+    of = _ACTIVE(held)
+    first, second = of["types"]
+    of["types"], of["stats"] = (_TYPE[first], _TYPE[second]), _STATS(of["stats"])
+    of["stages"], of["conditions"] = stages_of(of["stages"]), _conditions(of["conditions"])
+    return ActiveState(**of) if of["place"] else None
 
 
 def _readers(kind: type[Any], **others: Callable[[Any], Any]) -> dict[str, Callable[[Any], Any]]:
@@ -223,6 +244,9 @@ def _readers(kind: type[Any], **others: Callable[[Any], Any]) -> dict[str, Calla
 
 _SPECIES, _MOVE, _TYPE = by_number(Species), by_number(Move), by_number(Type)
 _STATUS, _OUTCOME, _REQUEST = by_number(Status), by_number(Outcome), by_number(Request)
+_MEMBER, _ACTIVE, _STATS = reader(MemberStateStruct), reader(ActiveStateStruct), Struct("=4H").unpack
+# Cuts the bytes of six members.
+_SIX = Struct(6 * f"{sizeof(MemberStateStruct)}s").unpack
 _conditions, _rules = cache(Conditions), cache(Rules)
 State._READERS = _readers(
     State,
@@ -233,20 +257,4 @@ State._READERS = _readers(
     requests=lambda of: (_REQUEST[of.requests[0]], _REQUEST[of.requests[1]]),
     numbers=lambda of: tuple(of.numbers),
 )
-SideState._READERS = _readers(SideState, members=_members, active=_active)
-MemberState._READERS = _readers(
-    MemberState,
-    species=lambda of: _SPECIES[of.species],
-    status=lambda of: _STATUS[of.status],
-    marked=lambda of: bool(of.marked),
-    moves=lambda of: tuple([_MOVE[it] for it in of.moves if it]),
-    pp=lambda of: tuple([pp for move, pp in zip(of.moves, of.pp) if move]),
-    stats=lambda of: tuple(of.stats),
-)
-ActiveState._READERS = _readers(
-    ActiveState,
-    types=lambda of: (_TYPE[of.types[0]], _TYPE[of.types[1]]),
-    stats=lambda of: tuple(of.stats),
-    stages=lambda of: stages_of(of.stages),
-    conditions=lambda of: _conditions(of.conditions),
-)
+SideState._READERS = _readers(SideState, members=_members, active=lambda of: _active(bytes(of.active)))

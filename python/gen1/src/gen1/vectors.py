@@ -106,14 +106,15 @@ class VectorEnv(_Vector, _Base):  # type: ignore[misc, valid-type]
     bools, of those m battles that go on, it returns their actions, (m). It
     sees what the player of side 2 knows, and never a battle.
 
-    `one` and `two` are teams, or functions of a numpy generator that return
-    the team for each new battle; None is `environments.DEFAULT_TEAM`, three
-    members. `autoreset` is one of Gymnasium's modes, or its name:
-    "next_step", "same_step", "disabled" (`AutoresetMode`). With "same_step"
-    the infos of a step that ended battles have `final_obs` (also as
-    `final_observation`, its older name), `final_info`, and their masks
-    `_final_obs` and `_final_info`. `observations` is "player", or an
-    `Encoding`. `threads` is how many threads the library uses.
+    `one` and `two` are teams, or functions of a numpy generator, such as
+    `random_team`, that return the team for each new battle; None is
+    `environments.DEFAULT_TEAM`, three members. `autoreset` is one of
+    Gymnasium's modes, or its name: "next_step", "same_step", "disabled"
+    (`AutoresetMode`). With "same_step" the infos of a step that ended
+    battles have `final_obs` (also as `final_observation`, its older name),
+    `final_info`, and their masks `_final_obs` and `_final_info`.
+    `observations` is "player", or an `Encoding`. `threads` is how many
+    threads the library uses.
 
     `infos["action_mask"]`, (n, 12) bools, says which actions are offered.
     An action that is not raises `Refused`, and nothing changes. The action

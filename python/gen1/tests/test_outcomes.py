@@ -1,0 +1,163 @@
+"""Exact outcomes: probabilities worked out from docs/MECHANICS.md, updates that are among them, and bad arguments."""
+
+import random
+import subprocess
+import sys
+from fractions import Fraction
+
+import pytest
+from conftest import BIG, NO_NUMBERS, random_team
+from gen1 import BadArgument, BadType, Battle, Choice, Member, Outcomes, Refusal, Refused, Status
+from gen1 import _outcomes
+
+FIRST = Choice.MOVE_1
+
+
+def facing(one, two):
+    """A battle of two members with one move each, which have just been sent out."""
+    battle = Battle([Member(one[0], [one[1]])], [Member(two[0], [two[1]])], bytes(10))
+    battle.update_silent(Choice.PASS, Choice.PASS)
+    return battle
+
+
+def chances(battle, look, one=FIRST, two=FIRST):
+    """The exact probability of each value of `look`."""
+    of, sums = battle.outcomes(one, two), {}
+    for state, weight in zip(of.battles, of.weights):
+        seen = look(state)
+        sums[seen] = sums.get(seen, 0) + Fraction(weight, of.whole)
+    assert sum(sums.values()) == 1
+    return sums
+
+
+def hp(battle, side):
+    return battle.state.side(side).members[0].hp
+
+
+def test_full_paralysis():
+    """63 of 256 bytes keep a paralysed member from acting, and its PP as they were."""
+    battle = facing(("Snorlax", "Splash"), ("Snorlax", "Splash")).with_status(1, 1, Status.PARALYSIS)
+    left = chances(battle, lambda it: it.state.one.members[0].pp[0])
+    assert left == {61: Fraction(63, 256), 60: Fraction(193, 256)}
+
+
+def test_accuracy():
+    """An accuracy of 100 % is 255 of 256, one of 30 % is 76."""
+    for move, chance in (("Seismic Toss", Fraction(255, 256)), ("Horn Drill", Fraction(76, 256))):
+        battle = facing(("Tauros", move), ("Snorlax", "Splash"))
+        hit = chances(battle, lambda it: hp(it, 2) < hp(battle, 2))
+        assert hit == {True: chance, False: 1 - chance}
+
+
+def test_factors_and_critical_hits():
+    """Each of the 39 factors is equally likely. Tauros has a critical hit with 55 of 256 bytes."""
+    battle = facing(("Tauros", "Body Slam"), ("Snorlax", "Splash"))
+    for critical, part in ((False, 201), (True, 55)):
+        damages = battle.damage(1, "Body Slam", critical)
+        found = chances(battle, lambda it: hp(battle, 2) - hp(it, 2))
+        other = set(battle.damage(1, "Body Slam", not critical))
+        for damage in set(damages) - other:
+            assert found[damage] == Fraction(255 * part * damages.count(damage), 65536 * 39)
+
+
+def test_sleep_and_confusion():
+    """Sleep lasts 1 to 7 turns, which are equally likely; confusion 2 to 5. The slower foe counts one of them at once."""
+    slept = chances(facing(("Tauros", "Spore"), ("Snorlax", "Splash")), lambda it: it.state.two.members[0].sleep)
+    assert [slept[turns] for turns in range(1, 7)] == [Fraction(255, 256 * 7)] * 6
+    confused = chances(facing(("Tauros", "Confuse Ray"), ("Snorlax", "Splash")), lambda it: it.state.two.active.confusion)
+    assert [confused[turns] for turns in range(1, 5)] == [Fraction(255, 256 * 4)] * 4
+
+
+def test_hits():
+    """Two, three, four and five hits: 3, 3, 1 and 1 of 8."""
+    battle = facing(("Tauros", "Fury Attack"), ("Chansey", "Splash"))
+    found = chances(battle, lambda it: it.state.last_damage and (hp(battle, 2) - hp(it, 2)) // it.state.last_damage)
+    accuracy = Fraction(216, 256)
+    assert found == {0: 1 - accuracy, 2: accuracy * 3 / 8, 3: accuracy * 3 / 8, 4: accuracy / 8, 5: accuracy / 8}
+
+
+def test_equal_speed():
+    """Which of two equal members acts first is a toss."""
+    battle = facing(("Tauros", "Seismic Toss"), ("Tauros", "Seismic Toss")).with_hp(1, 1, 50).with_hp(2, 1, 50)
+    found = chances(battle, lambda it: (hp(it, 1), hp(it, 2)))
+    assert found == {(50, 50): Fraction(1, 65536), (50, 0): Fraction(255 * 257, 131072), (0, 50): Fraction(255 * 257, 131072)}
+
+
+def test_one_outcome():
+    """An update that draws nothing has one outcome: what it leads to."""
+    battle = Battle([Member("Tauros", ["Splash"])], [Member("Gengar", ["Splash"])], range(10))
+    found = battle.outcomes(Choice.PASS, Choice.PASS)
+    battle.update_silent(Choice.PASS, Choice.PASS)
+    assert (len(found), found.weights, found.whole, found.battles) == (1, [1], 1, [battle])
+
+
+def test_updates_are_among_the_outcomes():
+    """Random battles: each update leads to one of the outcomes, apart from the numbers to draw."""
+    dice = random.Random(5)
+    for _ in range(4):
+        battle = Battle(random_team(dice), random_team(dice), bytes(dice.randrange(256) for _ in range(10)))
+        for _ in range(30):
+            if battle.result.is_over:
+                break
+            pair = [dice.choice(battle.choices(side)) for side in (1, 2)]
+            found, before = battle.outcomes(*pair), battle.bytes
+            battle.update_silent(*pair)
+            assert sum(found.weights) == found.whole
+            assert battle.bytes[:5] + before[5:16] + battle.bytes[16:] in {it.bytes for it in found.battles}
+
+
+def test_forms_of_a_list():
+    """The same list as pairs, as numbers and as bytes. The battle stays as it was."""
+    battle = facing(("Tauros", "Body Slam"), ("Starmie", "Thunder"))
+    before, found = battle.bytes, battle.outcomes(FIRST, FIRST)
+    assert battle.bytes == before and len(found) == len(found.battles) == len(found.weights) > _outcomes.PLACES
+    assert [it for it, _ in found] == found.battles and len(set(found.battles)) == len(found)
+    assert bytes(found.states) == b"".join(it.bytes for it in found.battles)
+    exact = [weight / found.whole for weight in found.weights]
+    assert list(found.probabilities) == exact == [chance for _, chance in found] and sum(exact) == pytest.approx(1)
+    assert repr(found) == f"<Outcomes, {len(found)}>" and isinstance(found, Outcomes)
+
+
+def test_numpy_arrays():
+    numpy = pytest.importorskip("numpy")
+    found = facing(("Tauros", "Body Slam"), ("Snorlax", "Splash")).outcomes(FIRST, FIRST)
+    assert found.states.dtype == numpy.uint8 and found.states.shape == (len(found), 384)
+    assert found.probabilities.dtype == numpy.float64 and found.probabilities.shape == (len(found),)
+
+
+def test_without_numpy():
+    """The same numbers where numpy is not installed."""
+    program = """
+import sys
+sys.modules["numpy"] = None
+import importlib.util
+found = importlib.util.find_spec
+importlib.util.find_spec = lambda name, *more: None if name == "numpy" else found(name, *more)
+from gen1 import Battle, Choice, Member
+battle = Battle([Member("Snorlax", ["Bide"])], [Member("Snorlax", ["Bide"])], bytes(10))
+battle.update_silent(Choice.PASS, Choice.PASS)
+of = battle.outcomes(Choice.MOVE_1, Choice.MOVE_1)
+assert of.probabilities == [0.25] * 4 and type(of.states) is bytes and len(of.states) == 4 * 384
+"""
+    done = subprocess.run([sys.executable, "-c", program], capture_output=True, text=True)
+    assert (done.returncode, done.stderr) == (0, "")
+
+
+def test_bad_choices():
+    battle = facing(("Tauros", "Splash"), ("Snorlax", "Splash"))
+    before = battle.bytes
+    for choice, side, code in ((Choice.PASS, 1, Refusal.NOT_OFFERED_ONE), (7, 2, Refusal.NOT_OFFERED_TWO)):
+        with pytest.raises(Refused) as fault:
+            battle.outcomes(*((choice, FIRST) if side == 1 else (FIRST, choice)))
+        assert (fault.value.code, fault.value.side) == (code, side)
+    for number in BIG:
+        with pytest.raises(BadArgument):
+            battle.outcomes(number, FIRST)
+    for thing in NO_NUMBERS:
+        with pytest.raises(BadType):
+            battle.outcomes(FIRST, thing)
+    fallen = facing(("Tauros", "Horn Drill"), ("Snorlax", "Splash")).outcomes(FIRST, FIRST)
+    over = next(it for it in fallen.battles if it.result.is_over)
+    with pytest.raises(Refused, match="the battle is over"):
+        over.outcomes(FIRST, FIRST)
+    assert battle.bytes == before
