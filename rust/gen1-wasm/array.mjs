@@ -2,7 +2,7 @@
 import { ArgumentError, FreedError } from "./errors.mjs";
 import { byteOf, CHOICES, list, record, sideOf, within, wrongType } from "./arguments.mjs";
 import { BATTLE_SIZE } from "./arena.mjs";
-import { Battle, loadError, playoutSeed } from "./battle.mjs";
+import { Battle, loadError, playoutOptions, playoutSeed } from "./battle.mjs";
 import { CODES } from "./header.mjs";
 import { inspected } from "./inspecting.mjs";
 import { COLUMNS, fillRow, PLAYER_SIZE, TELLER_SIZE } from "./observing.mjs";
@@ -190,16 +190,19 @@ export class BattleArray {
   }
 
   /**
-   * Plays `rounds` copies of each battle to their end with random choices. Returns four counts for each battle: wins of side 1, wins of side 2,
-   * ties, faults. The battle at place N is played out with the seed plus N.
+   * Plays `rounds` copies of each battle with random choices, to their end or to a depth. Returns four counts for each battle: wins of side 1, wins
+   * of side 2, ties, faults. The battle at place N is played out with the seed plus N.
    */
-  playouts(seed, rounds) {
-    const [state, games, found] = [playoutSeed(seed), within(rounds, "rounds", 0, 2 ** 32 - 1), new Uint32Array(4 * this.length)];
+  playouts(seed, rounds, { depth, weights } = {}) {
+    const [first, found] = [playoutSeed(seed), new Uint32Array(4 * this.length)];
+    this.#library.begin();
+    const options = this.#library.put(playoutOptions(this.#library, first, rounds, { depth, weights }));
     const counts = this.#pointer(this.#places.scratch);
-    const view = new Uint32Array(this.#library.bytes.buffer, Number(counts), 4);
+    const { buffer } = this.#library.bytes;
+    const [own, view] = [new BigUint64Array(buffer, Number(options), 1), new Uint32Array(buffer, Number(counts), 4)];
     for (let at = 0; at < this.length; at++) {
-      const own = BigInt.asUintN(64, state + BigInt(at));
-      const code = this.#library.calls.gen1_playout(this.#pointer(at * BATTLE_SIZE), own, games, counts);
+      own[0] = BigInt.asUintN(64, first + BigInt(at));
+      const code = this.#library.calls.gen1_playout(this.#pointer(at * BATTLE_SIZE), options, counts);
       if (code) throw loadError(this.#library, code, BATTLE_SIZE);
       found.set(view, 4 * at);
     }
@@ -220,13 +223,16 @@ export class BattleArray {
     const { length } = which === null ? this : list(which, "which", `a list of ${this.length} values`);
     if (length !== this.length) throw new ArgumentError(`which has ${length} values, not ${this.length}`, "which");
     const given = seeds === null ? null : bytesOf(seeds, "seeds", SEED_SIZE * this.length);
-    for (let at = 0; at < this.length; at++) {
-      if (which !== null && !which[at]) continue;
-      this.#restore(at * BATTLE_SIZE, BATTLE_SIZE);
-      if (this.#isWatched) this.#restore(this.#sideAt(at, 1), SIDES_SIZE);
-      if (given) reseedAt(this.#library, this.#at, at, given);
-    }
+    if (which === null) this.#restore(0, this.#first.length);
+    else for (let at = 0; at < this.length; at++) if (which[at]) this.#restoreOne(at);
+    if (given) for (let at = 0; at < this.length; at++) if (which === null || which[at]) reseedAt(this.#library, this.#at, at, given);
     this.#see();
+  }
+
+  // Restores one battle, with its players.
+  #restoreOne(at) {
+    this.#restore(at * BATTLE_SIZE, BATTLE_SIZE);
+    if (this.#isWatched) this.#restore(this.#sideAt(at, 1), SIDES_SIZE);
   }
 
   #restore(offset, count) {

@@ -1,13 +1,15 @@
 // A battle: 384 bytes in the module's memory.
-import { byteOr255, choiceByte, choicesIn, choiceText, record, seedOf, shown, sideOf, truth, whole, within, wrongType } from "./arguments.mjs";
+import { byteOr255, choiceByte, choicesIn, choiceText, object, record, seedOf, shown, sideOf, truth, whole, within, wrongType } from "./arguments.mjs";
 import { BATTLE_SIZE } from "./arena.mjs";
 import { ArgumentError, DamageError, FreedError, LoadError, RefusedError } from "./errors.mjs";
 import { CODES } from "./header.mjs";
 import { inspected } from "./inspecting.mjs";
 import { guessOf, stateGuessed } from "./guesses.mjs";
+import { outcomesOf } from "./outcomes.mjs";
 import { libraryOf } from "./players.mjs";
-import { moveOf, Team, teamAt, teamError, teamGiven } from "./teams.mjs";
+import { bytesOf, moveOf, Team, teamAt, teamError, teamGiven } from "./teams.mjs";
 import { blockOfState, indexOf, memberAt } from "./states.mjs";
+import { MOVES } from "./tables.mjs";
 import { made, Update } from "./update.mjs";
 import { chancesOf, oddsOf, ownSideOf, resultOf, STATS, STATUSES, stateOf } from "./views.mjs";
 
@@ -227,13 +229,21 @@ export class Battle {
     if (code) throw new ArgumentError(`${this.#library.sentence(code)}: index is ${place}`, "index");
   }
 
-  /** Plays `rounds` copies to their end with random choices, and counts how they end. The battle is unchanged. */
-  playout(seed, rounds) {
-    const state = playoutSeed(seed);
-    const [battle, counts] = [this.#begin(), this.#library.roomOf("gen1_playouts")];
-    const code = this.#library.calls.gen1_playout(battle, state, within(rounds, "rounds", 0, 2 ** 32 - 1), counts);
+  /** Plays `rounds` copies with random choices, to their end or to a depth, and counts how they end. The battle is unchanged. */
+  playout(seed, rounds, { depth, weights } = {}) {
+    const options = playoutOptions(this.#library, playoutSeed(seed), rounds, { depth, weights });
+    const [battle, given, counts] = [this.#begin(), this.#library.put(options), this.#library.roomOf("gen1_playouts")];
+    const code = this.#library.calls.gen1_playout(battle, given, counts);
     if (code) throw loadError(this.#library, code, BATTLE_SIZE);
     return this.#library.readStruct("gen1_playouts", counts);
+  }
+
+  /** All battles that an update by a choice of each side can lead to, with their exact probabilities. The battle is unchanged. */
+  outcomes(one, two) {
+    const pair = [choiceByte(one, 1), choiceByte(two, 2)];
+    const [code, found] = outcomesOf(this.#library, this.#begin(), pair, (block) => new Battle(this.#library, block));
+    if (code) throw this.#refused(code, pair);
+    return found;
   }
 
   /** The odds of a side's move in the current state: its damage, and its chances of a hit and of a critical hit. */
@@ -287,6 +297,22 @@ export function playoutSeed(value) {
   if (value < 0 || value >= 2n ** 64n || (typeof value === "number" && !Number.isSafeInteger(value)))
     throw new ArgumentError(`seed is ${shown(value)}, not 0 to 2 ** 53 - 1, or as a BigInt to 2n ** 64n - 1n`, "seed");
   return BigInt(value);
+}
+
+/** The bytes of gen1_playout_options. */
+export function playoutOptions(library, seed, rounds, { depth, weights }) {
+  const options = { seed, rounds: within(rounds, "rounds", 0, 2 ** 32 - 1) };
+  if (depth !== undefined) options.depth = within(depth, "depth", 1, 2 ** 32 - 1);
+  if (weights !== undefined) options.weights = weightsOf(library, weights);
+  return bytesOf("gen1_playout_options", library.isLong, options);
+}
+
+// The weight of a switch, then that of each move by its number.
+function weightsOf(library, given) {
+  const { switch: ofSwitch = 1, move = 1, ...moves } = object(given, "weights", "an object of moves and their weights");
+  const table = [within(ofSwitch, "weights.switch", 0, 255), ...Array(MOVES.length).fill(within(move, "weights.move", 0, 255))];
+  for (const [name, weight] of Object.entries(moves)) table[moveOf(library, name, "weights")] = within(weight, `weights[${shown(name)}]`, 0, 255);
+  return table;
 }
 
 /** Why there are no damage numbers of a move. */

@@ -3,6 +3,10 @@
 
 import type { MoveName, SpeciesName, TypeName } from "./names.mjs";
 export type { MoveName, SpeciesName, TypeName };
+export {
+  ArgumentError, ArgumentTypeError, DamageError, FreedError, Gen1Error, LoadError, LogError, MemoryError, ModuleError, RefusedError, RoomError,
+  StateError, TeamError, TextError,
+} from "./errors.mjs";
 
 declare global {
   // Before TypeScript 5.2, and without its library esnext.disposable, Symbol.dispose has no type.
@@ -367,6 +371,32 @@ export interface MoveData {
   pp: number;
   /** As the table writes it: "Recoil", "StatUp(Attack, 2)". */
   effect: string;
+  /** 1 for Quick Attack, which comes before any other move; -1 for Counter, which comes after any; else 0. */
+  priority: number;
+  /** Whether it is one of the four moves that are often critical. */
+  isHighCritical: boolean;
+}
+
+/** What a member has without a battle: its maximum HP, 11 to 999, and its stats before stages and penalties, 5 to 999. */
+export interface Stats {
+  hp: number;
+  attack: number;
+  defense: number;
+  speed: number;
+  special: number;
+}
+
+/**
+ * How likely choices are compared to others, 0 to 255: a choice of weight 6 is twice as likely as one of weight 3, and one of weight 0 is made only
+ * if the others have 0 too. The keys are names of moves, `switch` for each switch and `move` for all other moves; one that is left out has the
+ * weight 1. Move 0, with which a member goes on or uses Struggle, has the weight of Struggle.
+ */
+export type Weights = { [key in MoveName | "switch" | "move"]?: number };
+
+/** How playouts are played: at most for `depth` updates, and with choices by `weights`. */
+export interface PlayoutOptions {
+  depth?: number;
+  weights?: Weights;
 }
 
 /** The counts of how playouts ended. */
@@ -377,86 +407,32 @@ export interface Playouts {
   faults: number;
 }
 
-/** An argument has a wrong type. */
-export class ArgumentTypeError extends TypeError {
-  /** Its name, such as `two[0].level`. */
-  readonly argument: string;
+/**
+ * All battles that an update can lead to, each once. `Battle.outcomes` makes it.
+ *
+ * The probabilities are exact for draws that are independent uniform bytes. A link battle draws other numbers (docs/MECHANICS.md, "Link
+ * numbers"): if its seed is unknown they are an approximation, off by about 0.01 in total variation; with a known seed there is one outcome,
+ * that of `update`. The battles have the numbers to draw of the battle before, so reseed one before you play it on.
+ */
+export class Outcomes implements Iterable<OutcomeAt> {
+  private constructor();
+  /** How many there are, at least 1. */
+  readonly length: number;
+  /** The sum of all weights. */
+  readonly whole: bigint;
+  /** The outcome at a place from 0. Each call makes a new battle. */
+  at(place: number): OutcomeAt;
+  [Symbol.iterator](): Iterator<OutcomeAt>;
 }
-/** An argument is out of range, or is an unknown name. */
-export class ArgumentError extends RangeError {
-  /** Its name, such as `two[0].species`. */
-  readonly argument: string;
+
+/** One of the battles that an update can lead to. */
+export interface OutcomeAt {
+  battle: Battle;
+  /** `weight` of the `whole` of its list, as a number. */
+  probability: number;
+  /** The exact weight. */
+  weight: bigint;
 }
-/** The library refused a call. */
-export class Gen1Error extends Error {
-  /** The number in include/gen1.h. */
-  readonly code: number;
-  /** What the code means, without the place and the values: "a move is there twice". Of a text, what was expected. */
-  readonly reason: string;
-}
-/** The module was not found, cannot run here, or is not the C library's. `cause` is the host's error, if there was one. */
-export class ModuleError extends Gen1Error {}
-/** The module's memory cannot grow. */
-export class MemoryError extends Gen1Error {}
-/** A battle or an array of battles was used after `free`. */
-export class FreedError extends Gen1Error {}
-/** Teams, rules or limit are refused. */
-export class TeamError extends Gen1Error {
-  /** 1 or 2; 0 if neither team is wrong. */
-  readonly side: number;
-  /** The place of the member from 1; 0 if it is not about one member. */
-  readonly place: number;
-  /** "level", "moves", "members", "rules", .. */
-  readonly field: string;
-}
-/** A text is not a team. Places are from 1, or 0 for none. */
-export class TextError extends Gen1Error {
-  readonly line: number;
-  readonly member: number;
-  /** The field of a packed line. */
-  readonly field: number;
-  /** With code 77 the code of a TeamError; else 0. */
-  readonly rule: number;
-}
-/** Bytes are not a battle. `code`, 16 to 22, is that of the first of the seven tests that they fail (docs/LAYOUT.md, "Loading"). */
-export class LoadError extends Gen1Error {}
-/** A state cannot be that of a battle. */
-export class StateError extends Gen1Error {
-  /** Where the state has the first wrong field: `state.two.members[0].hp`. Empty if the fields do not fit together. */
-  readonly field: string;
-  /** 1 or 2; 0 for a field of the whole battle. */
-  readonly side: number;
-  /** The place of the member; 0 for a field of the active member or of the whole battle. */
-  readonly place: number;
-  /** Which one of a list, from 1; else 0. */
-  readonly index: number;
-  /** What the field has. From `low` to `high` it does not fit other fields. */
-  readonly value: unknown;
-  readonly low: number;
-  readonly high: number;
-}
-/** A choice was refused. */
-export class RefusedError extends Gen1Error {
-  /** The side that chose; 0 if the battle is over. */
-  readonly side: number;
-  /** The byte of the choice; null if the battle is over. */
-  readonly choice: number | null;
-  readonly offered: readonly ChoiceName[];
-}
-/** A room refused a choice. */
-export class RoomError extends RefusedError {
-  /** The pair that the choice was for. */
-  readonly number: number;
-  /** The current pair. */
-  readonly current: number;
-}
-/** Bytes are not a log. */
-export class LogError extends Gen1Error {
-  /** The offset of the event that could not be read; below 0 if it began in bytes that a spectator was fed before. */
-  readonly at: number;
-}
-/** There is no damage: the move doesn't have the usual damage, or no member is out. */
-export class DamageError extends Gen1Error {}
 
 /** The result of an update, and its log. */
 export class Update {
@@ -536,10 +512,17 @@ export class Battle {
   /** Replaces the numbers to draw: ten bytes, and the index, 0 to 8, of the next one. A search reseeds each copy that it plays out. */
   reseed(seed: Numbers, index?: number): void;
   /**
-   * Plays copies to their end with random choices, and counts how they end. The same seed gives the same counts. The copies draw the
-   * numbers that the battle will draw, unless it is reseeded.
+   * Plays copies to their end with random choices, and counts how they end. The same seed gives the same counts. Each copy gets ten
+   * random numbers to draw, so it doesn't know those of the battle. With a `depth` a copy is played for that many updates at most. If it
+   * still goes on, the side with the larger share of its HP left wins, and equal shares are a tie. Without `weights` all offered choices are
+   * equally likely.
    */
-  playout(seed: number | bigint, rounds: number): Playouts;
+  playout(seed: number | bigint, rounds: number, options?: PlayoutOptions): Playouts;
+  /**
+   * All battles that an update by a choice of each side can lead to, with their exact probabilities. The battle is unchanged. Throws
+   * RefusedError as `update` does.
+   */
+  outcomes(one: Choice, two: Choice): Outcomes;
   /** The odds of a side's move in the current state. Throws DamageError if no member is out. */
   odds(side: Side, move: MoveLike): Odds;
   /** The chances that a side's move knocks out the foe's active member, in one use and in two. Throws DamageError if no member is out. */
@@ -597,7 +580,7 @@ export class BattleArray {
    * Plays `rounds` copies of each battle to their end with random choices. Returns four counts for each battle: wins of side 1, wins of side 2,
    * ties, faults. The battle at place N is played out with the seed plus N.
    */
-  playouts(seed: number | bigint, rounds: number): Uint32Array;
+  playouts(seed: number | bigint, rounds: number, options?: PlayoutOptions): Uint32Array;
   /** Replaces the numbers that each battle draws: ten bytes for each, of which the first is drawn next. */
   reseed(seeds: Numbers): void;
   /**
@@ -627,6 +610,13 @@ export class Room {
   choices(side: Side): ChoiceName[];
   /** Returns the update, or null while the foe's choice is awaited. Throws RoomError, and then the room is unchanged. */
   submit(side: Side, number: number, choice: Choice): Update | null;
+  /**
+   * Ends the battle by a forfeit: the other side wins, and choices for the current pair are dropped. The update has the one event "win". The
+   * bytes of `battle` stay as they are. Throws RoomError if the battle is over.
+   */
+  forfeit(side: Side): Update;
+  /** The side that has forfeited; null for none. */
+  readonly forfeited: Side | null;
   /** The number, the result, and the log of the last pair. The battle, which the players must not see, is not in it. */
   toJSON(): { number: number; result: Result; log: number[] };
 }
@@ -726,6 +716,17 @@ export class Gen1 {
   base(species: SpeciesLike): Base;
   /** The row of a move. Throws ArgumentError for an unknown one. */
   moveData(move: MoveLike): MoveData;
+  /**
+   * By what a move of one type multiplies its damage to a foe of one type: 0, 0.5, 1 or 2. For a foe of two types both count, one after the
+   * other. A type is a name of TYPES, or its number.
+   */
+  effectiveness(attack: TypeName | number, foe: TypeName | number): number;
+  /** The stats of a member without a battle. Throws TeamError. */
+  stats(member: Member): Stats;
+  /** The HP that a damage of a move gives to its user: 0 for a move that drains none. The user gains at most what it lacks. */
+  drained(move: MoveLike, damage: number): number;
+  /** The HP that a damage of a move costs its user: 0 for a move without recoil. */
+  recoil(move: MoveLike, damage: number): number;
   /** The events of log bytes. Throws LogError. */
   events(log: Uint8Array | ArrayBuffer): GameEvent[];
   /** The lines of log bytes, without line feeds. Throws LogError. */

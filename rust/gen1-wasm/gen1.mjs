@@ -15,12 +15,13 @@ import { CANT_REASONS, DAMAGE_SOURCES, EVENT_KINDS, eventsOf, FAULTS, linesOf, V
 import { CODES } from "./header.mjs";
 import { Library } from "./memory.mjs";
 import { COLUMNS } from "./observing.mjs";
+import { Outcomes } from "./outcomes.mjs";
 import { Player, playerOf, Teller, tellerOf } from "./players.mjs";
 import { Room, roomOf } from "./room.mjs";
 import { Spectator, spectatorOf } from "./spectator.mjs";
 import { blockOfState } from "./states.mjs";
 import { MOVES, SPECIES, TYPES } from "./tables.mjs";
-import { baseOf, memberBytes, membersFrom, moveDataOf, moveOf, Team, teamError } from "./teams.mjs";
+import { baseOf, effectivenessOf, memberBytes, membersFrom, moveDataOf, moveOf, sharedOf, statsOf, Team, teamError } from "./teams.mjs";
 import { Update } from "./update.mjs";
 import { CONDITIONS, oddsOf, OUTCOMES, REASONS, REQUESTS, STATS, STATUSES } from "./views.mjs";
 
@@ -158,9 +159,29 @@ export class Gen1 {
     return baseOf(this.#library, species);
   }
 
-  /** The type, power, accuracy, PP and effect of a move. */
+  /** The type, power, accuracy, PP, effect and priority of a move, and whether it is often critical. */
   moveData(move) {
     return moveDataOf(this.#library, move);
+  }
+
+  /** By what a move of one type multiplies its damage to a foe of one type: 0, 0.5, 1 or 2. */
+  effectiveness(attack, foe) {
+    return effectivenessOf(this.#library, attack, foe);
+  }
+
+  /** The stats of a member without a battle. */
+  stats(member) {
+    return statsOf(this.#library, member);
+  }
+
+  /** The HP that a damage of a move gives to its user. */
+  drained(move, damage) {
+    return sharedOf(this.#library, "gen1_drained", move, damage);
+  }
+
+  /** The HP that a damage of a move costs its user. */
+  recoil(move, damage) {
+    return sharedOf(this.#library, "gen1_recoil", move, damage);
   }
 
   /** The events of log bytes, as objects with their numbers and sizes. */
@@ -198,12 +219,13 @@ async function fetched(source) {
 
 // The instance of a module. If there is none, the host's error becomes the cause of a ModuleError.
 async function instanceOf(source, what) {
-  const isPlace = source instanceof URL || typeof source === "string";
-  if (!isPlace && !(source instanceof ArrayBuffer) && !ArrayBuffer.isView(source)) throw wrongType(source, what, SOURCE);
+  // Some hosts, such as GNOME's gjs, have no URL.
+  const isBytes = source instanceof ArrayBuffer || ArrayBuffer.isView(source);
+  if (!isBytes && typeof source !== "string" && !(source instanceof URL)) throw wrongType(source, what, SOURCE);
   try {
-    return (await WebAssembly.instantiate(isPlace ? await fetched(source) : source, {})).instance;
+    return (await WebAssembly.instantiate(isBytes ? source : await fetched(source), {})).instance;
   } catch (cause) {
-    const where = isPlace ? `${what}, ${source},` : what;
+    const where = isBytes ? what : `${what}, ${source},`;
     throw Object.assign(new ModuleError(`${where} is not a module that can run here: ${cause.message}`), { cause });
   }
 }
@@ -227,6 +249,6 @@ export {
   StateError, TeamError, TextError,
 } from "./errors.mjs";
 export {
-  Battle, BattleArray, byteOf, CANT_REASONS, CHOICES, choiceOf, COLUMNS, CONDITIONS, DAMAGE_SOURCES, EVENT_KINDS, FAULTS, MOVES, OUTCOMES, Player,
+  Battle, BattleArray, byteOf, CANT_REASONS, CHOICES, choiceOf, COLUMNS, CONDITIONS, DAMAGE_SOURCES, EVENT_KINDS, FAULTS, MOVES, Outcomes, OUTCOMES, Player,
   REASONS, REQUESTS, Room, SPECIES, Spectator, STATS, STATUSES, Team, Teller, TYPES, Update, VOLATILES,
 };

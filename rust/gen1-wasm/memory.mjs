@@ -9,9 +9,9 @@ const PAGE = 65536;
 // All exports that are used. A module of an older version may lack some.
 const NEEDED = [
   "memory", "__heap_base", ...["version", "new", "load", "offered", "update", "update_silent", "result", "next_event", "next_line", "damage", "odds_now",
-    "odds_between", "takes_hit_test", "playout", "team_from_text", "team_from_packed", "species_from_name", "move_from_name", "error_text", "get_state", "set_state", "knock_out",
-    "choice_words", "reseed", "room_begin", "room_choices", "room_submit", "spectator_begin", "spectator_feed", "player_begin", "player_feed", "player_show",
-    "get_own_side", "teller_begin", "tell", "offered_many", "update_many"].map((call) => `gen1_${call}`),
+    "odds_between", "takes_hit_test", "playout", "outcomes", "team_from_text", "team_from_packed", "species_from_name", "move_from_name", "error_text", "get_state", "set_state", "knock_out",
+    "choice_words", "reseed", "room_begin", "room_choices", "room_forfeit", "room_result", "room_submit", "spectator_begin", "spectator_feed", "player_begin", "player_feed", "player_show",
+    "get_own_side", "teller_begin", "tell", "offered_many", "update_many", "move_data", "effectiveness", "member_stats", "drained", "recoil"].map((call) => `gen1_${call}`),
 ];
 
 const aligned = (place) => Math.ceil(place / 8) * 8;

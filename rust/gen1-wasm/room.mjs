@@ -46,9 +46,13 @@ export class Room {
     return resultOf(this.#result);
   }
 
-  // The number of the result. A room begins with its battle.
   get #result() {
-    return this.#library.calls.gen1_result(this.#put());
+    return this.#library.calls.gen1_room_result(this.#put());
+  }
+
+  /** The side that has forfeited, or null. */
+  get forfeited() {
+    return this.#field("forfeit") || null;
   }
 
   /** The number of the current pair of choices, which is how many pairs have ended. */
@@ -87,6 +91,16 @@ export class Room {
     this.#bytes = this.#library.read(room, this.#bytes.length);
     const { log } = this;
     return this.number === before ? null : new Update(this.#library, this.#result, log, 0, log.length);
+  }
+
+  /** Ends the battle: the other side wins. The update has the one event "win". The bytes of `battle` stay as they are. */
+  forfeit(side) {
+    const [given, number, room] = [sideOf(side), this.number, this.#put()];
+    const code = this.#library.calls.gen1_room_forfeit(room, given);
+    if (code) throw this.#refused(code, given, number, null);
+    this.#bytes = this.#library.read(room, this.#bytes.length);
+    const { log } = this;
+    return new Update(this.#library, this.#result, log, 0, log.length);
   }
 
   #refused(code, side, number, choice) {

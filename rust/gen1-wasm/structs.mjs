@@ -41,7 +41,7 @@ export function offsetsOf(name) {
   return { size, ...Object.fromEntries(fields.map(({ key, at }) => [key, at])) };
 }
 
-// A value of a field. No number of 8 bytes is above 2 ** 53 here.
+// A value of a field. A number of 8 bytes is at most 2 ** 53 here, but for the weights of outcomes, which outcomes.mjs reads.
 function read(field, view, at, isLong) {
   return field.struct ? readStruct(field.struct, view, at, isLong) : Number(view[`get${field.kind}`](at, true));
 }

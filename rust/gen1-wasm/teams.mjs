@@ -9,6 +9,7 @@ import { made } from "./update.mjs";
 
 const MOST_MEMBERS = 6;
 const MOST_MOVES = 4;
+const MOST_DAMAGE = 65535;
 const MEMBER_KEYS = ["species", "level", "dvs", "exp", "moves"];
 const FULL_DVS = Object.freeze([15, 15, 15, 15]);
 const FULL_EXP = Object.freeze([65535, 65535, 65535, 65535, 65535]);
@@ -57,10 +58,48 @@ export function baseOf(library, value) {
   return { hp, attack, defense, speed, special, types: [TYPES[one], TYPES[two]] };
 }
 
-/** The row of a move in docs/TABLES.md. */
+/** The row of a move in docs/TABLES.md, its priority, and whether it is often critical. */
 export function moveDataOf(library, value) {
   const [type, power, accuracy, pp, effect] = rowOf(library, value, MOVE_KIND, "move");
-  return { type: TYPES[type], power, accuracy, pp, effect };
+  library.begin();
+  const row = library.roomOf("gen1_move");
+  library.calls.gen1_move_data(moveOf(library, value), row);
+  const { priority, highCritical } = library.readStruct("gen1_move", row);
+  return { type: TYPES[type], power, accuracy, pp, effect, priority, isHighCritical: highCritical === 1 };
+}
+
+/** The HP that a damage of a move gives to its user, or costs it. `call` is gen1_drained or gen1_recoil. */
+export function sharedOf(library, call, move, damage) {
+  rowOf(library, move, MOVE_KIND, "move");
+  return library.calls[call](moveOf(library, move), within(damage, "damage", 0, MOST_DAMAGE));
+}
+
+// The number of a type, from its name or its number.
+function typeOf(value, what) {
+  if (typeof value !== "string" && typeof value !== "number") throw wrongType(value, what, "a name or a number");
+  const number = typeof value === "number" ? value : TYPES.indexOf(value);
+  if (TYPES[number] === undefined) throw new ArgumentError(`${what} is ${shown(value)}, not one of TYPES`, what);
+  return number;
+}
+
+/** By what a move of one type multiplies its damage to a foe of one type. */
+export function effectivenessOf(library, attack, foe) {
+  const pair = [typeOf(attack, "attack"), typeOf(foe, "foe")];
+  library.begin();
+  const tenths = library.room(1);
+  library.calls.gen1_effectiveness(...pair, tenths);
+  return library.bytes[Number(tenths)] / 10;
+}
+
+/** The stats of a member without a battle. */
+export function statsOf(library, member) {
+  const given = memberBytes(library, member, "member");
+  library.begin();
+  const [pointer, stats] = [library.put(given), library.room(10)];
+  const code = library.calls.gen1_member_stats(pointer, stats);
+  if (code) throw teamError(library, code | (1 << 8), [[member]], {}, () => "member: ");
+  const [hp, attack, defense, speed, special] = new Uint16Array(library.read(stats, 10).buffer);
+  return { hp, attack, defense, speed, special };
 }
 
 function pairOf(library, value, what) {

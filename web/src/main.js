@@ -125,9 +125,19 @@ function listenDrops(replay, open) {
   });
 }
 
-async function begin() {
+/** The bytes of the module, which the page has compressed by gzip and in base64. */
+async function moduleOfPage() {
   const text = find("module", HTMLScriptElement).text.trim();
-  const module = Uint8Array.from(atob(text), (letter) => letter.charCodeAt(0));
+  const packed = Uint8Array.from(atob(text), (letter) => letter.charCodeAt(0));
+  // TypeScript 4.8 has no type for it.
+  /** @type {{ new (format: string): ReadableWritablePair<Uint8Array, Uint8Array> }} */
+  const DecompressionStream = Reflect.get(globalThis, "DecompressionStream");
+  const stream = new Blob([packed]).stream().pipeThrough(new DecompressionStream("gzip"));
+  return new Uint8Array(await new Response(stream).arrayBuffer());
+}
+
+async function begin() {
+  const module = await moduleOfPage();
   const engine = await Engine.of(module);
   const inputs = new Inputs(engine);
   const replay = new Replay(engine, inputs);

@@ -107,7 +107,7 @@ function teams(gen1, check) {
     const calls = [
       () => battle.bytes, () => battle.state, () => battle.result, () => battle.isOver, () => battle.clone(), () => battle.copyFrom(other),
       () => other.copyFrom(battle), () => battle.choices(1), () => battle.offeredMask(1), () => battle.words(1, "pass"), () => battle.update("pass", "pass"),
-      () => battle.updateSilent("pass", "pass"), () => battle.reseed(SEED), () => battle.playout(1, 1), () => battle.odds(1, "Pound"),
+      () => battle.updateSilent("pass", "pass"), () => battle.reseed(SEED), () => battle.playout(1, 1), () => battle.outcomes(0, 0), () => battle.odds(1, "Pound"),
       () => battle.knockOut(1, "Pound"), () => battle.damage(1, "Pound"), () => battle.ownSide(1), () => battle.withHp(1, 1, 5), () => gen1.room(battle),
       () => gen1.player({ side: 1, team: [TAUROS] }).show(battle),
     ];
@@ -190,7 +190,7 @@ function choices(battle, check) {
     }
   });
   check("choices that are none", () => {
-    for (const call of [(one) => battle.update(one, 17), (one) => battle.updateSilent(one, 17)]) {
+    for (const call of [(one) => battle.update(one, 17), (one) => battle.updateSilent(one, 17), (one) => battle.outcomes(one, 17)]) {
       for (const it of BIG) outside(() => call(it), /^side 1's choice is -?\d.*, not 0 to 255$/);
       for (const it of [1.5, NaN, Infinity]) wrong(() => call(it), /^side 1's choice is .*, not a whole number$/);
       for (const it of [undefined, null, true, [17], {}, 17n])
@@ -204,8 +204,10 @@ function choices(battle, check) {
       for (const side of choice === 17 ? [] : [1, 2]) {
         const pair = side === 1 ? [choice, 17] : [17, choice];
         const text = new RegExp(`^the choice of side ${side} was not offered: .*; offered: move 1$`);
-        const fault = thrown(() => battle.update(...pair), RefusedError, text);
-        equal([fault.code, fault.side, fault.choice, fault.offered], [side + 24, side, choice, ["move 1"]]);
+        for (const call of [() => battle.update(...pair), () => battle.outcomes(...pair)]) {
+          const fault = thrown(call, RefusedError, text);
+          equal([fault.code, fault.side, fault.choice, fault.offered], [side + 24, side, choice, ["move 1"]]);
+        }
       }
     thrown(() => battle.update("move 1", "switch 2"), RefusedError, /^the choice of side 2 was not offered: switch 2; offered: move 1$/);
     for (const byte of [1, 15, 21, 32, 39, 255]) outside(() => library.choiceOf(byte), /is not a choice/);
@@ -242,6 +244,20 @@ function rows(gen1, check) {
     outside(() => gen1.base("tauros"), /^species is "tauros", which is not in docs\/TABLES.md; did you mean "Tauros"\?$/);
     for (const call of [gen1.base, gen1.moveData]) for (const it of [undefined, null, [1]]) wrong(() => call.call(gen1, it), /not a name or a number$/);
   });
+  check("types, stats, drain and recoil", () => {
+    for (const it of [-1, 15, 0.5, ...BIG, "Steel", "water"]) {
+      outside(() => gen1.effectiveness(it, "Water"), /^attack is .*, not one of TYPES$/);
+      outside(() => gen1.effectiveness("Water", it), /^foe is .*, not one of TYPES$/);
+    }
+    for (const it of [undefined, null, [1]]) wrong(() => gen1.effectiveness(it, "Water"), /^attack is .*, not a name or a number$/);
+    equal(thrown(() => gen1.stats({ ...TAUROS, level: 101 }), TeamError, /^member: .*: level is 101$/).field, "level");
+    outside(() => gen1.stats({ ...TAUROS, lvl: 50 }), /^member has the unknown key "lvl"; did you mean "level"\?$/);
+    for (const call of [gen1.drained, gen1.recoil]) {
+      for (const it of [0, 166, ...BIG]) outside(() => call.call(gen1, it, 1), /^move is -?\d.*, not 1 to 165$/);
+      for (const it of [-1, 65536, 2 ** 32, -(2 ** 70)]) outside(() => call.call(gen1, 1, it), /^damage is -?\d.*, not 0 to 65535$/);
+      for (const it of NO_NUMBERS) wrong(() => call.call(gen1, 1, it), /^damage is .*, not a whole number$/);
+    }
+  });
 }
 
 function seeds(battle, check) {
@@ -249,6 +265,11 @@ function seeds(battle, check) {
     for (const index of [9, 255, ...BIG]) outside(() => battle.reseed(SEED, index), /^the index is not 0 to 8: index is -?\d/);
     for (const index of NO_NUMBERS) wrong(() => battle.reseed(SEED, index), /^index is .*, not a whole number$/);
     outside(() => battle.reseed([1]), /^seed has 1 numbers, not 10$/);
+  });
+  check("places of outcomes", () => {
+    const outcomes = battle.outcomes(17, 17);
+    for (const place of [-1, outcomes.length, 2 ** 32, 2 ** 53]) outside(() => outcomes.at(place), /^place is -?\d.*, not 0 to \d+$/);
+    for (const place of NO_NUMBERS) wrong(() => outcomes.at(place), /^place is .*, not a whole number$/);
   });
   check("playouts of nothing", () => {
     for (const seed of [-1, -1n, 2n ** 64n, 2 ** 53, 2 ** 64])
@@ -258,6 +279,13 @@ function seeds(battle, check) {
     for (const rounds of [-1, 2 ** 32, 2 ** 53])
       outside(() => battle.playout(1, rounds), /^rounds is -?\d.*, not 0 to 4294967295$/);
     for (const rounds of NO_NUMBERS) wrong(() => battle.playout(1, rounds), /^rounds is .*, not a whole number$/);
+    for (const depth of [-1, 0, 2 ** 32]) outside(() => battle.playout(1, 1, { depth }), /^depth is -?\d.*, not 1 to 4294967295$/);
+    for (const weights of [null, 5, "move", [1]]) wrong(() => battle.playout(1, 1, { weights }), /^weights is .*, not an object of moves and their weights$/);
+    for (const key of ["move", "switch", "Pound"]) {
+      for (const weight of [-1, 256]) outside(() => battle.playout(1, 1, { weights: { [key]: weight } }), /^weights.* is -?\d+, not 0 to 255$/);
+      for (const weight of NO_NUMBERS) wrong(() => battle.playout(1, 1, { weights: { [key]: weight } }), /^weights.* is .*, not a whole number$/);
+    }
+    outside(() => battle.playout(1, 1, { weights: { Explosoin: 1 } }), /^weights is "Explosoin", which is not in .*; did you mean "Explosion"\?$/);
   });
 }
 
@@ -509,7 +537,7 @@ function rooms(gen1, check) {
     const chosen = room.clone();
     chosen.submit(1, 0, 17);
     thrown(() => chosen.submit(1, 0, 17), RoomError, /^the side has chosen: side 1 can submit nothing more for pair 0$/);
-    for (const call of [(side) => room.submit(side, 0, 17), (side) => room.choices(side)]) {
+    for (const call of [(side) => room.submit(side, 0, 17), (side) => room.choices(side), (side) => room.forfeit(side)]) {
       for (const side of [0, 3, ...BIG]) outside(() => call(side), /^side is -?\d.*, not 1 or 2$/);
       for (const side of NO_NUMBERS) wrong(() => call(side), /^side is .*, not a whole number$/);
     }

@@ -116,8 +116,10 @@ line("array: reset and step", () => { array.reset(); array.step(first, first); }
 bytes.set(fresh, many);
 array.reset();
 line("array: masks", () => { kept = array.masks(1); }, () => calls.gen1_offered_many(many, BATTLES, 1, masks, BATTLES), BATTLES);
+const options = room(184), seeds = new BigUint64Array(memory.buffer, options, 1);
+new Uint32Array(memory.buffer, options + 8, 2).set([1, 0]);                 // one round, to its end
 line("array: a playout", () => { kept = array.playouts(1n, 1); },
-  () => { for (let at = 0; at < BATTLES; at++) calls.gen1_playout(many + 384 * at, BigInt(1 + at), 1, updates); }, 10 * BATTLES);
+  () => { for (let at = 0; at < BATTLES; at++) { seeds[0] = BigInt(1 + at); calls.gen1_playout(many + 384 * at, options, updates); } }, 10 * BATTLES);
 line("array: observe", () => { kept = watched.observe(1); }, null, BATTLES);
 
 // A step with players: the update with its log, which is reported to both sides, and what each is shown.

@@ -5,28 +5,33 @@ import { equal, holds, thrown } from "./holding.mjs";
 
 /** @typedef {import("../gen1.mjs").Gen1} Gen1 */
 /** @template T @typedef {Exclude<keyof T, symbol>} Named the keys that are texts */
-const { Battle, BattleArray, CANT_REASONS, CHOICES, CONDITIONS, OUTCOMES, Player, REQUESTS, Room, Spectator, STATS, STATUSES, Team, Teller, Update } = library;
+const { Battle, BattleArray, CANT_REASONS, CHOICES, CONDITIONS, Outcomes, OUTCOMES, Player, REQUESTS, Room, Spectator, STATS, STATUSES, Team, Teller, Update } = library;
 
 /** @type {Record<Exclude<keyof typeof library, "default">, true>} */
 const EXPORTS = {
   ArgumentError: true, ArgumentTypeError: true, Battle: true, BattleArray: true, byteOf: true, CANT_REASONS: true, CHOICES: true, choiceOf: true,
   COLUMNS: true, CONDITIONS: true, DAMAGE_SOURCES: true, DamageError: true, EVENT_KINDS: true, FAULTS: true, FreedError: true, Gen1: true, Gen1Error: true, HAS_LONG_MEMORIES: true,
-  load: true, LOG_ROOM: true, LoadError: true, LogError: true, MemoryError: true, ModuleError: true, MOVES: true, OUTCOMES: true, Player: true,
+  load: true, LOG_ROOM: true, LoadError: true, LogError: true, MemoryError: true, ModuleError: true, MOVES: true, Outcomes: true, OUTCOMES: true, Player: true,
   REASONS: true, RefusedError: true, REQUESTS: true, Room: true, RoomError: true, SPECIES: true, Spectator: true, StateError: true, STATS: true,
   STATUSES: true, Team: true, TeamError: true, Teller: true, TextError: true, TYPES: true, Update: true, VOLATILES: true,
 };
 /** @type {Record<keyof Gen1, true>} */
 const OF_GEN1 = {
   is64: true, memorySize: true, build: true, version: true, battle: true, team: true, battleArray: true, load: true, testBytes: true, battleOfState: true, room: true, spectator: true, player: true,
-  teller: true, teamFromText: true, teamFromPacked: true, odds: true, damage: true, base: true, moveData: true, events: true, lines: true,
+  teller: true, teamFromText: true, teamFromPacked: true, odds: true, damage: true, base: true, moveData: true, effectiveness: true, stats: true,
+  drained: true, recoil: true, events: true, lines: true,
 };
 /** @type {Record<Named<import("../gen1.mjs").Battle>, true>} */
 const OF_BATTLE = {
   bytes: true, result: true, isOver: true, state: true, clone: true, copyFrom: true, free: true, toJSON: true, choices: true, offeredMask: true, words: true, update: true, updateSilent: true,
-  reseed: true, playout: true, odds: true, damage: true, knockOut: true, ownSide: true, withState: true, withHp: true, withStatus: true, withStage: true,
+  reseed: true, playout: true, outcomes: true, odds: true, damage: true, knockOut: true, ownSide: true, withState: true, withHp: true, withStatus: true, withStage: true,
 };
+/** @type {Record<Named<import("../gen1.mjs").Outcomes>, true>} */
+const OF_OUTCOMES = { length: true, whole: true, at: true };
+/** @type {Record<Named<import("../gen1.mjs").OutcomeAt>, true>} */
+const OF_OUTCOME = { battle: true, probability: true, weight: true };
 /** @type {Record<Named<import("../gen1.mjs").Room>, true>} */
-const OF_ROOM = { battle: true, result: true, number: true, log: true, clone: true, choices: true, submit: true, toJSON: true };
+const OF_ROOM = { battle: true, result: true, number: true, log: true, clone: true, choices: true, submit: true, forfeit: true, forfeited: true, toJSON: true };
 /** @type {Record<Named<import("../gen1.mjs").Spectator>, true>} */
 const OF_SPECTATOR = { state: true, held: true, clone: true, feed: true, toJSON: true };
 /** @type {Record<Named<import("../gen1.mjs").Player>, true>} */
@@ -76,7 +81,9 @@ const OF_ODDS = {
 /** @type {Record<Named<import("../gen1.mjs").Base>, true>} */
 const OF_BASE = { hp: true, attack: true, defense: true, speed: true, special: true, types: true };
 /** @type {Record<Named<import("../gen1.mjs").MoveData>, true>} */
-const OF_MOVE_DATA = { type: true, power: true, accuracy: true, pp: true, effect: true };
+const OF_MOVE_DATA = { type: true, power: true, accuracy: true, pp: true, effect: true, priority: true, isHighCritical: true };
+/** @type {Record<Named<import("../gen1.mjs").Stats>, true>} */
+const OF_STATS = { hp: true, attack: true, defense: true, speed: true, special: true };
 /** @type {Record<Named<import("../gen1.mjs").Playouts>, true>} */
 const OF_PLAYOUTS = { winsOne: true, winsTwo: true, ties: true, faults: true };
 /** @type {Record<Named<import("../gen1.mjs").WholeMember>, true>} */
@@ -173,7 +180,13 @@ function battles(gen1) {
   hasKeys(battle.knockOut(1, "Strength"), OF_KNOCK_OUT);
   hasKeys(gen1.base("Tauros"), OF_BASE);
   hasKeys(gen1.moveData("Strength"), OF_MOVE_DATA);
+  hasKeys(gen1.stats({ species: "Tauros", moves: [["Strength", 3]] }), OF_STATS);
   hasKeys(battle.playout(1n, 1), OF_PLAYOUTS);
+  hasKeys(battle.playout(1, 1, { depth: 2, weights: { "Body Slam": 9, move: 4, switch: 0 } }), OF_PLAYOUTS);
+  const outcomes = battle.outcomes(17, "move 1");
+  offers(outcomes, OF_OUTCOMES);
+  hasKeys(outcomes.at(0), OF_OUTCOME);
+  holds(outcomes instanceof Outcomes && outcomes.whole > 0n && outcomes.at(0).battle instanceof Battle, "other outcomes");
   hasKeys(gen1.teamFromText("Tauros\n- Strength\n")[0], OF_WHOLE_MEMBER);
   hasKeys(battle.updateSilent(battle.choices(1)[0], battle.choices(2)[0]), { outcome: true, requests: true });
   /** @type {Uint8Array} */
@@ -256,6 +269,8 @@ const NO_CONSTRUCTORS = [
   () => new Team(),
   // @ts-expect-error
   () => new BattleArray(),
+  // @ts-expect-error
+  () => new Outcomes(),
 ];
 
 /** @param {Gen1} gen1 */

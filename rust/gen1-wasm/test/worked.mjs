@@ -124,6 +124,48 @@ function begun(gen1, one, two, moves = ["Splash"]) {
   return battle;
 }
 
+// The exact chances of what `look` sees after the first move of both sides, as pairs of value and fraction.
+function chancesOf(battle, look) {
+  const [sums, outcomes] = [new Map(), battle.outcomes("move 1", "move 1")];
+  let sum = 0;
+  for (const { battle: next, probability, weight } of outcomes) {
+    const seen = look(next.state);
+    sums.set(seen, (sums.get(seen) ?? 0n) + weight);
+    sum += probability;
+    next.free();
+  }
+  holds(Math.abs(sum - 1) < 1e-9 && [...sums.values()].reduce((one, two) => one + two) === outcomes.whole, "the weights do not sum to whole");
+  return (value, num, whole) => equal(`${(sums.get(value) ?? 0n) * BigInt(whole)}`, `${BigInt(num) * outcomes.whole}`);
+}
+
+// docs/MECHANICS.md: "Actions", "Hit test", "Many hits", "Sleep moves".
+function outcomes(gen1, check) {
+  const facing = (one, two, move) => begun(gen1, one, two, [move]);
+  check("full paralysis and accuracy", () => {
+    const splash = facing("Snorlax", "Tauros", "Splash").withStatus(1, 1, "paralysis");
+    const left = chancesOf(splash, ({ one }) => one.members[0].pp[0]);
+    left(61, 63, 256);
+    left(60, 193, 256);
+    const drill = chancesOf(facing("Tauros", "Snorlax", "Horn Drill"), ({ outcome }) => outcome);
+    drill("win one", 76, 256);
+    drill("ongoing", 180, 256);
+  });
+  check("many hits and a toss", () => {
+    const bide = chancesOf(facing("Tauros", "Tauros", "Bide"), ({ one, two }) => 10 * one.active.turns + two.active.turns);
+    for (const turns of [22, 23, 32, 33]) bide(turns, 1, 4);
+    const toss = facing("Tauros", "Tauros", "Seismic Toss").withHp(1, 1, 50).withHp(2, 1, 50);
+    const wins = chancesOf(toss, ({ outcome }) => outcome);
+    wins("win one", 255 * 257, 131072);
+    wins("win two", 255 * 257, 131072);
+    wins("ongoing", 1, 65536);
+  });
+  check("more outcomes than the first space holds", () => {
+    const found = facing("Tauros", "Starmie", "Thunder").outcomes("move 1", "move 1");
+    const bytes = new Set(Array.from(found, ({ battle }) => hexOf(battle.bytes)));
+    holds(found.length > 256 && bytes.size === found.length, `${found.length} outcomes, ${bytes.size} battles`);
+  });
+}
+
 // docs/MECHANICS.md, "Hit test" to "Charging": why a use cannot hit, fixed damage, many hits, charging.
 function uses(gen1, check) {
   const battle = begun(gen1, "Snorlax", "Tauros", ["Splash", "Fly"]);
@@ -353,6 +395,16 @@ function rooms(gen1, check) {
     equal([room.result.outcome, room.choices(1), room.choices(2), replied(room, 1, 2, 17)], ["win one", [], [], 24]);
     equal([kept.number, kept.choices(1), kept.battle.isOver], [1, ["move 1"], false]);
   });
+  check("a forfeit", () => {
+    const room = gen1.room(gen1.battle(BATTLE));
+    const kept = room.clone();
+    room.submit(1, 0, 17);
+    equal([room.forfeited, room.forfeit(1).lines, room.forfeited], [null, ["|win|p2"], 1]);
+    equal([room.number, hexOf(room.log), room.result], [1, "1a02", { outcome: "win two", requests: ["pass", "pass"] }]);
+    equal([hexOf(room.battle.bytes), room.choices(1), room.choices(2)], [hexOf(kept.battle.bytes), [], []]);
+    equal([replied(room, 2, 1, 17), kept.forfeited, kept.number], [24, null, 0]);
+    for (const side of [1, 2]) equal(thrown(() => room.forfeit(side), library.RoomError, /the battle is over: win two$/).code, 24);
+  });
   check("a side of which nothing is asked passes by itself", () => {
     const one = [{ species: "Tauros", moves: [["Explosion", 3]] }, { species: "Chansey", moves: [["Strength", 3]] }];
     const room = gen1.room(gen1.battle({ one, two: [{ species: "Gengar", moves: [["Splash", 3]] }], seed: SEED }));
@@ -428,19 +480,41 @@ function texts(gen1, check) {
   });
 }
 
+// Who is ahead by the share of HP left.
+function leader(battle) {
+  const of = (members, key) => members.reduce((sum, member) => sum + member[key], 0);
+  const [one, two] = [battle.state.one, battle.state.two].map(({ members }) => of(members, "hp") / of(members, "maxHp"));
+  return one > two ? "winsOne" : two > one ? "winsTwo" : "ties";
+}
+
+// The offered choices of a side, each as often as its weight says.
+function copies(battle, side, weights) {
+  const offered = battle.choices(side);
+  const { members, active } = side === 1 ? battle.state.one : battle.state.two;
+  const weightOf = (choice) => {
+    const [kind, slot] = choice.split(" ");
+    if (kind !== "move") return weights.switch ?? 1;
+    return weights[slot === "0" ? "Struggle" : members[active.place - 1].moves[slot - 1]] ?? weights.move ?? 1;
+  };
+  const found = offered.flatMap((choice) => Array(weightOf(choice)).fill(choice));
+  return found.length ? found : offered;
+}
+
 // The same rounds update by update, with the generator that include/gen1.h describes.
-function playedOut(battle, seed, rounds) {
+function playedOut(battle, seed, rounds, { depth = Infinity, weights = {} } = {}) {
   const counts = { winsOne: 0, winsTwo: 0, ties: 0, faults: 0 };
   const names = { "win one": "winsOne", "win two": "winsTwo", tie: "ties", "fault 1": "faults", "fault 2": "faults" };
   let state = seed;
-  const pick = (offered) => {
+  const below = (count) => {
     state = (state * 6364136223846793005n + 1442695040888963407n) % 2n ** 64n;
-    return offered[Number((state >> 32n) % BigInt(offered.length))];
+    return Number((state >> 32n) % BigInt(count));
   };
+  const pick = (offered) => offered[below(offered.length)];
   for (let round = 0; round < rounds; round++) {
     const copy = battle.clone();
-    while (!copy.isOver) copy.updateSilent(pick(copy.choices(1)), pick(copy.choices(2)));
-    counts[names[copy.result.outcome]]++;
+    copy.reseed(Array.from({ length: 10 }, () => below(256)));
+    for (let updates = 0; !copy.isOver && updates < depth; updates++) copy.updateSilent(pick(copies(copy, 1, weights)), pick(copies(copy, 2, weights)));
+    counts[copy.isOver ? names[copy.result.outcome] : leader(copy)]++;
   }
   return counts;
 }
@@ -450,9 +524,24 @@ function rows(gen1, check) {
   check("rows of the tables", () => {
     equal(gen1.base("Starmie"), { hp: 60, attack: 75, defense: 85, speed: 115, special: 100, types: ["Water", "Psychic"] });
     equal(gen1.base(128).types, ["Normal", "Normal"]);
-    equal(gen1.moveData("Blizzard"), { type: "Ice", power: 120, accuracy: 90, pp: 5, effect: "FreezeChance" });
+    equal(gen1.moveData("Blizzard"), { type: "Ice", power: 120, accuracy: 90, pp: 5, effect: "FreezeChance", priority: 0, isHighCritical: false });
     equal([gen1.moveData(165), gen1.moveData("Sharpen").effect], [gen1.moveData("Struggle"), "StatUp(Attack, 1)"]);
     equal(library.MOVES.filter((move) => gen1.moveData(move).effect === "OneHitKnockOut"), ["Guillotine", "Horn Drill", "Fissure"]);
+    equal(library.MOVES.filter((move) => gen1.moveData(move).isHighCritical), ["Karate Chop", "Razor Leaf", "Crabhammer", "Slash"]);
+    equal([-1, 1].map((priority) => library.MOVES.filter((move) => gen1.moveData(move).priority === priority)), [["Counter"], ["Quick Attack"]]);
+  });
+  check("type rows", () => {
+    const [normal, water] = [library.TYPES.indexOf("Normal"), library.TYPES.indexOf("Water")];
+    equal([gen1.effectiveness("Water", "Fire"), gen1.effectiveness(water, water), gen1.effectiveness(normal, "Ghost")], [2, 0.5, 0]);
+    equal([gen1.effectiveness("Ghost", "Psychic"), gen1.effectiveness("Normal", "Water")], [0, 1]);
+  });
+  check("stats without a battle", () => {
+    equal(gen1.stats({ species: "Tauros", moves: [["Strength", 3]] }), { hp: 353, attack: 298, defense: 288, speed: 318, special: 238 });
+  });
+  check("drain and recoil", () => {
+    for (const move of ["Absorb", "Mega Drain", "Leech Life", "Dream Eater"]) equal([1, 2, 101].map((it) => gen1.drained(move, it)), [1, 1, 50]);
+    for (const move of ["Take Down", "Double-Edge", "Submission"]) equal([1, 4, 103].map((it) => gen1.recoil(move, it)), [1, 1, 25]);
+    equal([gen1.recoil("Struggle", 103), gen1.recoil("Absorb", 103), gen1.drained("Struggle", 103)], [51, 0, 0]);
   });
 }
 
@@ -558,7 +647,13 @@ function searching(gen1, check) {
     equal(places.map((it) => changed(...it)), [0, 17, 18, 19, 20, 21, 22]);
   });
   check("playouts", () => {
-    for (const seed of [0n, 7n, 2n ** 64n - 1n]) equal(battle.playout(seed, 5), playedOut(battle, seed, 5));
+    const { moves } = battle.state.one.members[0];
+    for (const seed of [0n, 7n, 2n ** 64n - 1n]) {
+      equal(battle.playout(seed, 5), playedOut(battle, seed, 5));
+      for (const depth of [1, 6, 30]) equal(battle.playout(seed, 5, { depth }), playedOut(battle, seed, 5, { depth }));
+      for (const weights of [{}, { move: 4 }, { switch: 0 }, { move: 0, switch: 0 }, { [moves[0]]: 255, [moves[1]]: 0, move: 3, Struggle: 0 }])
+        equal(battle.playout(seed, 5, { weights, depth: 40 }), playedOut(battle, seed, 5, { weights, depth: 40 }));
+    }
     equal([battle.playout(7, 5), battle.playout(1, 0)], [battle.playout(7n, 5), { winsOne: 0, winsTwo: 0, ties: 0, faults: 0 }]);
   });
 }
@@ -575,6 +670,6 @@ function layouts(check) {
 
 /** Runs all worked examples. */
 export function worked(gen1, check) {
-  for (const part of [logs, odds, uses, knockOuts, states, players, guesses, rooms, spectators, texts, rows, arrays, searching]) part(gen1, check);
+  for (const part of [logs, odds, uses, outcomes, knockOuts, states, players, guesses, rooms, spectators, texts, rows, arrays, searching]) part(gen1, check);
   layouts(check);
 }

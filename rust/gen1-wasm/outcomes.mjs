@@ -1,0 +1,75 @@
+// All battles that an update can lead to, with their exact probabilities.
+import { within } from "./arguments.mjs";
+import { BATTLE_SIZE } from "./arena.mjs";
+import { Gen1Error } from "./errors.mjs";
+import { CODES } from "./header.mjs";
+import { inspected } from "./inspecting.mjs";
+import { made } from "./update.mjs";
+
+const { SUCCESSOR_SIZE } = CODES;
+const FEW_PLACES = [CODES.ERROR_OUTCOMES, CODES.ERROR_TABLE];
+// How many outcomes there is space for at first; where there are more, the call is repeated with more space.
+const PLACES = 256;
+const MORE = 8;
+
+// The number of 128 bits at an offset: its low 64 bits, then its high ones.
+const numberAt = (view, at) => view.getBigUint64(at, true) + (view.getBigUint64(at + 8, true) << 64n);
+
+/** All battles that an update can lead to, each once, with its exact probability. `Battle.outcomes` makes it. */
+export class Outcomes {
+  #library;
+  #rows;
+  #battleOf;
+
+  /** How many outcomes there are. */
+  length;
+  /** The sum of all weights. */
+  whole;
+
+  /** Of the rows of gen1_successor, and a function that makes a battle of a block. */
+  constructor(library, rows, whole, battleOf) {
+    this.#library = made(library, "Outcomes", "Battle.outcomes");
+    [this.#rows, this.#battleOf, this.whole] = [rows, battleOf, whole];
+    this.length = rows.length / SUCCESSOR_SIZE;
+  }
+
+  /** The outcome at a place from 0: its battle, its probability, and its exact weight, of which the probability is that of `whole`. */
+  at(place) {
+    const at = within(place, "place", 0, this.length - 1) * SUCCESSOR_SIZE;
+    const weight = numberAt(new DataView(this.#rows.buffer), at + BATTLE_SIZE);
+    const block = this.#library.arena.block();
+    this.#library.bytes.set(this.#rows.subarray(at, at + BATTLE_SIZE), block.place);
+    return { battle: this.#battleOf(block), probability: Number(weight) / Number(this.whole), weight };
+  }
+
+  *[Symbol.iterator]() {
+    for (let place = 0; place < this.length; place++) yield this.at(place);
+  }
+
+  [Symbol.for("nodejs.util.inspect.custom")](depth, options, inspect) {
+    return inspected("Outcomes", { length: this.length }, options, inspect);
+  }
+}
+
+/** The code of a refusal, or 0 and the outcomes of an update of the battle at a pointer, by the bytes of two choices. */
+export function outcomesOf(library, battle, pair, battleOf) {
+  const list = library.roomOf("gen1_outcome_list");
+  let code = CODES.ERROR_OUTCOMES;
+  let rows = null;
+  for (let places = PLACES; FEW_PLACES.includes(code); places *= MORE) [code, rows] = listed(library, battle, pair, list, places);
+  if (code === CODES.ERROR_DRAWS) throw new Gen1Error(library.sentence(code), code);
+  if (code) return [code, null];
+  return [code, new Outcomes(library, rows, numberAt(new DataView(library.bytes.buffer), Number(list)), battleOf)];
+}
+
+// The code of the call with space for so many outcomes, and a copy of their rows.
+function listed(library, battle, pair, list, places) {
+  const table = places * SUCCESSOR_SIZE;
+  const region = library.arena.region(table + 8 * places, {});
+  const arrays = [region.pointer, library.size(places), library.size(region.place + table), library.size(2 * places)];
+  const code = library.calls.gen1_outcomes(battle, ...pair, ...arrays, list);
+  const { count } = library.readStruct("gen1_outcome_list", list);
+  const rows = code ? null : library.read(region.pointer, count * SUCCESSOR_SIZE);
+  library.arena.freeRegion(region);
+  return [code, rows];
+}
