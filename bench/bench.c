@@ -22,6 +22,11 @@
  *     bench_program BATTLES SEED playout    and once in calls of gen1_playout: --toggle-collect=gen1_playout
  *     bench_program BATTLES SEED trusted    and once by the call that does not test choices again, where there is one
  *     bench_program BATTLES SEED masked_trusted    and by masks and that call: --toggle-collect=replay_masked_trusted
+ *     bench_program BATTLES SEED moves      only the updates in which both sides move: --toggle-collect=counted_update. Likewise
+ *                                           mixed (one of them switches), switches (both do) and replacements
+ *
+ * A last word PERCENT, as in `bench_program BATTLES SEED log 85`, is how often a side moves where it may also switch. Without it
+ * each offered choice has the same chance. Mode sum prints a checksum of the battles and the logs of all updates.
  *
  * UNTESTED is the name of that call, if the header has it: an update without log by choices that the caller took from the offered
  * ones.
@@ -91,10 +96,20 @@ static gen1_battle new_battle(void)
     return battle;
 }
 
+/* How often a side moves where it may also switch, in percent; 0 where each offered choice has the same chance. */
+static uint32_t move_percent;
+
 static uint8_t chosen(const gen1_battle *battle, uint8_t side)
 {
     uint8_t choices[9];
-    return choices[below(gen1_choices(battle, side, choices))];
+    uint32_t count = gen1_choices(battle, side, choices), moves = 0;
+    if (move_percent == 0)
+        return choices[below(count)];
+    while (moves < count && choices[moves] < GEN1_CHOICE_SWITCH(1))
+        moves++;
+    if (moves == 0 || moves == count)
+        return choices[below(count)];
+    return below(100) < move_percent ? choices[below(moves)] : choices[moves + below(count - moves)];
 }
 
 static bool is_going_on(const gen1_battle *battle)
@@ -220,10 +235,17 @@ COUNTING __attribute__((noinline)) static uint64_t replay_masked(void)
     return updates;
 }
 
-/* The updates of a playout, by the choices that gen1_playout draws (include/gen1.h). */
+/* The updates of a playout, by the numbers and choices that gen1_playout draws (include/gen1.h). */
 static uint64_t updates_of_playout(gen1_battle battle, uint64_t random)
 {
     uint64_t updates = 0;
+    uint8_t numbers[10];
+    for (size_t at = 0; at < sizeof numbers; at++) {
+        random = random * 6364136223846793005 + 1442695040888963407;
+        numbers[at] = (uint8_t)(random >> 32);
+    }
+    if (gen1_reseed(&battle, numbers, 0) != 0)
+        fail("numbers were refused");
     for (; is_going_on(&battle); updates++) {
         uint8_t pair[2];
         for (uint8_t side = GEN1_ONE; side <= GEN1_TWO; side++) {
@@ -242,7 +264,7 @@ static void replay_in_playouts(void)
 {
     gen1_playouts counts;
     for (size_t number = 0; number < game_count; number++)
-        if (gen1_playout(&games[number].start, number, 1, &counts) != 0)
+        if (gen1_playout(&games[number].start, &(gen1_playout_options){ .seed = number, .rounds = 1 }, &counts) != 0)
             fail("a battle was refused");
 }
 
@@ -437,6 +459,76 @@ static void print_json(uint64_t draws)
     printf("}\n");
 }
 
+#ifdef UNTESTED
+/* The kinds of updates: both sides move, one of them switches, both switch, and no side is asked for a move: fallen members are
+   replaced, or the battle begins. */
+typedef enum { MOVES, MIXED, SWITCHES, REPLACEMENTS, KINDS } kind;
+
+static const char *const KIND_NAMES[KINDS] = { "moves", "mixed", "switches", "replacements" };
+
+static kind kind_of(const gen1_battle *battle, const uint8_t pair[2])
+{
+    int result = gen1_result(battle);
+    if (GEN1_RESULT_REQUEST_ONE(result) != GEN1_REQUEST_MOVE || GEN1_RESULT_REQUEST_TWO(result) != GEN1_REQUEST_MOVE)
+        return REPLACEMENTS;
+    return (kind)((pair[0] >= GEN1_CHOICE_SWITCH(1)) + (pair[1] >= GEN1_CHOICE_SWITCH(1)));
+}
+
+__attribute__((noinline)) static void counted_update(gen1_battle *battle, uint8_t one, uint8_t two)
+{
+    UNTESTED(battle, one, two);
+}
+
+/* Plays all battles, those updates that are of a kind by counted_update, and returns the number of these. */
+static uint64_t replay_kind(kind wanted)
+{
+    uint64_t updates = 0;
+    for (size_t number = 0; number < game_count; number++) {
+        gen1_battle battle = games[number].start;
+        for (size_t pair = games[number].first; pair < games[number].end; pair++) {
+            if (kind_of(&battle, pairs[pair]) == wanted) {
+                counted_update(&battle, pairs[pair][0], pairs[pair][1]);
+                updates++;
+            } else {
+                UNTESTED(&battle, pairs[pair][0], pairs[pair][1]);
+            }
+        }
+    }
+    return updates;
+}
+#endif
+
+static uint64_t mixed_in(uint64_t sum, const uint8_t *bytes, size_t length)
+{
+    for (size_t at = 0; at < length; at++)
+        sum = (sum ^ bytes[at]) * 1099511628211;
+    return sum;
+}
+
+/* Prints a checksum (FNV-1a) of the battle and the log after each update. The other ways to update have to give the same battles. */
+static void print_sum(void)
+{
+    uint64_t sum = 14695981039346656037u;
+    size_t length;
+    for (size_t number = 0; number < game_count; number++) {
+        gen1_battle battle = games[number].start, silent = battle, untested = battle;
+        for (size_t pair = games[number].first; pair < games[number].end; pair++) {
+            uint8_t one = pairs[pair][0], two = pairs[pair][1];
+            if (gen1_update(&battle, one, two, log_bytes, sizeof log_bytes, &length) || gen1_update_silent(&silent, one, two))
+                fail("a choice that was accepted is refused");
+            sum = mixed_in(mixed_in(sum, battle.bytes, sizeof battle.bytes), log_bytes, length);
+#ifdef UNTESTED
+            UNTESTED(&untested, one, two);
+#else
+            untested = battle;
+#endif
+            if (memcmp(&silent, &battle, sizeof battle) != 0 || memcmp(&untested, &battle, sizeof battle) != 0)
+                fail("two ways to update differ");
+        }
+    }
+    printf("%zu updates, %016llx\n", pair_count, (unsigned long long)sum);
+}
+
 /* What callgrind counts, after the first play of the battles; prints the number of updates. */
 static void print_counted(const char *mode)
 {
@@ -452,6 +544,11 @@ static void print_counted(const char *mode)
         updates = played(TRUSTED);
     else if (strcmp(mode, "masked_trusted") == 0)
         updates = played(MASKED_TRUSTED);
+#ifdef UNTESTED
+    for (kind kind = MOVES; kind < KINDS; kind++)
+        if (strcmp(mode, KIND_NAMES[kind]) == 0)
+            updates = replay_kind(kind);
+#endif
     printf("%llu\n", (unsigned long long)updates);
 }
 
@@ -460,6 +557,7 @@ int main(int count, char **words)
     uint64_t draws = 0;
     const char *mode = count > 3 ? words[3] : "table";
     game_count = count > 1 ? strtoull(words[1], NULL, 10) : 10000;
+    move_percent = count > 4 ? (uint32_t)strtoul(words[4], NULL, 10) : 0;
     state = 0x9E3779B97F4A7C15 ^ (count > 2 ? strtoull(words[2], NULL, 10) : 1);
     games = grown(NULL, (game_count + 1) * sizeof *games);
     for (size_t number = 0; number < game_count; number++)
@@ -470,6 +568,8 @@ int main(int count, char **words)
         print_more();
     else if (strcmp(mode, "json") == 0)
         print_json(draws);
+    else if (strcmp(mode, "sum") == 0)
+        print_sum();
     else
         print_counted(mode);
 }
