@@ -1,5 +1,6 @@
 /*
- * Plays many battles of a team at once, with masks and batches, and uses playouts to see which side is ahead.
+ * Plays many battles of a team at once, with masks and batches, uses playouts to see which side is ahead, and lists all that an update
+ * can lead to.
  *
  *     cc -O2 -I include examples/c/many.c crates/gen1_c/out/libgen1_c.a -o many
  *     ./many
@@ -9,7 +10,7 @@
 #include <stdio.h>
 #include <string.h>
 
-enum { BATTLES = 100, ROUNDS = 1000 };
+enum { BATTLES = 100, ROUNDS = 1000, PLACES = 4096 };
 
 /* A team as a packed line (see also text.c). */
 static const char packed[] = "Tauros||||BodySlam,HyperBeam,Blizzard,Earthquake|||||||]Chansey||||IceBeam,Thunderbolt|||||||";
@@ -59,15 +60,38 @@ static bool begin(gen1_battle battles[BATTLES])
     return are_made;
 }
 
+/* Prints how many outcomes it has that side 1 uses Body Slam while side 2 sends out Chansey, and the chance of a miss. */
+static bool list_outcomes(gen1_battle battle)
+{
+    static gen1_successor found[PLACES];
+    static uint32_t table[2 * PLACES];
+    gen1_outcome_list list;
+    double missed = 0;
+    if (gen1_update_silent(&battle, GEN1_CHOICE_PASS, GEN1_CHOICE_PASS) != 0 ||
+        gen1_outcomes(&battle, GEN1_CHOICE_MOVE(1), GEN1_CHOICE_SWITCH(2), found, PLACES, table, 2 * PLACES, &list) != 0)
+        return false;
+    for (uint64_t at = 0; at < list.count; at++) {
+        gen1_state state;
+        gen1_get_state(&found[at].battle, &state);
+        if (state.sides[1].members[1].hp == state.sides[1].members[1].max_hp)
+            missed += GEN1_PROBABILITY(&found[at], &list);
+    }
+    printf("%u outcomes, a miss with probability %g\n", (unsigned)list.count, missed);
+    return true;
+}
+
 int main(void)
 {
     gen1_battle battles[BATTLES];
+    const gen1_playout_options options = { .seed = 1, .rounds = ROUNDS };
     gen1_playouts counts;
     int went_on, ended = 0;
 
-    if (!begin(battles) || gen1_playout(&battles[0], 1, ROUNDS, &counts) != 0)
+    if (!begin(battles) || gen1_playout(&battles[0], &options, &counts) != 0)
         return 1;
     printf("%u wins of side 1, %u of side 2, %u ties\n", (unsigned)counts.wins_one, (unsigned)counts.wins_two, (unsigned)counts.ties);
+    if (!list_outcomes(battles[0]))
+        return 1;
     do
         went_on = step(battles);
     while (went_on > 0);
