@@ -13,7 +13,7 @@ from licenses import licenses, not_permitted, of_library, permitted
 from repository import ROOT
 
 # The functions that the library may need of the C library; abort only where it is the plain one.
-OF_THE_C_LIBRARY = {"memcpy", "memmove", "memset", "abort"}
+OF_THE_C_LIBRARY = {"memcpy", "memmove", "memset", "memcmp", "bcmp", "abort"}
 INPUT = ROOT / "examples" / "tauros.txt"
 LINES = ROOT / "crates" / "battle_tool" / "stdout"
 STRICT = ["-O2", "-Wall", "-Wextra", "-pedantic", "-Werror"]

@@ -16,7 +16,7 @@ _spec = spec_from_file_location("gen1_structs", ROOT / "python" / "gen1" / "src"
 _structs = module_from_spec(_spec)
 _spec.loader.exec_module(_structs)
 
-StateStruct, PlayoutsStruct = _structs.StateStruct, _structs.PlayoutsStruct
+StateStruct, PlayoutOptionsStruct, PlayoutsStruct = _structs.StateStruct, _structs.PlayoutOptionsStruct, _structs.PlayoutsStruct
 ROOM, KEPT = 128, b"\x07" * 128
 OFTEN_CRITICAL = ("Karate Chop", "Razor Leaf", "Crabhammer", "Slash")
 

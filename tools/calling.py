@@ -16,8 +16,8 @@ an empty line between two; each loses the indentation of its first line. A docum
     ```rust
     ```
 
-The documents are README.md and crates/*/CALLING.md. Each part must be shown by one of them, and a part with the name of a crate by the
-CALLING.md of that crate.
+The documents are README.md, docs/PROVED.md and crates/*/CALLING.md. Each part must be shown by one of them, and a part with the name of
+a crate by the CALLING.md of that crate.
 """
 
 import argparse
@@ -68,7 +68,7 @@ def parts():
 
 
 def documents():
-    return [ROOT / "README.md", *sorted((ROOT / "crates").glob("*/CALLING.md"))]
+    return [ROOT / "README.md", ROOT / "docs" / "PROVED.md", *sorted((ROOT / "crates").glob("*/CALLING.md"))]
 
 
 def written(document, texts):

@@ -1,16 +1,20 @@
-"""The comparisons of tools/examples for masks, batches, playouts and teams as text, with recorded battles."""
+"""The comparisons of tools/examples for masks, batches, playouts, exact outcomes and teams as text, with recorded battles."""
 
 import ctypes
 import json
 from ctypes import POINTER, Structure, byref, c_size_t, c_uint8, c_uint16, c_uint32, c_uint64
+from fractions import Fraction
 from math import isqrt
+from struct import Struct
 
 import gen1
 from battles import TRACES, cases, loads, recorded, traces
-from c_views import PlayoutsStruct
+from c_views import PlayoutOptionsStruct, PlayoutsStruct
 from repository import ROOT
 from tables import numbered, table
 
+SUCCESSOR = Struct("<384sQQ")
+PLACES = 65536
 KEPT = 7  # fills arrays and structs that a call must not change
 
 
@@ -22,6 +26,10 @@ class BatchUpdate(Structure):
     _fields_ = [("one", c_uint8), ("two", c_uint8), ("result", c_uint8), ("code", c_uint8)]
 
 
+class OutcomeList(Structure):
+    _fields_ = [("low", c_uint64), ("high", c_uint64), ("count", c_uint64)]
+
+
 def declare(calls):
     """Declares the types of the calls of this file."""
     battle, size = POINTER(gen1.BattleBytes), c_size_t
@@ -29,7 +37,8 @@ def declare(calls):
         ("gen1_offered", c_uint16, [battle, c_uint8]),
         ("gen1_offered_many", c_uint8, [battle, size, c_uint8, POINTER(c_uint16), size]),
         ("gen1_update_many", c_uint8, [battle, size, POINTER(BatchUpdate), size]),
-        ("gen1_playout", c_uint8, [battle, c_uint64, c_uint32, POINTER(PlayoutsStruct)]),
+        ("gen1_playout", c_uint8, [battle, POINTER(PlayoutOptionsStruct), POINTER(PlayoutsStruct)]),
+        ("gen1_outcomes", c_uint8, [battle, c_uint8, c_uint8, ctypes.c_char_p, size, POINTER(c_uint32), size, POINTER(OutcomeList)]),
         ("gen1_team_from_text", c_uint8, [ctypes.c_char_p, size, POINTER(gen1.Team), POINTER(TextFault)]),
         ("gen1_team_from_packed", c_uint8, [ctypes.c_char_p, size, POINTER(gen1.Team), POINTER(TextFault)]),
     ):
@@ -90,19 +99,42 @@ def compare_batches(library, steps, count):
         count.tell(f"update {at} of a batch", ([it.one, it.two], it.code, bytes(battles[at]).hex(), result), want)
 
 
-def played_out(library, given, seed, rounds):
+def draws(state):
+    """The draws of the generator that gen1.h describes."""
+    while True:
+        state = (state * 6364136223846793005 + 1442695040888963407) % 2**64
+        yield state >> 32
+
+
+def leader(battle):
+    """The outcome by the shares of the HP left, from the bytes of the members (docs/LAYOUT.md, "Member")."""
+    words = [[int.from_bytes(battle[at + 24 * place:][:2], "little") for place in range(6)] for at in (24 + 2, 24 + 4, 204 + 2, 204 + 4)]
+    one, two = Fraction(sum(words[1]), sum(words[0])), Fraction(sum(words[3]), sum(words[2]))
+    return 1 if one > two else 2 if two > one else 3
+
+
+def copies(battle, side, weights):
+    """The offered choices of a side, each as often as its weight says."""
+    start = 24 if side == 1 else 204
+    # The place of the member that is out is the first byte of the active block, and its moves are bytes 15 to 18 of its own (docs/LAYOUT.md).
+    moves = battle.bytes[start + 24 * (battle.bytes[start + 144] - 1) + 15:][:4]
+    number = {0x10: 165, **{0x11 + slot: move for slot, move in enumerate(moves)}}
+    offered = battle.choices(side)
+    return [choice for choice in offered for _ in range(weights[number.get(choice, 0)])] or offered
+
+
+def played_out(library, given, seed, rounds, depth=0, weights=bytes(166)):
     """The ends of playouts, played update by update with the generator that gen1.h describes."""
-    ends, state = [0] * 4, seed
+    ends, draw = [0] * 4, draws(seed)
     for _ in range(rounds):
-        battle = library.load(given)
-        while (outcome := battle.result()[0]) == 0:
-            pair = []
-            for side in (1, 2):
-                offered = battle.choices(side)
-                state = (state * 6364136223846793005 + 1442695040888963407) % 2**64
-                pair.append(offered[(state >> 32) % len(offered)])
-            battle.update(*pair)
-        ends[min(outcome, 4) - 1] += 1
+        # The index of the next number is byte 5, and the ten numbers follow it (docs/LAYOUT.md, "Header").
+        battle = library.load(given[:5] + bytes([0] + [next(draw) % 256 for _ in range(10)]) + given[16:])
+        updates = 0
+        while (outcome := battle.result()[0]) == 0 and (depth == 0 or updates < depth):
+            offered = [copies(battle, side, weights) for side in (1, 2)]
+            battle.update(*[choices[next(draw) % len(choices)] for choices in offered])
+            updates += 1
+        ends[min(outcome or leader(battle.bytes), 4) - 1] += 1
     return ends
 
 
@@ -110,14 +142,17 @@ def compare_playouts(library, steps, folder, count):
     """Checks that playouts of recorded states add up and leave the battle, and that those of a finished battle end as it did."""
     for at, (_, update) in enumerate(steps[::97]):
         battle, counts = array_of([bytes.fromhex(update["bytes"])])[0], PlayoutsStruct()
-        code = library.calls.gen1_playout(byref(battle), at, 20, byref(counts))
+        depth = at % 5 * 3
+        weights = bytes(at % 2 * (number * at % 11) for number in range(166))
+        options = byref(PlayoutOptionsStruct(at, 20, depth, (c_uint8 * 166)(*weights)))
+        code = library.calls.gen1_playout(byref(battle), options, byref(counts))
         got = [counts.wins_one, counts.wins_two, counts.ties, counts.faults]
         count.tell(f"playouts {at}", (code, sum(got), bytes(battle).hex()), (0, 20, update["bytes"]))
-        if at % 20 == 0:
-            want = played_out(library, bytes(battle), at, 20)
+        if at % 7 == 0:
+            want = played_out(library, bytes(battle), at, 20, depth, weights)
             count.tell(f"playouts {at}, update by update", got, want)
         again = PlayoutsStruct()
-        library.calls.gen1_playout(byref(battle), at, 20, byref(again))
+        library.calls.gen1_playout(byref(battle), options, byref(again))
         count.tell(f"playouts {at}, again", bytes(again), bytes(counts))
         outcome = (update["result"] or [0])[0]
         if outcome:
@@ -125,8 +160,26 @@ def compare_playouts(library, steps, folder, count):
     for number, (test, given) in enumerate(loads(recorded("loads.txt", folder)), 1):
         if test and len(given) == 384:
             counts = PlayoutsStruct(KEPT, KEPT, KEPT, KEPT)
-            code = library.calls.gen1_playout(byref(array_of([given])[0]), 1, 3, byref(counts))
+            code = library.calls.gen1_playout(byref(array_of([given])[0]), byref(PlayoutOptionsStruct(1, 3, 0)), byref(counts))
             count.tell(f"playouts of byte string {number}", (code, counts.wins_one, counts.faults), (test + 15, KEPT, KEPT))
+
+
+def compare_outcomes(library, steps, count):
+    """Checks that each recorded update leads to one of its outcomes, whose weights sum to the whole, or is refused."""
+    found, table = ctypes.create_string_buffer(PLACES * SUCCESSOR.size), (c_uint32 * (2 * PLACES))()
+    for at, (before, update) in enumerate(steps):
+        of = OutcomeList(KEPT, KEPT, KEPT)
+        code = library.calls.gen1_outcomes(array_of([before]), *update["pair"], found, PLACES, table, 2 * PLACES, byref(of))
+        if update["refused"]:
+            count.tell(f"outcomes of update {at}", (code, of.low, of.high, of.count), (update["refused"] + 23, KEPT, KEPT, KEPT))
+            continue
+        after = bytes.fromhex(update["bytes"])
+        # The numbers to draw are those from before (docs/LAYOUT.md, "Header").
+        after = after[:5] + before[5:16] + after[16:]
+        rows = SUCCESSOR.iter_unpack(ctypes.string_at(found, of.count * SUCCESSOR.size))
+        weights = {battle: high << 64 | low for battle, low, high in rows}
+        got = code, len(weights), sum(weights.values()), weights.get(after, 0) > 0
+        count.tell(f"outcomes of update {at}", got, (0, of.count, of.high << 64 | of.low, True))
 
 
 def export_text(members):
@@ -219,6 +272,7 @@ def compare_many(library, battle_of, member, folder, count):
     compare_masks(library, steps, count)
     compare_batches(library, steps, count)
     compare_playouts(library, steps, folder, count)
+    compare_outcomes(library, steps, count)
     compare_texts(library, member, folder, count)
     compare_text_faults(library, count)
     compare_stats(library, member, folder, count)
