@@ -4,13 +4,11 @@ battle of a state that was changed.
 
 from __future__ import annotations
 
-from collections.abc import Callable
-from ctypes import byref, sizeof
+from ctypes import sizeof
 from dataclasses import dataclass, fields, replace
 from functools import cache, lru_cache
-from operator import attrgetter
 from struct import Struct
-from typing import TYPE_CHECKING, Any, ClassVar, TypeVar
+from typing import TYPE_CHECKING, Any, TypeVar
 
 from gen1 import _library
 from gen1._check import by_number, shown, within
@@ -22,28 +20,6 @@ from gen1.names import Conditions, Move, Outcome, Request, Species, Stat, Status
 S = TypeVar("S", "MemberState", "ActiveState", "SideState", "State")
 # How many members are kept, and how many active ones, by their bytes: most of a state are as they were in the one before.
 KEPT = 1 << 12
-
-
-class Lazy:
-    """The base of dataclasses whose fields are read from a struct of the
-    library when they are first used.
-    """
-
-    # What reads each field from the struct.
-    _READERS: ClassVar[dict[str, Callable[[Any], Any]]]
-
-    if not TYPE_CHECKING:
-
-        def __getattr__(self, name: str) -> Any:
-            """A field that was not used before."""
-            held, read = self.__dict__.get("_held"), type(self)._READERS.get(name)
-            if held is None or read is None:
-                raise AttributeError(f"{type(self).__name__!r} object has no attribute {name!r}", name=name, obj=self)
-            found = self.__dict__[name] = read(held)
-            return found
-
-    def __reduce__(self) -> tuple[Any, ...]:
-        return type(self), tuple(getattr(self, it) for it in self._READERS)
 
 
 @dataclass(frozen=True)
@@ -105,7 +81,7 @@ class ActiveState:
 
 
 @dataclass(frozen=True)
-class SideState(Lazy):
+class SideState:
     """The state of a side: its members in the order of their places, and the
     one that is out, None before the first update.
     """
@@ -113,9 +89,23 @@ class SideState(Lazy):
     members: tuple[MemberState, ...]
     active: ActiveState | None
 
+    if not TYPE_CHECKING:
+
+        def __getattr__(self, name: str) -> Any:
+            """A field of a battle's own state, whose bytes are read when it is first used."""
+            held = self.__dict__.get("_held")
+            if held is None or name not in self.__dataclass_fields__:
+                raise AttributeError(f"{type(self).__name__!r} object has no attribute {name!r}", name=name, obj=self)
+            *members, active = _SIDE(held)
+            self.__dict__.update(members=tuple(filter(None, map(_member, members))), active=_active(active))
+            return self.__dict__[name]
+
+    def __reduce__(self) -> tuple[Any, ...]:
+        return type(self), (self.members, self.active)
+
 
 @dataclass(frozen=True)
-class State(Lazy):
+class State:
     """The whole state of a battle: both sides; turn (0 before the first
     update) and limit; the last damage, 0 to 65,535; and so on.
 
@@ -190,13 +180,28 @@ def changed(of: S, changes: dict[str, Any]) -> S:
 def struct_of_state(held: Any) -> StateStruct:
     """The struct gen1_state of the battle with these 384 bytes."""
     of = StateStruct()
-    _library.get_state(byref(held), byref(of))
+    _library.get_state(held, of)
     return of
 
 
 def state_of(held: Any) -> State:
     """The state of the battle with these 384 bytes."""
-    return _lazy(State, struct_of_state(held))
+    one, two, turn, limit, last_damage, rules, outcome, first, second, index, numbers = _STATE(struct_of_state(held))
+    return _made(
+        State,
+        {
+            "one": _made(SideState, {"_held": one}),
+            "two": _made(SideState, {"_held": two}),
+            "turn": turn,
+            "limit": limit,
+            "last_damage": last_damage,
+            "rules": _rules(rules),
+            "outcome": _OUTCOME[outcome],
+            "requests": (_REQUEST[first], _REQUEST[second]),
+            "index": index,
+            "numbers": tuple(numbers),
+        },
+    )
 
 
 def stages_of(given: Any) -> tuple[int, ...]:
@@ -204,57 +209,43 @@ def stages_of(given: Any) -> tuple[int, ...]:
     return tuple([it - 6 for it in given])
 
 
-def _lazy(kind: type[S], held: Any) -> S:
-    """The dataclass of a struct, whose fields are read later."""
+def _made(kind: type[S], read: dict[str, Any]) -> S:
+    """The dataclass with these fields, in less time than its own call takes."""
     made = object.__new__(kind)
-    made.__dict__["_held"] = held
+    made.__dict__.update(read)
     return made
 
 
-def _members(of: SideStateStruct) -> tuple[MemberState, ...]:
-    return tuple([_member(it) for it in _SIX(bytes(of.members)) if it[MemberStateStruct.species.offset]])
-
-
 @lru_cache(KEPT)
-def _member(held: bytes) -> MemberState:
+def _member(held: bytes) -> MemberState | None:
     """The member with these bytes."""
     of = _MEMBER(held)
+    if not of["species"]:
+        return None
     moves, pp = of["moves"], of["pp"]
     of["species"], of["status"], of["marked"] = _SPECIES[of["species"]], _STATUS[of["status"]], bool(of["marked"])
     of["moves"] = tuple([_MOVE[it] for it in moves if it])
     of["pp"] = tuple([it for move, it in zip(moves, pp) if move])
     of["stats"] = _STATS(of["stats"])
-    return MemberState(**of)
+    return _made(MemberState, of)
 
 
 @lru_cache(KEPT)
 def _active(held: bytes) -> ActiveState | None:
     """The active member with these bytes."""
     of = _ACTIVE(held)
+    if not of["place"]:
+        return None
     first, second = of["types"]
     of["types"], of["stats"] = (_TYPE[first], _TYPE[second]), _STATS(of["stats"])
     of["stages"], of["conditions"] = stages_of(of["stages"]), _conditions(of["conditions"])
-    return ActiveState(**of) if of["place"] else None
-
-
-def _readers(kind: type[Any], **others: Callable[[Any], Any]) -> dict[str, Callable[[Any], Any]]:
-    """What reads each field: the struct's own field of this name, but for the others."""
-    return {it.name: others.get(it.name, attrgetter(it.name)) for it in fields(kind)}
+    return _made(ActiveState, of)
 
 
 _SPECIES, _MOVE, _TYPE = by_number(Species), by_number(Move), by_number(Type)
 _STATUS, _OUTCOME, _REQUEST = by_number(Status), by_number(Outcome), by_number(Request)
 _MEMBER, _ACTIVE, _STATS = reader(MemberStateStruct), reader(ActiveStateStruct), Struct("=4H").unpack
-# Cuts the bytes of six members.
-_SIX = Struct(6 * f"{sizeof(MemberStateStruct)}s").unpack
+# The fields of gen1_state, each side as its bytes; and of a side the bytes of its members and of the active one.
+_STATE = Struct(f"={2 * f'{sizeof(SideStateStruct)}s'}3H5B10s3x").unpack
+_SIDE = Struct(6 * f"{sizeof(MemberStateStruct)}s" + f"{sizeof(ActiveStateStruct)}s").unpack
 _conditions, _rules = cache(Conditions), cache(Rules)
-State._READERS = _readers(
-    State,
-    one=lambda of: _lazy(SideState, of.sides[0]),
-    two=lambda of: _lazy(SideState, of.sides[1]),
-    rules=lambda of: _rules(of.rules),
-    outcome=lambda of: _OUTCOME[of.outcome],
-    requests=lambda of: (_REQUEST[of.requests[0]], _REQUEST[of.requests[1]]),
-    numbers=lambda of: tuple(of.numbers),
-)
-SideState._READERS = _readers(SideState, members=_members, active=lambda of: _active(bytes(of.active)))
