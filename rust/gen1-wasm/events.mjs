@@ -18,7 +18,7 @@ export const FAULTS = namesOf("FAULT_");
 
 const WHO = ["side", "species"];
 const HEALTH = ["hp", "maxHp", "status"];
-// The fields of each kind after `kind`; of all others they are WHO.
+// The fields of each kind; of all others they are WHO.
 const FIELDS = {
   turn: ["turn"], switch: [...WHO, "place", "level", ...HEALTH], move: [...WHO, "move", "targetSide", "targetSpecies"], cant: [...WHO, "reason"],
   damage: [...WHO, ...HEALTH, "source"], heal: [...WHO, ...HEALTH], status: [...WHO, "status"], cure: [...WHO, "status"],
@@ -26,7 +26,8 @@ const FIELDS = {
   activate: [...WHO, "volatile"], prepare: [...WHO, "move"], "hit count": [...WHO, "hits"], "one hit knock out": [], win: ["side"], tie: [],
   fault: ["fault"],
 };
-const FIELDS_OF = EVENT_KINDS.map((kind) => FIELDS[kind] ?? WHO);
+/** The fields of each kind after `kind`, by number less 1. */
+export const FIELDS_OF = EVENT_KINDS.map((kind) => FIELDS[kind] ?? WHO);
 
 // Offsets in a gen1_event, which has no field whose size depends on the module.
 const AT = Object.fromEntries(layoutOf("gen1_event", false).fields.map(({ key, at }) => [key, at]));

@@ -109,8 +109,8 @@ interface Health {
   status: Status;
 }
 
-/** The fields of an event by its kind (docs/MECHANICS.md, "Events"). `size` is how many bytes of the log it takes. */
-export type GameEvent = { size: number } & (
+/** The fields of an event by its kind (docs/MECHANICS.md, "Events"). */
+export type EventFields =
   | { kind: "turn"; turn: number }
   | { kind: "switch"; place: number; level: number } & Who & Health
   | { kind: "move"; move: MoveName; targetSide: Side; targetSpecies: SpeciesName } & Who
@@ -125,7 +125,9 @@ export type GameEvent = { size: number } & (
   | { kind: "hit count"; hits: number } & Who
   | { kind: "clear all" | "one hit knock out" | "tie" }
   | { kind: "win"; side: Side }
-  | { kind: "fault"; fault: Fault });
+  | { kind: "fault"; fault: Fault };
+/** An event of a log. `size` is how many bytes of the log it takes. */
+export type GameEvent = { size: number } & EventFields;
 export type EventKind = GameEvent["kind"];
 
 /** The state of a member. */
@@ -681,6 +683,8 @@ export class Gen1 {
   readonly build: "proved" | "plain" | null;
   /** The version of the library, such as "1.0.0". */
   readonly version: string;
+  /** What the library was built from, as gen1_build of include/gen1.h says; "unknown" if it doesn't say. */
+  readonly libraryBuild: string;
   /** Creates a battle before its first update, in which both sides pass. Throws TeamError. */
   battle(terms: Terms): Battle;
   /** Tests a team once, for any number of battles. Throws TeamError. */
@@ -731,6 +735,8 @@ export class Gen1 {
   events(log: Uint8Array | ArrayBuffer): GameEvent[];
   /** The lines of log bytes, without line feeds. Throws LogError. */
   lines(log: Uint8Array | ArrayBuffer): string[];
+  /** The log bytes of events, from which `events` reads the same events. A `size` is ignored. Throws ArgumentError for a field out of its range. */
+  logBytes(events: readonly (EventFields & { size?: number })[]): Uint8Array;
 }
 
 /** A module: its URL or the text of it, its path in Node, or its bytes. */

@@ -24,6 +24,7 @@ import { MOVES, SPECIES, TYPES } from "./tables.mjs";
 import { baseOf, effectivenessOf, memberBytes, membersFrom, moveDataOf, moveOf, sharedOf, statsOf, Team, teamError } from "./teams.mjs";
 import { Update } from "./update.mjs";
 import { CONDITIONS, oddsOf, OUTCOMES, REASONS, REQUESTS, STATS, STATUSES } from "./views.mjs";
+import { logBytesOf } from "./writing.mjs";
 
 export const LOG_ROOM = CODES.LOG_ROOM;
 const HIT_SIDES = ["", "attacker: ", "defender: "];
@@ -55,6 +56,11 @@ export class Gen1 {
   get version() {
     const number = this.#library.calls.gen1_version();
     return [number >> 16, (number >> 8) & 255, number & 255].join(".");
+  }
+
+  /** What the library was built from, such as "plain, rustc 1.95.0, sources sha256 HEX"; "unknown" if it doesn't say. */
+  get libraryBuild() {
+    return this.#library.build;
   }
 
   /** Creates a battle of two teams before its first update, in which both sides pass. */
@@ -192,6 +198,11 @@ export class Gen1 {
   /** The lines of log bytes, without line feeds. */
   lines(log) {
     return linesOf(this.#library, octets(log, "log"));
+  }
+
+  /** The log bytes of events, from which `events` reads the same events. */
+  logBytes(events) {
+    return logBytesOf(this.#library, events);
   }
 }
 

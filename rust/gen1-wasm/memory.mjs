@@ -8,7 +8,7 @@ const DECODER = new TextDecoder();
 const PAGE = 65536;
 // All exports that are used. A module of an older version may lack some.
 const NEEDED = [
-  "memory", "__heap_base", ...["version", "new", "load", "offered", "update", "update_silent", "result", "next_event", "next_line", "damage", "odds_now",
+  "memory", "__heap_base", ...["version", "new", "load", "offered", "update", "update_silent", "result", "next_event", "event_bytes", "next_line", "damage", "odds_now",
     "odds_between", "takes_hit_test", "playout", "outcomes", "team_from_text", "team_from_packed", "species_from_name", "move_from_name", "error_text", "get_state", "set_state", "knock_out",
     "choice_words", "reseed", "room_begin", "room_choices", "room_forfeit", "room_result", "room_submit", "spectator_begin", "spectator_feed", "player_begin", "player_feed", "player_show",
     "get_own_side", "teller_begin", "tell", "offered_many", "update_many", "move_data", "effectiveness", "member_stats", "drained", "recoil"].map((call) => `gen1_${call}`),
@@ -146,6 +146,13 @@ export class Library {
   /** The ASCII text at a pointer. */
   textAt(pointer, count) {
     return DECODER.decode(this.bytes.subarray(Number(pointer), Number(pointer) + count));
+  }
+
+  /** What the module was built from, as gen1_build of gen1.h says; "unknown" if it has no such call. */
+  get build() {
+    if (!this.calls.gen1_build) return "unknown";
+    const pointer = this.calls.gen1_build();
+    return this.textAt(pointer, this.bytes.indexOf(0, Number(pointer)) - Number(pointer));
   }
 
   /** The struct of gen1.h at a pointer, as an object with its fields. */

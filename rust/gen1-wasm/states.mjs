@@ -13,8 +13,8 @@ const MIDDLE = 6;
 const MEMBER_KEYS = ["species", "level", "status", "sleep", "marked", "moves", "pp", "hp", "maxHp", "stats"];
 const STATE_KEYS = ["one", "two", "turn", "limit", "lastDamage", "rules", "outcome", "requests", "index", "numbers"];
 
-// A number as a word; the greatest, which the library refuses, if it is out of range.
-const wordOrMost = (value, what) => (whole(value, what) >= 0 && value <= MOST_WORD ? value : MOST_WORD);
+/** A number as a word; the greatest, which the library refuses, if it is out of range. */
+export const wordOrMost = (value, what) => (whole(value, what) >= 0 && value <= MOST_WORD ? value : MOST_WORD);
 // A stage from -6 as one from 0.
 const stageOf = (value, what) => byteOr255(whole(value, what) + MIDDLE, what);
 

@@ -213,6 +213,7 @@ function logCase(gen1, one) {
   try {
     text = linesOf(gen1.lines(bytesOfHex(one.hex)));
     equal(gen1.events(bytesOfHex(one.hex)).length, gen1.lines(bytesOfHex(one.hex)).length);
+    equal(hexOf(gen1.logBytes(gen1.events(bytesOfHex(one.hex)))), one.hex);
   } catch (error) {
     fault = `error: log ${error.code - CODES.ERROR_LOG_TAG + 1}\n`;
   }

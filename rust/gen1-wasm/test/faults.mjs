@@ -156,6 +156,24 @@ function bytes(gen1, check) {
         equal([fault.code, fault.at, fault.message.startsWith("byte 2: ")], [code, 2, true]);
       }
   });
+  check("events", () => {
+    const who = { side: 1, species: "Tauros" };
+    for (const it of NO_OBJECTS) wrong(() => gen1.logBytes(it), /^events is .*, not a list of events$/);
+    for (const it of [...NO_OBJECTS, [1]]) wrong(() => gen1.logBytes([{ kind: "tie" }, it]), /^events\[1\] is .*, not an event/);
+    for (const it of [undefined, 26, null]) equal(wrong(() => gen1.logBytes([{ kind: it }]), /, not a text$/).argument, "events[0].kind");
+    outside(() => gen1.logBytes([{ kind: "won", side: 1 }]), /^events\[0\]\.kind is "won", not one of "turn", "switch", /);
+    outside(() => gen1.logBytes([{ kind: "win", sides: 1 }]), /^events\[0\] has the unknown key "sides"; did you mean "side"\?$/);
+    outside(() => gen1.logBytes([{ kind: "crit", ...who, species: "tauros" }]), /did you mean "Tauros"\?$/);
+    outside(() => gen1.logBytes([{ kind: "cant", ...who, reason: "lazy" }]), /^events\[0\]\.reason is "lazy", not one of "asleep", /);
+    for (const it of [undefined, ...NO_NUMBERS]) wrong(() => gen1.logBytes([{ kind: "turn", turn: it }]), /^events\[0\]\.turn is .*, not a whole number$/);
+    const fields = [
+      ...[0, 10000, ...BIG.slice(5)].map((turn) => ({ kind: "turn", turn })), ...[0, 3, ...BIG].map((side) => ({ kind: "win", side })),
+      ...[0, 152, ...BIG].map((species) => ({ kind: "faint", side: 1, species })), ...[0, 166, ...BIG].map((move) => ({ kind: "prepare", ...who, move })),
+      ...[0, 3, ...BIG].map((stages) => ({ kind: "boost", ...who, stat: "speed", stages })), ...[0, 6, ...BIG].map((hits) => ({ kind: "hit count", ...who, hits })),
+      ...[-1, 354, ...BIG.slice(4)].map((hp) => ({ kind: "heal", ...who, hp, maxHp: 353, status: "none" })), { kind: "status", ...who, status: "none" },
+    ];
+    for (const event of fields) equal(outside(() => gen1.logBytes([event]), /^events\[0\] is \{.*, of which a field is out of its range/).argument, "events[0]");
+  });
   check("texts", () => {
     for (const it of [undefined, null, 5, ["Tauros"], Uint8Array.of(1)])
       for (const call of [gen1.teamFromText, gen1.teamFromPacked]) wrong(() => call.call(gen1, it), /^text is .*, not a text$/);

@@ -75,6 +75,7 @@ function played(number) {
     holds(hexOf(battle.bytes) === alone && hexOf(array.at(1).bytes) === alone, "other bytes");
     holds(hexOf(log) === hexOf(bytesAt(logAt, bytesAt(lengthAt, 2)[0] + 256 * bytesAt(lengthAt, 2)[1])), "another log");
     holds(gen1.lines(log).length === gen1.events(log).length, "other events");
+    holds(random(10) || hexOf(gen1.logBytes(gen1.events(log))) === hexOf(log), "other log bytes");
     updates++;
   }
   array.free();

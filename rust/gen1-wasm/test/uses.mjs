@@ -17,9 +17,9 @@ const EXPORTS = {
 };
 /** @type {Record<keyof Gen1, true>} */
 const OF_GEN1 = {
-  is64: true, memorySize: true, build: true, version: true, battle: true, team: true, battleArray: true, load: true, testBytes: true, battleOfState: true, room: true, spectator: true, player: true,
+  is64: true, memorySize: true, build: true, version: true, libraryBuild: true, battle: true, team: true, battleArray: true, load: true, testBytes: true, battleOfState: true, room: true, spectator: true, player: true,
   teller: true, teamFromText: true, teamFromPacked: true, odds: true, damage: true, base: true, moveData: true, effectiveness: true, stats: true,
-  drained: true, recoil: true, events: true, lines: true,
+  drained: true, recoil: true, events: true, lines: true, logBytes: true,
 };
 /** @type {Record<Named<import("../gen1.mjs").Battle>, true>} */
 const OF_BATTLE = {
@@ -169,6 +169,7 @@ function battles(gen1) {
   hasKeys(one.active ?? {}, OF_ACTIVE);
   const [event] = update.events;
   holds(event.kind === "switch" && event.species === "Tauros" && event.place === 1, "another event");
+  holds(gen1.logBytes([...update.events, { kind: "win", side: 1 }]).length === update.log.length + 2, "other log bytes");
   const team = gen1.team([TAUROS]);
   offers(team, OF_TEAM);
   holds(team instanceof Team && gen1.battle({ ...TERMS, one: team, two: team }).state.two.members.length === team.length, "another team");
@@ -306,6 +307,8 @@ function refused(gen1) {
     () => battle.choices("1"),
     // @ts-expect-error
     () => gen1.lines("a log"),
+    // @ts-expect-error
+    () => gen1.logBytes([{ kind: "win", sides: 1 }]),
     // @ts-expect-error
     () => gen1.room(battle.bytes),
     // @ts-expect-error

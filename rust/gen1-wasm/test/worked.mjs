@@ -67,11 +67,17 @@ function logs(gen1, check) {
       [[20, ...tauros, 13], "activate", { volatile: "splash" }], [[21, ...tauros, 19], "prepare", { move: "Fly" }],
       [[23, ...tauros, 5], "hit count", { hits: 5 }], [[5, ...tauros, 97, 1, 97, 1, 0, 3], "damage", { hp: 353, maxHp: 353, status: "none", source: "leech seed" }],
     ];
-    for (const [bytes, kind, more] of cases) equal(gen1.events(Uint8Array.from(bytes)), [{ kind, side: 1, species: "Tauros", ...more, size: bytes.length }]);
+    const read = (bytes, ...wanted) => {
+      equal(gen1.events(Uint8Array.from(bytes)), wanted);
+      equal(Array.from(gen1.logBytes(wanted.map(({ size, ...fields }) => fields))), bytes);
+    };
+    for (const [bytes, kind, more] of cases) read(bytes, { kind, side: 1, species: "Tauros", ...more, size: bytes.length });
     for (const [tag, kind] of [[7, "crit"], [8, "super effective"], [9, "resisted"], [10, "immune"], [11, "miss"], [12, "fail"], [22, "must recharge"], [25, "faint"]])
-      equal(gen1.events(Uint8Array.of(tag, ...tauros)), [{ kind, side: 1, species: "Tauros", size: 3 }]);
-    for (const [tag, kind] of [[17, "clear all"], [24, "one hit knock out"], [27, "tie"]]) equal(gen1.events(Uint8Array.of(tag)), [{ kind, size: 1 }]);
-    equal(gen1.events(Uint8Array.of(26, 2, 28, 2)), [{ kind: "win", side: 2, size: 2 }, { kind: "fault", fault: "psywave", size: 2 }]);
+      read([tag, ...tauros], { kind, side: 1, species: "Tauros", size: 3 });
+    for (const [tag, kind] of [[17, "clear all"], [24, "one hit knock out"], [27, "tie"]]) read([tag], { kind, size: 1 });
+    read([26, 2, 28, 2], { kind: "win", side: 2, size: 2 }, { kind: "fault", fault: "psywave", size: 2 });
+    equal([hexOf(gen1.logBytes(gen1.events(LOG))), gen1.logBytes([]).length], [hexOf(LOG), 0]);
+    equal(Array.from(gen1.logBytes([{ kind: "prepare", side: 1, species: 128, move: 19 }])), [21, ...tauros, 19]);
   });
 }
 
