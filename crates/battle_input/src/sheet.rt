@@ -97,10 +97,7 @@ fn read_bytes<const N: usize>(value: &Value) -> Result<[u8; N], Misfit>
     }
     let mut bytes = [0u8; N];
     for i in 0..N {
-        match behind(Step::At(i), read_byte(&items[i])) {
-            Ok(byte) => bytes[i] = byte,
-            Err(misfit) => return Err(misfit),
-        }
+        bytes[i] = behind(Step::At(i), read_byte(&items[i]))?;
     }
     Ok(bytes)
 }
@@ -118,10 +115,7 @@ fn read_words<const N: usize>(value: &Value) -> Result<[u16; N], Misfit>
     }
     let mut words = [0u16; N];
     for i in 0..N {
-        match behind(Step::At(i), read_word(&items[i])) {
-            Ok(word) => words[i] = word,
-            Err(misfit) => return Err(misfit),
-        }
+        words[i] = behind(Step::At(i), read_word(&items[i]))?;
     }
     Ok(words)
 }
@@ -137,14 +131,8 @@ fn read_pair(value: &Value) -> Result<(u8, u8), Misfit>
     if items.len() != 2 {
         return Err(Misfit::here(Expected::Items(2)));
     }
-    let one = match behind(Step::At(0), read_byte(&items[0])) {
-        Ok(one) => one,
-        Err(misfit) => return Err(misfit),
-    };
-    let two = match behind(Step::At(1), read_byte(&items[1])) {
-        Ok(two) => two,
-        Err(misfit) => return Err(misfit),
-    };
+    let one = behind(Step::At(0), read_byte(&items[0]))?;
+    let two = behind(Step::At(1), read_byte(&items[1]))?;
     Ok((one, two))
 }
 
@@ -170,18 +158,9 @@ fn read_submission(value: &Value) -> Result<(Side, u32, u8), Misfit>
     if items.len() != 3 {
         return Err(Misfit::here(Expected::Items(3)));
     }
-    let side = match behind(Step::At(0), read_side(&items[0])) {
-        Ok(side) => side,
-        Err(misfit) => return Err(misfit),
-    };
-    let number = match behind(Step::At(1), read_long(&items[1])) {
-        Ok(number) => number,
-        Err(misfit) => return Err(misfit),
-    };
-    let choice = match behind(Step::At(2), read_byte(&items[2])) {
-        Ok(choice) => choice,
-        Err(misfit) => return Err(misfit),
-    };
+    let side = behind(Step::At(0), read_side(&items[0]))?;
+    let number = behind(Step::At(1), read_long(&items[1]))?;
+    let choice = behind(Step::At(2), read_byte(&items[2]))?;
     Ok((side, number, choice))
 }
 
@@ -222,14 +201,8 @@ fn read_move(value: &Value) -> Result<(MoveId, u8), Misfit>
     if items.len() != 2 {
         return Err(Misfit::here(Expected::Items(2)));
     }
-    let id = match behind(Step::At(0), read_move_name(&items[0])) {
-        Ok(id) => id,
-        Err(misfit) => return Err(misfit),
-    };
-    let ups = match behind(Step::At(1), read_byte(&items[1])) {
-        Ok(ups) => ups,
-        Err(misfit) => return Err(misfit),
-    };
+    let id = behind(Step::At(0), read_move_name(&items[0]))?;
+    let ups = behind(Step::At(1), read_byte(&items[1]))?;
     Ok((id, ups))
 }
 
@@ -246,10 +219,7 @@ fn read_moves(value: &Value) -> Result<ArrayVec<(MoveId, u8), 4>, Misfit>
     }
     let mut moves = ArrayVec::new();
     for (number, item) in items.iter().enumerate() {
-        match behind(Step::At(number), read_move(item)) {
-            Ok(chosen) => moves.push(chosen),
-            Err(misfit) => return Err(misfit),
-        }
+        moves.push(behind(Step::At(number), read_move(item))?);
     }
     Ok(moves)
 }

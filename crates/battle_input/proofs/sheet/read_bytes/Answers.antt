@@ -1,13 +1,15 @@
 use Rattle.std.proofs.Common.{rules, arith, length, sym, ◌<◌, ◌≡◌, ◌∙◌}
+use Rattle.std.proofs.lemmas.Result.{err_from_is_err_and}
 use Rattle.battle_input.specs.Sheets.{byte_of}
 use Rattle.battle_input.specs.declared.misfit.Step.TheVariants.{At}
 use Rattle.battle_input.proofs.Reading.{each_of_stop, misfit_in, numbers_from}
 use Rattle.battle_input.proofs.sheet.read_bytes.Goals as goal
 
-pub returns-in-Err-clause-value : goal.returns-in-Err-clause-value
-returns-in-Err-clause-value g c =
+pub returns-in_err-bytes-clause-value : goal.returns-in_err-bytes-clause-value
+returns-in_err-bytes-clause-value g c =
     let vs = c.in-Some.items.now.items in
     let long : length vs ≡ g.row.N = search rules in
     let within : c.loop-i.i < length vs = omega arith in
-    let wrong = misfit_in byte_of (At c.loop-i.i) c.read_byte.result _ _ c.in-Err.misfit c.in-Err.ensures.value c.read_byte.ensures.value c.index.ensures in
-    sym (each_of_stop byte_of _ vs c.loop-i.i c.index.result.now c.in-Err.misfit within wrong) ∙ c.loop-i.invariant.0 ∙ sym (numbers_from byte_of g.row.N vs _ c.in-Some.ensures long)
+    let wrong = misfit_in byte_of (At c.loop-i.i) c.read_byte.result _ _ c.in_err-bytes.field-0.0 c.in_err-bytes.ensures.value c.read_byte.ensures.value c.index.ensures in
+    let passed = err_from_is_err_and c.from_residual.result c.from_residual.ensures.1 in
+    rw (passed.1, passed.2) (sym (each_of_stop byte_of _ vs c.loop-i.i c.index.result.now c.in_err-bytes.field-0.0 within wrong) ∙ c.loop-i.invariant.0 ∙ sym (numbers_from byte_of g.row.N vs _ c.in-Some.ensures long))

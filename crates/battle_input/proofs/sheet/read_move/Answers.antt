@@ -1,12 +1,14 @@
 use Rattle.std.proofs.Common.{rules, length, sym, ◌≡◌}
+use Rattle.std.proofs.lemmas.Result.{err_from_is_err_and}
 use Rattle.battle_input.specs.Sheets.{byte_of, move_name_of}
 use Rattle.battle_input.specs.declared.misfit.Step.TheVariants.{At}
 use Rattle.battle_input.proofs.Reading.{both_of_first, misfit_in}
 use Rattle.battle_input.proofs.sheet.read_move.Goals as goal
 
-pub returns-in-Err-clause-value : goal.returns-in-Err-clause-value
-returns-in-Err-clause-value c =
+pub returns-in_err-id-clause-value : goal.returns-in_err-id-clause-value
+returns-in_err-id-clause-value c =
     let vs = c.in-Some.items.now.items in
     let long : length vs ≡ 2 = search rules in
-    let wrong = misfit_in move_name_of (At 0) c.read_move_name.result _ _ c.in-Err.misfit c.in-Err.ensures.value c.read_move_name.ensures.value c.index.ensures in
-    rw (← c.in-Some.ensures) (sym (both_of_first move_name_of byte_of vs c.index.result.now c.in-Err.misfit long wrong))
+    let passed = err_from_is_err_and c.from_residual.result c.from_residual.ensures.1 in
+    let wrong = misfit_in move_name_of (At 0) c.read_move_name.result _ _ c.in_err-id.field-0.0 c.in_err-id.ensures.value c.read_move_name.ensures.value c.index.ensures in
+    rw (passed.1, passed.2, ← c.in-Some.ensures) (sym (both_of_first move_name_of byte_of vs c.index.result.now c.in_err-id.field-0.0 long wrong))
