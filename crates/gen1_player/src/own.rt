@@ -15,6 +15,21 @@ use gen1_machine::Side;
 use gen1_stats::Status;
 use gen1_tables::Stat;
 
+// Offsets in a member's block (docs/LAYOUT.md, "Member").
+const SPECIES: usize = 0;
+const LEVEL: usize = 1;
+const MOVES: usize = 15;
+const PP: usize = 19;
+
+// Offsets in an active block (docs/LAYOUT.md, "Active block").
+const PLACE: usize = 0;
+const TYPES: usize = 1;
+const STAGES: usize = 3;
+const DISABLED_SLOT: usize = 23;
+
+// The bit of Flinch (docs/LAYOUT.md, "Condition bits").
+const FLINCH: u32 = 8;
+
 /// A member of the own side; zeros if there is none.
 #[repr(C)]
 #[derive(Clone, Copy)]
@@ -120,12 +135,17 @@ fn member(battle: &Packed, side: Side, place: u8) -> OwnMember
 {
     let block = battle.member(side, place);
     OwnMember {
-        species: block[0],
-        level: block[1],
+        species: block[SPECIES],
+        level: block[LEVEL],
         status: kind_of(battle.status_at(side, place)),
         unused: 0,
-        moves: [block[15], block[16], block[17], block[18]],
-        pp: [block[19], block[20], block[21], block[22]],
+        moves: [
+            block[MOVES],
+            block[MOVES + 1],
+            block[MOVES + 2],
+            block[MOVES + 3],
+        ],
+        pp: [block[PP], block[PP + 1], block[PP + 2], block[PP + 3]],
         hp: battle.hp_at(side, place),
         max_hp: battle.max_hp_at(side, place),
         stats: battle.own_stats_at(side, place),
@@ -181,10 +201,17 @@ fn out_now(battle: &Packed, side: Side) -> Out
             battle.current_stat(side, Stat::Speed),
             battle.current_stat(side, Stat::Special),
         ],
-        place: block[0],
-        types: [block[1], block[2]],
-        stages: [block[3], block[4], block[5], block[6], block[7], block[8]],
-        disabled_slot: block[23],
+        place: block[PLACE],
+        types: [block[TYPES], block[TYPES + 1]],
+        stages: [
+            block[STAGES],
+            block[STAGES + 1],
+            block[STAGES + 2],
+            block[STAGES + 3],
+            block[STAGES + 4],
+            block[STAGES + 5],
+        ],
+        disabled_slot: block[DISABLED_SLOT],
     }
 }
 
@@ -195,7 +222,7 @@ fn shown_conditions(battle: &Packed, side: Side) -> u32
 {
     let all = battle.conditions(side).bits();
     if battle.is_on(side, Conditions::FLINCH) {
-        all.saturating_sub(8)
+        all.saturating_sub(FLINCH)
     } else {
         all
     }

@@ -8,6 +8,11 @@ ghost use Rattle.gen1_player.specs.Sides.{side_named};
 use crate::public_side::PublicSide;
 use gen1_machine::{Event, Side};
 
+// The bytes of outcomes; those of faults follow that of a tie (docs/LAYOUT.md, "Header").
+const WIN_ONE: u8 = 1;
+const WIN_TWO: u8 = 2;
+const TIE: u8 = 3;
+
 /// What the events of a battle from its start make public.
 #[repr(C)]
 #[derive(Clone, Copy, Debug, PartialEq, Eq, Drop)]
@@ -77,8 +82,8 @@ impl Public {
                 self.two.clear();
             }
             Event::Win(side) => self.outcome = won(side),
-            Event::Tie => self.outcome = 3,
-            Event::Fault(code) => self.outcome = 3 + code.number(),
+            Event::Tie => self.outcome = TIE,
+            Event::Fault(code) => self.outcome = TIE + code.number(),
             _ => {}
         }
     }
@@ -98,8 +103,8 @@ fn won(side: Side) -> u8
     ensures { result ≡ outcome_byte (won_by side) }
 {
     match side {
-        Side::One => 1,
-        Side::Two => 2,
+        Side::One => WIN_ONE,
+        Side::Two => WIN_TWO,
     }
 }
 

@@ -6,6 +6,10 @@ ghost use Rattle.gen1_machine.specs.State.{level_stages};
 use gen1_tables::Stat;
 use std::marker::Model;
 
+// An unchanged stage, and the highest.
+const LEVEL: u8 = 6;
+const HIGHEST: u16 = 12;
+
 /// The stages of an active member, 0 to 12, with 6 for an unchanged stage.
 #[repr(C)]
 #[derive(Clone, Copy, Debug, PartialEq, Eq, Drop)]
@@ -47,12 +51,12 @@ impl SeenStages {
         ensures { result ≡ level_stages }
     {
         SeenStages {
-            attack: 6,
-            defense: 6,
-            speed: 6,
-            special: 6,
-            accuracy: 6,
-            evasion: 6,
+            attack: LEVEL,
+            defense: LEVEL,
+            speed: LEVEL,
+            special: LEVEL,
+            accuracy: LEVEL,
+            evasion: LEVEL,
         }
     }
 
@@ -90,7 +94,7 @@ impl SeenStages {
         ensures { result ≡ with_stage stat (min 12 (stage_of stat self + count)) self }
     {
         let stage = u16::from(self.stage(stat)) + u16::from(count);
-        self.with(stat, stage.min(12) as u8)
+        self.with(stat, stage.min(HIGHEST) as u8)
     }
 
     /// The stages after a stat's stage falls, at least to 0.
