@@ -7,6 +7,10 @@ use crate::fault::JsonFault;
 /// The most open lists and objects: 127, one in another, and the mark below them.
 const FULL: u128 = 1 << 127;
 
+/// What is open, as a digit of the state.
+const LIST: u8 = 0;
+const OBJECT: u8 = 1;
+
 /// What may come next in a JSON text. `true` is for the text of a key.
 #[derive(Clone, Copy, Debug, PartialEq, Eq)]
 pub(crate) enum Stand {
@@ -84,9 +88,9 @@ fn next(stand: Stand, nest: u128, byte: u8) -> Option<Place>
 {
     match stand {
         Stand::Value => begin(stand, nest, byte),
-        Stand::FirstItem if byte == b']' => close(nest, 0),
+        Stand::FirstItem if byte == b']' => close(nest, LIST),
         Stand::FirstItem => begin(stand, nest, byte),
-        Stand::FirstKey if byte == b'}' => close(nest, 1),
+        Stand::FirstKey if byte == b'}' => close(nest, OBJECT),
         Stand::FirstKey | Stand::Key => wait_for(stand, b'"', Stand::Text(true), nest, byte),
         Stand::Colon => wait_for(stand, b':', Stand::Value, nest, byte),
         Stand::Behind => pass(nest, byte),
@@ -137,7 +141,7 @@ fn is_blank(byte: u8) -> bool
 fn is_digit(byte: u8) -> bool
     ensures { result ≡ is_digit byte }
 {
-    48 <= byte && byte <= 57
+    b'0' <= byte && byte <= b'9'
 }
 
 fn wait_for(stand: Stand, due: u8, later: Stand, nest: u128, byte: u8) -> Option<Place>
@@ -160,8 +164,8 @@ fn begin(stand: Stand, nest: u128, byte: u8) -> Option<Place>
         return Some((stand, nest));
     }
     match byte {
-        b'[' => enter(Stand::FirstItem, nest, 0),
-        b'{' => enter(Stand::FirstKey, nest, 1),
+        b'[' => enter(Stand::FirstItem, nest, LIST),
+        b'{' => enter(Stand::FirstKey, nest, OBJECT),
         _ => go_on(first(byte), nest),
     }
 }
@@ -216,7 +220,7 @@ fn behind_fraction(byte: u8) -> Option<Stand>
     }
 }
 
-// Into a list (0) or an object (1).
+// Into a list or an object.
 fn enter(stand: Stand, nest: u128, kind: u8) -> Option<Place>
     requires { kind ≤ 1 }
     ensures { result ≡ enter stand nest kind }
@@ -228,7 +232,7 @@ fn enter(stand: Stand, nest: u128, kind: u8) -> Option<Place>
     }
 }
 
-// Out of a list (0) or an object (1).
+// Out of a list or an object.
 fn close(nest: u128, kind: u8) -> Option<Place>
     ensures { result ≡ close nest kind }
 {
@@ -248,8 +252,8 @@ fn pass(nest: u128, byte: u8) -> Option<Place>
     }
     match byte {
         b',' => go_on(after_comma(nest), nest),
-        b']' => close(nest, 0),
-        b'}' => close(nest, 1),
+        b']' => close(nest, LIST),
+        b'}' => close(nest, OBJECT),
         _ => None,
     }
 }
@@ -273,9 +277,9 @@ fn in_text(is_key: bool, byte: u8) -> Option<Stand>
         Some(if is_key { Stand::Colon } else { Stand::Behind })
     } else if byte == b'\\' {
         Some(Stand::Escape(is_key))
-    } else if byte < 32 {
+    } else if byte < b' ' {
         None
-    } else if byte < 128 {
+    } else if byte < 0x80 {
         Some(Stand::Text(is_key))
     } else {
         lead(is_key, byte)
@@ -286,13 +290,13 @@ fn in_text(is_key: bool, byte: u8) -> Option<Stand>
 fn lead(is_key: bool, byte: u8) -> Option<Stand>
     ensures { result ≡ lead is_key byte }
 {
-    if byte < 194 {
+    if byte < 0xC2 {
         None
-    } else if byte < 224 {
+    } else if byte < 0xE0 {
         Some(Stand::Many(is_key, 1))
-    } else if byte < 240 {
+    } else if byte < 0xF0 {
         Some(Stand::Many(is_key, 2))
-    } else if byte < 245 {
+    } else if byte < 0xF5 {
         Some(Stand::Many(is_key, 3))
     } else {
         None
@@ -302,7 +306,7 @@ fn lead(is_key: bool, byte: u8) -> Option<Stand>
 fn in_many(is_key: bool, left: u8, byte: u8) -> Option<Stand>
     ensures { result ≡ in_many is_key left byte }
 {
-    if byte < 128 || byte > 191 {
+    if byte < 0x80 || byte > 0xBF {
         None
     } else if left > 1 {
         Some(Stand::Many(is_key, left - 1))
@@ -336,7 +340,7 @@ fn in_hex(is_key: bool, left: u8, byte: u8) -> Option<Stand>
 fn is_hex(byte: u8) -> bool
     ensures { result ≡ is_hex byte }
 {
-    is_digit(byte) || 65 <= byte && byte <= 70 || 97 <= byte && byte <= 102
+    is_digit(byte) || b'A' <= byte && byte <= b'F' || b'a' <= byte && byte <= b'f'
 }
 
 // In `true` (1 to 3), `false` (4 to 6, then 3) or `null` (7 to 9), by the expected letter.
