@@ -43,7 +43,7 @@ fn start(battle: &mut Battle, events: &mut EventList, log: &mut LogBuf)
     match battle.update_events(Choice::Pass, Choice::Pass, events) {
         Ok(_) => write_log(events, log),
         // Both sides are offered Pass.
-        Err(_) => {}
+        Err(_) => unreachable!(),
     }
 }
 

@@ -103,6 +103,6 @@ fn end_pair(held: &mut Held, one: Choice, two: Choice) -> BattleResult
             result
         }
         // Offered choices are never refused.
-        Err(_) => held.battle.result(),
+        Err(_) => unreachable!(),
     }
 }

@@ -8,6 +8,12 @@ use crate::plain::PlainStages;
 use gen1_tables::Stat;
 use std::marker::Model;
 
+/// An unchanged stage.
+pub(crate) const LEVEL: u8 = 6;
+
+// The highest stage.
+const HIGHEST: u8 = 12;
+
 /// The stages of the active member, 0 to 12, with 6 for an unchanged stage.
 #[derive(Clone, Copy, Debug, PartialEq, Eq, Drop)]
 pub(crate) struct Stages {
@@ -52,12 +58,12 @@ impl Stages {
         ensures { result ≡ level_stages }
     {
         Stages {
-            attack: 6,
-            defense: 6,
-            speed: 6,
-            special: 6,
-            accuracy: 6,
-            evasion: 6,
+            attack: LEVEL,
+            defense: LEVEL,
+            speed: LEVEL,
+            special: LEVEL,
+            accuracy: LEVEL,
+            evasion: LEVEL,
         }
     }
 
@@ -96,7 +102,7 @@ impl Stages {
         requires { count ≤ 2 }
         ensures { result ≡ with_stage stat (min 12 (stage_of stat self + count)) self }
     {
-        self.with(stat, (self.stage(stat) + count).min(12))
+        self.with(stat, (self.stage(stat) + count).min(HIGHEST))
     }
 
     /// The stages after a stat's stage falls, at least to 0.
@@ -111,12 +117,12 @@ impl Stages {
         ensures { AreStages plain.now → result ≡ stages_of plain.now }
     {
         Stages {
-            attack: plain.attack.min(12),
-            defense: plain.defense.min(12),
-            speed: plain.speed.min(12),
-            special: plain.special.min(12),
-            accuracy: plain.accuracy.min(12),
-            evasion: plain.evasion.min(12),
+            attack: plain.attack.min(HIGHEST),
+            defense: plain.defense.min(HIGHEST),
+            speed: plain.speed.min(HIGHEST),
+            special: plain.special.min(HIGHEST),
+            accuracy: plain.accuracy.min(HIGHEST),
+            evasion: plain.evasion.min(HIGHEST),
         }
     }
 

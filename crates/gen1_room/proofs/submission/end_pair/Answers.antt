@@ -11,24 +11,20 @@ overflow_add-held c =
     let is = k.counted in
     omega (arith, most, is)
 
-pub returns-in-Ok-clause-holds : goal.returns-in-Ok-clause-holds
-returns-in-Ok-clause-holds c course stands counted offered =
+pub returns-clause-holds : goal.returns-clause-holds
+returns-clause-holds c course stands counted offered =
     end_holds course c.args.one c.args.two c.args.held.now.number c.choice_if_none_is_asked-held.result c.choice_if_none_is_asked-held-in-Ok.result
     c.args.held.now.battle c.update_events.new.self c.args.held.now.events c.update_events.new.events c.write_log.new.log c.in-Ok.result stands counted offered
     (c.in-Ok.ensures.answers course.state stands) (c.in-Ok.ensures.tells course.state stands) c.write_log.ensures
     c.choice_if_none_is_asked-held.ensures c.choice_if_none_is_asked-held-in-Ok.ensures
 
-pub returns-in-Ok-clause-counts : goal.returns-in-Ok-clause-counts
-returns-in-Ok-clause-counts c =
+pub returns-clause-counts : goal.returns-clause-counts
+returns-clause-counts c =
     let k = c.requires.valid.counts in
     counts_more c.args.held.now.battle c.update_events.new.self c.in-Ok.result c.args.held.now.number k c.args.one c.args.two
     (c.in-Ok.ensures.answers (run k.start k.pairs).state k.stands)
 
-pub returns-in-Err-clause-holds : goal.returns-in-Err-clause-holds
-returns-in-Err-clause-holds c course stands counted offered =
-    absurd (not_refused course.state c.args.one c.args.two c.args.held.now.battle c.update_events.new.self c.in-Err.field-0 offered (c.in-Err.ensures.answers course.state stands))
-
-pub returns-in-Err-clause-counts : goal.returns-in-Err-clause-counts
-returns-in-Err-clause-counts c =
+pub unreachable-requires : goal.unreachable-requires
+unreachable-requires c =
     let m = c.requires.valid in
-    absurd (not_refused m.state c.args.one c.args.two c.args.held.now.battle c.update_events.new.self c.in-Err.field-0 m.offered (c.in-Err.ensures.answers m.state m.stands))
+    not_refused m.state c.args.one c.args.two c.args.held.now.battle c.update_events.new.self c.in-Err.field-0 m.offered (c.in-Err.ensures.answers m.state m.stands)
