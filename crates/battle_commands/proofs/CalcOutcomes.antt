@@ -6,12 +6,17 @@ use Rattle.gen1_stats.specs.Teams.{team_refusal}
 use Rattle.gen1_machine.specs.Moves.{move_at}
 use Rattle.gen1_hits.specs.UsualDamage.{has_usual_damage}
 use Rattle.battle_input.specs.Sheets.{input_of}
+use Rattle.battle_input.specs.SheetViews.{Gives}
 use Rattle.battle_commands.specs.Asked.{input_limit}
 use Rattle.battle_commands.specs.Answers.{IsInputFault}
 use Rattle.battle_commands.specs.Calc.{PrintsDamages, damages_due, damages_of}
 use Rattle.battle_commands.specs.Logs.{PrintsLog}
 use Rattle.battle_input.specs.CalcSheets.{calc_sheet_of}
 use Rattle.battle_input.specs.declared.calc_sheet.CalcSheet.{CalcSheet}
+use Rattle.battle_input.specs.declared.fault.SheetFault.{SheetFault}
+use Rattle.battle_input.specs.declared.fault.SheetFault.TheVariants.{Json as NoSheet, Memory as NoMemory}
+use Rattle.battle_commands.specs.AskedBattle.{Finds}
+use Rattle.battle_commands.specs.Faults.{of_sheet}
 use Rattle.battle_commands.specs.declared.fault.ToolFault.{ToolFault}
 use Rattle.battle_commands.specs.declared.fault.ToolFault.TheVariants.{Calc, Json, Log, Memory, Pair, Read, Team, TooLong, Write}
 use Rattle.battle_commands.proofs.Outcomes.{some_all, some_along}
@@ -24,6 +29,15 @@ unfolding damages_due
 due_found input s fits sheet one two usual =
     let short : nat_lt input_limit (length input) ≡ false = search rules in
     rw (short, sheet, one, two, usual) refl
+
+-- the input is no sheet
+pub finds_no_sheet : (fault : SheetFault) (input : List ℕ) → length input ≤ input_limit → Gives (λ (sheet : CalcSheet). sheet) (Err fault) (input_of calc_sheet_of input)
+    → Finds (Err (of_sheet fault)) (damages_due input)
+unfolding damages_due
+finds_no_sheet NoMemory input fits is = tt
+finds_no_sheet (NoSheet fault) input fits is =
+    let short : nat_lt input_limit (length input) ≡ false = search rules in
+    rw (short, is) refl
 
 pub due_too_long : (input : List ℕ) → input_limit < length input → damages_due input ≡ Err TooLong
 unfolding damages_due

@@ -3,18 +3,22 @@ use Rattle.std.proofs.Common.{◌≡◌, ◌||◌, ℕ, ◌<◌, ◌≤◌, Bool
 use Rattle.std.proofs.KnownBytes.{Appends-nil}
 use Rattle.serde_json.specs.Data.{Data}
 use Rattle.gen1_machine.specs.State.{State, Terms, first_state}
-use Rattle.battle_commands.specs.Answers.{Answers, IsInputFault, of_write}
+use Rattle.battle_commands.specs.Answers.{Answers, IsInputFault, of_read, of_write}
 use Rattle.gen1_stats.specs.Members.{Member}
 use Rattle.gen1_stats.specs.Sheets.{Sheet as MemberSheet}
 use Rattle.gen1_stats.specs.Teams.{team_of, team_refusal}
 use Rattle.gen1_layout.specs.Parts.{Parts}
 use Rattle.gen1_layout.specs.Within.{Stands}
 use Rattle.battle_input.specs.Sheets.{BattleData, input_of, sheet_of}
+use Rattle.battle_input.specs.SheetViews.{Gives, sheet_view}
+use Rattle.battle_input.specs.declared.fault.SheetFault.{SheetFault}
+use Rattle.battle_input.specs.declared.fault.SheetFault.TheVariants.{Json as NoSheet, Memory as NoMemory}
 use Rattle.battle_input.specs.declared.misfit.Key.{Key}
 use Rattle.battle_input.specs.declared.misfit.Misfit.{Misfit}
 use Rattle.battle_commands.specs.Asked.{Asked, asked_of, begins, input_limit}
 use Rattle.battle_commands.specs.Due.{Due, due_if}
 use Rattle.battle_commands.specs.AskedBattle.{Opens}
+use Rattle.battle_commands.specs.Faults.{of_sheet}
 use Rattle.battle_commands.specs.declared.asked_battle.Bout.{Bout}
 use Rattle.battle_commands.specs.declared.fault.ToolFault.{ToolFault}
 use Rattle.battle_commands.specs.declared.fault.ToolFault.TheVariants.{Json, TooLong, Team, Pair, Log, Calc, Read, Write, Memory}
@@ -52,6 +56,23 @@ opens_no_input key meaning (Pair number refusal) told h = absurd h
 opens_no_input key meaning (Log number) told h = absurd h
 opens_no_input key meaning Calc told h = absurd h
 opens_no_input key meaning Write told h = absurd h
+
+-- the input is no sheet
+pub opens_no_sheet : {A : Type 0} (key : Key) (meaning : Data → Result A Misfit) (fault : SheetFault) (input : List ℕ) → length input ≤ input_limit
+    → Gives sheet_view (Err fault) (input_of (sheet_of key meaning) input) → Opens (Err (of_sheet fault)) (asked_of key meaning input)
+unfolding asked_of
+opens_no_sheet key meaning NoMemory input fits is = tt
+opens_no_sheet key meaning (NoSheet fault) input fits is =
+    let short : nat_lt input_limit (length input) ≡ false = search rules in
+    rw (short, is) refl
+
+pub sheet_unread : (fault : SheetFault) → of_read (of_sheet fault) ≡ false
+sheet_unread (NoSheet fault) = refl
+sheet_unread NoMemory = refl
+
+pub sheet_unwritten : (fault : SheetFault) → of_write (of_sheet fault) ≡ false
+sheet_unwritten (NoSheet fault) = refl
+sheet_unwritten NoMemory = refl
 
 -- a battle is requested if neither team is refused
 pub asks_for : {A : Type 0} (key : Key) (meaning : Data → Result A Misfit) (input : List ℕ) (sheet : BattleData × List A) → length input ≤ input_limit

@@ -1,8 +1,15 @@
 -- The exit status of each error, and what standard error gets of it (docs/PROGRAM.md, "Faults and statuses").
 use Rattle.std.specs.Prelude.{List, [], codes, decimal, ℕ, ◌++◌, ◌∷◌}
 use Rattle.gen1_machine.specs.Lines.{joined}
+use Rattle.battle_input.specs.declared.fault.SheetFault.{SheetFault}
+use Rattle.battle_input.specs.declared.fault.SheetFault.TheVariants.{Json as NoSheet, Memory as NoMemory}
 use Rattle.battle_commands.specs.declared.fault.ToolFault.{ToolFault}
 use Rattle.battle_commands.specs.declared.fault.ToolFault.TheVariants.{Json, TooLong, Team, Pair, Log, Calc, Read, Write, Memory}
+
+-- why there is no sheet
+abbrev pub of_sheet : SheetFault → ToolFault
+of_sheet (NoSheet fault) = Json fault
+of_sheet NoMemory = Memory
 
 abbrev pub status_of : ToolFault → ℕ
 status_of (Json fault) = 1

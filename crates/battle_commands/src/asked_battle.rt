@@ -7,7 +7,7 @@ ghost use Rattle.battle_commands.specs.AskedBattle.{Opens};
 
 use crate::fault::ToolFault;
 use crate::input::{INPUT_LIMIT, read_input};
-use battle_input::{Item, Key, SheetFault, read_sheet};
+use battle_input::{Item, Key, read_sheet};
 use gen1_engine::Battle;
 use gen1_machine::Source;
 use gen1_stats::Team;
@@ -39,10 +39,7 @@ pub fn read_bout<T: Item + Drop, R: Source>(
     ensures read { R.has_failed reader.new ≡ (R.has_failed reader.old || is_read_fault result) }
     ensures write { is_write_fault result ≡ false }
 {
-    let input = match read_input(alloc, reader) {
-        Ok(input) => input,
-        Err(fault) => return Err(fault),
-    };
+    let input = read_input(alloc, reader)?;
     open_bout(alloc, input.as_slice(), key)
 }
 
@@ -54,11 +51,7 @@ fn open_bout<T: Item + Drop>(alloc: Global, input: &[u8], key: Key) -> Result<Bo
     ensures read { is_read_fault result ≡ false }
     ensures write { is_write_fault result ≡ false }
 {
-    let sheet = match read_sheet::<T>(alloc, input, key) {
-        Ok(sheet) => sheet,
-        Err(SheetFault::Json(fault)) => return Err(ToolFault::Json(fault)),
-        Err(SheetFault::Memory) => return Err(ToolFault::Memory),
-    };
+    let sheet = read_sheet::<T>(alloc, input, key)?;
     let asked = sheet.battle;
     let items = sheet.items;
     let one = match Team::new(asked.one.as_slice()) {

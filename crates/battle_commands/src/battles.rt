@@ -38,10 +38,7 @@ pub fn play<A: AllocGlobal, R: Source, W: Sink>(
     ensures read { R.has_failed reader.new ≡ (R.has_failed reader.old || is_read_fault result) }
     ensures write { W.has_failed writer.new ≡ (W.has_failed writer.old || is_write_fault result) }
 {
-    let mut bout = match read_bout::<(u8, u8), R>(rt.alloc(), reader, Key::Choices) {
-        Ok(bout) => bout,
-        Err(fault) => return Err(fault),
-    };
+    let mut bout = read_bout::<(u8, u8), R>(rt.alloc(), reader, Key::Choices)?;
     print_pairs(rt.alloc(), &mut bout.battle, bout.items.as_slice(), writer)
 }
 
@@ -66,10 +63,7 @@ fn print_pairs<W: Sink>(
                 return Err(ToolFault::Pair { number, refusal });
             }
         }
-        let text = match text_of(alloc, events.as_slice()) {
-            Ok(text) => text,
-            Err(_) => return Err(ToolFault::Memory),
-        };
+        let text = text_of(alloc, events.as_slice())?;
         match send(sink, text.as_slice()) {
             Ok(()) => {}
             Err(_) => return Err(ToolFault::Write),
@@ -98,11 +92,7 @@ pub fn play_log<A: AllocGlobal, R: Source, W: Sink>(
     ensures read { R.has_failed reader.new ≡ (R.has_failed reader.old || is_read_fault result) }
     ensures write { W.has_failed writer.new ≡ (W.has_failed writer.old || is_write_fault result) }
 {
-    let key = Key::Choices;
-    let mut bout = match read_bout::<(u8, u8), R>(rt.alloc(), reader, key) {
-        Ok(bout) => bout,
-        Err(fault) => return Err(fault),
-    };
+    let mut bout = read_bout::<(u8, u8), R>(rt.alloc(), reader, Key::Choices)?;
     log_pairs(&mut bout.battle, bout.items.as_slice(), writer)
 }
 

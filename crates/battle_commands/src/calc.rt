@@ -12,7 +12,7 @@ use crate::damage::damages;
 use crate::fault::ToolFault;
 use crate::input::{INPUT_LIMIT, read_input};
 use crate::number_line::number_line;
-use battle_input::{CalcSheet, JsonFault, SheetFault, read_calc_sheet, value_in};
+use battle_input::{CalcSheet, SheetFault, read_calc_sheet, value_in};
 use gen1_hits::has_usual_damage;
 use gen1_machine::{Sink, Source, send};
 use gen1_stats::Team;
@@ -39,14 +39,8 @@ pub fn play_calc<A: AllocGlobal, R: Source, W: Sink>(
     ensures read { R.has_failed reader.new ≡ (R.has_failed reader.old || is_read_fault result) }
     ensures write { W.has_failed writer.new ≡ (W.has_failed writer.old || is_write_fault result) }
 {
-    let input = match read_input(rt.alloc(), reader) {
-        Ok(input) => input,
-        Err(fault) => return Err(fault),
-    };
-    let numbers = match find_numbers(rt.alloc(), input.as_slice()) {
-        Ok(numbers) => numbers,
-        Err(fault) => return Err(fault),
-    };
+    let input = read_input(rt.alloc(), reader)?;
+    let numbers = find_numbers(rt.alloc(), input.as_slice())?;
     match send(writer, number_line(&numbers).as_str().as_bytes()) {
         Ok(()) => Ok(()),
         Err(_) => Err(ToolFault::Write),
@@ -59,11 +53,7 @@ fn find_numbers(alloc: Global, input: &[u8]) -> Result<[u16; 39], ToolFault>
     requires { length input.now ≤ INPUT_LIMIT }
     ensures { Finds result (damages_due input.now) }
 {
-    let sheet = match calc_sheet_in(alloc, input) {
-        Ok(sheet) => sheet,
-        Err(SheetFault::Json(fault)) => return Err(ToolFault::Json(fault)),
-        Err(SheetFault::Memory) => return Err(ToolFault::Memory),
-    };
+    let sheet = calc_sheet_in(alloc, input)?;
     let CalcSheet {
         attacker,
         defender,
@@ -92,8 +82,5 @@ fn calc_sheet_in(alloc: Global, input: &[u8]) -> Result<CalcSheet, SheetFault>
     ensures { Gives (λ sheet. sheet) result (input_of calc_sheet_of input.now) }
 {
     let value = value_in(alloc, input)?;
-    match read_calc_sheet(&value) {
-        Ok(sheet) => Ok(sheet),
-        Err(misfit) => Err(SheetFault::Json(JsonFault::Value(misfit))),
-    }
+    Ok(read_calc_sheet(&value)?)
 }

@@ -4,9 +4,10 @@ ghost use Rattle.gen1_machine.specs.Lines.{joined};
 ghost use Rattle.battle_commands.specs.Faults.{error_line, pieces_of};
 
 use arrayvec::ArrayString;
-use battle_input::JsonFault;
+use battle_input::{JsonFault, SheetFault};
 use gen1_stats::TeamRefusal;
 use itoa::Buffer;
+use std::alloc::AllocError;
 use std::error::Error;
 use std::fmt;
 
@@ -122,6 +123,29 @@ impl ToolFault {
             ToolFault::Memory => words.push_str("memory"),
         }
         words
+    }
+}
+
+impl From<SheetFault> for ToolFault {
+    ghost use Rattle.battle_commands.specs.Faults.{of_sheet};
+
+    ghost from_gives = { λ why fault. fault ≡ of_sheet why };
+
+    fn from(fault: SheetFault) -> ToolFault {
+        match fault {
+            SheetFault::Json(fault) => ToolFault::Json(fault),
+            SheetFault::Memory => ToolFault::Memory,
+        }
+    }
+}
+
+impl From<AllocError> for ToolFault {
+    ghost use Rattle.battle_commands.specs.declared.fault.ToolFault.TheVariants.{Memory};
+
+    ghost from_gives = { λ _ fault. fault ≡ Memory };
+
+    fn from(_refused: AllocError) -> ToolFault {
+        ToolFault::Memory
     }
 }
 

@@ -28,10 +28,7 @@ pub fn play_print<A: AllocGlobal, R: Source, W: Sink>(
     ensures read { R.has_failed reader.new ≡ (R.has_failed reader.old || is_read_fault result) }
     ensures write { W.has_failed writer.new ≡ (W.has_failed writer.old || is_write_fault result) }
 {
-    let log = match read_input(rt.alloc(), reader) {
-        Ok(log) => log,
-        Err(fault) => return Err(fault),
-    };
+    let log = read_input(rt.alloc(), reader)?;
     let text = match print_log(rt.alloc(), log.as_slice()) {
         Ok(text) => text,
         Err(PrintFault::Log(fault)) => return Err(ToolFault::Log(fault.number())),

@@ -43,15 +43,9 @@ pub fn play_room<A: AllocGlobal, R: Source, W: Sink>(
     ensures read { R.has_failed reader.new ≡ (R.has_failed reader.old || is_read_fault result) }
     ensures write { W.has_failed writer.new ≡ (W.has_failed writer.old || is_write_fault result) }
 {
-    let bout = match read_bout::<(Side, u32, u8), R>(rt.alloc(), reader, Key::Submissions) {
-        Ok(bout) => bout,
-        Err(fault) => return Err(fault),
-    };
+    let bout = read_bout::<(Side, u32, u8), R>(rt.alloc(), reader, Key::Submissions)?;
     let mut room = Room::new(bout.battle);
-    match send_lines(rt.alloc(), "", room.log(), writer) {
-        Ok(()) => {}
-        Err(fault) => return Err(fault),
-    }
+    send_lines(rt.alloc(), "", room.log(), writer)?;
     hand_in_all(rt.alloc(), &mut room, bout.items.as_slice(), writer)
 }
 
@@ -69,10 +63,7 @@ fn hand_in_all<W: Sink>(
     ensures read { is_read_fault result ≡ false }
 {
     for submission in submissions {
-        match hand_in(alloc, room, *submission, sink) {
-            Ok(()) => {}
-            Err(fault) => return Err(fault),
-        }
+        hand_in(alloc, room, *submission, sink)?;
     }
     Ok(())
 }

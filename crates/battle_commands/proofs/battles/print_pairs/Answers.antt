@@ -1,4 +1,5 @@
 use Rattle.std.proofs.Common.{Some, ap, arith, get_or, length, refl, sym, ◌<◌, ◌∙◌}
+use Rattle.std.proofs.lemmas.Result.{err_from_is_err_and}
 use Rattle.gen1_machine.specs.Lines.{lines}
 use Rattle.gen1_engine.specs.Replay.{step_by_bytes}
 use Rattle.gen1_engine.specs.Update.{refusal_number}
@@ -19,9 +20,10 @@ returns-in-Err-clause-answers g c s h =
     let a = answers_refused (Unit {0}) c.args.pairs.now c.loop-number.number r u.0 inside u.1 in
     (a.0 ∙ ap (λ n. Some (Pair c.loop-number.number n)) (sym (c.number-refusal.ensures ∙ ap refusal_number u.2)), a.1)
 
-pub returns-in-Err-text_of-clause-answers : goal.returns-in-Err-text_of-clause-answers
-returns-in-Err-text_of-clause-answers g c s h =
-    answers_memory (Unit {0}) c.args.pairs.now c.loop-number.number (c.loop-number.invariant.1 s h)
+pub returns-in_err-text-clause-answers : goal.returns-in_err-text-clause-answers
+returns-in_err-text-clause-answers g c s h =
+    let passed = err_from_is_err_and c.from_residual.result c.from_residual.ensures.1 in
+    rw (passed.1, passed.2) (answers_memory (Unit {0}) c.args.pairs.now c.loop-number.number (c.loop-number.invariant.1 s h))
 
 pub returns-in-Err-send-clause-answers : goal.returns-in-Err-send-clause-answers
 returns-in-Err-send-clause-answers g c s h =
@@ -30,7 +32,7 @@ returns-in-Err-send-clause-answers g c s h =
     let u = answered_ok t.answer t.state _ _ _ _ _ (c.in-Ok.ensures.answers r.state r.stands) (c.in-Ok.ensures.tells r.state r.stands) in
     let inside : c.loop-number.number < length c.args.pairs.now = omega arith in
     answers_write (Unit {0}) c.args.pairs.now c.loop-number.number r _ inside u.0
-    (rw (c.as_slice-in-loop-number.ensures.value, c.in-Ok-text_of.ensures, c.as_slice.ensures.value) at c.in-Err-send.ensures.front)
+    (rw (c.as_slice-in-loop-number.ensures.value, c.in_ok-text.ensures, c.as_slice.ensures.value) at c.in-Err-send.ensures.front)
 
 pub loop-number-preserved : goal.loop-number-preserved
 loop-number-preserved g c = (
@@ -41,7 +43,7 @@ loop-number-preserved g c = (
       let u = answered_ok t.answer t.state _ _ _ _ _ (c.in-Ok.ensures.answers r.state r.stands) (c.in-Ok.ensures.tells r.state r.stands) in
       let inside : c.loop-number.number < length c.args.pairs.now = omega arith in
       stood_more c.args.pairs.now c.loop-number.number r _ inside u.0 u.1
-      (rw (c.as_slice-in-loop-number.ensures.value, c.in-Ok-text_of.ensures, c.as_slice.ensures.value) at c.in-Ok-send.ensures.whole),
+      (rw (c.as_slice-in-loop-number.ensures.value, c.in_ok-text.ensures, c.as_slice.ensures.value) at c.in-Ok-send.ensures.whole),
 )
 
 pub returns-clause-answers : goal.returns-clause-answers

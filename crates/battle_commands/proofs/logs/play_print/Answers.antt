@@ -1,9 +1,14 @@
+use Rattle.std.proofs.lemmas.Result.{err_from_is_err_and}
 use Rattle.battle_commands.proofs.CalcOutcomes.{prints_no_log}
 use Rattle.battle_commands.proofs.Outcomes.{no_writes, unwritten}
 use Rattle.battle_commands.proofs.logs.play_print.Goals as goal
 
-pub returns-in-Err-clause-answers : goal.returns-in-Err-clause-answers
-returns-in-Err-clause-answers g c = prints_no_log c.in-Err.fault _ _ c.in-Err.ensures.fault
+pub returns-in_err-log-clause-answers : goal.returns-in_err-log-clause-answers
+returns-in_err-log-clause-answers g c =
+    let passed = err_from_is_err_and c.from_residual.result c.from_residual.ensures.1 in
+    rw (passed.1, passed.2) (prints_no_log c.in_err-log.field-0.0 _ _ c.in_err-log.ensures.fault)
 
-pub returns-in-Err-clause-write : goal.returns-in-Err-clause-write
-returns-in-Err-clause-write g c = no_writes _ _ (unwritten c.in-Err.fault _ c.in-Err.ensures.fault)
+pub returns-in_err-log-clause-write : goal.returns-in_err-log-clause-write
+returns-in_err-log-clause-write g c =
+    let passed = err_from_is_err_and c.from_residual.result c.from_residual.ensures.1 in
+    rw (passed.1, passed.2) (no_writes _ _ (unwritten c.in_err-log.field-0.0 _ c.in_err-log.ensures.fault))
