@@ -6,13 +6,15 @@ use Rattle.gen1_tables.specs.Types.{any}
 use Rattle.gen1_stats.specs.Members.{is_living, nobody}
 use Rattle.gen1_machine.specs.declared.side.Side.{Side}
 use Rattle.gen1_machine.specs.declared.side.Side.TheVariants.{One, Two}
-use Rattle.gen1_machine.specs.State.{Field, has_fallen_in, member_in, party}
+use Rattle.gen1_machine.specs.Sides.{other}
+use Rattle.gen1_machine.specs.State.{Field, has_fallen_in, is_over, member_in, party}
 use Rattle.gen1_machine.specs.declared.event.Event.TheVariants as events
 use Rattle.gen1_machine.specs.declared.terms.Outcome.{Outcome}
 use Rattle.gen1_machine.specs.declared.terms.Outcome.TheVariants.{Fault, Ongoing, Tie, WinOne, WinTwo}
-use Rattle.gen1_machine.specs.Falls.{ask_nothing, close, faint_if_fallen, settle, the_fallen_faint}
-use Rattle.gen1_machine.specs.Progress.{when}
+use Rattle.gen1_machine.specs.Falls.{ask_nothing, close, faint_if_fallen, faint_in_order, settle, the_fallen_faint}
+use Rattle.gen1_machine.specs.Progress.{given, when}
 use Rattle.gen1_machine.specs.Ruling.{Ruling}
+use Rattle.gen1_machine.specs.Turn.{is_cut}
 use Rattle.gen1_machine.specs.Valid.{IsOutcome}
 use Rattle.gen1_requests.specs.Falls.{fault_in}
 
@@ -97,3 +99,34 @@ fault_range Ongoing n e h = cc
 fault_range WinOne n e h = cc
 fault_range WinTwo n e h = cc
 fault_range Tie n e h = cc
+
+-- A turn that isn't cut
+
+none_of : (a b c : Bool) → (a || b || c) ≡ false → (a ≡ false) × (b ≡ false) × (c ≡ false)
+none_of false false false e = (refl, refl, refl)
+none_of false false true e = absurd (false≢true (sym e))
+none_of false true c e = absurd (false≢true (sym e))
+none_of true b c e = absurd (false≢true (sym e))
+
+pub uncut_lives : (p : Progress) → is_cut p ≡ false → (s : Side) → has_fallen_in s p.field ≡ false
+uncut_lives p e One = (none_of (has_fallen_in One p.field) (has_fallen_in Two p.field) (is_over p.field.outcome) e).0
+uncut_lives p e Two = (none_of (has_fallen_in One p.field) (has_fallen_in Two p.field) (is_over p.field.outcome) e).1
+
+goes_on : (o : Outcome) → is_over o ≡ false → fault_in o ≡ None
+goes_on Ongoing e = refl
+goes_on (Fault n) e = absurd (false≢true (sym e))
+goes_on WinOne e = absurd (false≢true (sym e))
+goes_on WinTwo e = absurd (false≢true (sym e))
+goes_on Tie e = absurd (false≢true (sym e))
+
+none_faint : (p : Progress) → ((s : Side) → has_fallen_in s p.field ≡ false) → p.stopped ≡ false → the_fallen_faint p ≡ p
+unfolding the_fallen_faint given faint_in_order faint_if_fallen stay
+none_faint p lives go =
+    let actor = p.action.side in
+    passed _ _ (faint_if_fallen actor) p (lives (other actor)) go ∙ choose-false _ _ stay p (lives actor)
+
+pub closes_uncut : (r : Ruling) (p : Progress) → is_cut p ≡ false → p.stopped ≡ false → close r p.field.outcome p ≡ settle r p
+closes_uncut r p e go =
+    let same = none_faint p (uncut_lives p e) go in
+    closes r p.field.outcome p (goes_on p.field.outcome (none_of (has_fallen_in One p.field) (has_fallen_in Two p.field) (is_over p.field.outcome) e).2)
+    ∙ then-goes the_fallen_faint (settle r) p (ap (λ (q : Progress). q.stopped) same ∙ go) ∙ ap (settle r) same

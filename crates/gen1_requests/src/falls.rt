@@ -8,6 +8,7 @@ ghost use Rattle.gen1_machine.specs.declared.event.Event.TheVariants as told;
 ghost use Rattle.gen1_machine.specs.declared.side.Side.TheVariants as sides;
 ghost use Rattle.gen1_machine.specs.Falls.{ask_for_moves, ask_nothing, battle_ends, close, faint_if_fallen, faint_in_order, settle, switch_if, the_fallen_faint};
 ghost use Rattle.gen1_machine.specs.Progress.{note};
+ghost use Rattle.gen1_machine.specs.Turn.{is_cut};
 ghost use Rattle.gen1_machine.specs.State.{has_fallen_in};
 ghost use Rattle.gen1_machine.specs.Valid.{IsOutcome};
 ghost use Rattle.gen1_stats.specs.Members.{IsBetween};
@@ -38,6 +39,19 @@ pub fn close<S: EventSink>(battle: &mut Packed, actor: Side, events: &mut S)
         Some(number) => end_by_fault(battle, number, events),
         None => faint_and_settle(battle, actor, events),
     }
+}
+
+/// Closes an update as [`close`] does, where both members that are out live and the battle goes on. None of that is tested again.
+///
+/// It needs three free places in `events`.
+#[inline(always)] // docs/SPEED.md, "Hints on inlining"
+pub fn close_uncut<S: EventSink>(battle: &mut Packed, events: &mut S)
+    requires space { HasRoom S.room 3 events.old }
+    ensures shown { DoesAnyway (λ g p Then. is_cut p ≡ false → Then) (scene S.tells battle events)
+        (λ r p. close r p.field.outcome p) }
+    ensures room { AddsAtMost S.room 3 events.old events.new }
+{
+    go_on(battle, events);
 }
 
 fn fault_in(outcome: Outcome) -> Option<u8>

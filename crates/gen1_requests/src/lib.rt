@@ -21,7 +21,7 @@ mod start_and_replace;
 mod switching_in;
 
 pub use choice_test::is_offered;
-pub use falls::close;
+pub use falls::{close, close_uncut};
 pub use mask_choices::{choice_at, count_of};
 pub use masks::offered_mask;
 pub use offered_choices::{Choices, offered};

@@ -1,5 +1,6 @@
 -- How the parts of a turn follow one another, and what is planned meanwhile.
 use Rattle.std.proofs.Common.{◌+◌, ◌≡◌}
+use Rattle.std.proofs.lemmas.Bool.{false≢true}
 use Rattle.gen1_layout.proofs.Words.{Bool, Frame, Parts, Phase, Progress, Shows, ShowsDrawn, Side, Telling, active_in, ap, choose-false, choose-true, draw, drawn_goes, false, given, goes, if_not, if_so, length, member_in, nat_lt, on_active, on_conditions, on_field, refl, stay, stays, still, subst, sym, then-goes, true, ℕ, ◌∙◌, ◌▸◌}
 use Rattle.gen1_rolls.specs.Draws.{Drawing}
 use Rattle.gen1_rolls.specs.Streams.{byte_at, Stream}
@@ -10,15 +11,15 @@ use Rattle.gen1_machine.specs.declared.choice.Choice.TheVariants as choices
 use Rattle.gen1_machine.specs.declared.picks.Pick.{Pick}
 use Rattle.gen1_machine.specs.declared.picks.Pick.TheVariants.{Continue, Held, Idle, Use}
 use Rattle.gen1_machine.specs.declared.side.Side.TheVariants.{One, Two}
-use Rattle.gen1_machine.specs.Conditions.{without_flinch}
-use Rattle.gen1_machine.specs.State.{changed_conditions, Terms}
-use Rattle.gen1_machine.specs.Progress.{on_action, unless}
+use Rattle.gen1_machine.specs.Conditions.{without_flinch, without_trapping}
+use Rattle.gen1_machine.specs.State.{ActiveConditions, changed_active, changed_conditions, Terms}
+use Rattle.gen1_machine.specs.Progress.{on_action, underway, unless}
 use Rattle.gen1_machine.specs.Picks.{pick_in, picked_after}
 use Rattle.gen1_machine.specs.ResidualDamage.{residual}
 use Rattle.gen1_machine.specs.Ruling.{Ruling, ruling_of}
 use Rattle.gen1_machine.specs.Action.{begin}
 use Rattle.gen1_machine.specs.TurnOrder.{toss}
-use Rattle.gen1_machine.specs.Turn.{both_pick, both_switch, do_part, do_parts, is_cut, one_picks, play_turn, set_picked, Sends}
+use Rattle.gen1_machine.specs.Turn.{both_pick, both_switch, do_part, do_parts, end_spent_trapping, end_turn, is_cut, is_spent, one_picks, play_turn, set_picked, Sends}
 use Rattle.gen1_machine.specs.Valid.{IsUsedMove}
 use Rattle.gen1_machine.specs.Plans.{Comes, FitsPick, InRange, IsPlanned, Plan, PlanOf}
 use Rattle.gen1_machine.proofs.Bench.{between-free}
@@ -32,7 +33,7 @@ use Rattle.gen1_layout.specs.Operations.{Does, between}
 use Rattle.gen1_action.specs.declared.known.Known.{Known}
 use Rattle.gen1_action.specs.Knowing.{begun, knowing, with_broke, ShowsOver}
 use Rattle.gen1_action.specs.Planned.{Follows}
-use Rattle.gen1_turn.specs.TurnParts.{suffering, Ends, LeavesRest, PartLeaves}
+use Rattle.gen1_turn.specs.TurnParts.{cut_in, suffering, Ends, EndsCut, LeavesRest, PartLeaves}
 
 -- Residual damage, and whether the turn is cut after it
 
@@ -80,7 +81,11 @@ module _ {A : Type 0} {d : Drawing A} {origin : A} where
       → (stopped : Bool) × Shows (knowing k' (record g { drawn = p.drawn })) parts' events' stopped q → Ends d origin k' g parts' events' now q
   ends_still k k' g a x = (x.0, over_still k k' g a x.1)
 
-  -- The end of a turn
+  -- The end of a turn, and whether it was cut
+
+  pub cut_as : (k : Known) (g : Frame) {parts : Parts} {events : Telling} {now : A} {cut : Bool} (q q' : Progress) → q ≡ q'
+      → EndsCut d origin k g parts events now cut q' → EndsCut d origin k g parts events now cut q
+  cut_as k g q q' e a = rw e a
 
   pub ends_as : (k : Known) (g : Frame) {parts : Parts} {events : Telling} {now : A} (q q' : Progress) → q ≡ q'
       → Ends d origin k g parts events now q' → Ends d origin k g parts events now q
@@ -109,6 +114,35 @@ module _ {A : Type 0} {d : Drawing A} {origin : A} where
 pub stops_as : {g : Frame} {parts : Parts} {events : Telling} (q q' : Progress) → q ≡ q' → (stopped : Bool) × Shows g parts events stopped q'
     → (stopped : Bool) × Shows g parts events stopped q
 stops_as q q' e a = rw e a
+
+-- An answer of true says nothing of the turn.
+pub cut_short : {A : Type 0} → true ≡ false → A
+cut_short e = absurd (false≢true (sym e))
+
+-- Trapping that ends cuts no turn
+
+conditions_cut : (s : Side) (change : ActiveConditions → ActiveConditions) (p : Progress) → is_cut (on_conditions s change p) ≡ is_cut p
+unfolding on_conditions on_field changed_conditions changed_active
+conditions_cut One change p = refl
+conditions_cut Two change p = refl
+
+spent_cut : (s : Side) (p : Progress) → (is_cut (end_spent_trapping s p) ≡ is_cut p) × ((end_spent_trapping s p).stopped ≡ p.stopped)
+unfolding end_spent_trapping stay on_conditions on_field
+spent_cut s p = by (is_spent (underway s p).trapping) refl
+  where
+    by : (b : Bool) → is_spent (underway s p).trapping ≡ b → (is_cut (end_spent_trapping s p) ≡ is_cut p) × ((end_spent_trapping s p).stopped ≡ p.stopped)
+    by true e =
+        let is = choose-true (λ q. is_spent (underway s q).trapping) (on_conditions s without_trapping) stay p e in
+        (ap is_cut is ∙ conditions_cut s without_trapping p, ap (λ (q : Progress). q.stopped) is)
+    by false e =
+        let is = choose-false (λ q. is_spent (underway s q).trapping) (on_conditions s without_trapping) stay p e in
+        (ap is_cut is, ap (λ (q : Progress). q.stopped) is)
+
+pub ended_uncut : (q q' : Progress) → q ≡ end_turn q' → q'.stopped ≡ false → false ≡ cut_in q'.field → is_cut q ≡ false
+unfolding end_turn
+ended_uncut q q' e go uncut =
+    let one = spent_cut One q' in
+    ap is_cut (e ∙ then-goes (end_spent_trapping One) (end_spent_trapping Two) q' (one.1 ∙ go)) ∙ (spent_cut Two _).0 ∙ one.0 ∙ sym uncut
 
 -- An action begins, and nothing of it is known.
 pub begun_still : (k k' : Known) (g : Frame) (broke : Bool) {parts : Parts} {events : Telling} {b : Bool} {p : Progress} (s : Side) → k' ≡ begun s k

@@ -1,11 +1,12 @@
 -- What the parts of a turn show, each with the residual damage of its side (docs/MECHANICS.md, "Order of a turn").
-use Rattle.std.specs.Prelude.{◌∷◌, ◌≡◌}
-use Rattle.gen1_layout.specs.Words.{Bool, Event, Frame, List, Phase, Progress, ShowsDrawn, Side, Telling, Told, [], false, other, true, ℕ, ◌▸◌}
+use Rattle.std.specs.Prelude.{◌∷◌, ◌≡◌, ◌||◌}
+use Rattle.gen1_layout.specs.Words.{Bool, Event, Field, Frame, List, Phase, Progress, Reads, ShowsDrawn, Side, Telling, Told, [], false, other, true, ℕ, ◌▸◌}
 use Rattle.gen1_rolls.specs.Draws.{Drawing, Ref}
 use Rattle.gen1_machine.specs.declared.choice.Choice.{Choice}
 use Rattle.gen1_machine.specs.declared.picks.Pick.{Pick}
 use Rattle.gen1_machine.specs.declared.side.Side.TheVariants.{One, Two}
 use Rattle.gen1_machine.specs.Progress.{unless}
+use Rattle.gen1_machine.specs.State.{has_fallen_in, is_over}
 use Rattle.gen1_machine.specs.Ruling.{Ruling, ruling_of}
 use Rattle.gen1_machine.specs.ResidualDamage.{residual}
 use Rattle.gen1_machine.specs.Turn.{do_part, is_cut, Acts, Part, Suffers}
@@ -44,16 +45,27 @@ ActsAndSuffers {A = A} d random side pick s falls = s λ parts events k parts' e
     (ShowsOver d origin k g parts events random.entry.now false p
     → PartLeaves (ShowsOver d origin k' g parts' events' random.exit.now) falls (do_part (ruling_of g.setting.terms) (Acts side pick)) side p)
 
+-- The bytes represent only fields in which no active member has fallen and the battle goes on.
+abbrev pub cut_in : Field → Bool
+cut_in f = has_fallen_in One f || has_fallen_in Two f || is_over f.outcome
+
+abbrev pub Uncut : Parts → Type 0
+Uncut parts = Reads parts false cut_in
+
 -- Code of a turn, for callers to which it doesn't matter whether the rest is skipped.
 abbrev pub Ends : {A : Type 0} → Drawing A → A → Known → Frame → Parts → Telling → A → Progress → Type 0
 Ends d origin k g parts events now p = (stopped : Bool) × ShowsOver d origin k g parts events now stopped p
 
--- It does what a phase does under the rules of the battle, if a premise holds.
-abbrev pub DoesTurn : {A : Type 0} → Drawing A → Ref A → Premise → Acting → (Ruling → Phase) → Type 0
-DoesTurn {A = A} d random premise s phase = s λ parts events k parts' events' k'.
+-- The same with an answer: unless it is true, the turn isn't cut.
+abbrev pub EndsCut : {A : Type 0} → Drawing A → A → Known → Frame → Parts → Telling → A → Bool → Progress → Type 0
+EndsCut d origin k g parts events now cut p = Ends d origin k g parts events now p × (cut ≡ false → is_cut p ≡ false)
+
+-- It does what a phase does under the rules of the battle, if a premise holds, and says whether the turn may be cut.
+abbrev pub DoesTurn : {A : Type 0} → Drawing A → Ref A → Premise → Acting → Bool → (Ruling → Phase) → Type 0
+DoesTurn {A = A} d random premise s cut phase = s λ parts events k parts' events' k'.
     (origin : A) (g : Frame) (p : Progress) → premise g p
     (ShowsOver d origin k g parts events random.entry.now false p
-    → Ends d origin k' g parts' events' random.exit.now (phase (ruling_of g.setting.terms) p))
+    → EndsCut d origin k' g parts' events' random.exit.now cut (phase (ruling_of g.setting.terms) p))
 
 -- The premise about the plans for these choices.
 abbrev pub Chooses : Choice → Choice → (Side → Plan) → Progress → Type 0

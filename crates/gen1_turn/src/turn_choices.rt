@@ -1,15 +1,17 @@
 //! A turn, by both choices (docs/MECHANICS.md, "Order of a turn").
 ghost use Rattle.std.specs.Prelude.{◌≡◌};
 ghost use Rattle.gen1_layout.specs.Operations.{Does, DoesAnyway, DoesWhere, holding, quiet, scene};
-ghost use Rattle.gen1_layout.specs.Words.{AddsAtMost, Bool, Event, HasRoom, List, false, length, member_in, other};
+ghost use Rattle.gen1_layout.specs.Words.{AddsAtMost, Bool, Event, Frame, HasRoom, List, Progress, Shows, false, length, member_in, other};
 ghost use Rattle.gen1_machine.specs.declared.side.Side.TheVariants as sides;
 ghost use Rattle.gen1_machine.specs.Conditions.{without_flinch};
 ghost use Rattle.gen1_machine.specs.State.{active_in};
 ghost use Rattle.gen1_machine.specs.Progress.{on_conditions};
 ghost use Rattle.gen1_machine.specs.Picks.{picked_after};
 ghost use Rattle.gen1_machine.specs.Plans.{Any, FitsPick, InRange};
-ghost use Rattle.gen1_machine.specs.Turn.{both_pick, both_switch, do_parts, one_picks, play_turn, set_picked, turn};
+ghost use Rattle.gen1_machine.specs.Turn.{both_pick, both_switch, do_parts, is_cut, one_picks, play_turn, set_picked, turn};
 ghost use Rattle.gen1_machine.specs.Valid.{IsUsedMove};
+ghost use Rattle.gen1_machine.specs.Ruling.{ruling_of};
+ghost use Rattle.gen1_action.specs.Knowing.{knowing, with_broke};
 ghost use Rattle.gen1_turn.specs.TurnParts.{Chooses, DoesTurn, acts_in_turn};
 ghost use Rattle.gen1_turn.specs.Action.{acting, aware_after, planning};
 
@@ -23,7 +25,7 @@ use gen1_machine::{Choice, Pick, Place, Side, UsedMove};
 use gen1_rolls::Rolls;
 use gen1_status::pick;
 
-// A whole turn. No member has fainted after it yet.
+// A whole turn. No member has fainted after it yet. Unless it returns true, both members that are out live, and the battle goes on.
 pub(crate) fn take_turn<R: Rolls, S: EventSink>(
     battle: &mut Packed,
     one: Choice,
@@ -31,15 +33,15 @@ pub(crate) fn take_turn<R: Rolls, S: EventSink>(
     known: &mut Known,
     random: &mut BySide<R>,
     events: &mut S,
-)
+) -> bool
     requires room { HasRoom S.room 48 events.old }
     ensures shown { DoesTurn R.drawing random (planning (Chooses one two))
-        (acting known (scene S.tells battle events)) (λ r. turn r one two) }
+        (acting known (scene S.tells battle events)) result (λ r. turn r one two) }
     ensures room { AddsAtMost S.room 48 events.old events.new }
 {
     end_flinch(battle, Side::One);
     end_flinch(battle, Side::Two);
-    act_on_choices(battle, one, two, known, random, events);
+    act_on_choices(battle, one, two, known, random, events)
 }
 
 /// Ends the flinch of `side`, with which a turn begins (docs/MECHANICS.md, "Order of a turn").
@@ -57,10 +59,10 @@ fn act_on_choices<R: Rolls, S: EventSink>(
     known: &mut Known,
     random: &mut BySide<R>,
     events: &mut S,
-)
+) -> bool
     requires room { HasRoom S.room 48 events.old }
     ensures shown { DoesTurn R.drawing random (planning (Chooses one two))
-        (acting known (scene S.tells battle events)) (λ r. play_turn r one two) }
+        (acting known (scene S.tells battle events)) result (λ r. play_turn r one two) }
     ensures room { AddsAtMost S.room 48 events.old events.new }
 {
     match one {
@@ -68,23 +70,23 @@ fn act_on_choices<R: Rolls, S: EventSink>(
             Choice::Move(_) => {
                 let first = pick(battle, Side::One, one);
                 let second = pick(battle, Side::Two, two);
-                both_pick(battle, first, second, known, random, events);
+                both_pick(battle, first, second, known, random, events)
             }
             Choice::Switch(place) => {
                 let first = pick(battle, Side::One, one);
-                one_picks(battle, Side::One, first, place, known, random, events);
+                one_picks(battle, Side::One, first, place, known, random, events)
             }
-            Choice::Pass => {}
+            Choice::Pass => true
         },
         Choice::Switch(place) => match two {
             Choice::Move(_) => {
                 let second = pick(battle, Side::Two, two);
-                one_picks(battle, Side::Two, second, place, known, random, events);
+                one_picks(battle, Side::Two, second, place, known, random, events)
             }
             Choice::Switch(other) => both_switch(battle, place, other, known, events),
-            Choice::Pass => {}
+            Choice::Pass => true
         },
-        Choice::Pass => {}
+        Choice::Pass => true
     }
 }
 
@@ -95,11 +97,11 @@ fn both_pick<R: Rolls, S: EventSink>(
     known: &mut Known,
     random: &mut BySide<R>,
     events: &mut S,
-)
+) -> bool
     requires room { HasRoom S.room 48 events.old }
     ensures shown { DoesTurn R.drawing random
         (planning (λ plan p. FitsPick one (plan sides.One) × FitsPick two (plan sides.Two)))
-        (acting known (scene S.tells battle events)) (λ r. both_pick r one two) }
+        (acting known (scene S.tells battle events)) result (λ r. both_pick r one two) }
     ensures room { AddsAtMost S.room 48 events.old events.new }
 {
     set_picked(battle, Side::One, one);
@@ -134,20 +136,21 @@ fn both_act<R: Rolls, S: EventSink>(
     known: &mut Known,
     random: &mut BySide<R>,
     events: &mut S,
-)
+) -> bool
     requires room { HasRoom S.room 48 events.old }
     ensures shown { DoesTurn R.drawing random
         (planning (λ plan p. FitsPick mine (plan side) × FitsPick others (plan (other side))))
-        (acting known (scene S.tells battle events)) (λ r. do_parts r (acts_in_turn side mine others)) }
+        (acting known (scene S.tells battle events)) result (λ r. do_parts r (acts_in_turn side mine others)) }
     ensures room { AddsAtMost S.room 48 events.old events.new }
 {
     if act_and_suffer(battle, side, mine, known, random, events) {
-        return;
+        return true;
     }
     if act_and_suffer(battle, side.other(), others, known, random, events) {
-        return;
+        return true;
     }
     end_turn(battle);
+    false
 }
 
 // One side uses a move. The other switches first.
@@ -160,22 +163,23 @@ fn one_picks<R: Rolls, S: EventSink>(
     known: &mut Known,
     random: &mut BySide<R>,
     events: &mut S,
-)
+) -> bool
     requires room { HasRoom S.room 48 events.old }
     ensures shown { DoesTurn R.drawing random
         (planning (λ plan p. FitsPick pick (plan side) × (plan (other side) ≡ Any)
         × InRange (other side) place p.field)) (acting known (scene S.tells battle events))
-        (λ r. one_picks r side pick place) }
+        result (λ r. one_picks r side pick place) }
     ensures room { AddsAtMost S.room 48 events.old events.new }
 {
     set_picked(battle, side, pick);
     if sends_and_suffers(battle, side.other(), place, known, events) {
-        return;
+        return true;
     }
     if act_and_suffer(battle, side, pick, known, random, events) {
-        return;
+        return true;
     }
     end_turn(battle);
+    false
 }
 
 // Both sides switch, side 1 first.
@@ -185,19 +189,24 @@ fn both_switch<S: EventSink>(
     two: Place,
     known: &mut Known,
     events: &mut S,
-)
+) -> bool
     requires room { HasRoom S.room 48 events.old }
     ensures shown { (broke : Bool) → DoesAnyway
         (λ g p Then. InRange sides.One one p.field → InRange sides.Two two p.field → Then)
         (aware_after broke known (scene S.tells battle events))
         (λ r. do_parts r (both_switch one two)) }
+    ensures uncut { (broke : Bool) (g : Frame) (p : Progress) → result ≡ false
+        → InRange sides.One one p.field → InRange sides.Two two p.field
+        → Shows (knowing (with_broke broke known.old) g) battle.old (S.tells events.old) false p
+        → is_cut (do_parts (ruling_of g.setting.terms) (both_switch one two) p) ≡ false }
     ensures room { AddsAtMost S.room 48 events.old events.new }
 {
     if sends_and_suffers(battle, Side::One, one, known, events) {
-        return;
+        return true;
     }
     if sends_and_suffers(battle, Side::Two, two, known, events) {
-        return;
+        return true;
     }
     end_turn(battle);
+    false
 }

@@ -16,7 +16,7 @@ use gen1_action::Known;
 use gen1_events::EventSink;
 use gen1_layout::Packed;
 use gen1_machine::Choice;
-use gen1_requests::close;
+use gen1_requests::{close, close_uncut};
 use gen1_rolls::Rolls;
 
 /// Plays a turn of a battle that asks for moves, by an offered choice of each side (docs/MECHANICS.md, "Order of a
@@ -43,8 +43,11 @@ pub fn turn<R: Rolls, S: EventSink>(
 {
     let mut known = Known::new();
     let mut by_side = BySide(random);
-    take_turn(battle, one, two, &mut known, &mut by_side, events);
-    close(battle, known.side, events);
+    if take_turn(battle, one, two, &mut known, &mut by_side, events) {
+        close(battle, known.side, events);
+    } else {
+        close_uncut(battle, events);
+    }
     let BySide(left) = by_side;
     left
 }

@@ -165,6 +165,14 @@ mod falls {
         }
     }
 
+    /// Closes an update as [`close`] does, where both members that are out live and the battle goes on. None of that is tested again.
+    ///
+    /// It needs three free places in `events`.
+    #[inline(always)] // docs/SPEED.md, "Hints on inlining"
+    pub fn close_uncut<S: EventSink>(battle: &mut Packed, events: &mut S) {
+        go_on(battle, events);
+    }
+
     fn fault_in(outcome: Outcome) -> Option<u8> {
         match outcome {
             Outcome::Fault(number) => Some(number),
@@ -776,7 +784,7 @@ mod switching_in {
 
 
 pub use choice_test::is_offered;
-pub use falls::close;
+pub use falls::{close, close_uncut};
 pub use mask_choices::{choice_at, count_of};
 pub use masks::offered_mask;
 pub use offered_choices::{Choices, offered};

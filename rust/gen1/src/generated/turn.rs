@@ -547,7 +547,7 @@ mod turn_choices {
     use crate::generated::rolls::Rolls;
     use crate::generated::status::pick;
 
-    // A whole turn. No member has fainted after it yet.
+    // A whole turn. No member has fainted after it yet. Unless it returns true, both members that are out live, and the battle goes on.
     pub(crate) fn take_turn<R: Rolls, S: EventSink>(
         battle: &mut Packed,
         one: Choice,
@@ -555,10 +555,10 @@ mod turn_choices {
         known: &mut Known,
         random: &mut BySide<R>,
         events: &mut S,
-    ) {
+    ) -> bool {
         end_flinch(battle, Side::One);
         end_flinch(battle, Side::Two);
-        act_on_choices(battle, one, two, known, random, events);
+        act_on_choices(battle, one, two, known, random, events)
     }
 
     /// Ends the flinch of `side`, with which a turn begins ([docs/MECHANICS.md, "Order of a turn"](https://hibsuloy.example/gen1/blob/main/docs/MECHANICS.md#order-of-a-turn)).
@@ -573,29 +573,29 @@ mod turn_choices {
         known: &mut Known,
         random: &mut BySide<R>,
         events: &mut S,
-    ) {
+    ) -> bool {
         match one {
             Choice::Move(_) => match two {
                 Choice::Move(_) => {
                     let first = pick(battle, Side::One, one);
                     let second = pick(battle, Side::Two, two);
-                    both_pick(battle, first, second, known, random, events);
+                    both_pick(battle, first, second, known, random, events)
                 }
                 Choice::Switch(place) => {
                     let first = pick(battle, Side::One, one);
-                    one_picks(battle, Side::One, first, place, known, random, events);
+                    one_picks(battle, Side::One, first, place, known, random, events)
                 }
-                Choice::Pass => {}
+                Choice::Pass => true
             },
             Choice::Switch(place) => match two {
                 Choice::Move(_) => {
                     let second = pick(battle, Side::Two, two);
-                    one_picks(battle, Side::Two, second, place, known, random, events);
+                    one_picks(battle, Side::Two, second, place, known, random, events)
                 }
                 Choice::Switch(other) => both_switch(battle, place, other, known, events),
-                Choice::Pass => {}
+                Choice::Pass => true
             },
-            Choice::Pass => {}
+            Choice::Pass => true
         }
     }
 
@@ -606,7 +606,7 @@ mod turn_choices {
         known: &mut Known,
         random: &mut BySide<R>,
         events: &mut S,
-    ) {
+    ) -> bool {
         set_picked(battle, Side::One, one);
         set_picked(battle, Side::Two, two);
         match first_side(battle, random) {
@@ -634,14 +634,15 @@ mod turn_choices {
         known: &mut Known,
         random: &mut BySide<R>,
         events: &mut S,
-    ) {
+    ) -> bool {
         if act_and_suffer(battle, side, mine, known, random, events) {
-            return;
+            return true;
         }
         if act_and_suffer(battle, side.other(), others, known, random, events) {
-            return;
+            return true;
         }
         end_turn(battle);
+        false
     }
 
     // One side uses a move. The other switches first.
@@ -654,15 +655,16 @@ mod turn_choices {
         known: &mut Known,
         random: &mut BySide<R>,
         events: &mut S,
-    ) {
+    ) -> bool {
         set_picked(battle, side, pick);
         if sends_and_suffers(battle, side.other(), place, known, events) {
-            return;
+            return true;
         }
         if act_and_suffer(battle, side, pick, known, random, events) {
-            return;
+            return true;
         }
         end_turn(battle);
+        false
     }
 
     // Both sides switch, side 1 first.
@@ -672,14 +674,15 @@ mod turn_choices {
         two: Place,
         known: &mut Known,
         events: &mut S,
-    ) {
+    ) -> bool {
         if sends_and_suffers(battle, Side::One, one, known, events) {
-            return;
+            return true;
         }
         if sends_and_suffers(battle, Side::Two, two, known, events) {
-            return;
+            return true;
         }
         end_turn(battle);
+        false
     }
 }
 
@@ -866,7 +869,7 @@ mod turn_update {
     use crate::generated::events::EventSink;
     use crate::generated::layout::Packed;
     use crate::generated::machine::Choice;
-    use crate::generated::requests::close;
+    use crate::generated::requests::{close, close_uncut};
     use crate::generated::rolls::Rolls;
 
     /// Plays a turn of a battle that asks for moves, by an offered choice of each side ([docs/MECHANICS.md](https://hibsuloy.example/gen1/blob/main/docs/MECHANICS.md), "Order of a
@@ -885,8 +888,11 @@ mod turn_update {
     ) -> R {
         let mut known = Known::new();
         let mut by_side = BySide(random);
-        take_turn(battle, one, two, &mut known, &mut by_side, events);
-        close(battle, known.side, events);
+        if take_turn(battle, one, two, &mut known, &mut by_side, events) {
+            close(battle, known.side, events);
+        } else {
+            close_uncut(battle, events);
+        }
         let BySide(left) = by_side;
         left
     }

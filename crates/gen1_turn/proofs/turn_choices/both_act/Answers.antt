@@ -5,15 +5,17 @@ use Rattle.gen1_machine.specs.Sides.{other}
 use Rattle.gen1_machine.specs.Turn.{do_part, do_parts, end_turn, Acts, Suffers}
 use Rattle.gen1_machine.specs.Plans.{with_plan, Any, FitsPick, Plan}
 use Rattle.gen1_machine.proofs.ValidTurns.{act_part, suffers_part, with_plan-other}
-use Rattle.gen1_turn.proofs.Turns.{ended, ends_as}
+use Rattle.gen1_turn.proofs.Turns.{cut_short, ended, ended_uncut, ends_as}
 use Rattle.gen1_turn.proofs.turn_choices.both_act.Goals as goal
 
 pub returns-then-act_and_suffer-clause-shown : goal.returns-then-act_and_suffer-clause-shown
 unfolding do_parts do_part
 returns-then-act_and_suffer-clause-shown t c origin g p plan (mine, others) v h =
-    let s = c.args.side in
-    (rw c.if-act_and_suffer.true at (c.act_and_suffer.ensures.shown origin g p plan mine v h))
-    (do_parts (ruling_of g.setting.terms) (Acts (other s) c.args.others ∷ Suffers (other s) ∷ []))
+    let s = c.args.side in (
+      (rw c.if-act_and_suffer.true at (c.act_and_suffer.ensures.shown origin g p plan mine v h))
+          (do_parts (ruling_of g.setting.terms) (Acts (other s) c.args.others ∷ Suffers (other s) ∷ [])),
+      λ e. cut_short e,
+    )
 
 pub returns-then-act_and_suffer-2-clause-shown : goal.returns-then-act_and_suffer-2-clause-shown
 unfolding do_parts do_part
@@ -26,7 +28,7 @@ returns-then-act_and_suffer-2-clause-shown t c origin g p plan (mine, others) v 
     let next = subst (λ (x : Plan). FitsPick c.args.others x) (sym (with_plan-other s Any plan)) others in
     let second = rw c.other.ensures at c.act_and_suffer-2.ensures.shown in
     let b = rw c.if-act_and_suffer-2.true at (second origin g _ (with_plan s Any plan) next valid a.0) in
-    ends_as c.act_and_suffer-2.new.known g _ _ (a.1 rest) (b end_turn)
+    (ends_as c.act_and_suffer-2.new.known g _ _ (a.1 rest) (b end_turn), λ e. cut_short e)
 
 pub returns-clause-shown : goal.returns-clause-shown
 unfolding do_parts do_part
@@ -39,4 +41,8 @@ returns-clause-shown t c origin g p plan (mine, others) v h =
     let next = subst (λ (x : Plan). FitsPick c.args.others x) (sym (with_plan-other s Any plan)) others in
     let second = rw c.other.ensures at c.act_and_suffer-2.ensures.shown in
     let b = rw c.if-act_and_suffer-2.false at (second origin g _ (with_plan s Any plan) next valid a.0) in
-    ends_as c.act_and_suffer-2.new.known g _ _ (a.1 rest ∙ b.1 end_turn) (ended c.act_and_suffer-2.new.known g end_turn (λ g p k. quietly k (c.end_turn.ensures.shown _ g p)) b.0)
+    let is = a.1 rest ∙ b.1 end_turn in
+    let shown = b.0.1.shows in (
+      ends_as c.act_and_suffer-2.new.known g _ _ is (ended c.act_and_suffer-2.new.known g end_turn (λ g p k. quietly k (c.end_turn.ensures.shown _ g p)) b.0),
+      λ e. ended_uncut _ _ is shown.ends (c.act_and_suffer-2.ensures.uncut c.if-act_and_suffer-2.false _ _ shown.within),
+    )

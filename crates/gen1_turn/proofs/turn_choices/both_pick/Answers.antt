@@ -4,7 +4,7 @@ use Rattle.gen1_machine.specs.Ruling.{ruling_of}
 use Rattle.gen1_machine.specs.Turn.{both_act, both_pick, do_parts, set_picked}
 use Rattle.gen1_machine.proofs.ValidTurns.{set_picked-keeps}
 use Rattle.gen1_action.specs.Knowing.{knowing, with_broke}
-use Rattle.gen1_turn.proofs.Turns.{ends_as, picked-fits}
+use Rattle.gen1_turn.proofs.Turns.{cut_as, picked-fits}
 use Rattle.gen1_turn.proofs.turn_choices.both_pick.Goals as goal
 
 pub returns-in-One-clause-shown : goal.returns-in-One-clause-shown
@@ -17,7 +17,7 @@ returns-in-One-clause-shown t c origin g p plan (one, two) v h =
     let vb = (set_picked-keeps terms plan Two c.args.two two).kept _ va in
     let d = rw c.in-One.is at (c.first_side.ensures.shown origin _ _ _ (drawn_as_list b)) in
     let q = c.both_act.ensures.shown origin g _ plan (one, two) vb (h.0, drawn_from_list b d.1) in
-    ends_as c.both_act.new.known g _ _
+    cut_as c.both_act.new.known g _ _
     (then-goes (set_picked One c.args.one) _ p a.shows.ends ∙ then-goes (set_picked Two c.args.two) _ _ b.shows.ends
     ∙ d.2 (λ s. do_parts (ruling_of terms) (both_act c.args.one c.args.two s))) q
 
@@ -31,6 +31,6 @@ returns-in-Two-clause-shown t c origin g p plan (one, two) v h =
     let vb = (set_picked-keeps terms plan Two c.args.two two).kept _ va in
     let d = rw c.in-Two.is at (c.first_side.ensures.shown origin _ _ _ (drawn_as_list b)) in
     let q = c.both_act-in-Two.ensures.shown origin g _ plan (two, one) vb (h.0, drawn_from_list b d.1) in
-    ends_as c.both_act-in-Two.new.known g _ _
+    cut_as c.both_act-in-Two.new.known g _ _
     (then-goes (set_picked One c.args.one) _ p a.shows.ends ∙ then-goes (set_picked Two c.args.two) _ _ b.shows.ends
     ∙ d.2 (λ s. do_parts (ruling_of terms) (both_act c.args.one c.args.two s))) q

@@ -3,7 +3,7 @@ use Rattle.gen1_layout.proofs.Words.{[], false, Phase, quietly, ◌∙◌}
 use Rattle.gen1_machine.specs.declared.side.Side.TheVariants.{Two}
 use Rattle.gen1_machine.specs.Ruling.{ruling_of}
 use Rattle.gen1_machine.specs.Turn.{do_part, do_parts, end_turn, Sends, Suffers}
-use Rattle.gen1_turn.proofs.Turns.{room-after, stops_as}
+use Rattle.gen1_turn.proofs.Turns.{cut_short, ended_uncut, room-after, stops_as}
 use Rattle.gen1_turn.proofs.turn_choices.both_switch.Goals as goal
 
 pub returns-then-sends_and_suffers-clause-shown : goal.returns-then-sends_and_suffers-clause-shown
@@ -31,3 +31,19 @@ returns-clause-shown t c broke g p x y h =
     let there = room-after g.setting.terms c.args.one c.args.two p y in
     let b = rw c.if-sends_and_suffers-2.false at (c.sends_and_suffers-2.ensures.shown g _ c.sends_and_suffers.new.known.broke r there a.0) in
     stops_as _ _ (a.1 rest ∙ b.1 end_turn) (false, quietly b.0 (c.end_turn.ensures.shown _ _ _))
+
+pub returns-then-sends_and_suffers-clause-uncut : goal.returns-then-sends_and_suffers-clause-uncut
+returns-then-sends_and_suffers-clause-uncut t c broke g p e = cut_short e
+
+pub returns-then-sends_and_suffers-2-clause-uncut : goal.returns-then-sends_and_suffers-2-clause-uncut
+returns-then-sends_and_suffers-2-clause-uncut t c broke g p e = cut_short e
+
+pub returns-clause-uncut : goal.returns-clause-uncut
+unfolding do_parts do_part
+returns-clause-uncut t c broke g p e x y h =
+    let r = ruling_of g.setting.terms in
+    let rest : Phase = do_parts r (Sends Two c.args.two ∷ Suffers Two ∷ []) in
+    let a = rw c.if-sends_and_suffers.false at (c.sends_and_suffers.ensures.shown g p broke r x h) in
+    let there = room-after g.setting.terms c.args.one c.args.two p y in
+    let b = rw c.if-sends_and_suffers-2.false at (c.sends_and_suffers-2.ensures.shown g _ c.sends_and_suffers.new.known.broke r there a.0) in
+    ended_uncut _ _ (a.1 rest ∙ b.1 end_turn) b.0.ends (c.sends_and_suffers-2.ensures.uncut c.if-sends_and_suffers-2.false _ _ b.0.within)

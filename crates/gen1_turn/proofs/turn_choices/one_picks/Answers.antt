@@ -5,7 +5,7 @@ use Rattle.gen1_machine.specs.Sides.{other}
 use Rattle.gen1_machine.specs.Turn.{do_part, do_parts, end_turn, one_picks, set_picked, Acts, Suffers}
 use Rattle.gen1_machine.proofs.ValidTurns.{send_part, set_picked-keeps, suffers_part}
 use Rattle.gen1_action.specs.Knowing.{knowing, with_broke}
-use Rattle.gen1_turn.proofs.Turns.{ended, ends_as, ends_still, over_still, picked-fits, picked-range}
+use Rattle.gen1_turn.proofs.Turns.{cut_short, ended, ended_uncut, ends_as, ends_still, over_still, picked-fits, picked-range}
 use Rattle.gen1_turn.proofs.turn_choices.one_picks.Goals as goal
 
 pub returns-then-sends_and_suffers-clause-shown : goal.returns-then-sends_and_suffers-clause-shown
@@ -18,7 +18,7 @@ returns-then-sends_and_suffers-clause-shown t c origin g p plan (fits, any, ther
     let a = still {g' = knowing (with_broke h.0 c.args.known.now) g} h.1 (quietly h.1.shows (c.set_picked.ensures.shown _ _ _ (picked-fits terms plan s c.args.pick p fits v))) refl in
     let first = rw c.other.ensures at c.sends_and_suffers.ensures.shown in
     let x = rw c.if-sends_and_suffers.true at (first (record g { drawn = (set_picked s c.args.pick p).drawn }) _ h.0 (ruling_of terms) (picked-range s (other s) c.args.pick c.args.place p there) a.shows) in
-    ends_as k g _ _ (then-goes (set_picked s c.args.pick) _ p a.shows.ends) (ends_still c.args.known.now k g a (x rest))
+    (ends_as k g _ _ (then-goes (set_picked s c.args.pick) _ p a.shows.ends) (ends_still c.args.known.now k g a (x rest)), λ e. cut_short e)
 
 pub returns-then-act_and_suffer-clause-shown : goal.returns-then-act_and_suffer-clause-shown
 unfolding one_picks do_parts do_part
@@ -34,7 +34,7 @@ returns-then-act_and_suffer-clause-shown t c origin g p plan (fits, any, there) 
     let x = rw c.if-sends_and_suffers.false at (first (record g { drawn = (set_picked s c.args.pick p).drawn }) _ h.0 (ruling_of terms) range a.shows) in
     let vx = (suffers_part terms plan (other s)).kept _ ((send_part terms plan (other s) c.args.place any).led _ (va, range)) in
     let y = rw c.if-act_and_suffer.true at (c.act_and_suffer.ensures.shown origin g _ plan fits vx (over_still c.args.known.now k g a x.0)) in
-    ends_as c.act_and_suffer.new.known g _ _ (then-goes (set_picked s c.args.pick) _ p a.shows.ends ∙ x.1 rest) (y end_turn)
+    (ends_as c.act_and_suffer.new.known g _ _ (then-goes (set_picked s c.args.pick) _ p a.shows.ends ∙ x.1 rest) (y end_turn), λ e. cut_short e)
 
 pub returns-clause-shown : goal.returns-clause-shown
 unfolding one_picks do_parts do_part
@@ -50,4 +50,8 @@ returns-clause-shown t c origin g p plan (fits, any, there) v h =
     let x = rw c.if-sends_and_suffers.false at (first (record g { drawn = (set_picked s c.args.pick p).drawn }) _ h.0 (ruling_of terms) range a.shows) in
     let vx = (suffers_part terms plan (other s)).kept _ ((send_part terms plan (other s) c.args.place any).led _ (va, range)) in
     let y = rw c.if-act_and_suffer.false at (c.act_and_suffer.ensures.shown origin g _ plan fits vx (over_still c.args.known.now k g a x.0)) in
-    ends_as c.act_and_suffer.new.known g _ _ (then-goes (set_picked s c.args.pick) _ p a.shows.ends ∙ x.1 rest ∙ y.1 end_turn) (ended c.act_and_suffer.new.known g end_turn (λ g p k. quietly k (c.end_turn.ensures.shown _ g p)) y.0)
+    let is = then-goes (set_picked s c.args.pick) _ p a.shows.ends ∙ x.1 rest ∙ y.1 end_turn in
+    let shown = y.0.1.shows in (
+      ends_as c.act_and_suffer.new.known g _ _ is (ended c.act_and_suffer.new.known g end_turn (λ g p k. quietly k (c.end_turn.ensures.shown _ g p)) y.0),
+      λ e. ended_uncut _ _ is shown.ends (c.act_and_suffer.ensures.uncut c.if-act_and_suffer.false _ _ shown.within),
+    )

@@ -3,7 +3,7 @@ use Rattle.gen1_machine.specs.declared.side.Side.TheVariants.{One, Two}
 use Rattle.gen1_machine.specs.Conditions.{without_flinch}
 use Rattle.gen1_machine.specs.Turn.{turn}
 use Rattle.gen1_action.specs.Knowing.{knowing, with_broke}
-use Rattle.gen1_turn.proofs.Turns.{ends_as, flinch-comes, flinch-planned}
+use Rattle.gen1_turn.proofs.Turns.{cut_as, flinch-comes, flinch-planned}
 use Rattle.gen1_turn.proofs.turn_choices.take_turn.Goals as goal
 
 pub returns-clause-shown : goal.returns-clause-shown
@@ -17,4 +17,4 @@ returns-clause-shown t c origin g p plan (one, two, x, y) v h =
     let still_one = flinch-comes c.args.one Two One _ (flinch-comes c.args.one One One p x) in
     let still_two = flinch-comes c.args.two Two Two _ (flinch-comes c.args.two One Two p y) in
     let q = c.act_on_choices.ensures.shown origin g _ plan (one, two, still_one, still_two) vb (h.0, b) in
-    ends_as c.act_on_choices.new.known g _ _ (then-goes (on_conditions One without_flinch) _ p a.shows.ends ∙ then-goes (on_conditions Two without_flinch) _ _ b.shows.ends) q
+    cut_as c.act_on_choices.new.known g _ _ (then-goes (on_conditions One without_flinch) _ p a.shows.ends ∙ then-goes (on_conditions Two without_flinch) _ _ b.shows.ends) q
