@@ -41,15 +41,15 @@ pub fn close<S: EventSink>(battle: &mut Packed, actor: Side, events: &mut S)
     }
 }
 
-/// Closes an update as [`close`] does, where both members that are out live and the battle goes on. None of that is tested again.
+/// Closes an update like [`close`], if both members that are out live and the battle goes on. It tests neither again.
 ///
-/// It needs three free places in `events`.
+/// It writes at most one event, and needs one free place in `events`.
 #[inline(always)] // docs/SPEED.md, "Hints on inlining"
 pub fn close_uncut<S: EventSink>(battle: &mut Packed, events: &mut S)
-    requires space { HasRoom S.room 3 events.old }
+    requires space { HasRoom S.room 1 events.old }
     ensures shown { DoesAnyway (λ g p Then. is_cut p ≡ false → Then) (scene S.tells battle events)
         (λ r p. close r p.field.outcome p) }
-    ensures room { AddsAtMost S.room 3 events.old events.new }
+    ensures room { AddsAtMost S.room 1 events.old events.new }
 {
     go_on(battle, events);
 }

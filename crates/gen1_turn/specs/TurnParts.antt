@@ -45,10 +45,11 @@ ActsAndSuffers {A = A} d random side pick s falls = s λ parts events k parts' e
     (ShowsOver d origin k g parts events random.entry.now false p
     → PartLeaves (ShowsOver d origin k' g parts' events' random.exit.now) falls (do_part (ruling_of g.setting.terms) (Acts side pick)) side p)
 
--- The bytes represent only fields in which no active member has fallen and the battle goes on.
+-- An active member has fallen, or the battle can't go on.
 abbrev pub cut_in : Field → Bool
 cut_in f = has_fallen_in One f || has_fallen_in Two f || is_over f.outcome
 
+-- The bytes represent only fields in which no active member has fallen and the battle goes on.
 abbrev pub Uncut : Parts → Type 0
 Uncut parts = Reads parts false cut_in
 
