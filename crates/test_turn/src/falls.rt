@@ -5,7 +5,7 @@ use crate::setting::{
 };
 use gen1_layout::Packed;
 use gen1_machine::{Event, EventList, FaultCode, Outcome, Request, Side};
-use gen1_requests::close;
+use gen1_requests::{close, close_uncut};
 use gen1_stats::Status;
 use std::test::Fail;
 
@@ -16,6 +16,13 @@ fn closed_with(battle: &mut Packed, fallen: &[Side]) -> EventList {
     }
     let mut events = EventList::new();
     close(battle, USER, &mut events);
+    events
+}
+
+// The same where no member has fallen, which is not tested.
+fn closed_uncut(battle: &mut Packed) -> EventList {
+    let mut events = EventList::new();
+    close_uncut(battle, &mut events);
     events
 }
 
@@ -133,6 +140,21 @@ fn turn_1000_ends_in_a_tie(rt: HostRuntime) -> Result<(), Fail> {
     let events = closed_with(&mut battle, &[]);
     assert_told(&rt, &events, &[Event::Tie]);
     assert_same(&rt, (battle.turn(), battle.outcome()), (1000, Outcome::Tie));
+    assert_same(&rt, requests(&battle), (Request::Pass, Request::Pass));
+    Ok(())
+}
+
+// The next turn, and then a tie at the limit (docs/MECHANICS.md, "Falls and requests", "Turn limit").
+#[test]
+fn an_uncut_turn_ends_the_same(rt: HostRuntime) -> Result<(), Fail> {
+    let mut battle = started_within(2)?;
+    let before = bytes_of(&battle);
+    let events = closed_uncut(&mut battle);
+    assert_told(&rt, &events, &[turn(2)?]);
+    assert_bytes(&rt, &battle, with(before, 1, &[2, 0]));
+    let events = closed_uncut(&mut battle);
+    assert_told(&rt, &events, &[Event::Tie]);
+    assert_same(&rt, (battle.turn(), battle.outcome()), (2, Outcome::Tie));
     assert_same(&rt, requests(&battle), (Request::Pass, Request::Pass));
     Ok(())
 }

@@ -485,7 +485,7 @@ mod falls {
     };
     use gen1::generated::layout::Packed;
     use gen1::generated::machine::{Event, EventList, FaultCode, Outcome, Request, Side};
-    use gen1::generated::requests::close;
+    use gen1::generated::requests::{close, close_uncut};
     use gen1::generated::stats::Status;
     use gen1_tests::testing::Fail;
 
@@ -496,6 +496,13 @@ mod falls {
         }
         let mut events = EventList::new();
         close(battle, USER, &mut events);
+        events
+    }
+
+    // The same where no member has fallen, which is not tested.
+    fn closed_uncut(battle: &mut Packed) -> EventList {
+        let mut events = EventList::new();
+        close_uncut(battle, &mut events);
         events
     }
 
@@ -613,6 +620,21 @@ mod falls {
         let events = closed_with(&mut battle, &[]);
         assert_told(&rt, &events, &[Event::Tie]);
         assert_same(&rt, (battle.turn(), battle.outcome()), (1000, Outcome::Tie));
+        assert_same(&rt, requests(&battle), (Request::Pass, Request::Pass));
+        Ok(())
+    }
+
+    // The next turn, and then a tie at the limit (docs/MECHANICS.md, "Falls and requests", "Turn limit").
+    #[test]
+    fn an_uncut_turn_ends_the_same() -> Result<(), Fail> { let rt = gen1_tests::testing::HostRuntime;
+        let mut battle = started_within(2)?;
+        let before = bytes_of(&battle);
+        let events = closed_uncut(&mut battle);
+        assert_told(&rt, &events, &[turn(2)?]);
+        assert_bytes(&rt, &battle, with(before, 1, &[2, 0]));
+        let events = closed_uncut(&mut battle);
+        assert_told(&rt, &events, &[Event::Tie]);
+        assert_same(&rt, (battle.turn(), battle.outcome()), (2, Outcome::Tie));
         assert_same(&rt, requests(&battle), (Request::Pass, Request::Pass));
         Ok(())
     }

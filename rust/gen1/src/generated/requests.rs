@@ -165,9 +165,9 @@ mod falls {
         }
     }
 
-    /// Closes an update as [`close`] does, where both members that are out live and the battle goes on. None of that is tested again.
+    /// Closes an update like [`close`], if both members that are out live and the battle goes on. It tests neither again.
     ///
-    /// It needs three free places in `events`.
+    /// It writes at most one event, and needs one free place in `events`.
     #[inline(always)] // docs/SPEED.md, "Hints on inlining"
     pub fn close_uncut<S: EventSink>(battle: &mut Packed, events: &mut S) {
         go_on(battle, events);

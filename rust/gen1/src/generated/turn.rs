@@ -547,7 +547,7 @@ mod turn_choices {
     use crate::generated::rolls::Rolls;
     use crate::generated::status::pick;
 
-    // A whole turn. No member has fainted after it yet. Unless it returns true, both members that are out live, and the battle goes on.
+    // A whole turn. No member has fainted after it yet. If it returns false, both members that are out live and the battle goes on.
     pub(crate) fn take_turn<R: Rolls, S: EventSink>(
         battle: &mut Packed,
         one: Choice,
