@@ -11,8 +11,8 @@ use Rattle.gen1_machine.specs.declared.choice.Choice.TheVariants as choices
 use Rattle.gen1_machine.specs.declared.picks.Pick.{Pick}
 use Rattle.gen1_machine.specs.declared.picks.Pick.TheVariants.{Continue, Held, Idle, Use}
 use Rattle.gen1_machine.specs.declared.side.Side.TheVariants.{One, Two}
-use Rattle.gen1_machine.specs.Conditions.{without_flinch, without_trapping}
-use Rattle.gen1_machine.specs.State.{ActiveConditions, changed_active, changed_conditions, Terms}
+use Rattle.gen1_machine.specs.Conditions.{ActiveConditions, without_flinch, without_trapping}
+use Rattle.gen1_machine.specs.State.{changed_active, changed_conditions, Terms}
 use Rattle.gen1_machine.specs.Progress.{on_action, underway, unless}
 use Rattle.gen1_machine.specs.Picks.{pick_in, picked_after}
 use Rattle.gen1_machine.specs.ResidualDamage.{residual}
@@ -33,7 +33,7 @@ use Rattle.gen1_layout.specs.Operations.{Does, between}
 use Rattle.gen1_action.specs.declared.known.Known.{Known}
 use Rattle.gen1_action.specs.Knowing.{begun, knowing, with_broke, ShowsOver}
 use Rattle.gen1_action.specs.Planned.{Follows}
-use Rattle.gen1_turn.specs.TurnParts.{cut_in, suffering, Ends, EndsCut, LeavesRest, PartLeaves}
+use Rattle.gen1_turn.specs.TurnParts.{suffering, Ends, EndsCut, LeavesRest, PartLeaves}
 
 -- Residual damage, and whether the turn is cut after it
 
@@ -46,6 +46,7 @@ pub cut_after : (g : Frame) (parts : Parts) (events : Telling) (s : Side) (p : P
 cut_after g parts events s p true now whole a = λ rest. (false, if_not _ _ _ whole (goes _ _ a (if_so _ _ _ now (stays a))))
 cut_after g parts events s p false now whole a = (
   a,
+  now,
   λ rest. choose-false is_cut stay (residual s ▸ unless is_cut rest) p whole ∙ then-goes (residual s) _ p a.ends
       ∙ choose-false is_cut stay rest (residual s p) now,
 )
@@ -56,7 +57,7 @@ pub sent_left : (g : Frame) {parts : Parts} {events : Telling} (parts' : Parts) 
     → Shows g parts events false (f p) → LeavesRest (Shows g parts' events') falls (suffering s) (residual s) (f p)
     → PartLeaves (Shows g parts' events') falls f s p
 sent_left g parts' events' true f s p a left = λ rest. let x = left rest in (x.0, goes f _ a x.1)
-sent_left g parts' events' false f s p a left = (left.0, λ rest. then-goes f _ p a.ends ∙ left.1 rest)
+sent_left g parts' events' false f s p a left = (left.0, left.1, λ rest. then-goes f _ p a.ends ∙ left.2 rest)
 
 module _ {A : Type 0} {d : Drawing A} {origin : A} where
   pub acted_left : (k : Known) (g : Frame) {parts : Parts} {events : Telling} (parts' : Parts) (events' : Telling) (now : A) (falls : Bool) (f : Phase) (s : Side) (p : Progress)
@@ -67,7 +68,8 @@ module _ {A : Type 0} {d : Drawing A} {origin : A} where
       λ rest. let x = left rest in (x.0, (a.0, drawn_goes f _ a.1 (still {g' = knowing (with_broke a.0 k) g} a.1 x.1 refl)))
   acted_left k g parts' events' now false f s p a left = (
     (a.0, still {g' = knowing (with_broke a.0 k) g} a.1 left.0 refl),
-    λ rest. then-goes f _ p a.1.shows.ends ∙ left.1 rest,
+    left.1,
+    λ rest. then-goes f _ p a.1.shows.ends ∙ left.2 rest,
   )
 
   -- What a switch shows, with a generator that hasn't moved.
@@ -138,11 +140,11 @@ spent_cut s p = by (is_spent (underway s p).trapping) refl
         let is = choose-false (λ q. is_spent (underway s q).trapping) (on_conditions s without_trapping) stay p e in
         (ap is_cut is, ap (λ (q : Progress). q.stopped) is)
 
-pub ended_uncut : (q q' : Progress) → q ≡ end_turn q' → q'.stopped ≡ false → false ≡ cut_in q'.field → is_cut q ≡ false
+pub ended_uncut : (q q' : Progress) → q ≡ end_turn q' → q'.stopped ≡ false → is_cut q' ≡ false → is_cut q ≡ false
 unfolding end_turn
 ended_uncut q q' e go uncut =
     let one = spent_cut One q' in
-    ap is_cut (e ∙ then-goes (end_spent_trapping One) (end_spent_trapping Two) q' (one.1 ∙ go)) ∙ (spent_cut Two _).0 ∙ one.0 ∙ sym uncut
+    ap is_cut (e ∙ then-goes (end_spent_trapping One) (end_spent_trapping Two) q' (one.1 ∙ go)) ∙ (spent_cut Two _).0 ∙ one.0 ∙ uncut
 
 -- An action begins, and nothing of it is known.
 pub begun_still : (k k' : Known) (g : Frame) (broke : Bool) {parts : Parts} {events : Telling} {b : Bool} {p : Progress} (s : Side) → k' ≡ begun s k

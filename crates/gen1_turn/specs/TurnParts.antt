@@ -1,12 +1,11 @@
 -- What the parts of a turn show, each with the residual damage of its side (docs/MECHANICS.md, "Order of a turn").
-use Rattle.std.specs.Prelude.{◌∷◌, ◌≡◌, ◌||◌}
-use Rattle.gen1_layout.specs.Words.{Bool, Event, Field, Frame, List, Phase, Progress, Reads, ShowsDrawn, Side, Telling, Told, [], false, other, true, ℕ, ◌▸◌}
+use Rattle.std.specs.Prelude.{◌∷◌, ◌≡◌}
+use Rattle.gen1_layout.specs.Words.{Bool, Event, Frame, List, Phase, Progress, ShowsDrawn, Side, Telling, Told, [], false, other, true, ℕ, ◌▸◌}
 use Rattle.gen1_rolls.specs.Draws.{Drawing, Ref}
 use Rattle.gen1_machine.specs.declared.choice.Choice.{Choice}
 use Rattle.gen1_machine.specs.declared.picks.Pick.{Pick}
 use Rattle.gen1_machine.specs.declared.side.Side.TheVariants.{One, Two}
 use Rattle.gen1_machine.specs.Progress.{unless}
-use Rattle.gen1_machine.specs.State.{has_fallen_in, is_over}
 use Rattle.gen1_machine.specs.Ruling.{Ruling, ruling_of}
 use Rattle.gen1_machine.specs.ResidualDamage.{residual}
 use Rattle.gen1_machine.specs.Turn.{do_part, is_cut, Acts, Part, Suffers}
@@ -25,10 +24,10 @@ Orders {A = A} d random parts result order =
     × ((begins : Side → Phase) → order begins p ≡ begins result (record p { drawn = n }))
 
 -- What is shown when the rest of a turn may be skipped. If it is skipped, the whole turn is shown, whatever its rest
--- is. Otherwise what came before the rest is shown, and only the rest is left.
+-- is. Otherwise what came before the rest is shown, the turn isn't cut, and only the rest is left.
 abbrev pub LeavesRest : (Bool → Progress → Type 0) → Bool → (Phase → Phase) → Phase → Progress → Type 0
 LeavesRest Shown true before done p = (rest : Phase) → (stopped : Bool) × Shown stopped (before rest p)
-LeavesRest Shown false before done p = Shown false (done p) × ((rest : Phase) → before rest p ≡ rest (done p))
+LeavesRest Shown false before done p = Shown false (done p) × (is_cut (done p) ≡ false) × ((rest : Phase) → before rest p ≡ rest (done p))
 
 -- A side's residual damage, before the rest of a turn that isn't cut.
 abbrev pub suffering : Side → Phase → Phase
@@ -44,14 +43,6 @@ ActsAndSuffers {A = A} d random side pick s falls = s λ parts events k parts' e
     (origin : A) (g : Frame) (p : Progress) → picked side pick g p
     (ShowsOver d origin k g parts events random.entry.now false p
     → PartLeaves (ShowsOver d origin k' g parts' events' random.exit.now) falls (do_part (ruling_of g.setting.terms) (Acts side pick)) side p)
-
--- An active member has fallen, or the battle can't go on.
-abbrev pub cut_in : Field → Bool
-cut_in f = has_fallen_in One f || has_fallen_in Two f || is_over f.outcome
-
--- The bytes represent only fields in which no active member has fallen and the battle goes on.
-abbrev pub Uncut : Parts → Type 0
-Uncut parts = Reads parts false cut_in
 
 -- Code of a turn, for callers to which it doesn't matter whether the rest is skipped.
 abbrev pub Ends : {A : Type 0} → Drawing A → A → Known → Frame → Parts → Telling → A → Progress → Type 0

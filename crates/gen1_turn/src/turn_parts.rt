@@ -1,14 +1,16 @@
 //! The parts of a turn, each with the residual damage of its side (docs/MECHANICS.md, "Order of a turn").
-ghost use Rattle.std.specs.Prelude.{◌≡◌};
+ghost use Rattle.std.specs.Prelude.{◌||◌, ◌≡◌};
 ghost use Rattle.gen1_layout.specs.Operations.{Does, quiet, scene};
 ghost use Rattle.gen1_layout.specs.Words.{AddsAtMost, Bool, Event, Frame, HasRoom, List, Progress, Reads, Shows, false};
+ghost use Rattle.gen1_machine.specs.declared.side.Side.TheVariants as sides;
+ghost use Rattle.gen1_machine.specs.State.{has_fallen_in, is_over};
 ghost use Rattle.gen1_machine.specs.Plans.{InRange};
 ghost use Rattle.gen1_machine.specs.ResidualDamage.{residual};
 ghost use Rattle.gen1_machine.specs.Ruling.{Ruling};
 ghost use Rattle.gen1_machine.specs.Turn.{Acts as ActsPart, Sends, do_part, end_spent_trapping, end_turn, is_spent};
 ghost use Rattle.gen1_action.specs.Knowing.{knowing, with_broke};
 ghost use Rattle.gen1_turn.specs.Action.{Acts, acting, picked};
-ghost use Rattle.gen1_turn.specs.TurnParts.{ActsAndSuffers, LeavesRest, PartLeaves, Uncut, cut_in, suffering};
+ghost use Rattle.gen1_turn.specs.TurnParts.{ActsAndSuffers, LeavesRest, PartLeaves, suffering};
 
 use crate::act;
 use crate::by_side::BySide;
@@ -33,7 +35,6 @@ pub(crate) fn act_and_suffer<R: Rolls, S: EventSink>(
     requires room { HasRoom S.room 24 events.old }
     ensures shown { ActsAndSuffers R.drawing random side pick
         (acting known (scene S.tells battle events)) result }
-    ensures uncut { result ≡ false → Uncut battle.new }
     ensures room { AddsAtMost S.room 24 events.old events.new }
 {
     match side {
@@ -58,7 +59,6 @@ pub fn act_and_suffer_as<R: Rolls, S: EventSink>(
     requires room { HasRoom S.room 24 events.old }
     ensures shown { ActsAndSuffers R.drawing random side pick
         (acting known (scene S.tells battle events)) result }
-    ensures uncut { result ≡ false → Uncut battle.new }
     ensures room { AddsAtMost S.room 24 events.old events.new }
 {
     if act_unless_skipped(battle, side, pick, known, random, events) {
@@ -105,7 +105,6 @@ pub fn sends_and_suffers<S: EventSink>(
         → Shows (knowing (with_broke broke known.old) g) battle.old (S.tells events.old) false p
         → PartLeaves (Shows (knowing known.new g) battle.new (S.tells events.new)) result
         (do_part r (Sends side place)) side p }
-    ensures uncut { result ≡ false → Uncut battle.new }
     ensures room { AddsAtMost S.room 4 events.old events.new }
 {
     *known = known.begun(side);
@@ -120,7 +119,6 @@ fn suffer<S: EventSink>(battle: &mut Packed, side: Side, events: &mut S) -> bool
     ensures shown { (g : Frame) (p : Progress) → Shows g battle.old (S.tells events.old) false p
         → LeavesRest (Shows g battle.new (S.tells events.new)) result (suffering side) (residual side)
         p }
-    ensures uncut { result ≡ false → Uncut battle.new }
     ensures room { AddsAtMost S.room 3 events.old events.new }
 {
     if is_cut(battle) {
@@ -136,7 +134,8 @@ fn suffer<S: EventSink>(battle: &mut Packed, side: Side, events: &mut S) -> bool
 
 // Whether an active member has fallen, or the battle is over.
 fn is_cut(battle: &Packed) -> bool
-    ensures stands { Reads battle.now result cut_in }
+    ensures stands { Reads battle.now result λ f.
+        (has_fallen_in sides.One f || has_fallen_in sides.Two f || is_over f.outcome) }
 {
     battle.has_fallen(Side::One) || battle.has_fallen(Side::Two) || battle.outcome().is_over()
 }

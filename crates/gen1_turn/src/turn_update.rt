@@ -1,11 +1,13 @@
 //! The update of a battle that asks both sides for a move: a turn, and its close (docs/MECHANICS.md, "Order of a
 //! turn", "Falls and requests").
-ghost use Rattle.gen1_layout.specs.Operations.{scene};
-ghost use Rattle.gen1_layout.specs.Words.{AddsAtMost, HasRoom, [], ℕ};
+ghost use Rattle.std.specs.Prelude.{◌≡◌};
+ghost use Rattle.gen1_layout.specs.Operations.{DoesAnyway, scene};
+ghost use Rattle.gen1_layout.specs.Words.{AddsAtMost, HasRoom, [], false, ℕ};
 ghost use Rattle.gen1_machine.specs.declared.terms.Request.TheVariants.{Move};
 ghost use Rattle.gen1_machine.specs.State.{State};
+ghost use Rattle.gen1_machine.specs.Falls.{close};
 ghost use Rattle.gen1_machine.specs.Ruling.{ruling_of};
-ghost use Rattle.gen1_machine.specs.Turn.{turn};
+ghost use Rattle.gen1_machine.specs.Turn.{is_cut, turn};
 ghost use Rattle.gen1_machine.specs.Step.{close_update};
 ghost use Rattle.gen1_layout.specs.Within.{Stands, setting_of};
 ghost use Rattle.gen1_requests.specs.Updates.{Plays, UpdatesDrawing, drawing_on};
@@ -15,7 +17,7 @@ use crate::turn_choices::take_turn;
 use gen1_action::Known;
 use gen1_events::EventSink;
 use gen1_layout::Packed;
-use gen1_machine::Choice;
+use gen1_machine::{Choice, Side};
 use gen1_requests::{close, close_uncut};
 use gen1_rolls::Rolls;
 
@@ -43,11 +45,23 @@ pub fn turn<R: Rolls, S: EventSink>(
 {
     let mut known = Known::new();
     let mut by_side = BySide(random);
-    if take_turn(battle, one, two, &mut known, &mut by_side, events) {
-        close(battle, known.side, events);
-    } else {
-        close_uncut(battle, events);
-    }
+    let cut = take_turn(battle, one, two, &mut known, &mut by_side, events);
+    close_turn(battle, cut, known.side, events);
     let BySide(left) = by_side;
     left
+}
+
+// The end of an update after a turn. One that wasn't cut is not looked at again.
+fn close_turn<S: EventSink>(battle: &mut Packed, cut: bool, actor: Side, events: &mut S)
+    requires space { HasRoom S.room 3 events.old }
+    ensures shown { DoesAnyway
+        (λ g p Then. g.action.side ≡ actor → (cut ≡ false → is_cut p ≡ false) → Then)
+        (scene S.tells battle events) (λ r p. close r p.field.outcome p) }
+    ensures room { AddsAtMost S.room 3 events.old events.new }
+{
+    if cut {
+        close(battle, actor, events);
+        return;
+    }
+    close_uncut(battle, events);
 }

@@ -28,7 +28,7 @@ returns-then-act_and_suffer-2-clause-shown t c origin g p plan (mine, others) v 
     let next = subst (λ (x : Plan). FitsPick c.args.others x) (sym (with_plan-other s Any plan)) others in
     let second = rw c.other.ensures at c.act_and_suffer-2.ensures.shown in
     let b = rw c.if-act_and_suffer-2.true at (second origin g _ (with_plan s Any plan) next valid a.0) in
-    (ends_as c.act_and_suffer-2.new.known g _ _ (a.1 rest) (b end_turn), λ e. cut_short e)
+    (ends_as c.act_and_suffer-2.new.known g _ _ (a.2 rest) (b end_turn), λ e. cut_short e)
 
 pub returns-clause-shown : goal.returns-clause-shown
 unfolding do_parts do_part
@@ -41,8 +41,7 @@ returns-clause-shown t c origin g p plan (mine, others) v h =
     let next = subst (λ (x : Plan). FitsPick c.args.others x) (sym (with_plan-other s Any plan)) others in
     let second = rw c.other.ensures at c.act_and_suffer-2.ensures.shown in
     let b = rw c.if-act_and_suffer-2.false at (second origin g _ (with_plan s Any plan) next valid a.0) in
-    let is = a.1 rest ∙ b.1 end_turn in
-    let shown = b.0.1.shows in (
+    let is = a.2 rest ∙ b.2 end_turn in (
       ends_as c.act_and_suffer-2.new.known g _ _ is (ended c.act_and_suffer-2.new.known g end_turn (λ g p k. quietly k (c.end_turn.ensures.shown _ g p)) b.0),
-      λ e. ended_uncut _ _ is shown.ends (c.act_and_suffer-2.ensures.uncut c.if-act_and_suffer-2.false _ _ shown.within),
+      λ e. ended_uncut _ _ is b.0.1.shows.ends b.1,
     )

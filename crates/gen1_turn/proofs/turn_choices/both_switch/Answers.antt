@@ -20,7 +20,7 @@ returns-then-sends_and_suffers-2-clause-shown t c broke g p x y h =
     let a = rw c.if-sends_and_suffers.false at (c.sends_and_suffers.ensures.shown g p broke r x h) in
     let there = room-after g.setting.terms c.args.one c.args.two p y in
     let b = rw c.if-sends_and_suffers-2.true at (c.sends_and_suffers-2.ensures.shown g _ c.sends_and_suffers.new.known.broke r there a.0) in
-    stops_as _ _ (a.1 rest) (b end_turn)
+    stops_as _ _ (a.2 rest) (b end_turn)
 
 pub returns-clause-shown : goal.returns-clause-shown
 unfolding do_parts do_part
@@ -30,7 +30,7 @@ returns-clause-shown t c broke g p x y h =
     let a = rw c.if-sends_and_suffers.false at (c.sends_and_suffers.ensures.shown g p broke r x h) in
     let there = room-after g.setting.terms c.args.one c.args.two p y in
     let b = rw c.if-sends_and_suffers-2.false at (c.sends_and_suffers-2.ensures.shown g _ c.sends_and_suffers.new.known.broke r there a.0) in
-    stops_as _ _ (a.1 rest ∙ b.1 end_turn) (false, quietly b.0 (c.end_turn.ensures.shown _ _ _))
+    stops_as _ _ (a.2 rest ∙ b.2 end_turn) (false, quietly b.0 (c.end_turn.ensures.shown _ _ _))
 
 pub returns-then-sends_and_suffers-clause-uncut : goal.returns-then-sends_and_suffers-clause-uncut
 returns-then-sends_and_suffers-clause-uncut t c broke g p e = cut_short e
@@ -46,4 +46,4 @@ returns-clause-uncut t c broke g p e x y h =
     let a = rw c.if-sends_and_suffers.false at (c.sends_and_suffers.ensures.shown g p broke r x h) in
     let there = room-after g.setting.terms c.args.one c.args.two p y in
     let b = rw c.if-sends_and_suffers-2.false at (c.sends_and_suffers-2.ensures.shown g _ c.sends_and_suffers.new.known.broke r there a.0) in
-    ended_uncut _ _ (a.1 rest ∙ b.1 end_turn) b.0.ends (c.sends_and_suffers-2.ensures.uncut c.if-sends_and_suffers-2.false _ _ b.0.within)
+    ended_uncut _ _ (a.2 rest ∙ b.2 end_turn) b.0.ends b.1

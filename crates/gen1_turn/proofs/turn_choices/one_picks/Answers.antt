@@ -34,7 +34,7 @@ returns-then-act_and_suffer-clause-shown t c origin g p plan (fits, any, there) 
     let x = rw c.if-sends_and_suffers.false at (first (record g { drawn = (set_picked s c.args.pick p).drawn }) _ h.0 (ruling_of terms) range a.shows) in
     let vx = (suffers_part terms plan (other s)).kept _ ((send_part terms plan (other s) c.args.place any).led _ (va, range)) in
     let y = rw c.if-act_and_suffer.true at (c.act_and_suffer.ensures.shown origin g _ plan fits vx (over_still c.args.known.now k g a x.0)) in
-    (ends_as c.act_and_suffer.new.known g _ _ (then-goes (set_picked s c.args.pick) _ p a.shows.ends ∙ x.1 rest) (y end_turn), λ e. cut_short e)
+    (ends_as c.act_and_suffer.new.known g _ _ (then-goes (set_picked s c.args.pick) _ p a.shows.ends ∙ x.2 rest) (y end_turn), λ e. cut_short e)
 
 pub returns-clause-shown : goal.returns-clause-shown
 unfolding one_picks do_parts do_part
@@ -50,8 +50,7 @@ returns-clause-shown t c origin g p plan (fits, any, there) v h =
     let x = rw c.if-sends_and_suffers.false at (first (record g { drawn = (set_picked s c.args.pick p).drawn }) _ h.0 (ruling_of terms) range a.shows) in
     let vx = (suffers_part terms plan (other s)).kept _ ((send_part terms plan (other s) c.args.place any).led _ (va, range)) in
     let y = rw c.if-act_and_suffer.false at (c.act_and_suffer.ensures.shown origin g _ plan fits vx (over_still c.args.known.now k g a x.0)) in
-    let is = then-goes (set_picked s c.args.pick) _ p a.shows.ends ∙ x.1 rest ∙ y.1 end_turn in
-    let shown = y.0.1.shows in (
+    let is = then-goes (set_picked s c.args.pick) _ p a.shows.ends ∙ x.2 rest ∙ y.2 end_turn in (
       ends_as c.act_and_suffer.new.known g _ _ is (ended c.act_and_suffer.new.known g end_turn (λ g p k. quietly k (c.end_turn.ensures.shown _ g p)) y.0),
-      λ e. ended_uncut _ _ is shown.ends (c.act_and_suffer.ensures.uncut c.if-act_and_suffer.false _ _ shown.within),
+      λ e. ended_uncut _ _ is y.0.1.shows.ends y.1,
     )

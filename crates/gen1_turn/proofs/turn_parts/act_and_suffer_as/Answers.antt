@@ -1,6 +1,6 @@
 use Rattle.gen1_layout.proofs.Words.{drawn_settled, true}
 use Rattle.gen1_action.proofs.Knowledge.{over_stops}
-use Rattle.gen1_turn.proofs.Turns.{acted_left, cut_short}
+use Rattle.gen1_turn.proofs.Turns.{acted_left}
 use Rattle.gen1_turn.proofs.turn_parts.act_and_suffer_as.Goals as goal
 
 pub returns-then-act_unless_skipped-clause-shown : goal.returns-then-act_unless_skipped-clause-shown
@@ -14,9 +14,3 @@ returns-clause-shown t c origin g p plan fits v h =
     let a = c.act_unless_skipped.ensures.shown origin g p plan fits v h in
     let b = drawn_settled c.if-act_unless_skipped.false a.1 in
     acted_left k g _ _ _ c.suffer.result _ c.args.side p (a.0, b) (c.suffer.ensures.shown _ _ b.shows)
-
-pub returns-then-act_unless_skipped-clause-uncut : goal.returns-then-act_unless_skipped-clause-uncut
-returns-then-act_unless_skipped-clause-uncut t c e = cut_short e
-
-pub returns-clause-uncut : goal.returns-clause-uncut
-returns-clause-uncut t c = c.suffer.ensures.uncut

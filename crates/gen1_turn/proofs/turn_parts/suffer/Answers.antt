@@ -1,6 +1,6 @@
 use Rattle.gen1_layout.proofs.Words.{false, sym, ◌∙◌}
 use Rattle.gen1_status.proofs.Untested.{residual-spares}
-use Rattle.gen1_turn.proofs.Turns.{cut_after, cut_before, cut_short}
+use Rattle.gen1_turn.proofs.Turns.{cut_after, cut_before}
 use Rattle.gen1_turn.proofs.turn_parts.suffer.Goals as goal
 
 pub returns-then-is_cut-clause-shown : goal.returns-then-is_cut-clause-shown
@@ -16,12 +16,3 @@ pub returns-clause-shown : goal.returns-clause-shown
 returns-clause-shown t c g p h =
     let a = c.residual.ensures.shown g p h in
     cut_after g _ _ c.args.side p c.is_cut-2.result (sym (c.is_cut-2.ensures.stands _ _ a.within)) (sym (c.is_cut.ensures.stands _ _ h.within) ∙ c.if-is_cut.false) a
-
-pub returns-then-is_cut-clause-uncut : goal.returns-then-is_cut-clause-uncut
-returns-then-is_cut-clause-uncut t c e = cut_short e
-
-pub returns-then-not-suffers-clause-uncut : goal.returns-then-not-suffers-clause-uncut
-returns-then-not-suffers-clause-uncut t c e g f w = sym c.if-is_cut.false ∙ c.is_cut.ensures.stands g f w
-
-pub returns-clause-uncut : goal.returns-clause-uncut
-returns-clause-uncut t c e g f w = sym e ∙ c.is_cut-2.ensures.stands g f w

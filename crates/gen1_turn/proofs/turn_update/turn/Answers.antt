@@ -16,15 +16,15 @@ use Rattle.gen1_requests.specs.Updates.{drawing_on}
 use Rattle.gen1_requests.proofs.OfferedChoices.{comes_offered, planned, reopened, started}
 use Rattle.gen1_turn.proofs.turn_update.turn.Goals as goal
 
-pub returns-then-take_turn-clause-updated : goal.returns-then-take_turn-clause-updated
+pub returns-clause-updated : goal.returns-clause-updated
 unfolding close_update
-returns-then-take_turn-clause-updated t c s stands plays origin stream drawn w at =
+returns-clause-updated t c s stands plays origin stream drawn w at =
     let one = c.args.one in let two = c.args.two in
     let apart : (requests.Pass ≡ requests.Move → ⊥) = λ e. cc in
     let v = started s requests.Move one two stands.valid apart plays in
     let g : Frame = record { setting = setting_of s; stream = stream; drawn = drawn; skips = false; action = new_action One } in
     let p = drawing_on stream drawn s in
-    let shown = rw c.new-known.ensures at c.take_turn.ensures.shown in
+    let shown = rw c.new-known.ensures at c.take_turn-cut.ensures.shown in
     let plans = both-plan_of one two s.field in
     let comes_one = comes_offered s One one v.field plays.goes_on plays.first in
     let comes_two = comes_offered s Two two v.field plays.goes_on plays.second in
@@ -36,28 +36,5 @@ returns-then-take_turn-clause-updated t c s stands plays origin stream drawn w a
       },
     ) in
     let q : Progress = turn (ruling_of s.terms) one two p in
-    let d = c.close.ensures.shown (record (knowing (with_broke a.0.1.0 c.take_turn.new.known) g) { drawn = q.drawn }) (record q { stopped = false }) refl (reopened a.0.1.1.shows) in
-    record { within = d.1.within; written = d.1.written; stands = rw c.by_side.view_is (stands_there a.0.1.1.stands (sym d.1.drawn)) }
-
-pub returns-else-take_turn-clause-updated : goal.returns-else-take_turn-clause-updated
-unfolding close_update
-returns-else-take_turn-clause-updated t c s stands plays origin stream drawn w at =
-    let one = c.args.one in let two = c.args.two in
-    let apart : (requests.Pass ≡ requests.Move → ⊥) = λ e. cc in
-    let v = started s requests.Move one two stands.valid apart plays in
-    let g : Frame = record { setting = setting_of s; stream = stream; drawn = drawn; skips = false; action = new_action One } in
-    let p = drawing_on stream drawn s in
-    let shown = rw c.new-known.ensures at c.take_turn.ensures.shown in
-    let plans = both-plan_of one two s.field in
-    let comes_one = comes_offered s One one v.field plays.goes_on plays.first in
-    let comes_two = comes_offered s Two two v.field plays.goes_on plays.second in
-    let a = shown origin g p (both_plan one two s.field) (plans.0, plans.1, comes_one, comes_two) (planned s one two stream drawn v plays w) (
-      false,
-      record {
-        shows = record { within = within_of _ s stands v.field; written = c.requires.empty; ends = refl; stream = refl; drawn = refl; skips = refl; action = refl };
-        stands = at;
-      },
-    ) in
-    let q : Progress = turn (ruling_of s.terms) one two p in
-    let d = c.close_uncut.ensures.shown (record (knowing (with_broke a.0.1.0 c.take_turn.new.known) g) { drawn = q.drawn }) (record q { stopped = false }) (a.1 c.if-take_turn.false) (reopened a.0.1.1.shows) in
+    let d = c.close_turn.ensures.shown (record (knowing (with_broke a.0.1.0 c.take_turn-cut.new.known) g) { drawn = q.drawn }) (record q { stopped = false }) refl a.1 (reopened a.0.1.1.shows) in
     record { within = d.1.within; written = d.1.written; stands = rw c.by_side.view_is (stands_there a.0.1.1.stands (sym d.1.drawn)) }
