@@ -14,7 +14,7 @@ use Rattle.gen1_action.specs.declared.known.Known.{Known}
 use Rattle.gen1_action.specs.Knowing.{ShowsKnown, ShowsOver}
 use Rattle.gen1_action.specs.Planned.{Follows}
 use Rattle.gen1_turn.specs.Action.{Acts, DoesParts, acting, picked, planning, ready}
-use Rattle.gen1_turn.specs.TurnParts.{ActsAndSuffers, DoesTurn, Ends, PartLeaves}
+use Rattle.gen1_turn.specs.TurnParts.{ActsAndSuffers, DoesTurn, EndsCut, PartLeaves}
 
 module _ {S : Type 0} (tells : S → Telling) (battle : Ref Parts) (events : Ref S) (known : Ref Known) {A : Type 0} (d : Drawing A) (random : Ref A) where
   pub same-parts : (side : Side) (pick : Pick) (b : Bool) (phase : Ruling → Phase) → DoesParts d random (ready side pick) (acting known (scene tells battle events)) b phase
@@ -35,8 +35,8 @@ module _ {S : Type 0} (tells : S → Telling) (battle : Ref Parts) (events : Ref
       → PartLeaves (ShowsOver d origin known.exit.now g battle.exit.now (tells events.exit.now) random.exit.now) b (do_part (ruling_of g.setting.terms) (ActsPart side pick)) side p)
   same-suffers side pick b = refl
 
-  pub same-turn : (holds : (Side → Plan) → Progress → Type 0) (phase : Ruling → Phase) → DoesTurn d random (planning holds) (acting known (scene tells battle events)) phase
+  pub same-turn : (holds : (Side → Plan) → Progress → Type 0) (cut : Bool) (phase : Ruling → Phase) → DoesTurn d random (planning holds) (acting known (scene tells battle events)) cut phase
       ≡ ((origin : A) (g : Frame) (p : Progress) (plan : Side → Plan) → holds plan p → Follows g.setting.terms plan p
       → ShowsOver d origin known.entry.now g battle.entry.now (tells events.entry.now) random.entry.now false p
-      → Ends d origin known.exit.now g battle.exit.now (tells events.exit.now) random.exit.now (phase (ruling_of g.setting.terms) p))
-  same-turn holds phase = refl
+      → EndsCut d origin known.exit.now g battle.exit.now (tells events.exit.now) random.exit.now cut (phase (ruling_of g.setting.terms) p))
+  same-turn holds cut phase = refl

@@ -868,7 +868,7 @@ mod turn_update {
     use crate::generated::action::Known;
     use crate::generated::events::EventSink;
     use crate::generated::layout::Packed;
-    use crate::generated::machine::Choice;
+    use crate::generated::machine::{Choice, Side};
     use crate::generated::requests::{close, close_uncut};
     use crate::generated::rolls::Rolls;
 
@@ -888,13 +888,19 @@ mod turn_update {
     ) -> R {
         let mut known = Known::new();
         let mut by_side = BySide(random);
-        if take_turn(battle, one, two, &mut known, &mut by_side, events) {
-            close(battle, known.side, events);
-        } else {
-            close_uncut(battle, events);
-        }
+        let cut = take_turn(battle, one, two, &mut known, &mut by_side, events);
+        close_turn(battle, cut, known.side, events);
         let BySide(left) = by_side;
         left
+    }
+
+    // The end of an update after a turn. One that wasn't cut is not looked at again.
+    fn close_turn<S: EventSink>(battle: &mut Packed, cut: bool, actor: Side, events: &mut S) {
+        if cut {
+            close(battle, actor, events);
+            return;
+        }
+        close_uncut(battle, events);
     }
 }
 
