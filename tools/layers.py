@@ -28,8 +28,8 @@ LAYERS = (
         "test_effects", "test_multiturn", "test_turn", "test_engine", "test_views", "test_commands", "test_numbers", "test_devices")),
     ("Programs and C", "what opens files, prints, or is called from another language", (
         "battle_tool", "battle_commands", "battle_input", "trace_tool", "layout_tool", "gen1_c")),
-    ("Battle", "a turn, an update, all that it can lead to, a room of two players, what a player knows", (
-        "gen1_player", "gen1_room", "gen1_outcomes", "gen1_engine", "gen1_turn")),
+    ("Battle", "a turn, an update, all that it can lead to, playouts, a room of two players, what a player knows", (
+        "gen1_player", "gen1_room", "gen1_playouts", "gen1_outcomes", "gen1_engine", "gen1_turn")),
     ("Operations", "one phase of the machine each, over the 384 bytes", (
         "gen1_requests", "gen1_multiturn", "gen1_effects", "gen1_action", "gen1_status", "gen1_odds", "gen1_hits")),
     ("Representations", "a state as 384 bytes and as plain structs; events as bytes, as lines, as a view", (

@@ -8,22 +8,8 @@ pub mod Hits
 pub mod Updates
 -- A list of outcomes.
 pub mod Listed
--- While a battle goes on, each side is offered something.
-pub mod Offers
--- Pairs that were accepted, one after the other.
-pub mod Accepting
 -- Many battles, one after the other.
 pub mod OneByOne
--- Numbers that are drawn one after the other, and a round that begins with ten of them.
-pub mod Drawing
--- Choices of a mask, each as often as its weight says.
-pub mod Weighing
--- A battle that is played by random choices, update by update.
-pub mod Playing
--- The HP of two sides, compared.
-pub mod Shares
--- Playouts, one after the other.
-pub mod Counting
 -- No line of an event has more than 95 bytes.
 pub mod ShortLines
 -- Texts that are expected, and so are written.

@@ -9,9 +9,6 @@
 //! - `batches`: many battles in one call
 //! - `outcomes`: all battles that an update can lead to
 //! - `playouts`: battles played by random choices
-//! - `choice_generator`: the generator of their numbers and choices
-//! - `weights`: choices drawn by weights
-//! - `ahead`: which side is ahead
 //! - `team_text`: teams read from text
 //! - `events`: the events of a log
 //! - `event_bytes`: the bytes of an event
@@ -33,12 +30,10 @@
 //! - `fronts`: writing to the beginning of a caller's memory
 #![tactic(auto)]
 
-mod ahead;
 pub mod batches;
 pub mod battle;
 pub mod chart;
 pub mod choice;
-mod choice_generator;
 pub mod choices;
 mod codes;
 pub mod damage;
@@ -62,14 +57,14 @@ mod teams;
 pub mod texts;
 pub mod update;
 pub mod view;
-mod weights;
 
 pub use batches::BatchUpdate;
 pub use events::EventFields;
+pub use gen1_playouts::Playouts;
 pub use gen1_states::{ActiveState, BattleState, MemberState, SideState};
 pub use names::{BaseForm, MoveForm};
 pub use outcomes::OutcomeList;
-pub use playouts::{PlayoutCounts, PlayoutOptions};
+pub use playouts::PlayoutForm;
 pub use team_text::TextFaultForm;
 pub use teams::{MemberForm, TeamForm};
 pub use view::StateFaultForm;

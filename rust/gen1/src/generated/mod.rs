@@ -15,6 +15,7 @@ pub mod names;
 pub mod odds;
 pub mod outcomes;
 pub mod player;
+pub mod playouts;
 pub mod printer;
 pub mod requests;
 pub mod rolls;

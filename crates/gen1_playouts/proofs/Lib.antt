@@ -1,0 +1,14 @@
+-- While a battle goes on, each side is offered something.
+pub mod Offers
+-- Pairs that were accepted, one after the other.
+pub mod Accepting
+-- Numbers that are drawn one after the other, and a round that begins with ten of them.
+pub mod Drawing
+-- Choices of a mask, each as often as its weight says.
+pub mod Weighing
+-- A battle that is played by random choices, update by update.
+pub mod Playing
+-- The HP of two sides, compared.
+pub mod Shares
+-- Playouts, one after the other.
+pub mod Counting

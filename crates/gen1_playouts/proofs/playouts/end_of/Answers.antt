@@ -1,0 +1,19 @@
+use Rattle.std.proofs.Common.{subst, sym}
+use Rattle.gen1_rolls.specs.Link.{ring_of}
+use Rattle.gen1_engine.specs.Reseed.{reseeded}
+use Rattle.gen1_layout.specs.Parts.{Parts}
+use Rattle.gen1_layout.specs.Within.{Stands}
+use Rattle.gen1_playouts.proofs.Drawing.{begins-with, plays-round}
+use Rattle.gen1_playouts.proofs.playouts.end_of.Goals as goal
+
+pub returns-in-Ok-clause-ends : goal.returns-in-Ok-clause-ends
+returns-in-Ok-clause-ends c s h =
+    let copied = subst (λ (p : Parts). Stands p s) (sym c.in-Ok.ensures.copy) h in
+    let stands = begins-with c.new.ensures.start (c.reseed.ensures.stands s) copied in
+    (c.ten_numbers.result, c.run.ensures.ends (reseeded (ring_of c.ten_numbers.result) s) stands)
+
+pub returns-in-Ok-clause-played : goal.returns-in-Ok-clause-played
+returns-in-Ok-clause-played c s h =
+    let copied = subst (λ (p : Parts). Stands p s) (sym c.in-Ok.ensures.copy) h in
+    let stands = begins-with c.new.ensures.start (c.reseed.ensures.stands s) copied in
+    plays-round c.args.options.now s c.args.random.now.state c.ten_numbers.ensures.drawn c.ten_numbers.ensures.state (c.run.ensures.played (reseeded (ring_of c.ten_numbers.result) s) stands)

@@ -1,0 +1,2 @@
+-- How playouts end.
+pub mod Playouts

@@ -1,0 +1,197 @@
+//! Battles played by random choices, to their end or a number of updates long (include/gen1.h, "many battles").
+ghost use Rattle.std.specs.Prelude.{IfOk, IsOk, false, ◌+◌, ◌<◌, ◌≡◌};
+ghost use Rattle.gen1_machine.specs.State.{State, is_over};
+ghost use Rattle.gen1_layout.specs.Within.{Stands};
+ghost use Rattle.gen1_playouts.specs.Playouts.{EndsAs, IsDrawn, IsPlayedOut, IsRound, IsZeros, MayEndAs, PlaysOut, counting, drawn_from, end_in, most_updates, total};
+
+use crate::ahead::leader;
+use crate::choice_generator::ChoiceGenerator;
+use crate::weights::{has_weights, pick, pick_weighted, weights_of};
+use gen1_engine::packed::{count_of, offered_mask, reseed, result, update_offered};
+use gen1_events::Silent;
+use gen1_layout::Packed;
+use gen1_machine::{Choice, Outcome, Side};
+use gen1_rolls::LinkRandom;
+use std::alloc::AllocError;
+
+/// How playouts are played.
+#[derive(Clone, Copy)]
+pub struct PlayoutOptions {
+    /// The state of the generator before its first draw.
+    pub seed: u64,
+    /// How many rounds are played.
+    pub rounds: u32,
+    /// The number of updates after which a round is decided by the HP left. `None`: each round is played to its end.
+    pub depth: Option<u32>,
+    /// How often each choice is made compared to others: by the move's number, where Move 0 counts as Struggle, 165. The first is
+    /// the weight of each switch. Where all have the weight 0, all are alike.
+    pub weights: [u8; 166],
+}
+
+/// How playouts ended.
+#[repr(C)]
+#[derive(Clone, Copy)]
+pub struct Playouts {
+    /// Side 1 won, or is ahead.
+    pub wins_one: u32,
+    /// Side 2 won, or is ahead.
+    pub wins_two: u32,
+    /// Nobody won, and nobody is ahead.
+    pub ties: u32,
+    /// The battle could not go on.
+    pub faults: u32,
+}
+
+/// Plays copies of a battle, each with random numbers to draw and by random choices among those offered, and counts how they end.
+///
+/// A round draws the ten numbers of its copy. Then in each update each side takes one of the choices that it is offered, side 1 first.
+/// A round that still goes on after `depth` updates is won by the side that has the larger share of its HP left, and equal shares are
+/// a tie. A battle that is over counts as it ended. The same arguments give the same counts.
+pub fn playout(battle: &Packed, options: &PlayoutOptions) -> Playouts
+    ensures plays { (s : State) → Stands battle.now s
+        → PlaysOut options.now s options.now.rounds result }
+    ensures total { total result ≡ options.now.rounds }
+{
+    let by_weights = has_weights(&options.weights);
+    let mut random = ChoiceGenerator::new(options.seed);
+    let mut counts = Playouts {
+        wins_one: 0,
+        wins_two: 0,
+        ties: 0,
+        faults: 0,
+    };
+    'rounds: for _ in 0..options.rounds {
+        let end = end_of(battle, options, by_weights, &mut random);
+        count(end, &mut counts);
+    }
+    counts
+}
+
+fn count(end: Outcome, counts: &mut Playouts)
+    requires room { total counts.old < 4294967295 }
+    ensures counts { counts.new ≡ counting end counts.old }
+    ensures total { total counts.new ≡ total counts.old + 1 }
+{
+    match end {
+        Outcome::WinOne => counts.wins_one += 1,
+        Outcome::WinTwo => counts.wins_two += 1,
+        Outcome::Tie => counts.ties += 1,
+        Outcome::Ongoing => counts.faults += 1,
+        Outcome::Fault(_) => counts.faults += 1,
+    }
+}
+
+// How a round ends: a copy of a battle that draws from ten numbers of its own.
+fn end_of(
+    start: &Packed,
+    options: &PlayoutOptions,
+    by_weights: bool,
+    random: &mut ChoiceGenerator,
+) -> Outcome
+    requires none { by_weights ≡ false → IsZeros options.now.weights }
+    ensures ends { (s : State) → Stands start.now s → MayEndAs options.now.depth s result }
+    ensures played { (s : State) → Stands start.now s
+        → IsRound options.now s random.old.state result random.new.state }
+{
+    match copy_of(start) {
+        Ok(copy) => {
+            let mut copy = copy;
+            reseed(&mut copy, &LinkRandom::new(random.ten_numbers()));
+            run(&mut copy, options, by_weights, random)
+        }
+        // A copy allocates nothing, so this does not happen.
+        Err(_) => start.outcome(),
+    }
+}
+
+fn copy_of(battle: &Packed) -> Result<Packed, AllocError>
+    ensures copy { IfOk result (λ copy. copy ≡ battle.now) }
+    ensures always { IsOk result }
+{
+    Ok(battle.clone()?)
+}
+
+// Plays a battle by random choices to its end, or so many updates long, and returns how it ended.
+fn run(
+    battle: &mut Packed,
+    options: &PlayoutOptions,
+    by_weights: bool,
+    random: &mut ChoiceGenerator,
+) -> Outcome
+    requires none { by_weights ≡ false → IsZeros options.now.weights }
+    ensures ends { (s : State) → Stands battle.old s → EndsAs options.now.depth s result }
+    ensures played { (s : State) → Stands battle.old s
+        → IsPlayedOut options.now s random.old.state result random.new.state }
+{
+    'updates: for _ in 0..most_updates(battle.limit(), options.depth) {
+        let now = result(battle);
+        if now.outcome.is_over() {
+            return now.outcome;
+        }
+        let one = draw(battle, Side::One, options, by_weights, random);
+        let two = draw(battle, Side::Two, options, by_weights, random);
+        update_offered(battle, one, two, &mut Silent);
+    }
+    end_now(battle)
+}
+
+// A choice of a side, at random.
+#[inline(always)] // docs/SPEED.md, "Hints on inlining"
+fn draw(
+    battle: &Packed,
+    side: Side,
+    options: &PlayoutOptions,
+    by_weights: bool,
+    random: &mut ChoiceGenerator,
+) -> Choice
+    requires none { by_weights ≡ false → IsZeros options.now.weights }
+    ensures { (s : State) → Stands battle.now s → is_over s.field.outcome ≡ false
+        → IsDrawn random.old.state (drawn_from options.now.weights side s.field) result random.new.state }
+{
+    if by_weights {
+        return draw_by_weights(battle, side, options, random);
+    }
+    pick(offered_mask(battle, side), random)
+}
+
+#[inline(never)] // docs/SPEED.md, "Hints on inlining"
+fn draw_by_weights(
+    battle: &Packed,
+    side: Side,
+    options: &PlayoutOptions,
+    random: &mut ChoiceGenerator,
+) -> Choice
+    ensures { (s : State) → Stands battle.now s → is_over s.field.outcome ≡ false
+        → IsDrawn random.old.state (drawn_from options.now.weights side s.field) result random.new.state }
+{
+    let mask = offered_mask(battle, side);
+    // Before the first update no member is out whose moves could have weights, but then a side can only pass.
+    if count_of(mask) < 2 {
+        return pick(mask, random);
+    }
+    let weights = weights_of(battle, side, &options.weights);
+    pick_weighted(mask, &weights, random)
+}
+
+// How many updates a round takes at most: as many as any battle (docs/MECHANICS.md, "Turn limit"), or the depth, if that is fewer.
+fn most_updates(limit: u16, depth: Option<u32>) -> u32
+    ensures { result ≡ most_updates limit depth }
+{
+    let all = u32::from(limit) + 11;
+    match depth {
+        Some(depth) => all.min(depth),
+        None => all,
+    }
+}
+
+// How a battle ended, or which side is ahead in it.
+fn end_now(battle: &Packed) -> Outcome
+    ensures { (s : State) → Stands battle.now s → result ≡ end_in s.field }
+{
+    let now = result(battle);
+    if now.outcome.is_over() {
+        now.outcome
+    } else {
+        leader(battle)
+    }
+}

@@ -1,0 +1,132 @@
+//! Choices drawn by a table of weights (include/gen1.h, "many battles").
+ghost use Rattle.std.specs.Prelude.{false, length, map, slice_index_or, ◌%◌, ◌*◌, ◌<◌, ◌≡◌, ◌≤◌, ℕ};
+ghost use Rattle.gen1_machine.specs.declared.choice.Choice.{Choice};
+ghost use Rattle.gen1_machine.specs.declared.choice.Choice.TheVariants as choices;
+ghost use Rattle.gen1_machine.specs.State.{Field};
+ghost use Rattle.gen1_layout.specs.Within.{Setting, Within};
+ghost use Rattle.gen1_requests.specs.OfferedMask.{all_choices, choices_in};
+ghost use Rattle.gen1_playouts.specs.Playouts.{IsDrawn, IsZeros, repeated, weight_in, weighted};
+
+use crate::choice_generator::ChoiceGenerator;
+use gen1_engine::packed::{choice_at, count_of};
+use gen1_layout::Packed;
+use gen1_machine::{Choice, Side};
+
+// Whether a table has a weight other than 0.
+pub(crate) fn has_weights(table: &[u8; 166]) -> bool
+    ensures none { result ≡ false → IsZeros table.now }
+{
+    let mut most = 0;
+    for number in 0..166 {
+        most = table[number].max(most);
+    }
+    most > 0
+}
+
+/// Draws one of the choices of a mask, as `offered_mask` of gen1_engine returns it. From a mask without choices it draws nothing, and
+/// returns `Pass`.
+pub fn pick(mask: u16, random: &mut ChoiceGenerator) -> Choice
+    requires { mask < 4096 }
+    ensures drawn { 1 ≤ length (choices_in mask)
+        → IsDrawn random.old.state (choices_in mask) result random.new.state }
+    ensures none { length (choices_in mask) ≡ 0
+        → (result ≡ choices.Pass) × (random.new ≡ random.old) }
+{
+    let count = count_of(mask);
+    if count == 0 {
+        return Choice::Pass;
+    }
+    let place = random.below(count as usize) as u8;
+    choice_at(mask, place)
+}
+
+// The same by weights: of the list that has each choice as often as its weight says, or once if all have the weight 0.
+pub(crate) fn pick_weighted(mask: u16, weights: &[u8; 12], random: &mut ChoiceGenerator) -> Choice
+    requires { mask < 4096 }
+    ensures { (weight : Choice → ℕ) → weights.now ≡ map weight all_choices → 1 ≤ length (choices_in mask)
+        → IsDrawn random.old.state (weighted weight (choices_in mask)) result random.new.state }
+{
+    let sum = sum_of(mask, weights);
+    if sum == 0 {
+        return pick(mask, random);
+    }
+    let index = random.below(sum as usize) as u16;
+    choice_by_weight(mask, weights, index)
+}
+
+// The weights of the twelve choices of a side, by rising bytes.
+pub(crate) fn weights_of(battle: &Packed, side: Side, table: &[u8; 166]) -> [u8; 12]
+    ensures { (g : Setting) (f : Field) → Within g battle.now f
+        → result ≡ map (weight_in table.now side f) all_choices }
+{
+    let other = table[0];
+    [
+        other,
+        table[165],
+        weight_of_slot(battle, side, 1, table),
+        weight_of_slot(battle, side, 2, table),
+        weight_of_slot(battle, side, 3, table),
+        weight_of_slot(battle, side, 4, table),
+        other,
+        other,
+        other,
+        other,
+        other,
+        other,
+    ]
+}
+
+fn weight_of_slot(battle: &Packed, side: Side, slot: u8, table: &[u8; 166]) -> u8
+    requires low { 1 ≤ slot }
+    requires high { slot ≤ 4 }
+    ensures { (g : Setting) (f : Field) → Within g battle.now f
+        → result ≡ weight_in table.now side f (choices.Move slot) }
+{
+    let number = battle.move_in(side, slot) as usize;
+    if number < 166 { table[number] } else { 0 }
+}
+
+// How many choices there are, each as often as its weight says.
+fn sum_of(mask: u16, weights: &[u8; 12]) -> u16
+    requires { mask < 4096 }
+    ensures { (weight : Choice → ℕ) → weights.now ≡ map weight all_choices
+        → result ≡ length (repeated weight (choices_in mask)) }
+{
+    let mut sum = 0;
+    let mut rest = mask;
+    for digit in 0..12 {
+        sum += weight_at(rest, weights[digit]);
+        rest /= 2;
+    }
+    sum
+}
+
+// The choice at an index of the list that has each choice of a mask as often as its weight says.
+fn choice_by_weight(mask: u16, weights: &[u8; 12], index: u16) -> Choice
+    requires { mask < 4096 }
+    ensures { (weight : Choice → ℕ) → weights.now ≡ map weight all_choices
+        → index < length (repeated weight (choices_in mask))
+        → result ≡ slice_index_or (repeated weight (choices_in mask)) index choices.Pass }
+{
+    let mut left = index;
+    let mut place = 0;
+    let mut rest = mask;
+    for digit in 0..12 {
+        let weight = weight_at(rest, weights[digit]);
+        if left < weight {
+            return choice_at(mask, place);
+        }
+        left -= weight;
+        place += (rest % 2) as u8;
+        rest /= 2;
+    }
+    Choice::Pass
+}
+
+// The weight of a mask's lowest digit, or 0 if that digit is 0.
+fn weight_at(mask: u16, weight: u8) -> u16
+    ensures value { result ≡ mask % 2 * weight }
+    ensures bound { result ≤ 255 }
+{
+    if mask % 2 == 1 { u16::from(weight) } else { 0 }
+}
