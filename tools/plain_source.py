@@ -15,6 +15,7 @@ PRELUDE = ("Vec", "String")
 WITH_SERDE = {
     "gen1_engine": {"BattleResult"},
     "gen1_machine": {"CantReason", "DamageSource", "DisabledSlot", "Event", "Kind", "Outcome", "Request", "UsedMove", "Volatile", "Who"},
+    "gen1_playouts": {"Playouts"},
     "gen1_stats": {"KnownMove"},
     "gen1_tables": {"Element", "Stat"},
 }

@@ -30,7 +30,7 @@ pub struct PlayoutOptions {
 
 /// How playouts ended.
 #[repr(C)]
-#[derive(Clone, Copy)]
+#[derive(Clone, Copy, PartialEq, Eq, Debug, Drop)]
 pub struct Playouts {
     /// Side 1 won, or is ahead.
     pub wins_one: u32,

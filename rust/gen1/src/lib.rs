@@ -33,6 +33,7 @@
 //! | the whole state of a battle | [`Battle::state`], [`State`], [`Battle::from_state`], [`Battle::with_hp`] |
 //! | damage and exact chances | [`Battle::damage`], [`Battle::odds`], [`Battle::knock_out`] |
 //! | all that an update can lead to, with exact probabilities | `Battle::outcomes`, [`Battle::outcomes_into`], [`Battle::ways`] |
+//! | battles played by random choices, and how they end | [`Battle::playout`], [`PlayoutOptions`], [`Weights`], [`Playouts`] |
 //! | searches | [`Battle::offered_mask`], [`Battle::update_silent`], [`Battle::reseed`], [`Battle::key`] |
 //! | events without a list, logs | [`Battle::update_with`], [`EventSink`], [`events_of`] |
 //! | what a player knows | [`Player`], [`Teller`], [`Battle::own_side`], [`Battle::from_player`] |
@@ -49,7 +50,7 @@
 //!
 //! The crate is `no_std` and needs no allocator. `alloc` adds `Battle::outcomes`, whose list grows; [`Battle::outcomes_into`] and
 //! [`Battle::ways`] do without. `serde` adds `Serialize` and `Deserialize` for members, names, choices, sides, events,
-//! states, outcomes, odds and battles. A [`Team`] is only deserialized, from a list of members. A member is the object of
+//! states, outcomes, odds, playouts and battles. A [`Team`] is only deserialized, from a list of members. A member is the object of
 //! [docs/PROGRAM.md][program], a battle its 384 bytes, and a name its text:
 //!
 //! [program]: https://hibsuloy.example/gen1/blob/main/docs/PROGRAM.md
@@ -98,6 +99,7 @@ mod mask;
 mod odds;
 mod outcomes;
 mod player;
+mod playouts;
 mod room;
 #[cfg(feature = "serde")]
 mod serde_impls;
@@ -127,12 +129,14 @@ pub use crate::generated::player::{
     Announced, OwnMember, OwnSide, Public, PublicSide, Seen, SeenMove, SeenStages,
 };
 #[doc(inline)]
+pub use crate::generated::playouts::{PlayoutOptions, Playouts};
+#[doc(inline)]
 pub use crate::generated::room::{Reply, RoomRefusal, Submitted};
 #[doc(inline)]
 pub use crate::generated::stats::{KnownMove, Member, MemberSpec, Status, Team, TeamRefusal};
 #[doc(inline)]
 pub use crate::generated::tables::{Effect, Element, MoveId, Species, Stat};
-pub use additions::{OutOfRange, UnknownName, UnknownText};
+pub use additions::{OutOfRange, UnknownName, UnknownText, Weights};
 /// A list with a fixed capacity, stored inline: the type of lists in [`MemberSpec::moves`], [`State`] and [`Choices`].
 #[doc(no_inline)]
 pub use arrayvec::ArrayVec;

@@ -8,11 +8,13 @@ mod machine;
 mod odds;
 mod outcomes;
 mod player;
+mod playouts;
 mod room;
 mod stats;
 mod tables;
 
 pub use machine::UnknownText;
 pub(crate) use player::elements_at;
+pub use playouts::Weights;
 pub use tables::{OutOfRange, UnknownName};
 pub(crate) use tables::{as_number, ordered_by_key};

@@ -119,7 +119,7 @@ mod playouts {
 
     /// How playouts ended.
     #[repr(C)]
-    #[derive(Clone, Copy)]
+    #[derive(Clone, Copy, PartialEq, Eq, Debug)] #[cfg_attr(feature = "serde", derive(serde::Serialize, serde::Deserialize))]
     pub struct Playouts {
         /// Side 1 won, or is ahead.
         pub wins_one: u32,
