@@ -3,7 +3,7 @@ use Rattle.gen1_c.proofs.playouts.gen1_playout.Goals as goal
 
 pub returns-in-Ok-clause-plays : goal.returns-in-Ok-clause-plays
 returns-in-Ok-clause-plays c =
-    (Ok c.in-Ok.start, rw c.as_bytes.ensures.value at c.in-Ok.ensures.tests, (refl, c.counted.ensures.plays))
+    (Ok c.in-Ok.start, rw c.as_bytes.ensures.value at c.in-Ok.ensures.tests, (refl, rw c.options_of.ensures at c.playout.ensures.plays))
 
 pub returns-in-Err-clause-plays : goal.returns-in-Err-clause-plays
 returns-in-Err-clause-plays c =
