@@ -20,7 +20,7 @@ impl Battle {
     /// let weights = Weights::default().with_moves(4).with_move(MoveId::EXPLOSION, 0);
     /// let playouts = battle.playout(&PlayoutOptions::new(7, 100).with_depth(20).with_weights(weights));
     /// assert_eq!(playouts.rounds(), 100);
-    /// // Side 2 can deal no damage but by Struggle, which comes after forty Splashes.
+    /// // Splash does no damage, and twenty updates do not use up its PP.
     /// assert_eq!(playouts.wins(Side::Two), 0);
     /// # Ok(())
     /// # }
