@@ -9,6 +9,7 @@ const FULL: u128 = 1 << 127;
 
 /// What is open, as a digit of the state.
 const LIST: u8 = 0;
+
 const OBJECT: u8 = 1;
 
 /// What may come next in a JSON text. `true` is for the text of a key.

@@ -17,14 +17,20 @@ use gen1_tables::Stat;
 
 // Offsets in a member's block (docs/LAYOUT.md, "Member").
 const SPECIES: usize = 0;
+
 const LEVEL: usize = 1;
+
 const MOVES: usize = 15;
+
 const PP: usize = 19;
 
 // Offsets in an active block (docs/LAYOUT.md, "Active block").
 const PLACE: usize = 0;
+
 const TYPES: usize = 1;
+
 const STAGES: usize = 3;
+
 const DISABLED_SLOT: usize = 23;
 
 // The bit of Flinch (docs/LAYOUT.md, "Condition bits").

@@ -10,7 +10,9 @@ use gen1_machine::{Event, Side};
 
 // The bytes of outcomes; those of faults follow that of a tie (docs/LAYOUT.md, "Header").
 const WIN_ONE: u8 = 1;
+
 const WIN_TWO: u8 = 2;
+
 const TIE: u8 = 3;
 
 /// What the events of a battle from its start make public.

@@ -8,6 +8,7 @@ use std::marker::Model;
 
 // An unchanged stage, and the highest.
 const LEVEL: u8 = 6;
+
 const HIGHEST: u16 = 12;
 
 /// The stages of an active member, 0 to 12, with 6 for an unchanged stage.
