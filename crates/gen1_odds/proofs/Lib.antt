@@ -1,10 +1,11 @@
 -- How many of the 256 possible draws are below a bound.
 pub mod Counts
--- Sums over damages, and the ways to which draws lead.
-pub mod Ways
+-- Sums over damages, the ways to which draws lead, and what is known of one use.
+pub mod Sums
 -- The hit test by its draw, and the phases that contain it.
 pub mod Tested
 pub mod Dealt
 pub mod Counted
 -- The chances to knock out without the usual damage.
 pub mod FixedUses
+pub mod ThreeUses

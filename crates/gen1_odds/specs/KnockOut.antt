@@ -1,7 +1,7 @@
--- The chance that one use knocks out the foe, or two uses in a row, for independent draws. A chance is a number of ways out
--- of all of them. A use has 256 draws of the hit test. For the usual damage these come with 256 critical draws, 39 factors
--- and 8 cases of the number of hits.
-use Rattle.std.specs.Prelude.{Bool, List, None, Option, Some, if◌then◌else◌, max, not, replicate, suc, sum_by, zero, ℕ, ◌&&◌, ◌*◌, ◌+◌, ◌-◌, ◌/◌, ◌==◌}
+-- The chance that one use knocks out the foe, or two or three in a row, for independent draws. A chance is a number of ways
+-- out of all of them. A use has 256 draws of the hit test. For the usual damage these come with 256 critical draws, 39
+-- factors and 8 cases of the number of hits.
+use Rattle.std.specs.Prelude.{Bool, List, None, Option, Some, get_or, if◌then◌else◌, max, min, not, replicate, suc, sum_by, zero, ℕ, ◌%◌, ◌&&◌, ◌*◌, ◌+◌, ◌-◌, ◌/◌, ◌<◌, ◌==◌, ◌≡◌, ◌≤◌}
 use Rattle.std.specs.List.{range_with_len}
 use Rattle.gen1_machine.specs.declared.side.Side.{Side}
 use Rattle.gen1_machine.specs.Moves.{super_fang, Move}
@@ -10,7 +10,14 @@ use Rattle.gen1_machine.specs.Sides.{other}
 use Rattle.gen1_machine.specs.State.{conditions_in, member_in, Field}
 use Rattle.gen1_odds.specs.declared.hit_counts.HitCount.{HitCount}
 use Rattle.gen1_odds.specs.declared.hit_counts.HitCount.TheVariants.{Once, Several, Twice}
+use Rattle.gen1_odds.specs.declared.fixed_uses.Fixed.{Fixed}
+use Rattle.gen1_odds.specs.declared.knock_outs.Between.{Between}
 use Rattle.gen1_odds.specs.declared.knock_outs.Chances.{Chances}
+use Rattle.gen1_odds.specs.declared.knock_outs.Target.{Target}
+use Rattle.gen1_odds.specs.declared.knock_outs.ThreeChances.{ThreeChances}
+use Rattle.gen1_odds.specs.declared.usual_uses.Usual.{Usual}
+use Rattle.gen1_odds.specs.declared.ways.HpChange.{HpChange}
+use Rattle.gen1_odds.specs.declared.ways.Wide.{Wide}
 use Rattle.gen1_odds.specs.declared.odds.Odds.{Odds}
 use Rattle.gen1_odds.specs.Odds.{deals_usual, flag, hit_count, odds_in}
 use Rattle.gen1_odds.specs.Trials.{has_substitute_in}
@@ -70,6 +77,23 @@ after_fixed halves o next need =
     (sum_by (λ damage. next (need - taken halves need damage)) (range_with_len o.least (fixed_ways o)))
     (fixed_ways o * next need)
 
+-- Uses in a row
+
+-- Between two uses a foe with HP gains some, up to its most, and then loses some.
+abbrev pub changed : ℕ → HpChange → ℕ → ℕ
+changed most change zero = 0
+changed most change (suc left) = max (suc left) (min most (suc left + change.gained)) - change.lost
+
+-- Ways from the damage that is needed before a change of the HP.
+abbrev pub after_change : ℕ → HpChange → (ℕ → ℕ) → ℕ → ℕ
+after_change most change next need = next (changed most change need)
+
+abbrev pub two_uses : ((ℕ → ℕ) → ℕ → ℕ) → ℕ → HpChange → ℕ → ℕ
+two_uses after most change = after (after_change most change (after over))
+
+abbrev pub three_uses : ((ℕ → ℕ) → ℕ → ℕ) → ℕ → Between → ℕ → ℕ
+three_uses after most between = after (after_change most between.after_first (two_uses after most between.after_second))
+
 -- The whole
 
 abbrev pub chances_of : ((ℕ → ℕ) → ℕ → ℕ) → ℕ → ℕ → ℕ → Chances
@@ -92,3 +116,59 @@ chances_in r s move f =
     then chances_of (after_usual (hit_count move.effect) (odds_in r s move f)) 20447232 (needed_in (other s) f) (flag (has_substitute_in (other s) f))
     else chances_of (after_fixed (halves_in s move f) (odds_in r s move f)) (256 * fixed_ways (odds_in r s move f))
     (needed_in (other s) f) (flag (has_substitute_in (other s) f))
+
+-- A number of 128 bits in two words.
+abbrev pub in_words : ℕ → Wide
+in_words n = record { low = n % 18446744073709551616; high = n / 18446744073709551616 }
+
+abbrev pub three_of : ((ℕ → ℕ) → ℕ → ℕ) → ℕ → Target → ThreeChances
+three_of after ways target = record {
+  once = after over target.need;
+  once_of = ways;
+  twice = two_uses after target.most target.between.after_first target.need;
+  twice_of = ways * ways;
+  thrice = in_words (three_uses after target.most target.between target.need);
+  thrice_of = in_words (ways * ways * ways);
+  breaks_substitute = target.breaks_substitute;
+  zeros = replicate 7 0;
+}
+
+abbrev pub no_change : HpChange
+no_change = record { gained = 0; lost = 0 }
+
+-- Nothing changes the HP of a substitute between uses.
+abbrev pub between_in : Side → Between → Field → Between
+between_in s between f = if has_substitute_in s f then record { after_first = no_change; after_second = no_change } else between
+
+abbrev pub target_in : Side → Between → Field → Target
+target_in s between f = record {
+  need = needed_in s f;
+  most = (member_in s f).max;
+  between = between_in s between f;
+  breaks_substitute = flag (has_substitute_in s f);
+}
+
+abbrev pub three_chances_in : Between → Rules → Side → Move → Field → ThreeChances
+three_chances_in between r s move f =
+    let o = odds_in r s move f in
+    let target = target_in (other s) between f in
+    if deals_usual s move f then three_of (after_usual (hit_count move.effect) o) 20447232 target
+    else three_of (after_fixed (halves_in s move f) o) (256 * fixed_ways o) target
+
+-- What the code knows of one use
+
+abbrev pub after_use : Usual → (ℕ → ℕ) → ℕ → ℕ
+after_use u = after_usual u.count u.odds
+
+abbrev pub after_fixed_use : Fixed → (ℕ → ℕ) → ℕ → ℕ
+after_fixed_use u = after_fixed u.halves u.odds
+
+-- The ways for each number below a bound, none of which are more than the most.
+abbrev pub IsKnown : (ℕ → ℕ) → ℕ → List ℕ → ℕ → Type 0
+IsKnown ways most known filled = (need : ℕ) → need < filled → (get_or known need 0 ≡ ways need) × (ways need ≤ most)
+
+abbrev pub KnowsOnce : Usual → Type 0
+KnowsOnce u = IsKnown (after_use u over) 20447232 u.known u.filled
+
+abbrev pub KnowsOnceFixed : Fixed → Type 0
+KnowsOnceFixed u = IsKnown (after_fixed_use u over) 16777216 u.known u.filled

@@ -2,7 +2,10 @@
 //! "Hit test", "Fixed damage and one-hit moves", "Many hits").
 //!
 //! - `odds`: [`Odds`] of a move, for the two members that are out
-//! - `knock_outs`: [`Chances`] that one use or two knock out the foe
+//! - `knock_outs`: the chances that one to three uses knock out the foe
+//! - `usual_uses`: in how many ways they do so with the usual damage
+//! - `fixed_uses`: the same with a damage rule of their own
+//! - `ways`: numbers of ways, and the HP that are left between uses
 //! - `reasons`: why a use can't hit
 //! - `status_reasons`: the same for moves that give a status
 //! - `foe_reasons`: for other moves that change the foe
@@ -17,6 +20,7 @@
 
 mod chances;
 mod fixed_damage;
+mod fixed_uses;
 mod foe_reasons;
 mod hit_counts;
 mod knock_outs;
@@ -27,10 +31,12 @@ mod reasons;
 mod sights;
 mod status_reasons;
 mod trials;
+mod usual_uses;
+mod ways;
 
 pub use chances::takes_hit_test;
 pub use hit_counts::{drained, recoil};
-pub use knock_outs::{Chances, knock_out};
+pub use knock_outs::{Between, Chances, ThreeChances, knock_out, knock_out_in_three};
 pub use laws::{
     breaks_if_needed, confusion_counts, counter_counts, fixed_counts, immune_misses,
     must_hit_counts, one_hit_counts, paralysis_counts, poison_counts, seed_counts, slower_misses,
@@ -38,3 +44,4 @@ pub use laws::{
 };
 pub use odds::{Damages, Odds, odds_of};
 pub use reasons::Reason;
+pub use ways::{HpChange, Wide};

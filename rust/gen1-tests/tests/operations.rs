@@ -559,7 +559,7 @@ mod hits {
         //! hits", "Recoil, drain and explosion").
         use crate::battles::{FOE, USER, assert_same, named, persian_and_tauros, two_tauros};
         use gen1::generated::layout::{Conditions, Packed};
-        use gen1::generated::odds::{drained, knock_out, recoil};
+        use gen1::generated::odds::{Between, HpChange, drained, knock_out, knock_out_in_three, recoil};
         use gen1_tests::testing::Fail;
 
         fn ways(battle: &Packed, name: &str) -> Result<[u64; 4], Fail> {
@@ -665,6 +665,111 @@ mod hits {
             assert_same(&rt, ways(&battle, "Fissure")?[0], 76);
             battle.put_flag(FOE, Conditions::INVULNERABLE, true);
             assert_same(&rt, ways(&battle, "Fissure")?, [0, 256, 0, 65_536]);
+            Ok(())
+        }
+
+        // The ways of one use and of two, and the two words of those of three.
+        fn three_ways(battle: &Packed, name: &str, changes: [(u16, u16); 2]) -> Result<[u64; 4], Fail> {
+            let [first, second] = changes;
+            let between = Between {
+                after_first: HpChange {
+                    gained: first.0,
+                    lost: first.1,
+                },
+                after_second: HpChange {
+                    gained: second.0,
+                    lost: second.1,
+                },
+            };
+            let chances = knock_out_in_three(battle, USER, named(name)?, &between);
+            Ok([
+                chances.once,
+                chances.twice,
+                chances.thrice.low,
+                chances.thrice.high,
+            ])
+        }
+
+        // The numbers are from a recursion over the HP that are left after each use, in fractions, in Python.
+        #[test]
+        fn three_body_slams() -> Result<(), Fail> { let rt = gen1_tests::testing::HostRuntime;
+            let mut battle = two_tauros()?;
+            let numbers = [
+                (
+                    100,
+                    [(0, 0), (0, 0)],
+                    [
+                        15_856_920,
+                        417_362_401_198_080,
+                        7_839_502_249_578_463_232,
+                        463,
+                    ],
+                ),
+                (
+                    353,
+                    [(0, 0), (0, 0)],
+                    [0, 19_147_625_640_000, 10_613_756_104_167_898_624, 236],
+                ),
+                (
+                    353,
+                    [(0, 22), (0, 44)],
+                    [0, 19_147_625_640_000, 15_877_631_471_881_568_256, 459],
+                ),
+                (
+                    300,
+                    [(176, 0), (0, 22)],
+                    [0, 0, 7_792_572_289_109_492_736, 54],
+                ),
+            ];
+            for (hp, changes, ways) in numbers {
+                battle.put_hp(FOE, hp);
+                assert_same(&rt, three_ways(&battle, "Body Slam", changes)?, ways);
+            }
+            Ok(())
+        }
+
+        // Night Shade takes 100. With 22 HP lost after the first use, two hits of three take 222 HP. Without HP a foe gains none.
+        #[test]
+        fn three_fixed_damages() -> Result<(), Fail> { let rt = gen1_tests::testing::HostRuntime;
+            let mut battle = two_tauros()?;
+            let two_of_three = 255 * 255 * 255 + 3 * 255 * 255;
+            let numbers = [
+                (
+                    "Night Shade",
+                    222,
+                    [(0, 22), (0, 0)],
+                    [0, 255 * 255, two_of_three, 0],
+                ),
+                (
+                    "Night Shade",
+                    222,
+                    [(0, 11), (0, 11)],
+                    [0, 0, two_of_three, 0],
+                ),
+                ("Night Shade", 300, [(176, 0), (0, 23)], [0, 0, 0, 0]),
+                (
+                    "Night Shade",
+                    100,
+                    [(353, 0), (0, 0)],
+                    [255, 255 * 256, 255 * 65_536, 0],
+                ),
+                (
+                    "Psywave",
+                    101,
+                    [(0, 10), (0, 10)],
+                    [9_996, 943_754_592, 48_339_659_086_272, 0],
+                ),
+                ("Super Fang", 8, [(0, 1), (0, 2)], [0, 0, 14_840_803, 0]),
+                ("Super Fang", 3, [(100, 0), (0, 60)], [0, 0, 15_007_744, 0]),
+            ];
+            for (name, hp, changes, ways) in numbers {
+                battle.put_hp(FOE, hp);
+                assert_same(&rt, three_ways(&battle, name, changes)?, ways);
+            }
+            // A substitute loses nothing between the uses.
+            battle.put_substitute(FOE, Some(221));
+            let ways = three_ways(&battle, "Night Shade", [(0, 22), (0, 22)])?;
+            assert_same(&rt, ways, [0, 0, 255 * 255 * 255, 0]);
             Ok(())
         }
 

@@ -11,7 +11,9 @@ use gen1::generated::layout::{Conditions, Packed};
 use gen1::generated::machine::{
     Choice, DisabledSlot, Event, EventList, Pick, Rules, Side, UsedMove, now,
 };
-use gen1::generated::odds::{Chances, Odds, Reason, drained, knock_out, odds_of, recoil};
+use gen1::generated::odds::{
+    Between, HpChange, Odds, Reason, ThreeChances, Wide, drained, knock_out, knock_out_in_three, odds_of, recoil,
+};
 use gen1::generated::rolls::Rolls;
 use gen1::generated::stats::{MemberSpec, Status, Team};
 use gen1::generated::tables::{Effect, Element, MoveId, STRUGGLE, Species, Stat};
@@ -288,7 +290,7 @@ fn may_gain(battle: &Packed, id: MoveId, lost: u16, gained: i32) -> bool {
     gained == given - cost
 }
 
-/// Whether nothing but damage comes of the move, so that two uses have the same odds.
+/// Whether nothing but damage comes of the move, so that all uses have the same odds.
 fn is_steady(id: MoveId) -> bool {
     matches!(
         id.effect(),
@@ -297,15 +299,35 @@ fn is_steady(id: MoveId) -> bool {
     )
 }
 
+/// What happens to the foe's HP between uses.
+fn some_between(random: &mut Bytes) -> Between {
+    let mut change = || HpChange {
+        gained: [0, 0, 60, 400][random.below(4) as usize],
+        lost: [0, 22, 44, 90][random.below(4) as usize],
+    };
+    Between { after_first: change(), after_second: change() }
+}
+
+/// Changes the foe's HP, and returns whether it has none left.
+fn change_hp(battle: &mut Packed, change: HpChange) -> bool {
+    if battle.substitute(FOE).is_some() {
+        return false;
+    }
+    let gained = (battle.hp(FOE) + change.gained).min(battle.max_hp(FOE));
+    battle.put_hp(FOE, gained.saturating_sub(change.lost));
+    battle.hp(FOE) == 0
+}
+
 #[derive(Default)]
 struct Counts {
     hits: u32,
     once: u32,
     twice: u32,
+    thrice: u32,
     numbers: [u32; 6],
 }
 
-fn sampled(it: &Situation, odds: &Odds, random: &mut Bytes, samples: u32) -> Counts {
+fn sampled(it: &Situation, odds: &Odds, between: &Between, random: &mut Bytes, samples: u32) -> Counts {
     let mut counts = Counts::default();
     let covered = it.battle.substitute(FOE).is_some();
     let single = odds.hits == [0, 8, 0, 0, 0, 0];
@@ -323,13 +345,18 @@ fn sampled(it: &Situation, odds: &Odds, random: &mut Bytes, samples: u32) -> Cou
         if let (true, Some(made)) = (outcome.hit, outcome.hits) {
             counts.numbers[usize::from(made)] += 1;
         }
-        let again = !outcome.over && is_steady(it.id) && play(&mut battle, it.pick, random).over;
-        counts.twice += u32::from(outcome.over || again);
+        let mut over = outcome.over;
+        for (count, change) in [(&mut counts.twice, between.after_first), (&mut counts.thrice, between.after_second)] {
+            if !over && is_steady(it.id) {
+                over = change_hp(&mut battle, change) || play(&mut battle, it.pick, random).over;
+            }
+            *count += u32::from(over);
+        }
     }
     counts
 }
 
-fn compare(it: &Situation, odds: &Odds, chances: &Chances, counts: &Counts, samples: u32, at: &str) {
+fn compare(it: &Situation, odds: &Odds, chances: &ThreeChances, counts: &Counts, samples: u32, at: &str) {
     let part = part_that_hits(odds);
     assert!(fits(counts.hits, samples, part), "{at}: {} of {samples} hit, and not {part}", counts.hits);
     let once = chances.once as f64 / chances.once_of as f64;
@@ -337,6 +364,9 @@ fn compare(it: &Situation, odds: &Odds, chances: &Chances, counts: &Counts, samp
     if is_steady(it.id) {
         let twice = chances.twice as f64 / chances.twice_of as f64;
         assert!(fits(counts.twice, samples, twice), "{at}: {} of {samples} by two, and not {twice}", counts.twice);
+        let whole = |it: Wide| u128::from(it.high) << 64 | u128::from(it.low);
+        let thrice = whole(chances.thrice) as f64 / whole(chances.thrice_of) as f64;
+        assert!(fits(counts.thrice, samples, thrice), "{at}: {} of {samples} by three, and not {thrice}", counts.thrice);
     }
     // A fall or a break would cut the number of hits.
     if odds.hits[1] == 0 && chances.once == 0 {
@@ -352,10 +382,16 @@ fn try_move(id: MoveId, samples: u32, seen: &mut [u32; 24]) {
     // The situations do not depend on the number of samples.
     let mut situations = Bytes(u64::from(id.number()) << 32);
     let mut random = Bytes(u64::from(id.number()) << 48);
+    let mut changes = Bytes(u64::from(id.number()) << 40);
     for number in 0..SITUATIONS {
         let it = situation(&mut situations, id);
         let odds = odds_of(&it.battle, USER, id);
-        let chances = knock_out(&it.battle, USER, id);
+        let between = some_between(&mut changes);
+        let chances = knock_out_in_three(&it.battle, USER, id, &between);
+        let none = HpChange { gained: 0, lost: 0 };
+        let at_once = knock_out_in_three(&it.battle, USER, id, &Between { after_first: none, after_second: none });
+        let two = knock_out(&it.battle, USER, id);
+        assert_eq!([two.once, two.twice, two.twice_of], [at_once.once, at_once.twice, at_once.twice_of], "{id}");
         let at = format!("{id}, situation {number}, reason {}", odds.reason);
         seen[usize::from(odds.reason)] += 1;
         if odds.reason == Reason::Fallen.number() {
@@ -366,7 +402,7 @@ fn try_move(id: MoveId, samples: u32, seen: &mut [u32; 24]) {
             assert!(play(&mut it.battle.clone(), it.pick, &mut random).charged, "{at}");
             continue;
         }
-        let counts = sampled(&it, &odds, &mut random, samples);
+        let counts = sampled(&it, &odds, &between, &mut random, samples);
         compare(&it, &odds, &chances, &counts, samples, &at);
     }
 }

@@ -3,7 +3,10 @@
 //! "Hit test", "Fixed damage and one-hit moves", "Many hits").
 //!
 //! - `odds`: [`Odds`] of a move, for the two members that are out
-//! - `knock_outs`: [`Chances`] that one use or two knock out the foe
+//! - `knock_outs`: the chances that one to three uses knock out the foe
+//! - `usual_uses`: in how many ways they do so with the usual damage
+//! - `fixed_uses`: the same with a damage rule of their own
+//! - `ways`: numbers of ways, and the HP that are left between uses
 //! - `reasons`: why a use can't hit
 //! - `status_reasons`: the same for moves that give a status
 //! - `foe_reasons`: for other moves that change the foe
@@ -184,6 +187,121 @@ mod fixed_damage {
     }
 }
 
+mod fixed_uses {
+    //! In how many ways one to three uses with a damage rule of their own take the HP that are needed ([docs/MECHANICS.md](https://hibsuloy.example/gen1/blob/main/docs/MECHANICS.md), "Fixed damage
+    //! and one-hit moves").
+
+    use crate::generated::odds::knock_outs::Between;
+    use crate::generated::odds::odds::Odds;
+    use crate::generated::odds::ways::{HpChange, changed, mixed, mixed_wide, over};
+
+    /// Uses against a foe.
+
+    pub(crate) struct Fixed {
+        pub odds: Odds,
+        /// Whether a use takes half of the HP that are left.
+        pub halves: bool,
+        /// The most HP that the foe can have.
+        pub most: u16,
+        /// In how many ways one use takes a number of HP, for the numbers below `filled`.
+        pub known: [u64; 1000],
+        pub filled: u16,
+    }
+
+    pub(crate) fn fixed_ways(odds: &Odds) -> u64 {
+        (u64::from(odds.most) + 1).saturating_sub(u64::from(odds.least))
+    }
+
+    fn taken(halves: bool, need: u16, damage: u16) -> u16 {
+        if halves { (need / 2).max(1) } else { damage }
+    }
+
+    // One use
+
+    pub(crate) fn once_fixed(odds: &Odds, halves: bool, need: u16) -> u64 {
+        let hit = once_ranged(odds, halves, need);
+        mixed(odds.hit_draws, hit, if_missed(odds, over(need)))
+    }
+
+    // The ways from a miss, if each of them leads to as many.
+    fn if_missed(odds: &Odds, each: u64) -> u64 {
+        fixed_ways(odds) * each
+    }
+
+    fn once_ranged(odds: &Odds, halves: bool, need: u16) -> u64 {
+        let mut hit: u64 = 0;
+        for step in 0..fixed_ways(odds) {
+            let damage = odds.least.saturating_add(step as u16);
+            hit += over(need.saturating_sub(taken(halves, need, damage)));
+        }
+        hit
+    }
+
+    /// The ways of one use for each number of HP below a bound.
+    pub(crate) fn known_once_fixed(odds: &Odds, halves: bool, filled: u16) -> [u64; 1000] {
+        let mut known = [0; 1000];
+        for need in 0..filled {
+            known[usize::from(need)] = once_fixed(odds, halves, need);
+        }
+        known
+    }
+
+    // One use after a change, which is looked up where it is known.
+    fn once_after(uses: &Fixed, change: HpChange, need: u16) -> u64 {
+        let need = changed(uses.most, change, need);
+        if need < uses.filled.min(1000) {
+            return uses.known[usize::from(need)];
+        }
+        once_fixed(&uses.odds, uses.halves, need)
+    }
+
+    // Two uses
+
+    pub(crate) fn twice_fixed(uses: &Fixed, change: HpChange, need: u16) -> u64 {
+        let hit = twice_ranged(uses, change, need);
+        let missed = if_missed(&uses.odds, once_after(uses, change, need));
+        mixed(uses.odds.hit_draws, hit, missed)
+    }
+
+    fn twice_ranged(uses: &Fixed, change: HpChange, need: u16) -> u64 {
+        let mut hit: u64 = 0;
+        for step in 0..fixed_ways(&uses.odds) {
+            let damage = uses.odds.least.saturating_add(step as u16);
+            let left = need.saturating_sub(taken(uses.halves, need, damage));
+            hit += once_after(uses, change, left);
+        }
+        hit
+    }
+
+    // Three uses
+
+    pub(crate) fn thrice_fixed(uses: &Fixed, between: &Between, need: u16) -> u128 {
+        let hit = thrice_ranged(uses, between, need);
+        let missed = twice_after(uses, between, need);
+        mixed_wide(
+            uses.odds.hit_draws,
+            hit,
+            u128::from(fixed_ways(&uses.odds)) * missed,
+        )
+    }
+
+    fn thrice_ranged(uses: &Fixed, between: &Between, need: u16) -> u128 {
+        let mut hit: u128 = 0;
+        for step in 0..fixed_ways(&uses.odds) {
+            let damage = uses.odds.least.saturating_add(step as u16);
+            let left = need.saturating_sub(taken(uses.halves, need, damage));
+            hit += twice_after(uses, between, left);
+        }
+        hit
+    }
+
+    // Two uses after a change.
+    fn twice_after(uses: &Fixed, between: &Between, need: u16) -> u128 {
+        let need = changed(uses.most, between.after_first, need);
+        u128::from(twice_fixed(uses, between.after_second, need))
+    }
+}
+
 mod foe_reasons {
     //! Why a move can't give the foe a condition, or lower its stat ([docs/MECHANICS.md, "Early effects"](https://hibsuloy.example/gen1/blob/main/docs/MECHANICS.md#early-effects), "Late effects", "Side
     //! effects").
@@ -345,21 +463,22 @@ mod hit_counts {
 }
 
 mod knock_outs {
-    //! The chance that one use of a move knocks out the foe, or two uses in a row ([docs/MECHANICS.md, "Landing"](https://hibsuloy.example/gen1/blob/main/docs/MECHANICS.md#landing), "Many hits").
+    //! The chance that one use of a move knocks out the foe, or two or three in a row ([docs/MECHANICS.md, "Landing"](https://hibsuloy.example/gen1/blob/main/docs/MECHANICS.md#landing), "Many hits").
 
     use crate::generated::odds::chances::deals_usual;
+    use crate::generated::odds::fixed_uses::{
+        Fixed, fixed_ways, known_once_fixed, once_fixed, thrice_fixed, twice_fixed,
+    };
     use crate::generated::odds::hit_counts::{HitCount, hit_count};
     use crate::generated::odds::odds::{Odds, flag, odds_of};
     use crate::generated::odds::sights::has_substitute;
+    use crate::generated::odds::usual_uses::{Usual, WAYS, known_once, once, thrice, twice};
+    use crate::generated::odds::ways::{HpChange, NO_CHANGE, Wide, cube, in_words};
     use crate::generated::layout::Packed;
     use crate::generated::machine::Side;
     use crate::generated::tables::MoveId;
 
     const SUPER_FANG: u8 = 162;
-
-    // The ways of a use with the usual damage: 256 draws of the hit test and 256 critical draws, 39 factors and 8 cases of the
-    // number of hits.
-    const WAYS: u64 = 256 * 256 * 39 * 8;
 
     /// The chance that one use knocks out the foe, or two uses in a row, as numbers of equally likely ways.
     #[repr(C)]
@@ -379,6 +498,47 @@ mod knock_outs {
         pub zeros: [u8; 7],
     }
 
+    /// The chance that one use knocks out the foe, or two or three in a row, as numbers of equally likely ways.
+    #[repr(C)]
+    #[derive(Clone, Copy)]
+    pub struct ThreeChances {
+        /// In how many ways the foe has no HP left after one use, or its substitute is broken.
+        pub once: u64,
+        /// The ways of one use.
+        pub once_of: u64,
+        /// In how many ways that is so after two uses.
+        pub twice: u64,
+        /// The ways of two uses.
+        pub twice_of: u64,
+        /// In how many ways that is so after three uses.
+        pub thrice: Wide,
+        /// The ways of three uses.
+        pub thrice_of: Wide,
+        /// 1 if the foe has a substitute, and the chances are those of breaking it; otherwise 0.
+        pub breaks_substitute: u8,
+        /// Zeros.
+        pub zeros: [u8; 7],
+    }
+
+    /// What happens to the HP of the foe between uses, such as residual damage.
+    #[repr(C)]
+    #[derive(Clone, Copy)]
+    pub struct Between {
+        /// After the first use.
+        pub after_first: HpChange,
+        /// After the second use.
+        pub after_second: HpChange,
+    }
+
+    // What uses against the foe have to do.
+
+    struct Target {
+        need: u16,
+        most: u16,
+        between: Between,
+        breaks_substitute: u8,
+    }
+
     /// The chance that one use of a move of a side knocks out the foe, or two uses in a row, for independent draws.
     ///
     /// Against a substitute it is the chance to break it. Both uses have the odds of `odds_of`, as the battle is now, and
@@ -394,6 +554,31 @@ mod knock_outs {
         fixed_chances(&odds, halves(battle, side, id), need, breaks)
     }
 
+    /// The chance that one use of a move of a side knocks out the foe, or two or three in a row, for independent draws.
+    ///
+    /// Each use has the odds of `odds_of`, as the battle is now. Between two uses the HP of the foe change as `between` says:
+    /// of a foe that has any, they first rise, to its maximum at most, and then fall. The third use of Super Fang halves what
+    /// is left then. Against a substitute it is the chance to break it, and `between` does not count. Nothing else that
+    /// happens between the uses counts.
+    pub fn knock_out_in_three(
+        battle: &Packed,
+        side: Side,
+        id: MoveId,
+        between: &Between,
+    ) -> ThreeChances {
+        let odds = odds_of(battle, side, id);
+        let target = Target {
+            need: needed(battle, side.other()),
+            most: battle.max_hp(side.other()),
+            between: changes(battle, side.other(), between),
+            breaks_substitute: flag(has_substitute(battle, side.other())),
+        };
+        if deals_usual(battle, side, id) {
+            return usual_three(&odds, hit_count(id.effect()), &target);
+        }
+        fixed_three(&odds, halves(battle, side, id), &target)
+    }
+
     // All HP of a member, or one more than its substitute has.
     fn needed(battle: &Packed, side: Side) -> u16 {
         match battle.substitute(side) {
@@ -402,165 +587,110 @@ mod knock_outs {
         }
     }
 
+    // A substitute's HP stay as they are between uses.
+    fn changes(battle: &Packed, side: Side, between: &Between) -> Between {
+        if has_substitute(battle, side) {
+            return Between {
+                after_first: NO_CHANGE,
+                after_second: NO_CHANGE,
+            };
+        }
+        *between
+    }
+
     fn halves(battle: &Packed, side: Side, id: MoveId) -> bool {
         let halving = id.number() == SUPER_FANG;
         let covered = has_substitute(battle, side.other());
         halving & !covered
     }
 
-    // Ways
-
-    fn over(left: u16) -> u64 {
-        if left == 0 { 1 } else { 0 }
-    }
-
-    // Of 256 draws some lead one way, and the others another.
-    fn mixed(draws: u16, one: u64, another: u64) -> u64 {
-        u64::from(draws) * one + u64::from(256 - draws) * another
-    }
-
-    fn left(need: u16, hits: u16, damage: u16) -> u16 {
-        need.saturating_sub(hits.saturating_mul(damage))
-    }
-
     // The usual damage
 
     fn usual_chances(odds: &Odds, count: HitCount, need: u16, breaks_substitute: u8) -> Chances {
+        let uses = Usual {
+            odds: *odds,
+            count,
+            most: 0,
+            known: [0; 1000],
+            filled: 0,
+        };
         Chances {
             once: once(odds, count, need),
             once_of: WAYS,
-            twice: twice(odds, count, need),
+            twice: twice(&uses, NO_CHANGE, need),
             twice_of: WAYS * WAYS,
             breaks_substitute,
             zeros: [0; 7],
         }
     }
 
-    fn once(odds: &Odds, count: HitCount, need: u16) -> u64 {
-        let hit = once_counted(odds, count, need);
-        mixed(odds.hit_draws, hit, 79872 * over(need))
-    }
-
-    fn once_counted(odds: &Odds, count: HitCount, need: u16) -> u64 {
-        match count {
-            HitCount::Once => 8 * once_either(odds, 1, need),
-            HitCount::Twice => 8 * once_either(odds, 2, need),
-            HitCount::Several => {
-                3 * once_either(odds, 2, need)
-                    + 3 * once_either(odds, 3, need)
-                    + once_either(odds, 4, need)
-                    + once_either(odds, 5, need)
-            }
+    fn usual_three(odds: &Odds, count: HitCount, target: &Target) -> ThreeChances {
+        let filled = room(target.need.max(target.most));
+        let uses = Usual {
+            odds: *odds,
+            count,
+            most: target.most,
+            known: known_once(odds, count, filled),
+            filled,
+        };
+        ThreeChances {
+            once: once(odds, count, target.need),
+            once_of: WAYS,
+            twice: twice(&uses, target.between.after_first, target.need),
+            twice_of: WAYS * WAYS,
+            thrice: in_words(thrice(&uses, &target.between, target.need)),
+            thrice_of: in_words(cube(WAYS)),
+            breaks_substitute: target.breaks_substitute,
+            zeros: [0; 7],
         }
     }
 
-    fn once_either(odds: &Odds, hits: u16, need: u16) -> u64 {
-        let critical = once_hits(&odds.critical.numbers, hits, need);
-        let usual = once_hits(&odds.usual.numbers, hits, need);
-        mixed(odds.critical_draws, critical, usual)
-    }
-
-    fn once_hits(list: &[u16; 39], hits: u16, need: u16) -> u64 {
-        let mut ways: u64 = 0;
-        for damage in list {
-            ways += over(left(need, hits, *damage));
-        }
-        ways
-    }
-
-    fn twice(odds: &Odds, count: HitCount, need: u16) -> u64 {
-        let hit = twice_counted(odds, count, need);
-        mixed(odds.hit_draws, hit, 79872 * once(odds, count, need))
-    }
-
-    fn twice_counted(odds: &Odds, count: HitCount, need: u16) -> u64 {
-        match count {
-            HitCount::Once => 8 * twice_either(odds, count, 1, need),
-            HitCount::Twice => 8 * twice_either(odds, count, 2, need),
-            HitCount::Several => {
-                3 * twice_either(odds, count, 2, need)
-                    + 3 * twice_either(odds, count, 3, need)
-                    + twice_either(odds, count, 4, need)
-                    + twice_either(odds, count, 5, need)
-            }
-        }
-    }
-
-    fn twice_either(odds: &Odds, count: HitCount, hits: u16, need: u16) -> u64 {
-        let critical = twice_hits(odds, count, &odds.critical.numbers, hits, need);
-        let usual = twice_hits(odds, count, &odds.usual.numbers, hits, need);
-        mixed(odds.critical_draws, critical, usual)
-    }
-
-    fn twice_hits(odds: &Odds, count: HitCount, list: &[u16; 39], hits: u16, need: u16) -> u64 {
-        let mut ways: u64 = 0;
-        for damage in list {
-            ways += once(odds, count, left(need, hits, *damage));
-        }
-        ways
+    // How many of the numbers from 0 to this one there is room for.
+    fn room(hp: u16) -> u16 {
+        hp.saturating_add(1).min(1000)
     }
 
     // Damage by a rule of its own
 
     fn fixed_chances(odds: &Odds, halves: bool, need: u16, breaks_substitute: u8) -> Chances {
         let ways = 256 * fixed_ways(odds);
+        let uses = Fixed {
+            odds: *odds,
+            halves,
+            most: 0,
+            known: [0; 1000],
+            filled: 0,
+        };
         Chances {
             once: once_fixed(odds, halves, need),
             once_of: ways,
-            twice: twice_fixed(odds, halves, need),
+            twice: twice_fixed(&uses, NO_CHANGE, need),
             twice_of: ways * ways,
             breaks_substitute,
             zeros: [0; 7],
         }
     }
 
-    fn fixed_ways(odds: &Odds) -> u64 {
-        (u64::from(odds.most) + 1).saturating_sub(u64::from(odds.least))
-    }
-
-    fn taken(halves: bool, need: u16, damage: u16) -> u16 {
-        if halves { (need / 2).max(1) } else { damage }
-    }
-
-    fn once_fixed(odds: &Odds, halves: bool, need: u16) -> u64 {
-        let hit = once_ranged(odds, halves, need);
-        mixed(odds.hit_draws, hit, if_missed(odds, over(need)))
-    }
-
-    // The ways from a miss, if each of them leads to as many.
-    fn if_missed(odds: &Odds, each: u64) -> u64 {
-        fixed_ways(odds) * each
-    }
-
-    fn once_ranged(odds: &Odds, halves: bool, need: u16) -> u64 {
-        let mut hit: u64 = 0;
-        for step in 0..fixed_ways(odds) {
-            let damage = odds.least.saturating_add(step as u16);
-            hit += over(need.saturating_sub(taken(halves, need, damage)));
+    fn fixed_three(odds: &Odds, halves: bool, target: &Target) -> ThreeChances {
+        let filled = room(target.need.max(target.most));
+        let uses = Fixed {
+            odds: *odds,
+            halves,
+            most: target.most,
+            known: known_once_fixed(odds, halves, filled),
+            filled,
+        };
+        let ways = 256 * fixed_ways(odds);
+        ThreeChances {
+            once: once_fixed(odds, halves, target.need),
+            once_of: ways,
+            twice: twice_fixed(&uses, target.between.after_first, target.need),
+            twice_of: ways * ways,
+            thrice: in_words(thrice_fixed(&uses, &target.between, target.need)),
+            thrice_of: in_words(cube(ways)),
+            breaks_substitute: target.breaks_substitute,
+            zeros: [0; 7],
         }
-        hit
-    }
-
-    fn twice_fixed(odds: &Odds, halves: bool, need: u16) -> u64 {
-        let hit = twice_ranged(odds, halves, need);
-        mixed(
-            odds.hit_draws,
-            hit,
-            if_missed(odds, once_fixed(odds, halves, need)),
-        )
-    }
-
-    fn twice_ranged(odds: &Odds, halves: bool, need: u16) -> u64 {
-        let mut hit: u64 = 0;
-        for step in 0..fixed_ways(odds) {
-            let damage = odds.least.saturating_add(step as u16);
-            hit += once_fixed(
-                odds,
-                halves,
-                need.saturating_sub(taken(halves, need, damage)),
-            );
-        }
-        hit
     }
 }
 
@@ -1249,10 +1379,233 @@ mod trials {
     }
 }
 
+mod usual_uses {
+    //! In how many ways one to three uses with the usual damage take the HP that are needed ([docs/MECHANICS.md, "Many hits"](https://hibsuloy.example/gen1/blob/main/docs/MECHANICS.md#many-hits)).
+
+    use crate::generated::odds::hit_counts::HitCount;
+    use crate::generated::odds::knock_outs::Between;
+    use crate::generated::odds::odds::Odds;
+    use crate::generated::odds::ways::{HpChange, changed, mixed, mixed_wide, over};
+
+    /// The ways of one use: 256 draws of the hit test and 256 critical draws, 39 factors and 8 cases of the number of hits.
+    pub(crate) const WAYS: u64 = 256 * 256 * 39 * 8;
+
+    /// Uses against a foe.
+
+    pub(crate) struct Usual {
+        pub odds: Odds,
+        pub count: HitCount,
+        /// The most HP that the foe can have.
+        pub most: u16,
+        /// In how many ways one use takes a number of HP, for the numbers below `filled`.
+        pub known: [u64; 1000],
+        pub filled: u16,
+    }
+
+    pub(crate) fn left(need: u16, hits: u16, damage: u16) -> u16 {
+        need.saturating_sub(hits.saturating_mul(damage))
+    }
+
+    // One use
+
+    pub(crate) fn once(odds: &Odds, count: HitCount, need: u16) -> u64 {
+        let hit = once_counted(odds, count, need);
+        mixed(odds.hit_draws, hit, 79872 * over(need))
+    }
+
+    fn once_counted(odds: &Odds, count: HitCount, need: u16) -> u64 {
+        match count {
+            HitCount::Once => 8 * once_either(odds, 1, need),
+            HitCount::Twice => 8 * once_either(odds, 2, need),
+            HitCount::Several => {
+                3 * once_either(odds, 2, need)
+                    + 3 * once_either(odds, 3, need)
+                    + once_either(odds, 4, need)
+                    + once_either(odds, 5, need)
+            }
+        }
+    }
+
+    fn once_either(odds: &Odds, hits: u16, need: u16) -> u64 {
+        let critical = once_hits(&odds.critical.numbers, hits, need);
+        let usual = once_hits(&odds.usual.numbers, hits, need);
+        mixed(odds.critical_draws, critical, usual)
+    }
+
+    fn once_hits(list: &[u16; 39], hits: u16, need: u16) -> u64 {
+        let mut ways: u64 = 0;
+        for damage in list {
+            ways += over(left(need, hits, *damage));
+        }
+        ways
+    }
+
+    /// The ways of one use for each number of HP below a bound.
+    pub(crate) fn known_once(odds: &Odds, count: HitCount, filled: u16) -> [u64; 1000] {
+        let mut known = [0; 1000];
+        for need in 0..filled {
+            known[usize::from(need)] = once(odds, count, need);
+        }
+        known
+    }
+
+    // One use after a change, which is looked up where it is known.
+    fn once_after(uses: &Usual, change: HpChange, need: u16) -> u64 {
+        let need = changed(uses.most, change, need);
+        if need < uses.filled.min(1000) {
+            return uses.known[usize::from(need)];
+        }
+        once(&uses.odds, uses.count, need)
+    }
+
+    // Two uses
+
+    pub(crate) fn twice(uses: &Usual, change: HpChange, need: u16) -> u64 {
+        let hit = twice_counted(uses, change, need);
+        mixed(
+            uses.odds.hit_draws,
+            hit,
+            79872 * once_after(uses, change, need),
+        )
+    }
+
+    fn twice_counted(uses: &Usual, change: HpChange, need: u16) -> u64 {
+        match uses.count {
+            HitCount::Once => 8 * twice_either(uses, change, 1, need),
+            HitCount::Twice => 8 * twice_either(uses, change, 2, need),
+            HitCount::Several => {
+                3 * twice_either(uses, change, 2, need)
+                    + 3 * twice_either(uses, change, 3, need)
+                    + twice_either(uses, change, 4, need)
+                    + twice_either(uses, change, 5, need)
+            }
+        }
+    }
+
+    fn twice_either(uses: &Usual, change: HpChange, hits: u16, need: u16) -> u64 {
+        let critical = twice_hits(uses, change, &uses.odds.critical.numbers, hits, need);
+        let usual = twice_hits(uses, change, &uses.odds.usual.numbers, hits, need);
+        mixed(uses.odds.critical_draws, critical, usual)
+    }
+
+    fn twice_hits(uses: &Usual, change: HpChange, list: &[u16; 39], hits: u16, need: u16) -> u64 {
+        let mut ways: u64 = 0;
+        for damage in list {
+            ways += once_after(uses, change, left(need, hits, *damage));
+        }
+        ways
+    }
+
+    // Three uses
+
+    pub(crate) fn thrice(uses: &Usual, between: &Between, need: u16) -> u128 {
+        let hit = thrice_counted(uses, between, need);
+        let missed = u128::from(twice_after(uses, between, need));
+        mixed_wide(uses.odds.hit_draws, hit, 79872 * missed)
+    }
+
+    fn thrice_counted(uses: &Usual, between: &Between, need: u16) -> u128 {
+        match uses.count {
+            HitCount::Once => 8 * u128::from(thrice_either(uses, between, 1, need)),
+            HitCount::Twice => 8 * u128::from(thrice_either(uses, between, 2, need)),
+            HitCount::Several => {
+                3 * u128::from(thrice_either(uses, between, 2, need))
+                    + 3 * u128::from(thrice_either(uses, between, 3, need))
+                    + u128::from(thrice_either(uses, between, 4, need))
+                    + u128::from(thrice_either(uses, between, 5, need))
+            }
+        }
+    }
+
+    fn thrice_either(uses: &Usual, between: &Between, hits: u16, need: u16) -> u64 {
+        let critical = thrice_hits(uses, between, &uses.odds.critical.numbers, hits, need);
+        let usual = thrice_hits(uses, between, &uses.odds.usual.numbers, hits, need);
+        mixed(uses.odds.critical_draws, critical, usual)
+    }
+
+    fn thrice_hits(uses: &Usual, between: &Between, list: &[u16; 39], hits: u16, need: u16) -> u64 {
+        let mut ways: u64 = 0;
+        for damage in list {
+            ways += twice_after(uses, between, left(need, hits, *damage));
+        }
+        ways
+    }
+
+    // Two uses after a change.
+    fn twice_after(uses: &Usual, between: &Between, need: u16) -> u64 {
+        let need = changed(uses.most, between.after_first, need);
+        twice(uses, between.after_second, need)
+    }
+}
+
+mod ways {
+    //! Numbers of equally likely ways, and the HP that are left between uses of a move ([docs/MECHANICS.md, "Residual damage"](https://hibsuloy.example/gen1/blob/main/docs/MECHANICS.md#residual-damage)).
+
+    /// What happens to the HP of the foe between two uses of a move, if it has any left.
+    #[repr(C)]
+    #[derive(Clone, Copy)]
+    pub struct HpChange {
+        /// The HP that it gains first, up to its maximum.
+        pub gained: u16,
+        /// The HP that it then loses.
+        pub lost: u16,
+    }
+
+    /// A number of 128 bits.
+    #[repr(C)]
+    #[derive(Clone, Copy)]
+    pub struct Wide {
+        /// The number's remainder by 2^64.
+        pub low: u64,
+        /// The number divided by 2^64.
+        pub high: u64,
+    }
+
+    pub(crate) const NO_CHANGE: HpChange = HpChange { gained: 0, lost: 0 };
+
+    const WORD: u128 = 18_446_744_073_709_551_616;
+
+    pub(crate) fn in_words(number: u128) -> Wide {
+        Wide {
+            low: (number % WORD) as u64,
+            high: (number / WORD) as u64,
+        }
+    }
+
+    /// The ways of three uses, by those of one.
+    pub(crate) fn cube(ways: u64) -> u128 {
+        u128::from(ways * ways) * u128::from(ways)
+    }
+
+    pub(crate) fn over(left: u16) -> u64 {
+        if left == 0 { 1 } else { 0 }
+    }
+
+    // Of 256 draws some lead one way, and the others another.
+    pub(crate) fn mixed(draws: u16, one: u64, another: u64) -> u64 {
+        u64::from(draws) * one + u64::from(256 - draws) * another
+    }
+
+    // The same of more ways.
+    pub(crate) fn mixed_wide(draws: u16, one: u128, another: u128) -> u128 {
+        u128::from(draws) * one + u128::from(256 - draws) * another
+    }
+
+    // What is needed after a change, of a foe with at most so many HP.
+    pub(crate) fn changed(most: u16, change: HpChange, need: u16) -> u16 {
+        if need == 0 {
+            return 0;
+        }
+        let gained = need.saturating_add(change.gained).min(most).max(need);
+        gained.saturating_sub(change.lost)
+    }
+}
+
 
 pub use chances::takes_hit_test;
 pub use hit_counts::{drained, recoil};
-pub use knock_outs::{Chances, knock_out};
+pub use knock_outs::{Between, Chances, ThreeChances, knock_out, knock_out_in_three};
 
 pub use odds::{Damages, Odds, odds_of};
 pub use reasons::Reason;
+pub use ways::{HpChange, Wide};

@@ -2,7 +2,7 @@
 use Rattle.std.proofs.Common.{◌-◌, ◌≡◌, ◌≤◌}
 use Rattle.std.specs.List.{range_with_len, sum_by}
 use Rattle.gen1_odds.specs.KnockOut.{over, taken}
-use Rattle.gen1_odds.proofs.knock_outs.once_ranged.Given as goal
+use Rattle.gen1_odds.proofs.fixed_uses.once_ranged.Given as goal
 
 abbrev pub invariant-loop-step : goal.invariant-loop-step
 invariant-loop-step l =

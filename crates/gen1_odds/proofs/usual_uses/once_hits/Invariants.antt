@@ -2,7 +2,7 @@
 use Rattle.std.proofs.Common.{take, ◌*◌, ◌-◌, ◌≡◌, ◌≤◌}
 use Rattle.std.specs.List.{sum_by}
 use Rattle.gen1_odds.specs.KnockOut.{over}
-use Rattle.gen1_odds.proofs.knock_outs.once_hits.Given as goal
+use Rattle.gen1_odds.proofs.usual_uses.once_hits.Given as goal
 
 abbrev pub invariant-loop-damage : goal.invariant-loop-damage
 invariant-loop-damage l =

@@ -1,6 +1,6 @@
 use Rattle.std.proofs.Common.{arith}
-use Rattle.gen1_odds.proofs.Ways.{parted}
-use Rattle.gen1_odds.proofs.knock_outs.mixed.Goals as goal
+use Rattle.gen1_odds.proofs.Sums.{parted}
+use Rattle.gen1_odds.proofs.ways.mixed.Goals as goal
 
 pub returns-clause-most : goal.returns-clause-most
 returns-clause-most c most first second =

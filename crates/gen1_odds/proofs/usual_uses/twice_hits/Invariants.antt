@@ -1,0 +1,10 @@
+-- The ways of the damages so far.
+use Rattle.std.proofs.Common.{take, ◌*◌, ◌-◌, ◌≡◌, ◌≤◌}
+use Rattle.std.specs.List.{sum_by}
+use Rattle.gen1_odds.specs.KnockOut.{after_change, after_use, over}
+use Rattle.gen1_odds.proofs.usual_uses.twice_hits.Given as goal
+
+abbrev pub invariant-loop-damage : goal.invariant-loop-damage
+invariant-loop-damage l =
+    (l.ways ≡ sum_by (λ damage. after_change l.uses.most l.change (after_use l.uses over) (l.need - l.hits * damage)) (take l.damage-index l.list))
+    × (l.ways ≤ 20447232 * l.damage-index)
