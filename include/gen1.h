@@ -615,6 +615,53 @@ typedef struct gen1_chances {
 uint8_t gen1_knock_out(const gen1_battle *battle, uint8_t side, uint8_t move, gen1_chances *chances);
 
 /*
+ * What happens to the HP of the foe between two uses of a move, if it has any left. For example, poison, a burn and Leech Seed
+ * each cost a 16th of the maximum, rounded down, and at least 1 (docs/MECHANICS.md, "Residual damage").
+ */
+typedef struct gen1_hp_change {
+    uint16_t gained; /* the HP that it gains first, up to its maximum */
+    uint16_t lost;   /* the HP that it then loses */
+} gen1_hp_change;
+
+/* What happens to the HP of the foe after the first use of a move, and after the second. */
+typedef struct gen1_between {
+    gen1_hp_change after_first;
+    gen1_hp_change after_second;
+} gen1_between;
+
+/* A number of 128 bits: high * 2^64 + low. */
+typedef struct gen1_wide {
+    uint64_t low;
+    uint64_t high;
+} gen1_wide;
+
+/*
+ * The exact chance that one use of a move knocks out the foe, or two or three in a row, as in gen1_chances, with what happens to the
+ * foe's HP between the uses. A foe that loses its last HP then is knocked out too. Against a substitute it is the chance to break it,
+ * and nothing changes the substitute's HP between the uses.
+ */
+typedef struct gen1_three_chances {
+    uint64_t once;             /* in how many ways the foe has no HP left after one use */
+    uint64_t once_of;          /* the ways of one use: at most 20,447,232 */
+    uint64_t twice;            /* in how many ways the foe has no HP left after two uses */
+    uint64_t twice_of;         /* the ways of two uses: the square of `once_of` */
+    gen1_wide thrice;          /* in how many ways the foe has no HP left after three uses */
+    gen1_wide thrice_of;       /* the ways of three uses: the cube of `once_of` */
+    uint8_t breaks_substitute; /* 1: the foe has a substitute, and the chances are those of breaking it; otherwise 0 */
+    uint8_t zeros[7];          /* zeros */
+} gen1_three_chances;
+
+/*
+ * Computes the chance that up to three uses of a move of `side` knock out the foe's active member, with both as they are now
+ * (docs/MECHANICS.md, "Many hits", "Residual damage").
+ *
+ * `move` is 1 to 165, and the member need not know it. `between` may hold any numbers; zeros change nothing. Returns 0, or
+ * GEN1_ERROR_SIDE, GEN1_ERROR_MOVE or GEN1_ERROR_NOBODY_OUT; then nothing has changed.
+ */
+uint8_t gen1_knock_out_in_three(const gen1_battle *battle, uint8_t side, uint8_t move, const gen1_between *between,
+    gen1_three_chances *chances);
+
+/*
  * Return the HP that a damage of a move gives to its user (Absorb, Mega Drain, Leech Life, Dream Eater), or costs it (Take Down,
  * Double-Edge, Submission, Struggle): 0 for any other move, and if `move` is not 1 to 165 (docs/MECHANICS.md, "Recoil, drain and
  * explosion").

@@ -182,6 +182,38 @@ static void try_knock_out(void)
     tell("gen1_knock_out", got == want && is_right, got, want);
 }
 
+static gen1_hp_change some_change(void)
+{
+    return (gen1_hp_change){ (uint16_t)(one_in(2) ? 0 : draw(65536)), (uint16_t)(one_in(2) ? draw(100) : draw(65536)) };
+}
+
+static bool is_less(gen1_wide one, gen1_wide two)
+{
+    return one.high < two.high || (one.high == two.high && one.low < two.low);
+}
+
+static void try_knock_out_in_three(void)
+{
+    bool is_valid;
+    gen1_battle from = some_battle(&is_valid);
+    uint8_t side = some_side(), move = one_in(4) ? any_byte() : (uint8_t)(1 + draw(165));
+    gen1_between changes = { some_change(), some_change() };
+    const gen1_battle *battle = block_of(0, &from, sizeof from);
+    const gen1_between *between = block_of(1, &changes, sizeof changes);
+    gen1_three_chances *chances = block(2, sizeof *chances);
+    gen1_chances two;
+    note();
+    uint8_t want = gen1_knock_out(&from, side, move, &two);
+    uint8_t got = gen1_knock_out_in_three(battle, side, move, between, chances);
+    bool is_right = got != 0 ? unchanged() : changed_only(2, sizeof *chances);
+    if (got == 0)
+        is_right &= chances->once == two.once && chances->once_of == two.once_of && chances->twice_of == two.twice_of
+            && chances->breaks_substitute == two.breaks_substitute && chances->zeros[6] == 0;
+    if (got == 0 && is_valid)
+        is_right &= chances->twice <= chances->twice_of && !is_less(chances->thrice_of, chances->thrice);
+    tell("gen1_knock_out_in_three", got == want && is_right, got, want);
+}
+
 static uint16_t at_least_1(uint16_t number)
 {
     return number == 0 ? 1 : number;
@@ -210,5 +242,5 @@ static void try_recoil(void)
 
 try_call *const tries_of_players[] = {
     try_player_begin, try_player_feed, try_get_own_side, try_player_show, try_teller_begin, try_tell, try_set_state, try_knock_out,
-    try_drained, try_recoil, NULL
+    try_knock_out_in_three, try_drained, try_recoil, NULL
 };

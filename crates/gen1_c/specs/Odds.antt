@@ -8,10 +8,12 @@ use Rattle.gen1_machine.specs.Rules.{Rules}
 use Rattle.gen1_machine.specs.declared.choice.Choice.TheVariants.{Pass}
 use Rattle.gen1_machine.specs.State.{Field, first_state, State, usual_terms}
 use Rattle.gen1_machine.specs.Step.{step}
+use Rattle.gen1_odds.specs.declared.knock_outs.Between.{Between}
 use Rattle.gen1_odds.specs.declared.knock_outs.Chances.{Chances}
+use Rattle.gen1_odds.specs.declared.knock_outs.ThreeChances.{ThreeChances}
 use Rattle.gen1_odds.specs.declared.odds.Odds.{Odds}
 use Rattle.gen1_odds.specs.HitTests.{takes_hit_test}
-use Rattle.gen1_odds.specs.KnockOut.{chances_in}
+use Rattle.gen1_odds.specs.KnockOut.{chances_in, three_chances_in}
 use Rattle.gen1_odds.specs.Odds.{drained, odds_in, recoil}
 use Rattle.gen1_c.specs.Battle.{teams_fault}
 use Rattle.gen1_c.specs.Teams.{fault_of_any, member_fault, sheet_of}
@@ -27,6 +29,9 @@ odds_due = due_of odds_in
 
 abbrev pub chances_due : Rules → Side → ℕ → Field → Result Chances ℕ
 chances_due = due_of chances_in
+
+abbrev pub three_chances_due : Between → Rules → Side → ℕ → Field → Result ThreeChances ℕ
+three_chances_due between = due_of (three_chances_in between)
 
 abbrev pub Tells : {A : Type 0} → Result A ℕ → A → A → ℕ → Type 0
 Tells (Ok value) old new code = (code ≡ 0) × (new ≡ value)

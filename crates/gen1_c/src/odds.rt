@@ -6,7 +6,7 @@ ghost use Rattle.gen1_machine.specs.State.{State};
 ghost use Rattle.gen1_machine.specs.declared.side.Side.{Side};
 ghost use Rattle.gen1_machine.specs.declared.side.Side.TheVariants.{One};
 ghost use Rattle.gen1_layout.specs.Within.{Stands};
-ghost use Rattle.gen1_c.specs.Odds.{Tells, between_fault, chances_due, drained_due, facing, hit_test_due, odds_due, odds_of_state, recoil_due};
+ghost use Rattle.gen1_c.specs.Odds.{Tells, between_fault, chances_due, drained_due, facing, hit_test_due, odds_due, odds_of_state, recoil_due, three_chances_due};
 ghost use Rattle.gen1_c.specs.Teams.{sheet_of};
 ghost use Rattle.gen1_c.specs.Update.{IsNoSide};
 
@@ -14,7 +14,10 @@ use crate::teams::{MemberForm, team_of_one};
 use gen1_engine::packed::update_events;
 use gen1_layout::Packed;
 use gen1_machine::{Choice, EventList, Side};
-use gen1_odds::{Chances, Odds, drained, knock_out, odds_of, recoil, takes_hit_test};
+use gen1_odds::{
+    Between, Chances, Odds, ThreeChances, drained, knock_out, knock_out_in_three, odds_of, recoil,
+    takes_hit_test,
+};
 use gen1_stats::Team;
 use gen1_tables::MoveId;
 
@@ -72,6 +75,36 @@ pub extern "C" fn gen1_knock_out(battle: &Packed, side: u8, number: u8, chances:
         return NOBODY;
     }
     *chances = knock_out(battle, side, id);
+    0
+}
+
+/// Computes the chance that one use of a move of a side knocks out the foe's active member, or two or three in a row, with both as
+/// they are now and what happens to the foe's HP between the uses; against a substitute, the chance to break it. Returns 0, or the
+/// first code that applies, as `gen1_damage` returns it; then nothing has changed.
+#[unsafe(no_mangle)]
+pub extern "C" fn gen1_knock_out_in_three(
+    battle: &Packed,
+    side: u8,
+    number: u8,
+    between: &Between,
+    chances: &mut ThreeChances,
+) -> u8
+    ensures tells { (s : State) (which : Side) → Stands battle.now s → side ≡ side_number which
+        → Tells (three_chances_due between.now s.terms.rules which number s.field) chances.old chances.new result }
+    ensures no_side { IsNoSide side → (result ≡ 40) × (chances.new ≡ chances.old) }
+    // For any bytes, valid or not.
+    ensures kept { result ≢ 0 → chances.new ≡ chances.old }
+{
+    let Some(side) = Side::from_number(side) else {
+        return NO_SIDE;
+    };
+    let Some(id) = MoveId::new(number) else {
+        return NO_MOVE;
+    };
+    if battle.turn() == 0 {
+        return NOBODY;
+    }
+    *chances = knock_out_in_three(battle, side, id, between);
     0
 }
 
