@@ -31,7 +31,7 @@
 //! | teams | [`member`], [`MemberSpec`], [`Team`], [`Species`], [`MoveId`], [`text`] |
 //! | battles | [`Battle`], [`Choice`], [`Update`], [`Event`], [`Line`] |
 //! | the whole state of a battle | [`Battle::state`], [`State`], [`Battle::from_state`], [`Battle::with_hp`] |
-//! | damage and exact chances | [`Battle::damage`], [`Battle::odds`], [`Battle::knock_out`] |
+//! | damage and exact chances | [`Battle::damage`], [`Battle::odds`], [`Battle::knock_out`], [`Battle::knock_out_in_three`] |
 //! | all that an update can lead to, with exact probabilities | `Battle::outcomes`, [`Battle::outcomes_into`], [`Battle::ways`] |
 //! | battles played by random choices, and how they end | [`Battle::playout`], [`PlayoutOptions`], [`Weights`], [`Playouts`] |
 //! | searches | [`Battle::offered_mask`], [`Battle::update_silent`], [`Battle::reseed`], [`Battle::key`] |
@@ -146,7 +146,7 @@ pub use from_state::{StateFault, StateField};
 pub use guess::{Guess, GuessFault};
 pub use lines::{Events, Line, Lines, events_of};
 pub use mask::OfferedMask;
-pub use odds::{Chances, DamageRefusal, Odds};
+pub use odds::{Between, Chances, DamageRefusal, HpChange, Odds, ThreeChances};
 #[cfg(feature = "alloc")]
 pub use outcomes::OutcomeList;
 pub use outcomes::{Way, Ways};

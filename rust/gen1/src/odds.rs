@@ -1,8 +1,8 @@
 //! The damage of a move and its odds, in the current state of a battle.
-use crate::{Battle, MoveId, OddsReason, Side};
-use core::fmt;
 use crate::generated::layout::Packed;
 use crate::generated::odds::{self, Damages};
+use crate::{Battle, MoveId, OddsReason, Side};
+use core::fmt;
 
 /// Why there are no damage numbers.
 #[derive(Clone, Copy, Debug, PartialEq, Eq)]
@@ -44,6 +44,49 @@ pub struct Chances {
     pub twice: u64,
     /// The ways of two uses.
     pub twice_of: u64,
+    /// Whether the foe has a Substitute. The chances are then those of breaking it.
+    pub breaks_substitute: bool,
+}
+
+/// What happens to the HP of the foe between two uses of a move, if it has any left. By default they stay as they are.
+#[derive(Clone, Copy, Debug, Default, PartialEq, Eq)]
+#[cfg_attr(feature = "serde", derive(serde::Serialize, serde::Deserialize))]
+pub struct HpChange {
+    /// The HP that it gains first, up to its maximum.
+    pub gained: u16,
+    /// The HP that it then loses.
+    pub lost: u16,
+}
+
+/// What happens to the HP of the foe after the first use of a move and after the second. By default they stay as they are.
+#[derive(Clone, Copy, Debug, Default, PartialEq, Eq)]
+#[cfg_attr(feature = "serde", derive(serde::Serialize, serde::Deserialize))]
+pub struct Between {
+    /// After the first use.
+    pub after_first: HpChange,
+    /// After the second use.
+    pub after_second: HpChange,
+}
+
+/// The chance that one use of a move knocks out the foe, or two or three in a row, for independent draws.
+///
+/// A chance is a number of ways out of all of them, which are equally likely.
+#[derive(Clone, Copy, Debug, PartialEq, Eq)]
+#[cfg_attr(feature = "serde", derive(serde::Serialize, serde::Deserialize))]
+#[non_exhaustive]
+pub struct ThreeChances {
+    /// In how many ways the foe has no HP left after one use.
+    pub once: u64,
+    /// The ways of one use, at most 20,447,232.
+    pub once_of: u64,
+    /// In how many ways the foe has no HP left after two uses.
+    pub twice: u64,
+    /// The ways of two uses.
+    pub twice_of: u64,
+    /// In how many ways the foe has no HP left after three uses.
+    pub thrice: u128,
+    /// The ways of three uses.
+    pub thrice_of: u128,
     /// Whether the foe has a Substitute. The chances are then those of breaking it.
     pub breaks_substitute: bool,
 }
@@ -186,6 +229,59 @@ impl Battle {
             once_of: chances.once_of,
             twice: chances.twice,
             twice_of: chances.twice_of,
+            breaks_substitute: chances.breaks_substitute != 0,
+        })
+    }
+
+    /// The exact chance that a side's move knocks out the foe, with one use and with two or three in a row, in the current state of both
+    /// members that are out. Against a Substitute it is the chance to break it, and `between` does not count.
+    ///
+    /// The draws are taken as independent. Between two uses the foe's HP change as `between` says. Nothing else that happens then counts.
+    ///
+    /// ```
+    /// use gen1::{Battle, Between, Choice, HpChange, MoveId, Side, Team, member};
+    ///
+    /// # fn main() -> Result<(), Box<dyn std::error::Error>> {
+    /// let one = Team::new(&[member("Gengar", &["Night Shade"])?])?;
+    /// let two = Team::new(&[member("Alakazam", &["Psychic"])?])?;
+    /// let mut battle = Battle::new(&one, &two, [0; 10]);
+    /// battle.update(Choice::Pass, Choice::Pass)?;
+    /// // Night Shade takes 100 of the 313 HP, and a burn takes 19 after each use.
+    /// let burn = HpChange { gained: 0, lost: 19 };
+    /// let burned = Between { after_first: burn, after_second: burn };
+    /// let night_shade = MoveId::NIGHT_SHADE;
+    /// assert_eq!(battle.knock_out_in_three(Side::One, night_shade, &Between::default())?.thrice, 0);
+    /// assert!(battle.knock_out_in_three(Side::One, night_shade, &burned)?.thrice > 0);
+    /// # Ok(())
+    /// # }
+    /// ```
+    ///
+    /// # Errors
+    ///
+    /// [`DamageRefusal::NobodyOut`] only.
+    pub fn knock_out_in_three(
+        &self,
+        side: Side,
+        id: MoveId,
+        between: &Between,
+    ) -> Result<ThreeChances, DamageRefusal> {
+        let changed = |it: HpChange| odds::HpChange {
+            gained: it.gained,
+            lost: it.lost,
+        };
+        let between = odds::Between {
+            after_first: changed(between.after_first),
+            after_second: changed(between.after_second),
+        };
+        let chances = odds::knock_out_in_three(self.out()?, side, id, &between);
+        let whole = |it: odds::Wide| u128::from(it.high) << 64 | u128::from(it.low);
+        Ok(ThreeChances {
+            once: chances.once,
+            once_of: chances.once_of,
+            twice: chances.twice,
+            twice_of: chances.twice_of,
+            thrice: whole(chances.thrice),
+            thrice_of: whole(chances.thrice_of),
             breaks_substitute: chances.breaks_substitute != 0,
         })
     }
