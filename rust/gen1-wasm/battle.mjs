@@ -11,7 +11,7 @@ import { bytesOf, moveOf, Team, teamAt, teamError, teamGiven } from "./teams.mjs
 import { blockOfState, indexOf, memberAt } from "./states.mjs";
 import { MOVES } from "./tables.mjs";
 import { made, Update } from "./update.mjs";
-import { chancesOf, oddsOf, ownSideOf, resultOf, STATS, STATUSES, stateOf } from "./views.mjs";
+import { chancesOf, oddsOf, ownSideOf, resultOf, STATS, STATUSES, stateOf, threeChancesOf } from "./views.mjs";
 
 const FACTORS = 39;
 const TERMS_KEYS = ["one", "two", "seed", "rules", "limit"];
@@ -264,6 +264,16 @@ export class Battle {
     return chancesOf(this.#library.readStruct("gen1_chances", chances));
   }
 
+  /** The same in one use, two and three, with what happens to its HP between them. */
+  knockOutInThree(side, move, between = {}) {
+    const number = moveOf(this.#library, move);
+    const given = betweenUses(this.#library, between);
+    const [battle, changes, chances] = [this.#begin(), this.#library.put(given), this.#library.roomOf("gen1_three_chances")];
+    const code = this.#library.calls.gen1_knock_out_in_three(battle, sideOf(side), number, changes, chances);
+    if (code) throw damageError(this.#library, code, move);
+    return threeChancesOf(this.#library.readStruct("gen1_three_chances", chances));
+  }
+
   /** The damage of a side's move in the current state, at each factor from 217 to 255. */
   damage(side, move, critical = false) {
     const number = moveOf(this.#library, move);
@@ -313,6 +323,17 @@ function weightsOf(library, given) {
   const table = [within(ofSwitch, "weights.switch", 0, 255), ...Array(MOVES.length).fill(within(move, "weights.move", 0, 255))];
   for (const [name, weight] of Object.entries(moves)) table[moveOf(library, name, "weights")] = within(weight, `weights[${shown(name)}]`, 0, 255);
   return table;
+}
+
+/** The bytes of a gen1_between. What is not given does not change. */
+function betweenUses(library, between) {
+  const { afterFirst, afterSecond } = record(between, "between", "an object with afterFirst and afterSecond", ["afterFirst", "afterSecond"]);
+  const change = (it, what) => {
+    const { gained = 0, lost = 0 } = record(it, what, "an object with gained and lost", ["gained", "lost"]);
+    return { gained: within(gained, `${what}.gained`, 0, 65535), lost: within(lost, `${what}.lost`, 0, 65535) };
+  };
+  const changes = { afterFirst: change(afterFirst ?? {}, "between.afterFirst"), afterSecond: change(afterSecond ?? {}, "between.afterSecond") };
+  return bytesOf("gen1_between", library.isLong, changes);
 }
 
 /** Why there are no damage numbers of a move. */

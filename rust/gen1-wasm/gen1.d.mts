@@ -272,6 +272,26 @@ export interface KnockOut {
   chanceTwice: number;
 }
 
+/** What happens to the HP of the foe between two uses of a move, if it has any left. */
+export interface HpChange {
+  /** The HP that it gains first, up to its maximum: 0 to 65535, and 0 if it is left out. */
+  gained?: number;
+  /** The HP that it then loses: 0 to 65535, and 0 if it is left out. */
+  lost?: number;
+}
+
+/** What happens to the HP of the foe after the first use of a move and after the second. Without it the HP stay as they are. */
+export interface Between {
+  afterFirst?: HpChange;
+  afterSecond?: HpChange;
+}
+
+/** The chances of a KnockOut, and that of three uses in a row, with what happens to the HP of the foe between the uses. */
+export interface KnockOutInThree extends KnockOut {
+  /** Rounded. */
+  chanceThrice: number;
+}
+
 /** A member of a side as it is shown to the side itself. */
 export type OwnMember = Omit<MemberState, "sleep" | "marked">;
 
@@ -529,6 +549,11 @@ export class Battle {
   odds(side: Side, move: MoveLike): Odds;
   /** The chances that a side's move knocks out the foe's active member, in one use and in two. Throws DamageError if no member is out. */
   knockOut(side: Side, move: MoveLike): KnockOut;
+  /**
+   * The same in one use, two and three, with what happens to the HP of the foe between the uses. It doesn't count against a substitute.
+   * Throws DamageError if no member is out.
+   */
+  knockOutInThree(side: Side, move: MoveLike, between?: Between): KnockOutInThree;
   /** The damage of a side's move: 39 numbers, at the factors from 217 to 255. Throws DamageError. */
   damage(side: Side, move: MoveLike, critical?: boolean): number[];
 }

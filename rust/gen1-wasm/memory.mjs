@@ -10,7 +10,7 @@ const PAGE = 65536;
 const NEEDED = [
   "memory", "__heap_base", ...["version", "new", "load", "offered", "update", "update_silent", "result", "next_event", "event_bytes", "next_line", "damage", "odds_now",
     "odds_between", "takes_hit_test", "playout", "outcomes", "team_from_text", "team_from_packed", "species_from_name", "move_from_name", "error_text", "get_state", "set_state", "knock_out",
-    "choice_words", "reseed", "room_begin", "room_choices", "room_forfeit", "room_result", "room_submit", "spectator_begin", "spectator_feed", "player_begin", "player_feed", "player_show",
+    "knock_out_in_three", "choice_words", "reseed", "room_begin", "room_choices", "room_forfeit", "room_result", "room_submit", "spectator_begin", "spectator_feed", "player_begin", "player_feed", "player_show",
     "get_own_side", "teller_begin", "tell", "offered_many", "update_many", "move_data", "effectiveness", "member_stats", "drained", "recoil"].map((call) => `gen1_${call}`),
 ];
 

@@ -41,7 +41,7 @@ export function offsetsOf(name) {
   return { size, ...Object.fromEntries(fields.map(({ key, at }) => [key, at])) };
 }
 
-// A value of a field. A number of 8 bytes is at most 2 ** 53 here, but for the weights of outcomes, which outcomes.mjs reads.
+// A value of a field. A number of 8 bytes above 2 ** 53 is rounded: the ways of three uses. outcomes.mjs reads its weights itself.
 function read(field, view, at, isLong) {
   return field.struct ? readStruct(field.struct, view, at, isLong) : Number(view[`get${field.kind}`](at, true));
 }

@@ -185,6 +185,12 @@ export function chancesOf({ breaksSubstitute, ...ways }) {
   };
 }
 
+/** The object of a gen1_three_chances. The ways of three uses have up to 73 bits, so only their quotient is there, rounded. */
+export function threeChancesOf({ thrice, thriceOf, ...two }) {
+  const whole = ({ low, high }) => high * 2 ** 64 + low;
+  return { ...chancesOf(two), chanceThrice: whole(thrice) / whole(thriceOf) };
+}
+
 function seenMember({ species, level, status, hp, max, moves }) {
   const used = moves.filter(({ id }) => id).map(({ id, uses }) => ({ name: MOVES[id - 1], uses }));
   return { species: SPECIES[species - 1], level, status: STATUSES[status], hp, maxHp: max, moves: used };

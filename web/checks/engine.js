@@ -120,8 +120,8 @@ check("members have the state that is asked for", () => {
 check("what a use does to the HP", () => {
   const found = (one, two, move) => calculated(one, two)[0].moves.find((it) => it.move === move);
   // Body Slam deals 95 to 112, and each critical hit more. It hits with 255 of 256 bytes.
-  const { chanceOnce, chanceTwice } = found({}, { hp: 95 }, "Body Slam").knockOut;
-  equal([chanceOnce, chanceTwice], [255 / 256, 65535 / 65536]);
+  const { chanceOnce, chanceTwice, chanceThrice } = found({}, { hp: 95 }, "Body Slam").knockOut;
+  equal([chanceOnce, chanceTwice, chanceThrice], [255 / 256, 65535 / 65536, 16777215 / 16777216]);
   const users = (move) => engine.calculate([{ ...STANDS, member: tauros(move) }, { ...STANDS, member: tauros("Strength") }])[0].moves[0];
   equal(["Seismic Toss", "Super Fang", "Fissure"].map((move) => users(move).fixed), [[100, 100], [176, 176], [65535, 65535]]);
   equal([users("Fissure").hit, users("Fissure").reason, users("Recover").reason], [76, null, "the user's HP don't allow it"]);

@@ -132,7 +132,7 @@ export function onAverage(odds, foe) {
 }
 
 /**
- * The chances that 1, 2, .. uses take all HP, one after the other. Those of one and two are the engine's. The last is that of a use that
+ * The chances that 1, 2, .. uses take all HP, one after the other. Those of one, two and three are the engine's. The last is that of a use that
  * does so for certain, or of the ninth.
  * @param {CalculatedMove} odds
  * @param {number} hp
@@ -140,7 +140,8 @@ export function onAverage(odds, foe) {
 export function* usesToKnockOut(odds, hp) {
   const each = damages(odds);
   const halves = odds.move === "Super Fang" && !odds.knockOut.breaksSubstitute;
-  const exact = [odds.knockOut.chanceOnce, odds.knockOut.chanceTwice];
+  const { chanceOnce, chanceTwice, chanceThrice } = odds.knockOut;
+  const exact = [chanceOnce, chanceTwice, chanceThrice];
   // The chance of each sum below the HP.
   let sums = Float64Array.of(1, ...Array(hp - 1).fill(0));
   for (let use = 0, reached = 0, isCertain = false; use < USES && !isCertain; use++) {

@@ -16,7 +16,7 @@ import { kindOf } from "./words.js";
  * @typedef {{ slot: number, move: string, damage: number[] | null, critical: number[] | null, fixed: [number, number] | null, bound: number | null,
  *   hit: number | null, reason: string | null, hits: number[], charges: boolean }} Odds of how many bytes a critical hit or a hit is drawn,
  *   null if without a draw; why a use cannot hit; the chances of 0 to 5 hits; and whether the user charges first
- * @typedef {Odds & { knockOut: import("gen1").KnockOut }} CalculatedMove
+ * @typedef {Odds & { knockOut: import("gen1").KnockOutInThree }} CalculatedMove
  * @typedef {{ hp: number, max: number, substitute: number, own: number[], stats: number[], moves: CalculatedMove[] }} Calculated
  * @typedef {{ member: Member, stages: number[], status: number, conditions: number, hp: number }} Standing a member and its state: six stages
  *   from 0 to 12, the byte of the status (docs/LAYOUT.md, "Member"), a bit for each of CONDITIONS, and the HP, where 0 is the maximum
@@ -316,7 +316,7 @@ export class Engine {
       const odds = both[at].member.moves.length ? this.oddsOf(battle, side) : [];
       return {
         hp: member.hp, max: member.maxHp, substitute: active?.substitute ?? 0, own: member.stats, stats: active?.stats ?? [],
-        moves: odds.map((it) => ({ ...it, knockOut: battle.knockOut(side, it.move) })),
+        moves: odds.map((it) => ({ ...it, knockOut: battle.knockOutInThree(side, it.move) })),
       };
     });
   }

@@ -108,7 +108,7 @@ function teams(gen1, check) {
       () => battle.bytes, () => battle.state, () => battle.result, () => battle.isOver, () => battle.clone(), () => battle.copyFrom(other),
       () => other.copyFrom(battle), () => battle.choices(1), () => battle.offeredMask(1), () => battle.words(1, "pass"), () => battle.update("pass", "pass"),
       () => battle.updateSilent("pass", "pass"), () => battle.reseed(SEED), () => battle.playout(1, 1), () => battle.outcomes(0, 0), () => battle.odds(1, "Pound"),
-      () => battle.knockOut(1, "Pound"), () => battle.damage(1, "Pound"), () => battle.ownSide(1), () => battle.withHp(1, 1, 5), () => gen1.room(battle),
+      () => battle.knockOut(1, "Pound"), () => battle.knockOutInThree(1, "Pound"), () => battle.damage(1, "Pound"), () => battle.ownSide(1), () => battle.withHp(1, 1, 5), () => gen1.room(battle),
       () => gen1.player({ side: 1, team: [TAUROS] }).show(battle),
     ];
     for (const call of calls) thrown(call, FreedError, /^the battle was freed$/);
@@ -199,7 +199,7 @@ function bytes(gen1, check) {
 function choices(battle, check) {
   check("sides", () => {
     const asked = [(side) => battle.choices(side), (side) => battle.offeredMask(side), (side) => battle.damage(side, "Pound"),
-      (side) => battle.odds(side, "Pound"), (side) => battle.words(side, "pass"), (side) => battle.knockOut(side, "Pound"),
+      (side) => battle.odds(side, "Pound"), (side) => battle.words(side, "pass"), (side) => battle.knockOut(side, "Pound"), (side) => battle.knockOutInThree(side, "Pound"),
       (side) => battle.ownSide(side), (side) => battle.withHp(side, 1, 5), (side) => battle.withStatus(side, 1, "burn"),
       (side) => battle.withStage(side, "speed", 1)];
     for (const call of asked) {
@@ -239,9 +239,9 @@ function choices(battle, check) {
 function moves(gen1, battle, check) {
   check("moves", () => {
     for (const move of [0, 166, ...BIG])
-      for (const call of [() => battle.damage(1, move), () => battle.odds(1, move), () => battle.knockOut(1, move), () => gen1.odds(TAUROS, TAUROS, move)])
+      for (const call of [() => battle.damage(1, move), () => battle.odds(1, move), () => battle.knockOut(1, move), () => battle.knockOutInThree(1, move), () => gen1.odds(TAUROS, TAUROS, move)])
         thrown(call, DamageError, /^no damage of -?\d.*: a move is not 1 to 165$/);
-    const calls = [(move) => battle.damage(1, move), (move) => battle.odds(1, move), (move) => battle.knockOut(1, move)];
+    const calls = [(move) => battle.damage(1, move), (move) => battle.odds(1, move), (move) => battle.knockOut(1, move), (move) => battle.knockOutInThree(1, move)];
     for (const call of [...calls, (move) => gen1.damage(TAUROS, TAUROS, move)]) {
       outside(() => call("Pond"), /^move is "Pond", which is not in docs\/TABLES.md; did you mean "Pound"\?$/);
       outside(() => call("body slam"), /did you mean "Body Slam"\?$/);
@@ -252,6 +252,12 @@ function moves(gen1, battle, check) {
     thrown(() => gen1.battle(TERMS).damage(1, "Pound"), DamageError, /nobody is out/);
     thrown(() => gen1.battle(TERMS).odds(1, "Pound"), DamageError, /nobody is out/);
     thrown(() => gen1.battle(TERMS).knockOut(1, "Pound"), DamageError, /nobody is out/);
+    thrown(() => gen1.battle(TERMS).knockOutInThree(1, "Pound"), DamageError, /nobody is out/);
+    const three = (between) => () => battle.knockOutInThree(1, "Pound", between);
+    thrown(three({ afterFirst: { lost: 65536 } }), ArgumentError, /^between\.afterFirst\.lost is 65536, not 0 to 65535$/);
+    thrown(three({ afterSecond: { gained: -1 } }), ArgumentError, /^between\.afterSecond\.gained is -1, not 0 to 65535$/);
+    thrown(three({ afterThird: {} }), ArgumentError, /^between has the unknown key "afterThird"; its keys are afterFirst, afterSecond$/);
+    for (const it of [null, 5, "22", [], { afterFirst: 22 }, { afterFirst: { lost: "22" } }, { afterSecond: { gained: 0.5 } }]) wrong(three(it), /^between.* is .*, not /);
   });
 }
 

@@ -24,7 +24,7 @@ const OF_GEN1 = {
 /** @type {Record<Named<import("../gen1.mjs").Battle>, true>} */
 const OF_BATTLE = {
   bytes: true, result: true, isOver: true, state: true, clone: true, copyFrom: true, free: true, toJSON: true, choices: true, offeredMask: true, words: true, update: true, updateSilent: true,
-  reseed: true, playout: true, outcomes: true, odds: true, damage: true, knockOut: true, ownSide: true, withState: true, withHp: true, withStatus: true, withStage: true,
+  reseed: true, playout: true, outcomes: true, odds: true, damage: true, knockOut: true, knockOutInThree: true, ownSide: true, withState: true, withHp: true, withStatus: true, withStage: true,
 };
 /** @type {Record<Named<import("../gen1.mjs").Outcomes>, true>} */
 const OF_OUTCOMES = { length: true, whole: true, at: true };
@@ -59,6 +59,8 @@ const OF_SEEN = { species: true, level: true, status: true, hp: true, maxHp: tru
 const OF_SEEN_ACTIVE = { place: true, types: true, stages: true, lastMove: true, announced: true };
 /** @type {Record<Named<import("../gen1.mjs").KnockOut>, true>} */
 const OF_KNOCK_OUT = { once: true, onceOf: true, twice: true, twiceOf: true, breaksSubstitute: true, chanceOnce: true, chanceTwice: true };
+/** @type {Record<Named<import("../gen1.mjs").KnockOutInThree>, true>} */
+const OF_KNOCK_OUT_IN_THREE = { ...OF_KNOCK_OUT, chanceThrice: true };
 /** @type {Record<Named<import("../gen1.mjs").Update>, true>} */
 const OF_UPDATE = { result: true, log: true, events: true, lines: true, toJSON: true };
 /** @type {Record<Named<import("../gen1.mjs").State>, true>} */
@@ -179,6 +181,7 @@ function battles(gen1) {
   copy.free();
   hasKeys(battle.odds(1, "Strength"), OF_ODDS);
   hasKeys(battle.knockOut(1, "Strength"), OF_KNOCK_OUT);
+  hasKeys(battle.knockOutInThree(1, "Strength", { afterFirst: { lost: 1 } }), OF_KNOCK_OUT_IN_THREE);
   hasKeys(gen1.base("Tauros"), OF_BASE);
   hasKeys(gen1.moveData("Strength"), OF_MOVE_DATA);
   hasKeys(gen1.stats({ species: "Tauros", moves: [["Strength", 3]] }), OF_STATS);

@@ -221,6 +221,19 @@ function knockOuts(gen1, check) {
     isWays(battle.withHp(2, 1, 112).knockOut(1, "Body Slam"), 255 * (201 + 55 * 39), 256 * 256 * 39);
     isWays(battle.withHp(2, 1, 95).knockOut(1, "Body Slam"), 255, 256);
   });
+  check("chances of a knock-out in three uses", () => {
+    // Seismic Toss deals 100, and misses with one draw of 256. With 22 HP lost after the first use, two hits of three take 222 HP.
+    const toss = (hp, between) => battle.withHp(2, 1, hp).knockOutInThree(1, "Seismic Toss", between);
+    const two = 3 * (255 / 256) ** 2 * (1 / 256) + (255 / 256) ** 3;
+    equal([toss(222).chanceThrice, toss(222, { afterFirst: { lost: 22 } }).chanceThrice], [(255 / 256) ** 3, two]);
+    equal(toss(222, { afterFirst: { lost: 22 } }).chanceTwice, (255 / 256) ** 2);
+    equal(toss(300, { afterSecond: { gained: 1 } }).chanceThrice, 0);
+    // A foe that has fallen gains nothing, and one with all of its HP gains nothing either.
+    equal(toss(100, { afterFirst: { gained: 353 } }).chanceTwice, 255 / 256);
+    equal(toss(353, { afterFirst: { gained: 65535, lost: 353 } }).chanceTwice, 1);
+    const before = battle.withHp(2, 1, 222);
+    equal(before.knockOutInThree(1, "Body Slam").chanceTwice, before.knockOut(1, "Body Slam").chanceTwice);
+  });
   check("chances of breaking a substitute", () => {
     const guarded = battle.withState(({ two: { active } }) => {
       active.conditions.push("substitute");
@@ -228,6 +241,9 @@ function knockOuts(gen1, check) {
     });
     const { breaksSubstitute, chanceOnce } = guarded.knockOut(1, "Seismic Toss");
     equal([breaksSubstitute, chanceOnce, battle.knockOut(1, "Seismic Toss").breaksSubstitute], [true, 255 / 256, false]);
+    // Its 89 HP are 90 to take, and nothing is lost or gained between uses.
+    const { chanceThrice } = guarded.knockOutInThree(1, "Seismic Toss", { afterFirst: { lost: 90 }, afterSecond: { gained: 90 } });
+    equal(chanceThrice, 1 - (1 / 256) ** 3);
   });
 }
 
