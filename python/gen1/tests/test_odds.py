@@ -20,6 +20,7 @@ from gen1 import (
     Damages,
     DamageFault,
     Error,
+    HpChange,
     Member,
     Move,
     NoDamage,
@@ -28,6 +29,7 @@ from gen1 import (
     Outcome,
     Playouts,
     Team,
+    ThreeChances,
     base,
     damage,
     drained,
@@ -157,6 +159,38 @@ def test_chances_to_knock_out():
     assert shade == Chances(Fraction(0), Fraction(255 * 255, 256 * 256), False)
 
 
+def felled(hp, changes, uses):
+    """The chance that so many Body Slams of Tauros fell another: what is left after each use and its change, summed use by use."""
+    standing, fallen = {hp: Fraction(1)}, Fraction(0)
+    for use in range(uses):
+        following = {}
+        for left, chance in standing.items():
+            for damage_of, part in strikes():
+                rest = left - damage_of
+                if rest > 0 and use < uses - 1:
+                    rest = min(353, rest + changes[use].gained) - changes[use].lost
+                if rest > 0:
+                    following[rest] = following.get(rest, 0) + chance * part
+                else:
+                    fallen += chance * part
+        standing = following
+    return fallen
+
+
+def test_chances_in_three_uses():
+    tauros = Member("Tauros", ["Body Slam"])
+    none, poison, toxic, recover = HpChange(), HpChange(lost=22), HpChange(lost=44), HpChange(gained=176, lost=22)
+    for hp, changes in ((95, (none, none)), (353, (none, none)), (353, (poison, toxic)), (300, (recover, poison)), (224, (toxic, recover))):
+        due = [felled(hp, changes, uses) for uses in (1, 2, 3)]
+        battle = facing(tauros, tauros).with_hp(2, 1, hp)
+        assert battle.knock_out_in_three(1, "Body Slam", *changes) == ThreeChances(*due, False), (hp, changes)
+    found, two = battle.knock_out_in_three(1, "Fury Attack"), battle.knock_out(1, "Fury Attack")
+    assert (found.once, found.twice) == (two.once, two.twice) and two.twice <= found.thrice
+    # A foe that has fallen gains nothing; one that loses all HP between the uses has fallen.
+    assert battle.with_hp(2, 1, 40).knock_out_in_three(1, "Sonic Boom", HpChange(lost=40)).twice == Fraction(1)
+    assert battle.with_hp(2, 1, 20).knock_out_in_three(1, "Sonic Boom", HpChange(gained=300)).twice == Fraction(229, 256)
+
+
 def test_chances_to_break_a_substitute():
     """A Substitute of Tauros has 353 / 4 = 88 HP, and breaks if the damage is above them; the least of Body Slam is 95."""
     tauros = Member("Tauros", ["Body Slam", "Substitute"])
@@ -167,6 +201,9 @@ def test_chances_to_break_a_substitute():
     assert (found.once, found.breaks_substitute) == (Fraction(255, 256), True)
     tougher = Battle.from_state(battle.state.with_active(2, substitute=112))
     assert tougher.knock_out(1, "Body Slam").once == Fraction(255 * 55, 256 * 256)
+    # A Substitute of 221 HP breaks at 222, with three hits of 100; it loses and gains nothing between the uses.
+    toughest, change = Battle.from_state(battle.state.with_active(2, substitute=221)), HpChange(gained=50, lost=222)
+    assert toughest.knock_out_in_three(1, "Seismic Toss", change, change) == ThreeChances(Fraction(0), Fraction(0), Fraction(255, 256) ** 3, True)
 
 
 def test_moves_that_take_no_hit_test():
@@ -242,7 +279,11 @@ def test_odds_with_wrong_arguments(battle, team, tauros):
     calls += [(lambda it=it: battle.odds(it, "Pound"), BadType) for it in NO_NUMBERS]
     calls += [(lambda it=it: battle.knock_out(it, "Pound"), BadArgument) for it in (0, 3, *BIG)]
     calls += [(lambda it=it: battle.knock_out(it, "Pound"), BadType) for it in NO_NUMBERS]
-    for call in (lambda it: battle.odds(1, it), lambda it: battle.knock_out(1, it), lambda it: odds(tauros, tauros, it)):
+    calls += [(lambda it=it: battle.knock_out_in_three(it, "Pound"), BadArgument) for it in (0, 3, *BIG)]
+    calls += [(lambda it=it: battle.knock_out_in_three(1, "Pound", HpChange(lost=it)), BadArgument) for it in (-1, 65_536, 2**70)]
+    calls += [(lambda it=it: battle.knock_out_in_three(1, "Pound", HpChange(), HpChange(gained=it)), BadType) for it in NO_NUMBERS]
+    calls += [(lambda it=it: battle.knock_out_in_three(1, "Pound", it), BadType) for it in (None, 22, (0, 22), {"lost": 22})]
+    for call in (lambda it: battle.odds(1, it), lambda it: battle.knock_out(1, it), lambda it: battle.knock_out_in_three(1, it), lambda it: odds(tauros, tauros, it)):
         calls += [(lambda call=call, it=it: call(it), BadTeam) for it in (0, 166, *BIG, "Pond", "1")]
         calls += [(lambda call=call, it=it: call(it), BadType) for it in NO_NUMBERS if it != "1"]
     for it in (None, 5, "Tauros", tauros.to_dict(), team):
@@ -251,7 +292,8 @@ def test_odds_with_wrong_arguments(battle, team, tauros):
         with pytest.raises(kind) as fault:
             call()
         assert isinstance(fault.value, Error) and len(str(fault.value)) > 10 and battle.bytes == before, at
-    for call in (Battle(team, team, range(10)).odds, Battle(team, team, range(10)).knock_out):
+    unbegun = Battle(team, team, range(10))
+    for call in (unbegun.odds, unbegun.knock_out, unbegun.knock_out_in_three):
         with pytest.raises(NoDamage) as fault:
             call(1, "Pound")
         assert fault.value.code is DamageFault.NOBODY and "before its first update" in str(fault.value)

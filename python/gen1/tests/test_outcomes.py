@@ -7,7 +7,22 @@ from fractions import Fraction
 
 import pytest
 from conftest import BIG, NO_NUMBERS, random_team
-from gen1 import BadArgument, BadType, Battle, Choice, Member, Outcomes, Refusal, Refused, Status
+from gen1 import (
+    BadArgument,
+    BadType,
+    Battle,
+    Chances,
+    Choice,
+    Conditions,
+    HpChange,
+    Member,
+    Outcomes,
+    Refusal,
+    Refused,
+    Stat,
+    Status,
+    ThreeChances,
+)
 from gen1 import _outcomes
 
 FIRST = Choice.MOVE_1
@@ -89,6 +104,73 @@ def test_one_outcome():
     found = battle.outcomes(Choice.PASS, Choice.PASS)
     battle.update_silent(Choice.PASS, Choice.PASS)
     assert (len(found), found.weights, found.whole, found.battles) == (1, [1], 1, [battle])
+
+
+NONE, POISON, TOXIC, RECOVER = HpChange(), HpChange(lost=22), HpChange(lost=44), HpChange(gained=176, lost=22)
+
+# The user, its move and its foe; how the battle is changed; and what happens to the foe's HP between the uses.
+REPEATED = {
+    "usual": ("Tauros", "Strength", "Tauros", lambda it: it, NONE, NONE),
+    "poisoned": ("Tauros", "Strength", "Tauros", lambda it: it, POISON, TOXIC),
+    "recovering": ("Tauros", "Strength", "Tauros", lambda it: it.with_hp(2, 1, 240), RECOVER, POISON),
+    "often critical": ("Kingler", "Crabhammer", "Tauros", lambda it: it.with_hp(2, 1, 260), POISON, NONE),
+    "less accurate": ("Tauros", "Strength", "Tauros", lambda it: it.with_hp(2, 1, 150).with_stage(1, Stat.ACCURACY, -2), NONE, POISON),
+    "burned": ("Tauros", "Strength", "Tauros", lambda it: it.with_hp(2, 1, 120).with_status(1, 1, Status.BURN), NONE, NONE),
+    "no hit test": ("Jolteon", "Swift", "Tauros", lambda it: it.with_hp(2, 1, 120), NONE, POISON),
+    "two hits": ("Hitmonlee", "Double Kick", "Tauros", lambda it: it.with_hp(2, 1, 353), POISON, RECOVER),
+    "two to five hits": ("Jolteon", "Pin Missile", "Tauros", lambda it: it.with_hp(2, 1, 150), TOXIC, RECOVER),
+    "fixed": ("Gengar", "Night Shade", "Alakazam", lambda it: it.with_hp(2, 1, 222), POISON, NONE),
+    "Psywave": ("Alakazam", "Psywave", "Tauros", lambda it: it.with_hp(2, 1, 200), POISON, POISON),
+    "Super Fang": ("Raticate", "Super Fang", "Tauros", lambda it: it, POISON, TOXIC),
+    "one-hit": ("Tauros", "Horn Drill", "Snorlax", lambda it: it, NONE, RECOVER),
+    "one-hit, too slow": ("Snorlax", "Fissure", "Tauros", lambda it: it, NONE, NONE),
+    "immune": ("Tauros", "Strength", "Gengar", lambda it: it, POISON, POISON),
+    "substitute": ("Tauros", "Strength", "Tauros", lambda it: covered(it, 88), POISON, RECOVER),
+    "substitute, hits": ("Jolteon", "Pin Missile", "Tauros", lambda it: covered(it, 88), POISON, POISON),
+    "substitute, fixed": ("Gengar", "Night Shade", "Alakazam", lambda it: covered(it, 221), TOXIC, TOXIC),
+    "substitute, halved": ("Raticate", "Super Fang", "Tauros", lambda it: covered(it, 88), NONE, NONE),
+}
+
+
+def covered(battle, amount):
+    conditions = battle.state.two.active.conditions | Conditions.SUBSTITUTE
+    return Battle.from_state(battle.state.with_active(2, conditions=conditions, substitute=amount))
+
+
+def in_turn(battle, changes):
+    """The chances that one use, two and three fell the foe or break its Substitute: outcomes of an update for each number of HP before it."""
+    has_substitute = bool(battle.state.two.active.conditions & Conditions.SUBSTITUTE)
+
+    def left(it):
+        active = it.state.two.active
+        return (active.substitute + 1 if active.conditions & Conditions.SUBSTITUTE else 0) if has_substitute else hp(it, 2)
+
+    def uses_from(amount):
+        return chances(covered(battle, amount - 1) if has_substitute else battle.with_hp(2, 1, amount), left)
+
+    most, standing, felled = battle.state.two.members[0].max_hp, {left(battle): Fraction(1)}, []
+    for change in (*changes, NONE):
+        following = {}
+        for amount, chance in standing.items():
+            for rest, part in (uses_from(amount) if amount else {0: Fraction(1)}).items():
+                following[rest] = following.get(rest, 0) + chance * part
+        felled.append(following.get(0, Fraction(0)))
+        standing = {}
+        for rest, chance in following.items():
+            if rest and not has_substitute:
+                rest = max(min(rest + change.gained, most) - change.lost, 0)
+            standing[rest] = standing.get(rest, 0) + chance
+    return ThreeChances(*felled, has_substitute)
+
+
+@pytest.mark.parametrize("name", REPEATED)
+def test_chances_to_knock_out(name):
+    """The ways of gen1_odds are the outcomes of updates, for one use, two and three."""
+    user, move, foe, change, first, second = REPEATED[name]
+    battle = change(facing((user, move), (foe, "Splash")))
+    assert battle.knock_out_in_three(1, move, first, second) == in_turn(battle, (first, second))
+    at_once = in_turn(battle, (NONE, NONE)) if (first, second) != (NONE, NONE) else battle.knock_out_in_three(1, move)
+    assert battle.knock_out(1, move) == Chances(at_once.once, at_once.twice, at_once.breaks_substitute)
 
 
 def test_updates_are_among_the_outcomes():

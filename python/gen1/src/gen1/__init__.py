@@ -36,7 +36,7 @@ from typing import TYPE_CHECKING
 
 from gen1._library import LIBRARY_BUILD as library_build
 from gen1._library import LIBRARY_VERSION as library_version
-from gen1._odds import Chances, Damages, Odds, damage, drained, odds, recoil
+from gen1._odds import Chances, Damages, HpChange, Odds, ThreeChances, damage, drained, odds, recoil
 from gen1._outcomes import Outcomes
 from gen1.battle import Battle, Playouts, Result, Update
 from gen1.choices import Choice, Rules, Side
@@ -204,6 +204,7 @@ __all__ = [
     "HealEvent",
     "Health",
     "HitCountEvent",
+    "HpChange",
     "ImmuneEvent",
     "LibraryMissing",
     "LoadFault",
@@ -264,6 +265,7 @@ __all__ = [
     "Team",
     "Teller",
     "TextFault",
+    "ThreeChances",
     "TieEvent",
     "TurnEvent",
     "TwoPlayerEnv",

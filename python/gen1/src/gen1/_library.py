@@ -14,6 +14,7 @@ from typing import Any
 from gen1._structs import (
     DAMAGES,
     BattleBytes,
+    BetweenStruct,
     ChancesStruct,
     MoveStruct,
     OddsStruct,
@@ -28,6 +29,7 @@ from gen1._structs import (
     StateStruct,
     SuccessorStruct,
     TellerStruct,
+    ThreeChancesStruct,
 )
 from gen1.errors import LibraryMissing
 from gen1.names import HEADER_VERSION
@@ -157,6 +159,7 @@ next_line = bind("gen1_next_line", c_uint8, _BYTES, c_size_t, _SIZES, _TEXT, c_s
 damage = bind("gen1_damage", c_uint8, _BATTLE, c_uint8, c_uint8, c_bool, c_uint16 * DAMAGES)
 odds_now = bind("gen1_odds_now", c_uint8, _BATTLE, c_uint8, c_uint8, POINTER(OddsStruct))
 knock_out = bind("gen1_knock_out", c_uint8, _BATTLE, c_uint8, c_uint8, POINTER(ChancesStruct))
+knock_out_in_three = bind("gen1_knock_out_in_three", c_uint8, _BATTLE, c_uint8, c_uint8, POINTER(BetweenStruct), POINTER(ThreeChancesStruct))
 odds_between = bind("gen1_odds_between", c_uint32, _MEMBER, _MEMBER, c_uint8, POINTER(OddsStruct))
 takes_hit_test = bind("gen1_takes_hit_test", c_uint8, c_uint8)
 drained = bind("gen1_drained", c_uint16, c_uint8, c_uint16)

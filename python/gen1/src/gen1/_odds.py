@@ -11,7 +11,7 @@ from fractions import Fraction
 from gen1 import _library
 from gen1._check import move as a_move
 from gen1._check import shown, truth, within
-from gen1._structs import ChancesStruct, DamagesStruct, OddsStruct
+from gen1._structs import ChancesStruct, DamagesStruct, HpChangeStruct, OddsStruct, ThreeChancesStruct, WideStruct
 from gen1.errors import BadArgument, BadType, NoDamage
 from gen1.names import DamageFault, Move, NewFault, OddsReason
 from gen1.teams import Member, struct_of
@@ -75,6 +75,38 @@ class Chances:
 
     once: Fraction
     twice: Fraction
+    breaks_substitute: bool
+
+
+@dataclass(frozen=True)
+class HpChange:
+    """What happens to the HP of the foe between two uses of a move, if it
+    has any left: it gains `gained`, up to its maximum, and then loses
+    `lost`. Both are 0 to 65,535.
+    """
+
+    gained: int = 0
+    lost: int = 0
+
+
+NO_CHANGE = HpChange()
+
+
+@dataclass(frozen=True)
+class ThreeChances:
+    """The exact chance that one use of a move knocks out the foe (`once`),
+    two uses in a row (`twice`), and three (`thrice`), with independent
+    draws and with what happens to the foe's HP between the uses.
+
+    If `breaks_substitute` is true, the foe has a substitute, and the
+    chances are those of breaking it. Nothing else that happens between the
+    uses is counted: no change of a stat, no recharging, and no fall of the
+    user.
+    """
+
+    once: Fraction
+    twice: Fraction
+    thrice: Fraction
     breaks_substitute: bool
 
 
@@ -144,6 +176,23 @@ def odds_of(of: OddsStruct, move: Move) -> Odds:
 def chances_of(of: ChancesStruct) -> Chances:
     """The chances to knock out that a struct holds."""
     return Chances(Fraction(of.once, of.once_of), Fraction(of.twice, of.twice_of), of.breaks_substitute == 1)
+
+
+def three_chances_of(of: ThreeChancesStruct) -> ThreeChances:
+    """The chances to knock out in up to three uses that a struct holds."""
+    thrice = Fraction(_whole(of.thrice), _whole(of.thrice_of))
+    return ThreeChances(Fraction(of.once, of.once_of), Fraction(of.twice, of.twice_of), thrice, of.breaks_substitute == 1)
+
+
+def hp_change(value: object, name: str) -> HpChangeStruct:
+    """The struct of an `HpChange` that a caller gave. Raises `BadArgument`, `BadType`."""
+    if not isinstance(value, HpChange):
+        raise BadType(f"{name} must be an HpChange, not {shown(value)}")
+    return HpChangeStruct(*(within(getattr(value, part), f"{name}.{part}", 0, 65_535) for part in ("gained", "lost")))
+
+
+def _whole(number: WideStruct) -> int:
+    return int(number.high) << 64 | int(number.low)
 
 
 def no_damage(code: DamageFault, move: Move) -> NoDamage:

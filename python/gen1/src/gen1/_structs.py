@@ -135,6 +135,39 @@ class ChancesStruct(Structure):
     ]
 
 
+class HpChangeStruct(Structure):
+    """gen1_hp_change."""
+
+    _fields_ = [("gained", c_uint16), ("lost", c_uint16)]
+
+
+class BetweenStruct(Structure):
+    """gen1_between."""
+
+    _fields_ = [("after_first", HpChangeStruct), ("after_second", HpChangeStruct)]
+
+
+class WideStruct(Structure):
+    """gen1_wide."""
+
+    _fields_ = [("low", c_uint64), ("high", c_uint64)]
+
+
+class ThreeChancesStruct(Structure):
+    """gen1_three_chances."""
+
+    _fields_ = [
+        ("once", c_uint64),
+        ("once_of", c_uint64),
+        ("twice", c_uint64),
+        ("twice_of", c_uint64),
+        ("thrice", WideStruct),
+        ("thrice_of", WideStruct),
+        ("breaks_substitute", c_uint8),
+        ("zeros", c_uint8 * 7),
+    ]
+
+
 class PlayoutOptionsStruct(Structure):
     """gen1_playout_options."""
 

@@ -13,10 +13,21 @@ from gen1 import _library
 from gen1._check import byte as a_byte
 from gen1._check import move as a_move
 from gen1._check import digits, octets, seed_bytes, shown, truth, whole, within
-from gen1._odds import Chances, Odds, chances_of, no_damage, odds_of
+from gen1._odds import NO_CHANGE, Chances, HpChange, Odds, ThreeChances, chances_of, hp_change, no_damage, odds_of, three_chances_of
 from gen1._outcomes import Outcomes, outcomes_of
 from gen1._pack import bad_state, packed
-from gen1._structs import DAMAGES, LOG_ROOM, BattleBytes, ChancesStruct, OddsStruct, PlayoutOptionsStruct, PlayoutsStruct, StateFaultStruct
+from gen1._structs import (
+    DAMAGES,
+    LOG_ROOM,
+    BattleBytes,
+    BetweenStruct,
+    ChancesStruct,
+    OddsStruct,
+    PlayoutOptionsStruct,
+    PlayoutsStruct,
+    StateFaultStruct,
+    ThreeChancesStruct,
+)
 from gen1.choices import Choice, Rules, Side, a_choice, a_side, choice_text, not_offered
 from gen1.errors import BadArgument, BadBytes, BadTeam, BadType, NoDamage, Refused
 from gen1.events import Event, events, lines
@@ -427,6 +438,26 @@ class Battle:
         if code:
             raise no_damage(DamageFault(code), known)
         return chances_of(of)
+
+    def knock_out_in_three(
+        self, side: Side | int, move: Move | str | int, after_first: HpChange = NO_CHANGE, after_second: HpChange = NO_CHANGE
+    ) -> ThreeChances:
+        """The exact chance that a side's move knocks out the foe's active
+        member, with one use and with two or three in a row.
+
+        `after_first` and `after_second` are what happens to the foe's HP
+        after the first use and after the second, such as poison. Against a
+        substitute it is the chance to break it, and they do not count. The
+        member need not know the move, and the chance of a move that charges
+        is that of its strike. Raises `NoDamage` if no member is out,
+        `BadTeam` for an unknown move.
+        """
+        between = BetweenStruct(hp_change(after_first, "after_first"), hp_change(after_second, "after_second"))
+        of, known = ThreeChancesStruct(), a_move(move)
+        code = _library.knock_out_in_three(byref(self._held), a_side(side), known, byref(between), byref(of))
+        if code:
+            raise no_damage(DamageFault(code), known)
+        return three_chances_of(of)
 
     def damage(self, side: Side | int, move: Move | str | int, critical: bool = False) -> tuple[int, ...]:
         """The damage of a side's move in the current state: 39 numbers in HP,
