@@ -162,6 +162,32 @@ fn fixed_damage_has_chances() {
 }
 
 #[test]
+fn hp_change_between_uses() {
+    let cases = [
+        // With 22 HP lost after the first use two hits are enough: (255 / 256) ^ 2.
+        (
+            "--defender-loses 22",
+            "99.2% to KO in 2 uses, over 99.9% in 3 uses, with 22 HP lost between uses",
+        ),
+        // What is gained is lost again, so three hits are needed: (255 / 256) ^ 3; of four uses one may miss.
+        (
+            "--defender-gains 22 --defender-loses 22",
+            "98.8% to KO in 3 uses, over 99.9% in 4 uses, with 22 HP gained and 22 lost between uses",
+        ),
+        // A hit leaves 122, and each gain gives back as much.
+        ("--defender-gains 100", "no chance to KO in 9 uses"),
+    ];
+    for (options, due) in cases {
+        let words = format!("Tauros Seismic Toss vs Tauros --defender-hp 222 {options}");
+        let head = "Tauros Seismic Toss vs. Tauros at 222 HP: 100 (28.3%), 0.4% miss; ";
+        assert_eq!(line(&words), format!("{head}{due}\n"));
+    }
+    // Nothing happens to a Substitute, whose 99 HP one hit takes.
+    let guarded = "Tauros Seismic Toss vs Tauros --substitute 99 --defender-loses 99";
+    assert!(line(guarded).ends_with("; 99.6% to break it in 1 use, over 99.9% in 2 uses\n"));
+}
+
+#[test]
 fn hits_of_one_use_are_added() {
     // Power 18, Attack 74 and Defense 72: 25 with the type, critical 48. 216 of 256 draws hit. Two usual hits take at most 50 and three
     // at least 63, which 5 of 8 uses make; two critical hits take 80: 216 / 256 * (55 / 256 + 201 / 256 * 5 / 8).

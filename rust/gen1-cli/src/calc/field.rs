@@ -1,7 +1,7 @@
 //! A battle for a calculation: two members that are out, with the stages, status, HP and conditions that were asked for.
 use crate::commands::begun;
 use clap::{Args, ValueEnum};
-use gen1::{Battle, Conditions, Kind, SideState, Team};
+use gen1::{Battle, Conditions, HpChange, Kind, SideState, Team};
 
 /// What differs from two members that have just been sent out.
 #[derive(Args, Clone, Default)]
@@ -36,6 +36,12 @@ pub struct Field {
     /// The defender has a Substitute with this many HP; without HP a quarter of the maximum
     #[arg(long, value_name = "HP", num_args = 0..=1, default_missing_value = "0", value_parser = clap::value_parser!(u8).range(0..=249))]
     substitute: Option<u8>,
+    /// The HP that the defender gains between two uses
+    #[arg(long, value_name = "HP", default_value_t = 0)]
+    defender_gains: u16,
+    /// The HP that the defender then loses between two uses, such as by poison
+    #[arg(long, value_name = "HP", default_value_t = 0)]
+    defender_loses: u16,
 }
 
 /// Stages of Attack, Defense, Speed, Special, accuracy and evasion.
@@ -187,6 +193,14 @@ impl Field {
         let attacker = [shifts(self.attacker_stages), ailing(self.attacker_status)].concat();
         let defender = [shifts(self.defender_stages), ailing(self.defender_status)].concat();
         [attacker, defender]
+    }
+
+    /// What happens to the defender's HP between two uses.
+    pub fn change(&self) -> HpChange {
+        HpChange {
+            gained: self.defender_gains,
+            lost: self.defender_loses,
+        }
     }
 
     /// The conditions of the defender, in words after it.

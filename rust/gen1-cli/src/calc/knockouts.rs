@@ -1,5 +1,5 @@
 //! The chances that uses of a move knock out a member, or break its Substitute.
-use gen1::{Battle, Chances, MoveId, Odds, Side};
+use gen1::{Battle, Between, HpChange, MoveId, Odds, Side, ThreeChances};
 use serde::Serialize;
 
 /// How many uses are looked at.
@@ -29,43 +29,74 @@ pub struct KnockOuts {
     pub once: Fraction,
     /// The chance of two uses, from the library.
     pub twice: Fraction,
+    /// The chance of three uses, from the library, rounded.
+    #[serde(skip)]
+    pub thrice: f64,
     /// The chances of 1, 2, .. uses, rounded. The list ends with the first use that takes the HP for certain, or with the ninth.
     pub uses: Vec<f64>,
 }
 
+/// A defender's HP, and what happens to them between two uses.
+#[derive(Clone, Copy)]
+pub struct Target {
+    pub hp: u16,
+    pub max: u16,
+    pub change: HpChange,
+}
+
+impl Target {
+    /// The HP before the next use, of so many that are left.
+    fn before_next(&self, left: usize) -> usize {
+        let gained = (left + usize::from(self.change.gained)).min(usize::from(self.max));
+        gained
+            .max(left)
+            .saturating_sub(usize::from(self.change.lost))
+    }
+}
+
 impl KnockOuts {
-    /// The chances of 1, 2, .. uses; those of one and two are exact before they are rounded.
+    /// The chances of 1, 2, .. uses; those of up to three are exact before they are rounded.
     pub fn chances(&self) -> Vec<f64> {
         let mut chances = self.uses.clone();
-        for (place, exact) in chances.iter_mut().zip([self.once, self.twice]) {
-            *place = exact.value();
+        let exact = [self.once.value(), self.twice.value(), self.thrice];
+        for (place, exact) in chances.iter_mut().zip(exact) {
+            *place = exact;
         }
         chances
     }
 }
 
-/// The chances of a side 1's move to take `hp`; `None` for a move without damage.
-pub fn knock_outs(battle: &Battle, id: MoveId, odds: &Odds, hp: u16) -> Option<KnockOuts> {
+/// The chances of a side 1's move to take the target's HP; `None` for a move without damage.
+pub fn knock_outs(battle: &Battle, id: MoveId, odds: &Odds, target: Target) -> Option<KnockOuts> {
     if odds.usual.is_err() && odds.fixed == [0, 0] {
         return None;
     }
-    let chances = battle.knock_out(Side::One, id).ok()?;
-    Some(of_chances(&chances, id, odds, hp))
+    let between = Between {
+        after_first: target.change,
+        after_second: target.change,
+    };
+    let chances = battle.knock_out_in_three(Side::One, id, &between).ok()?;
+    Some(of_chances(&chances, id, odds, target))
 }
 
-fn of_chances(chances: &Chances, id: MoveId, odds: &Odds, hp: u16) -> KnockOuts {
+fn of_chances(chances: &ThreeChances, id: MoveId, odds: &Odds, target: Target) -> KnockOuts {
     let breaks_substitute = chances.breaks_substitute;
+    let change = match breaks_substitute {
+        true => HpChange::default(),
+        false => target.change,
+    };
     let fraction = |numerator, denominator| Fraction {
         numerator,
         denominator,
     };
     let halves = id == MoveId::SUPER_FANG && !breaks_substitute;
     KnockOuts {
-        hp,
+        hp: target.hp,
         breaks_substitute,
         once: fraction(chances.once, chances.once_of),
         twice: fraction(chances.twice, chances.twice_of),
-        uses: in_turn(&damages(odds), hp, halves),
+        thrice: chances.thrice as f64 / chances.thrice_of as f64,
+        uses: in_turn(&damages(odds), Target { change, ..target }, halves),
     }
 }
 
@@ -93,49 +124,81 @@ fn damages(odds: &Odds) -> Vec<(u16, f64)> {
     used
 }
 
-/// The chances that the sum of 1, 2, .. independent numbers is at least `hp`. If `halves`, each number but 0 is half of what is left.
-fn in_turn(each: &[(u16, f64)], hp: u16, halves: bool) -> Vec<f64> {
-    let goal = usize::from(hp);
-    // The chance of each sum below the goal, and of reaching the goal.
-    let (mut sums, mut reached) = (vec![0.0; goal], 0.0);
-    if let Some(first) = sums.first_mut() {
-        *first = 1.0;
-    }
+/// The chances that 1, 2, .. uses with these damages take all HP. If `halves`, each damage but 0 is half of what is left.
+fn in_turn(each: &[(u16, f64)], target: Target, halves: bool) -> Vec<f64> {
+    let most = usize::from(target.hp.max(target.max));
+    // The chance of each number of HP that may be left, and of having taken all.
+    let (mut standing, mut fallen) = (vec![0.0; most + 1], 0.0);
+    standing[usize::from(target.hp)] = 1.0;
     let mut chances = Vec::new();
     while chances.len() < MOST && chances.last() != Some(&1.0) {
-        let mut next = vec![0.0; goal];
-        for (sum, chance) in sums.iter().enumerate().filter(|(_, chance)| **chance > 0.0) {
-            for (number, of_number) in each {
-                let taken = match halves && *number > 0 {
-                    true => ((goal - sum) / 2).max(1),
-                    false => usize::from(*number),
+        let mut next = vec![0.0; most + 1];
+        for (left, chance) in standing.iter().enumerate().rev() {
+            for (damage, of_damage) in each.iter().filter(|_| *chance > 0.0) {
+                let taken = match halves && *damage > 0 {
+                    true => (left / 2).max(1),
+                    false => usize::from(*damage),
                 };
-                match next.get_mut(sum + taken) {
-                    Some(place) => *place += chance * of_number,
-                    None => reached += chance * of_number,
+                match left.saturating_sub(taken) {
+                    0 => fallen += chance * of_damage,
+                    rest => next[rest] += chance * of_damage,
                 }
             }
         }
-        sums = next;
-        // Where no sum is left below the goal it is reached for certain, and the rounded sum is left aside.
-        let is_certain = sums.iter().all(|chance| *chance == 0.0);
-        chances.push(if is_certain { 1.0 } else { reached.min(1.0) });
+        // Where none is left standing all are taken for certain, and the rounded sum is left aside.
+        let is_certain = next.iter().all(|chance| *chance == 0.0);
+        chances.push(if is_certain { 1.0 } else { fallen.min(1.0) });
+        standing = vec![0.0; most + 1];
+        for (left, chance) in next.iter().enumerate().filter(|(_, chance)| **chance > 0.0) {
+            match target.before_next(left) {
+                0 => fallen += chance,
+                rest => standing[rest] += chance,
+            }
+        }
     }
     chances
 }
 
 #[cfg(test)]
 mod tests {
-    use super::in_turn;
+    use super::{Target, in_turn};
+    use gen1::HpChange;
+
+    fn target(hp: u16, gained: u16, lost: u16) -> Target {
+        let change = HpChange { gained, lost };
+        Target { hp, max: 6, change }
+    }
 
     #[test]
     fn chances_of_two_numbers() {
         // Two throws of a coin with 1 and 3: at least 4 in all but one of four cases, and always with three.
         let coin = [(1, 0.5), (3, 0.5)];
-        assert_eq!(in_turn(&coin, 4, false), [0.0, 0.75, 0.875, 1.0]);
-        assert_eq!(in_turn(&coin, 1, false), [1.0]);
-        assert_eq!(in_turn(&[(0, 1.0)], 1, false), [0.0; 9]);
+        assert_eq!(
+            in_turn(&coin, target(4, 0, 0), false),
+            [0.0, 0.75, 0.875, 1.0]
+        );
+        assert_eq!(in_turn(&coin, target(1, 0, 0), false), [1.0]);
+        assert_eq!(in_turn(&[(0, 1.0)], target(1, 0, 0), false), [0.0; 9]);
         // 5 HP are halved to 3, 2, 1 and 0.
-        assert_eq!(in_turn(&[(2, 1.0)], 5, true), [0.0, 0.0, 0.0, 1.0]);
+        assert_eq!(
+            in_turn(&[(2, 1.0)], target(5, 0, 0), true),
+            [0.0, 0.0, 0.0, 1.0]
+        );
+    }
+
+    #[test]
+    fn hp_change_between_uses() {
+        // From 4 HP the coin leaves 3 or 1. Of these 2 are lost: 1 or 0.
+        let coin = [(1, 0.5), (3, 0.5)];
+        assert_eq!(in_turn(&coin, target(4, 0, 2), false), [0.0, 1.0]);
+        // With 2 gained, at most 6 in all, 5 or 3 are left; these become 4, 2, 2 and 0.
+        assert_eq!(in_turn(&coin, target(4, 2, 0), false)[..2], [0.0, 0.25]);
+        // 1 HP and a hit of 1: a defender that has fallen gains nothing.
+        assert_eq!(
+            in_turn(&[(1, 0.5), (0, 0.5)], target(1, 5, 0), false)[..2],
+            [0.5, 0.5]
+        );
+        // 5 gained of 6 at most, then 6 lost.
+        assert_eq!(in_turn(&[(1, 1.0)], target(5, 5, 6), false), [0.0, 1.0]);
     }
 }

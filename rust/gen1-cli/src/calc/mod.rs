@@ -96,7 +96,7 @@ fn text(asked: &Calc, what: &Asked, teams: [&Team; 2]) -> Result<String, Fault> 
     let battle = asked.field.battle(teams[0], teams[1]);
     let battle = battle.map_err(|why| Fault::words("the options do not fit the members", &why))?;
     Ok(match asked.json {
-        true => report::json(&battle, &what.moves),
+        true => report::json(&battle, &what.moves, asked.field.change()),
         false => {
             let words = report::Words::of(&battle, &asked.field);
             let lines = what
@@ -128,7 +128,7 @@ fn json_of(asked: &Calc, given: &Calculation) -> Result<(), Fault> {
     ];
     let battle = asked.field.battle(&one, &two);
     let battle = battle.map_err(|why| Fault::words("the options do not fit the members", &why))?;
-    put(report::json(&battle, &[given.id]))
+    put(report::json(&battle, &[given.id], asked.field.change()))
 }
 
 /// The calculation of `--attacker`, `--defender` and `--move`.

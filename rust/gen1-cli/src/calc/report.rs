@@ -1,8 +1,10 @@
 //! A calculation as lines for people and as an object for programs.
 use super::field::Field;
-use super::knockouts::{KnockOuts, knock_outs};
+use super::knockouts::{KnockOuts, Target, knock_outs};
 use crate::json::line_of;
-use gen1::{Battle, DamageRefusal, Effect, MemberState, MoveId, Odds, OddsReason, Side, Species};
+use gen1::{
+    Battle, DamageRefusal, Effect, HpChange, MemberState, MoveId, Odds, OddsReason, Side, Species,
+};
 use serde::Serialize;
 
 /// A chance that prints as neither 0 nor 100 per cent.
@@ -18,6 +20,7 @@ pub struct Words<'a> {
     hp: u16,
     max: u16,
     substitute: Option<u8>,
+    change: HpChange,
 }
 
 /// The HP that uses have to take: those of the Substitute, which breaks above its HP, or of the defender.
@@ -60,6 +63,7 @@ impl<'a> Words<'a> {
             hp: defender.hp,
             max: defender.max_hp,
             substitute,
+            change: field.change(),
         }
     }
 
@@ -130,7 +134,12 @@ impl<'a> Words<'a> {
     /// The chances to knock out, from the first number of uses that may.
     fn chances(&self, odds: &Odds, id: MoveId) -> String {
         let (hp, _) = target(self.battle);
-        let Some(found) = knock_outs(self.battle, id, odds, hp) else {
+        let taken = Target {
+            hp,
+            max: self.max,
+            change: self.change,
+        };
+        let Some(found) = knock_outs(self.battle, id, odds, taken) else {
             return String::new();
         };
         let what = match found.breaks_substitute {
@@ -155,7 +164,20 @@ impl<'a> Words<'a> {
         }
         match texts.is_empty() {
             true => format!("; no chance {what} in {} uses", chances.len()),
-            false => format!("; {}", texts.join(", ")),
+            false => format!("; {}{}", texts.join(", "), self.between()),
+        }
+    }
+
+    /// What happens to the defender's HP between the uses, where that counts.
+    fn between(&self) -> String {
+        let HpChange { gained, lost } = self.change;
+        match (gained, lost, self.substitute) {
+            (0, 0, _) | (_, _, Some(_)) => String::new(),
+            (0, lost, None) => format!(", with {lost} HP lost between uses"),
+            (gained, 0, None) => format!(", with {gained} HP gained between uses"),
+            (gained, lost, None) => {
+                format!(", with {gained} HP gained and {lost} lost between uses")
+            }
         }
     }
 }
@@ -243,8 +265,9 @@ struct CalculationObject {
 }
 
 /// A calculation as one object.
-pub fn json(battle: &Battle, moves: &[MoveId]) -> String {
+pub fn json(battle: &Battle, moves: &[MoveId], change: HpChange) -> String {
     let (hp, substitute) = target(battle);
+    let max = out(battle, Side::Two).max_hp;
     let member = |side, substitute| {
         let MemberState {
             species,
@@ -275,7 +298,7 @@ pub fn json(battle: &Battle, moves: &[MoveId]) -> String {
             reason: odds.reason,
             hits: odds.hits,
             charges_first: odds.charges_first,
-            knock_out: knock_outs(battle, *id, &odds, hp),
+            knock_out: knock_outs(battle, *id, &odds, Target { hp, max, change }),
         })
     });
     line_of(&CalculationObject {
