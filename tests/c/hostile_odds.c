@@ -11,6 +11,41 @@ static bool is_as_damage(const gen1_damages *got, const gen1_battle *battle, uin
     return got->code == code && got->count == (code == 0 ? 39 : 0) && memcmp(got->numbers, numbers, sizeof numbers) == 0;
 }
 
+/* Whether the user's trapping goes on with the move, which is then its current one. */
+static bool traps_on(const gen1_state *state, uint8_t side, uint8_t move)
+{
+    const gen1_side_state *own = &state->sides[side - 1];
+    const gen1_active_state *user = &own->active;
+    uint8_t slot = user->current_move;
+    return (user->conditions & GEN1_CONDITION_TRAPPING) && slot >= 1 && slot <= 4 && own->members[user->place - 1].moves[slot - 1] == move;
+}
+
+static uint16_t hp_out(const gen1_state *state, uint8_t side)
+{
+    const gen1_side_state *own = &state->sides[side - 1];
+    return own->members[own->active.place - 1].hp;
+}
+
+/* Whether there is no such damage, since the use does not deal it. */
+static bool is_unusual(const gen1_damages *got)
+{
+    const gen1_damages none = {.code = GEN1_ERROR_UNUSUAL};
+    return got->code == none.code && got->count == 0 && memcmp(got->numbers, none.numbers, sizeof none.numbers) == 0;
+}
+
+/* Whether the damages are those of the battle. Trapping that goes on lands the last damage again, without a test. */
+static bool has_its_damage(const gen1_odds *odds, const gen1_battle *battle, uint8_t side, uint8_t move)
+{
+    gen1_state state;
+    gen1_get_state(battle, &state);
+    if (!traps_on(&state, side, move))
+        return is_as_damage(&odds->usual, battle, side, move, false) && is_as_damage(&odds->critical, battle, side, move, true);
+    bool lands = hp_out(&state, GEN1_ONE) > 0 && hp_out(&state, GEN1_TWO) > 0;
+    return is_unusual(&odds->usual) && is_unusual(&odds->critical) && odds->critical_draws == 0 && odds->least == state.last_damage
+        && odds->most == state.last_damage && odds->hit_draws == (lands ? 256 : 0)
+        && odds->reason == (lands ? GEN1_ODDS_CAN_HIT : GEN1_ODDS_FALLEN);
+}
+
 /* Whether the chances are those of the battle, where they can be computed here: without stages a move has its own accuracy. */
 static bool is_likely(const gen1_odds *odds, const gen1_battle *battle, uint8_t side, uint8_t move)
 {
@@ -54,8 +89,7 @@ static void try_odds_now(void)
                                                          : 0;
     bool is_right = got != 0 ? unchanged() : changed_only(1, sizeof *odds);
     if (got == 0 && want == 0 && is_valid)
-        is_right &= is_as_damage(&odds->usual, &from, side, move, false) && is_as_damage(&odds->critical, &from, side, move, true)
-            && is_likely(odds, &from, side, move);
+        is_right &= has_its_damage(odds, &from, side, move) && is_likely(odds, &from, side, move);
     tell("gen1_odds_now", got == want && is_right, got, want);
 }
 
