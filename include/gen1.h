@@ -708,6 +708,31 @@ typedef struct gen1_batch_update {
  */
 uint8_t gen1_update_many(gen1_battle *battles, size_t count, gen1_batch_update *updates, size_t update_count);
 
+/*
+ * Plays one random step of each of `count` battles, without logs: what gen1_offered_many, a draw for each side, and gen1_update_many
+ * do, in one call. Each side takes one of the choices that it is offered, all equally likely.
+ *
+ * Each battle has a generator of its own, whose state is generators[i]. So it doesn't matter for a battle which others are in the
+ * array: parts of an array may be stepped by threads, and give what the whole gives. Fill `generators` once with random numbers of 64
+ * bits; each call replaces them. A draw is that of gen1_playout: the state becomes 6364136223846793005 times the state plus
+ * 1442695040888963407, modulo 2 to the power of 64, and the draw is its upper 32 bits. Of n choices, in the order of gen1_choices, a
+ * side takes the one at index (draw modulo n). Side 1 draws before side 2, and a side with one choice draws too.
+ *
+ * updates[i] becomes the choices of battles[i], its result and its code, as gen1_update_many writes them. `*over` becomes the number
+ * of battles that are over after the step.
+ *
+ * A battle that is over before the step draws nothing and doesn't change: its choices are GEN1_CHOICE_PASS, its code is
+ * GEN1_ERROR_OVER. With starts it begins anew instead: it becomes a copy of starts[i], draws ten numbers (draw modulo 256), which are
+ * set as gen1_reseed does with index 0, and is then stepped. So an ended battle is there to be read until the next call, and no call
+ * leaves a battle out. Without starts, `start_count` is 0, and `starts` may be NULL.
+ *
+ * Returns 0, or GEN1_ERROR_LENGTHS if `generator_count` or `update_count` is not `count`, or `start_count` is neither `count` nor 0;
+ * then nothing has changed.
+ */
+uint8_t gen1_step_random_many(gen1_battle *battles, size_t count, const gen1_battle *starts, size_t start_count,
+                              uint64_t *generators, size_t generator_count, gen1_batch_update *updates, size_t update_count,
+                              size_t *over);
+
 /* How gen1_playout plays. With weights of 0 alone, all offered choices are equally likely. */
 typedef struct gen1_playout_options {
     uint64_t seed;        /* the state of the generator before its first draw */

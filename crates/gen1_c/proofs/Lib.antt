@@ -10,6 +10,8 @@ pub mod Updates
 pub mod Listed
 -- Many battles, one after the other.
 pub mod OneByOne
+-- Random steps of a battle, and of many.
+pub mod Stepping
 -- No line of an event has more than 95 bytes.
 pub mod ShortLines
 -- Texts that are expected, and so are written.

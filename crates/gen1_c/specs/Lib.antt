@@ -22,6 +22,8 @@ pub mod Batches
 pub mod Outcomes
 -- How playouts end.
 pub mod Playouts
+-- Random steps of many battles.
+pub mod RandomSteps
 -- Teams read from text.
 pub mod TeamText
 -- Names, and rows of the tables.

@@ -14,6 +14,8 @@ pub(crate) const RULES: u32 = 12;
 pub(crate) const TURN_LIMIT: u32 = 13;
 
 // Updates.
+pub(crate) const OVER: u8 = 24;
+
 pub(crate) const NOT_OFFERED_ONE: u8 = 25;
 
 pub(crate) const NOT_OFFERED_TWO: u8 = 26;

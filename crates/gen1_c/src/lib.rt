@@ -9,6 +9,7 @@
 //! - `batches`: many battles in one call
 //! - `outcomes`: all battles that an update can lead to
 //! - `playouts`: battles played by random choices
+//! - `random_steps`: random steps of many battles
 //! - `team_text`: teams read from text
 //! - `events`: the events of a log
 //! - `event_bytes`: the bytes of an event
@@ -49,6 +50,7 @@ pub mod odds;
 pub mod outcomes;
 pub mod players;
 pub mod playouts;
+pub mod random_steps;
 pub mod reseed;
 pub mod rooms;
 pub mod spectators;

@@ -1,0 +1,73 @@
+-- Random steps of many battles (include/gen1.h, "many battles").
+use Rattle.std.specs.Prelude.{List, None, Option, Some, [], if◌then◌else◌, length, slice_index_or, ℕ, ◌%◌, ◌+◌, ◌<◌, ◌==◌, ◌≡◌, ◌≤◌, ◌∷◌, ◌⊎◌}
+use Rattle.gen1_machine.specs.Choices.{byte_of_choice}
+use Rattle.gen1_machine.specs.declared.side.Side.TheVariants.{One, Two}
+use Rattle.gen1_machine.specs.OfferedChoices.{offered}
+use Rattle.gen1_machine.specs.State.{State, is_over}
+use Rattle.gen1_machine.specs.Step.{Over}
+use Rattle.gen1_layout.specs.Parts.{Parts}
+use Rattle.gen1_layout.specs.Within.{Stands}
+use Rattle.gen1_engine.specs.Update.{refusal_of}
+use Rattle.gen1_c.specs.Codes.{refusal_code}
+use Rattle.gen1_playouts.specs.Playouts.{Playout, begun, choice_by, next_state, play_on}
+use Rattle.gen1_c.specs.Update.{result_byte}
+use Rattle.gen1_c.specs.declared.batches.BatchUpdate.{BatchUpdate}
+
+-- a battle that is over begins anew from its start, if it has one, as a round of a playout does
+abbrev pub begun_anew : Option State → Playout → Playout
+begun_anew None p = p
+begun_anew (Some start) p = if is_over p.battle.field.outcome then begun start p.random else p
+
+-- what is written of a step: the choices that both sides draw, side 1 first, and the result of the battle that they lead to
+abbrev pub update_of : Playout → BatchUpdate
+update_of p =
+    let field = p.battle.field in
+    let one = next_state p.random in
+    let two = next_state one in
+    if is_over field.outcome
+    then record { one = 0; two = 0; result = result_byte field; code = refusal_code (refusal_of Over) }
+    else record {
+      one = byte_of_choice (choice_by one (offered One field));
+      two = byte_of_choice (choice_by two (offered Two field));
+      result = result_byte (play_on [] p).battle.field;
+      code = 0;
+    }
+
+-- the bytes represent this battle, and its generator has this state
+abbrev pub IsAt : Playout → Parts → ℕ → Type 0
+IsAt p battle generator = Stands battle p.battle × (generator ≡ p.random)
+
+-- a step of a playout without weights was played
+abbrev pub IsStepped : Playout → Parts → ℕ → BatchUpdate → Type 0
+IsStepped p battle generator update = IsAt (play_on [] p) battle generator × (update ≡ update_of p)
+
+-- many battles, and the states of their generators
+pub record Batch : Type 0 where
+  pub battles : List Parts
+  pub generators : List ℕ
+
+-- the start of the battle at an index, or that it has none
+abbrev pub IsStart : List Parts → ℕ → Option State → Type 0
+IsStart starts i None = length starts ≤ i
+IsStart starts i (Some start) = (i < length starts) × ((d : Parts) → Stands (slice_index_or starts i d) start)
+
+-- a step of each of the first battles was played
+abbrev pub AreStepped : ℕ → List Parts → Batch → Batch → List BatchUpdate → Type 0
+AreStepped count starts old new updates = (i : ℕ) (d : Parts) (u : BatchUpdate) (s : State) (start : Option State) → i < count
+    → Stands (slice_index_or old.battles i d) s → IsStart starts i start
+    → IsStepped (begun_anew start (record { battle = s; random = slice_index_or old.generators i 0 }))
+    (slice_index_or new.battles i d) (slice_index_or new.generators i 0) (slice_index_or updates i u)
+
+-- how many battles are over
+
+abbrev pub one_if_over : ℕ → ℕ
+one_if_over result = if result % 8 == 0 then 0 else 1
+
+abbrev pub over_in : List BatchUpdate → ℕ
+over_in [] = 0
+over_in (update ∷ updates) = one_if_over update.result + over_in updates
+
+-- as many generators and updates as battles, and as many starts or none
+abbrev pub HasLengths : ℕ → List Parts → List ℕ → List BatchUpdate → Type 0
+HasLengths count starts generators updates =
+    (length generators ≡ count) × (length updates ≡ count) × ((length starts ≡ 0) ⊎ (length starts ≡ count))
