@@ -37,6 +37,8 @@ def declare(calls):
         ("gen1_offered", c_uint16, [battle, c_uint8]),
         ("gen1_offered_many", c_uint8, [battle, size, c_uint8, POINTER(c_uint16), size]),
         ("gen1_update_many", c_uint8, [battle, size, POINTER(BatchUpdate), size]),
+        ("gen1_step_random_many", c_uint8,
+         [battle, size, battle, size, POINTER(c_uint64), size, POINTER(BatchUpdate), size, POINTER(c_size_t)]),
         ("gen1_playout", c_uint8, [battle, POINTER(PlayoutOptionsStruct), POINTER(PlayoutsStruct)]),
         ("gen1_outcomes", c_uint8, [battle, c_uint8, c_uint8, ctypes.c_char_p, size, POINTER(c_uint32), size, POINTER(OutcomeList)]),
         ("gen1_team_from_text", c_uint8, [ctypes.c_char_p, size, POINTER(gen1.Team), POINTER(TextFault)]),
@@ -106,6 +108,54 @@ def draws(state):
         yield state >> 32
 
 
+def reseeded(library, given, draw):
+    """A battle that draws from ten drawn numbers, from the first on."""
+    # The index of the next number is byte 5, and the ten numbers follow it (docs/LAYOUT.md, "Header").
+    return library.load(given[:5] + bytes([0] + [next(draw) % 256 for _ in range(10)]) + given[16:])
+
+
+def random_step(library, given, start, seed):
+    """A random step by single calls: the choices, the code, the result, the bytes, and the next draw of the generator."""
+    draw, battle = draws(seed), library.load(given)
+    if start and battle.result()[0]:
+        battle = reseeded(library, start, draw)
+    offered = [battle.choices(side) for side in (1, 2)]
+    pair = [choices[next(draw) % len(choices)] if choices else 0 for choices in offered]
+    code = 0 if all(offered) else 24
+    if not code:
+        battle.update(*pair)
+    return pair, code, battle.result(), battle.bytes.hex(), next(draw)
+
+
+def compare_random_steps(library, steps, count):
+    """Compares random steps of recorded states with single calls, without starts and with those before the updates; and in two parts."""
+    size, step = len(steps), library.calls.gen1_step_random_many
+    given, seeds = [bytes.fromhex(update["bytes"]) for _, update in steps], [at * 0x9E3779B97F4A7C15 % 2**64 for at in range(size)]
+    for name, starts in ("without starts", []), ("with starts", [before for before, _ in steps]):
+        battles, updates, over = array_of(given), (BatchUpdate * size)(), c_size_t(KEPT)
+        generators, begins = (c_uint64 * size)(*seeds), array_of(starts)
+        code = step(battles, size, begins, len(starts), generators, size, updates, size, byref(over))
+        rows = []
+        for it, battle, state in zip(updates, battles, generators):
+            result = it.result & 7, it.result >> 3 & 3, it.result >> 5 & 3
+            rows.append(([it.one, it.two], it.code, result, bytes(battle).hex(), next(draws(state))))
+        for at, row in list(enumerate(rows))[::5]:
+            want = random_step(library, given[at], starts and starts[at], seeds[at])
+            count.tell(f"random step {at} {name}", row, want)
+        count.tell(f"random steps {name}", (code, over.value), (0, sum(row[2][0] != 0 for row in rows)))
+        found = []
+        for first, past in ((0, size // 3), (size // 3, size)):
+            part, some = past - first, starts[first:past]
+            held, done = array_of(given[first:past]), (BatchUpdate * part)()
+            step(held, part, array_of(some), len(some), (c_uint64 * part)(*seeds[first:past]), part, done, part, byref(over))
+            found += [bytes(held), bytes(done)]
+        count.tell(f"random steps {name}, in parts", (found[0] + found[2], found[1] + found[3]), (bytes(battles), bytes(updates)))
+    kept = bytes(battles), bytes(generators), bytes(updates), over.value
+    for lengths in ((size, size - 1, size, size), (size, size, size - 1, size), (size, size, size, size - 1), (size - 1, size, size, size)):
+        code = step(battles, lengths[0], begins, lengths[1], generators, lengths[2], updates, lengths[3], byref(over))
+        count.tell(f"random steps of other lengths, {lengths}", (code, bytes(battles), bytes(generators), bytes(updates), over.value), (45, *kept))
+
+
 def leader(battle):
     """The outcome by the shares of the HP left, from the bytes of the members (docs/LAYOUT.md, "Member")."""
     words = [[int.from_bytes(battle[at + 24 * place:][:2], "little") for place in range(6)] for at in (24 + 2, 24 + 4, 204 + 2, 204 + 4)]
@@ -127,9 +177,7 @@ def played_out(library, given, seed, rounds, depth=0, weights=bytes(166)):
     """The ends of playouts, played update by update with the generator that gen1.h describes."""
     ends, draw = [0] * 4, draws(seed)
     for _ in range(rounds):
-        # The index of the next number is byte 5, and the ten numbers follow it (docs/LAYOUT.md, "Header").
-        battle = library.load(given[:5] + bytes([0] + [next(draw) % 256 for _ in range(10)]) + given[16:])
-        updates = 0
+        battle, updates = reseeded(library, given, draw), 0
         while (outcome := battle.result()[0]) == 0 and (depth == 0 or updates < depth):
             offered = [copies(battle, side, weights) for side in (1, 2)]
             battle.update(*[choices[next(draw) % len(choices)] for choices in offered])
@@ -271,6 +319,7 @@ def compare_many(library, battle_of, member, folder, count):
     steps = list(steps_of(library, battle_of, folder))
     compare_masks(library, steps, count)
     compare_batches(library, steps, count)
+    compare_random_steps(library, steps, count)
     compare_playouts(library, steps, folder, count)
     compare_outcomes(library, steps, count)
     compare_texts(library, member, folder, count)

@@ -1,6 +1,6 @@
 /*
- * Plays many battles of a team at once, with masks and batches, uses playouts to see which side is ahead, and lists all that an update
- * can lead to.
+ * Plays many battles of a team at once, with masks and batches and at random, uses playouts to see which side is ahead, and lists all
+ * that an update can lead to.
  *
  *     cc -O2 -I include examples/c/many.c crates/gen1_c/out/libgen1_c.a -o many
  *     ./many
@@ -47,6 +47,21 @@ static int step(gen1_battle battles[BATTLES])
     return went_on;
 }
 
+/* Plays all battles to their end by random choices. Returns after how many steps none is left, or -1 if a call failed. */
+static int play_at_random(gen1_battle battles[BATTLES])
+{
+    gen1_batch_update updates[BATTLES];
+    uint64_t generators[BATTLES];
+    size_t over = 0;
+    int steps = 0;
+    for (int at = 0; at < BATTLES; at++)
+        generators[at] = (uint64_t)(at + 1) * 0x9e3779b97f4a7c15u;
+    for (; over < BATTLES; steps++)
+        if (gen1_step_random_many(battles, BATTLES, NULL, 0, generators, BATTLES, updates, BATTLES, &over) != 0)
+            return -1;
+    return steps;
+}
+
 /* Creates the battles, each with a different seed. */
 static bool begin(gen1_battle battles[BATTLES])
 {
@@ -85,13 +100,17 @@ int main(void)
     gen1_battle battles[BATTLES];
     const gen1_playout_options options = { .seed = 1, .rounds = ROUNDS };
     gen1_playouts counts;
-    int went_on, ended = 0;
+    int went_on, ended = 0, steps;
 
     if (!begin(battles) || gen1_playout(&battles[0], &options, &counts) != 0)
         return 1;
     printf("%u wins of side 1, %u of side 2, %u ties\n", (unsigned)counts.wins_one, (unsigned)counts.wins_two, (unsigned)counts.ties);
     if (!list_outcomes(battles[0]))
         return 1;
+    steps = play_at_random(battles);
+    if (steps < 0 || !begin(battles))
+        return 1;
+    printf("%d random steps to the end of all battles\n", steps);
     do
         went_on = step(battles);
     while (went_on > 0);

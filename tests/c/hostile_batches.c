@@ -29,10 +29,10 @@ static void try_offered(void)
     tell("gen1_offered", got == want && unchanged(), got, want);
 }
 
-/* Some battles, in the block 0; whether all are valid. */
-static gen1_battle *some_battles(size_t count, bool *are_valid)
+/* Some battles, in the block of this number; whether all are valid. */
+static gen1_battle *some_battles(int number, size_t count, bool *are_valid)
 {
-    gen1_battle *battles = block(0, count * sizeof *battles);
+    gen1_battle *battles = block(number, count * sizeof *battles);
     *are_valid = true;
     for (size_t at = 0; at < count; at++) {
         bool is_valid;
@@ -53,7 +53,7 @@ static void try_offered_many(void)
     bool are_valid;
     size_t count = draw(MANY + 1), mask_count = near_count(count);
     uint8_t side = one_in(4) ? any_byte() : (uint8_t)(1 + draw(2));
-    const gen1_battle *battles = some_battles(count, &are_valid);
+    const gen1_battle *battles = some_battles(0, count, &are_valid);
     uint16_t *masks = block(1, mask_count * sizeof *masks);
     note();
     uint8_t got = gen1_offered_many(battles, count, side, masks, mask_count);
@@ -68,7 +68,7 @@ static void try_update_many(void)
 {
     bool are_valid;
     size_t count = draw(MANY + 1), update_count = near_count(count), sizes[BLOCKS] = {0};
-    gen1_battle *battles = some_battles(count, &are_valid), before[MANY];
+    gen1_battle *battles = some_battles(0, count, &are_valid), before[MANY];
     memcpy(before, battles, count * sizeof *battles);
     gen1_batch_update *updates = block(1, update_count * sizeof *updates), asked[2 * MANY];
     for (size_t at = 0; at < count && at < update_count; at++) {
@@ -89,6 +89,60 @@ static void try_update_many(void)
         is_kept &= memcmp(&before[at], &battles[at], sizeof before[at]) == 0;
     }
     tell("gen1_update_many", got == want && is_kept, got, want);
+}
+
+/* A draw of a generator. */
+static uint32_t drawn(uint64_t *generator)
+{
+    *generator = *generator * 6364136223846793005u + 1442695040888963407u;
+    return (uint32_t)(*generator >> 32);
+}
+
+/* A random step by a call for each part of it. */
+static gen1_batch_update stepped(gen1_battle *battle, const gen1_battle *start, uint64_t *generator)
+{
+    uint8_t pair[2] = {GEN1_CHOICE_PASS, GEN1_CHOICE_PASS}, numbers[10], choices[9];
+    if (start != NULL && GEN1_RESULT_OUTCOME(gen1_result(battle)) != GEN1_OUTCOME_ONGOING) {
+        for (size_t at = 0; at < sizeof numbers; at++)
+            numbers[at] = (uint8_t)drawn(generator);
+        *battle = *start;
+        gen1_reseed(battle, numbers, 0);
+    }
+    for (uint8_t side = GEN1_ONE; side <= GEN1_TWO; side++) {
+        uint8_t count = gen1_choices(battle, side, choices);
+        if (count != 0)
+            pair[side - 1] = choices[drawn(generator) % count];
+    }
+    uint8_t code = gen1_update_silent(battle, pair[0], pair[1]);
+    return (gen1_batch_update){ .one = pair[0], .two = pair[1], .result = gen1_result(battle), .code = code };
+}
+
+static void try_step_random_many(void)
+{
+    bool are_valid, are_starts_valid;
+    size_t count = draw(MANY + 1), start_count = one_in(3) ? 0 : near_count(count), over_now = 0;
+    size_t generator_count = near_count(count), update_count = near_count(count);
+    gen1_battle *battles = some_battles(0, count, &are_valid), before[MANY];
+    const gen1_battle *starts = some_battles(1, start_count, &are_starts_valid);
+    uint64_t *generators = block(2, generator_count * sizeof *generators), seeds[2 * MANY];
+    gen1_batch_update *updates = block(3, update_count * sizeof *updates);
+    size_t *over = block(4, sizeof *over);
+    memcpy(before, battles, count * sizeof *battles);
+    memcpy(seeds, generators, generator_count * sizeof *generators);
+    note();
+    uint8_t got = gen1_step_random_many(battles, count, starts, start_count, generators, generator_count, updates, update_count, over);
+    bool fit = generator_count == count && update_count == count && (start_count == 0 || start_count == count);
+    size_t sizes[BLOCKS] = {count * sizeof *battles, 0, count * sizeof *generators, count * sizeof *updates, sizeof *over};
+    bool is_kept = got != 0 ? unchanged() : changed_only_these(sizes);
+    for (size_t at = 0; got == 0 && at < count; at++)
+        over_now += GEN1_RESULT_OUTCOME(updates[at].result) != GEN1_OUTCOME_ONGOING;
+    is_kept &= got != 0 || *over == over_now;
+    for (size_t at = 0; got == 0 && at < count && are_valid && are_starts_valid; at++) {
+        gen1_batch_update want = stepped(&before[at], start_count != 0 ? &starts[at] : NULL, &seeds[at]);
+        is_kept &= memcmp(&want, &updates[at], sizeof want) == 0 && seeds[at] == generators[at];
+        is_kept &= memcmp(&before[at], &battles[at], sizeof before[at]) == 0;
+    }
+    tell("gen1_step_random_many", got == (fit ? 0 : GEN1_ERROR_LENGTHS) && is_kept, got, fit ? 0 : GEN1_ERROR_LENGTHS);
 }
 
 static void try_playout(void)
@@ -150,4 +204,4 @@ static void try_outcomes(void)
     tell("gen1_outcomes", is_right, got, want);
 }
 
-try_call *const tries_of_batches[] = {try_offered, try_offered_many, try_update_many, try_playout, try_outcomes, NULL};
+try_call *const tries_of_batches[] = {try_offered, try_offered_many, try_update_many, try_step_random_many, try_playout, try_outcomes, NULL};
