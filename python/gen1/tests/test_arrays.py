@@ -115,6 +115,7 @@ def test_what_is_wrong_is_named(battle):
         (lambda: array.step([0] * 5, [[1], [1, 2]]), "twos must be an array"),
         (lambda: array.random_step(None), "dice must be a numpy.random.Generator, not None"),
         (lambda: array.random_step(random.Random(1)), "dice must be a numpy.random.Generator"),
+        (lambda: array.random_step(random.Random(1), reset=True), "dice must be a numpy.random.Generator"),
         (lambda: BattleArray.of(5), "battles must be a list, not 5 (int)"),
         (lambda: BattleArray.of([]), "battles must have at least one battle"),
         (lambda: BattleArray.of([battle, 5]), "battles[1] must be a Battle, not 5 (int)"),
@@ -173,6 +174,39 @@ def test_random_steps_take_what_is_offered():
         counts = [int((taken == choice).sum()) for choice in it]
         assert sum(counts) == 4000 and all(abs(count - 4000 / len(it)) < 300 for count in counts)
     assert not array.codes.any()
+
+
+def drawn(state, count):
+    """The next state of a generator that include/gen1.h describes, and a draw modulo a count."""
+    state = (state * 6364136223846793005 + 1442695040888963407) % 2**64
+    return state, (state >> 32) % count
+
+
+@pytest.mark.parametrize("reset", [False, True])
+def test_random_steps_are_those_of_single_battles(reset):
+    """The draws, choices, updates and restored battles are those that single calls make of the same numbers."""
+    battles = random_battles(60, 51, limit=6)
+    array, starts, dice = BattleArray.of(battles), [it.copy() for it in battles], [np.random.default_rng(8) for _ in range(2)]
+    for _ in range(40):
+        taken, states = array.random_step(dice[0], reset=reset), dice[1].integers(0, 1 << 64, len(battles), np.uint64)
+        for at, state in enumerate(states.tolist()):
+            if reset and battles[at].result.is_over:
+                numbers = bytearray()
+                for _ in range(10):
+                    state, number = drawn(state, 256)
+                    numbers.append(number)
+                battles[at] = starts[at].copy()
+                battles[at].reseed(numbers)
+            is_over, pair = battles[at].result.is_over, [0, 0]
+            for side in () if is_over else (1, 2):
+                offered = battles[at].choices(side)
+                state, number = drawn(state, len(offered))
+                pair[side - 1] = int(offered[number])
+            if not is_over:
+                battles[at].update(*pair)
+            assert ([int(it[at]) for it in taken], array.codes[at]) == (pair, Refusal.OVER if is_over else 0)
+        assert list(array) == battles and list(array.outcomes) == [it.result.outcome for it in battles]
+    assert array.over.any() and (reset or array.over.all())
 
 
 def test_battles_that_are_over_stay(team):

@@ -302,7 +302,7 @@ def test_threads_change_nothing(threads, battle):
     players = [PlayerArray(n, team, team, seeds(n, 2), threads=it) for it in (1, threads)]
     dice = [np.random.default_rng(3) for _ in range(2)]
     for _ in range(40):
-        drawn = [it.random_step(of) for it, of in zip((alone, apart), dice)]
+        drawn = [it.random_step(of, reset=True) for it, of in zip((alone, apart), dice)]
         assert (np.array(drawn[0]) == np.array(drawn[1])).all() and alone == apart and (alone.codes == apart.codes).all()
         assert (alone.masks() == apart.masks()).all()
         ones, twos = at_random(players[0], dice[0])

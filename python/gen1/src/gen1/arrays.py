@@ -3,7 +3,7 @@
 from __future__ import annotations
 
 from collections.abc import Iterable, Iterator
-from ctypes import c_size_t, c_uint8, c_void_p
+from ctypes import byref, c_size_t, c_uint8, c_void_p
 from typing import Any, TypeAlias
 
 import numpy as np
@@ -23,6 +23,8 @@ Masks: TypeAlias = NDArray[np.uint16]
 
 _offered = _library.bind("gen1_offered_many", c_uint8, c_void_p, c_size_t, c_uint8, c_void_p, c_size_t, of=_library.LONG)
 _update = _library.bind("gen1_update_many", c_uint8, c_void_p, c_size_t, c_void_p, c_size_t, of=_library.LONG)
+_ARRAYS = 4 * (c_void_p, c_size_t)
+_step_random = _library.bind("gen1_step_random_many", c_uint8, *_ARRAYS, c_void_p, of=_library.LONG)
 
 # The number of each choice in the order of the bits of a mask: bit 0 is `PASS`, bits 1 to 5 moves 0 to 4, bits 6 to 11 switches.
 CHOICES: Bytes = np.array([int(it) for it in Choice], np.uint8)
@@ -185,19 +187,29 @@ class BattleArray:
         self._update(*pair)
         return self._results.copy()
 
-    def random_step(self, dice: np.random.Generator) -> tuple[Bytes, Bytes]:
+    def random_step(self, dice: np.random.Generator, *, reset: bool = False) -> tuple[Bytes, Bytes]:
         """Makes a step with a random choice of each side, all equally likely,
         and returns these choices.
 
-        A battle that is over is unchanged. Raises `BadType` if `dice` is
-        not a numpy generator.
+        A battle that is over is unchanged. With `reset` it is first restored
+        to what it was when the array was created, with random numbers to
+        draw. So all battles are updated, and one that ends can be looked at
+        until the next step. Raises `BadType` if `dice` is not a numpy
+        generator.
         """
         if not isinstance(dice, np.random.Generator):
             raise BadType(f"dice must be a numpy.random.Generator, not {shown(dice)}")
-        masks = self.masks()
-        taken = nth_choices(masks, COUNTS.take(masks) * dice.integers(0, 1 << 16, masks.shape, np.uint16) >> 16)
-        self._update(taken[0], taken[1])
-        return taken[0], taken[1]
+        draws = dice.integers(0, 1 << 64, len(self), np.uint64)
+        battles, starts, of_draws, updates = (it.ctypes.data for it in (self._bytes, self._first, draws, self._updates))
+
+        def part(first: int, past: int) -> None:
+            count, over, row = past - first, c_size_t(), first * _library.BATTLE_BYTES
+            begins = (starts + row, count) if reset else (None, 0)
+            parts = battles + row, count, *begins, of_draws + first * draws.itemsize, count, updates + first * UPDATE_BYTES, count
+            _done(_step_random(*parts, byref(over)))
+
+        in_parts(part, len(self), self._threads)
+        return self._updates[:, 0].copy(), self._updates[:, 1].copy()
 
     def observe(self, side: int) -> NDArray[np.float32]:
         """The observation of a side for each battle, (n, `len(COLUMNS)`)
