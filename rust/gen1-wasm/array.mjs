@@ -1,6 +1,6 @@
 // Many battles side by side in the module's memory, updated in one call, with numbers in typed arrays.
 import { ArgumentError, FreedError } from "./errors.mjs";
-import { byteOf, CHOICES, list, record, sideOf, within, wrongType } from "./arguments.mjs";
+import { list, record, sideOf, within, wrongType } from "./arguments.mjs";
 import { BATTLE_SIZE } from "./arena.mjs";
 import { Battle, loadError, playoutOptions, playoutSeed } from "./battle.mjs";
 import { CODES } from "./header.mjs";
@@ -13,15 +13,15 @@ const MOST_BATTLES = 2 ** 20;
 const SEED_SIZE = 10;
 const PLAYOUTS_SIZE = 16;
 const KEYS = ["battle", "count", "seeds", "sides"];
-const UPDATE_SIZE = 4;
+// The state of a generator of gen1_step_random_many, at whose multiples its array begins.
+const STATE_SIZE = 8;
 // Both sides of one battle: their players, and their tellers.
 const SIDES_SIZE = 2 * (PLAYER_SIZE + TELLER_SIZE);
-const BYTES = Uint8Array.from(CHOICES, (choice) => byteOf(choice));
 
 const placesOf = (count, isWatched) => {
   const sides = count * BATTLE_SIZE;
-  const scratch = sides + (isWatched ? count * SIDES_SIZE : 0);
-  return { sides, scratch, size: scratch + count * PLAYOUTS_SIZE };
+  const scratch = STATE_SIZE * Math.ceil((sides + (isWatched ? count * SIDES_SIZE : 0)) / STATE_SIZE);
+  return { sides, scratch, updates: scratch + count * STATE_SIZE, size: scratch + count * PLAYOUTS_SIZE };
 };
 
 // A typed array or an array of `count` bytes, as a Uint8Array.
@@ -124,14 +124,21 @@ export class BattleArray {
   }
 
   #stepMany(ones, twos) {
-    const { results, codes, length } = this;
-    const updates = new Uint32Array(this.#library.bytes.buffer, this.#at + this.#places.scratch, length);
-    for (let at = 0; at < length; at++) updates[at] = ones[at] | (twos[at] << 8);
-    const count = this.#library.size(length);
-    this.#library.calls.gen1_update_many(this.#pointer(0), count, this.#pointer(this.#places.scratch), count);
-    for (let at = 0; at < length; at++) {
-      results[at] = updates[at] >> 16;
-      codes[at] = updates[at] >>> 24;
+    const [updates, count] = [this.#updates, this.#library.size(this.length)];
+    for (let at = 0; at < this.length; at++) updates[at] = ones[at] | (twos[at] << 8);
+    this.#library.calls.gen1_update_many(this.#pointer(0), count, this.#pointer(this.#places.updates), count);
+    this.#note(updates);
+  }
+
+  // An update of each battle, as the C interface reads and writes it.
+  get #updates() {
+    return new Uint32Array(this.#library.bytes.buffer, this.#at + this.#places.updates, this.length);
+  }
+
+  #note(updates) {
+    for (let at = 0; at < this.length; at++) {
+      this.results[at] = updates[at] >> 16;
+      this.codes[at] = updates[at] >>> 24;
     }
   }
 
@@ -167,10 +174,29 @@ export class BattleArray {
   /** Makes a step with choices at random, which are equally likely, and returns them. `random` returns numbers from 0 to below 1. */
   randomStep(random = Math.random) {
     if (typeof random !== "function") throw wrongType(random, "random", "a function that returns numbers from 0 to below 1");
-    const [ones, twos] = [1, 2].map((side) => this.masks(side).map((mask) => (mask ? BYTES[nth(mask, random())] : 0)));
-    const pair = [Uint8Array.from(ones), Uint8Array.from(twos)];
-    this.step(...pair);
-    return pair;
+    const states = new Uint32Array(2 * this.length);
+    for (let at = 0; at < states.length; at++) states[at] = random() * 2 ** 32;
+    const before = this.#isWatched ? this.bytes : null;
+    const updates = this.#stepRandomMany(states);
+    const [ones, twos] = [new Uint8Array(this.length), new Uint8Array(this.length)];
+    for (let at = 0; at < this.length; at++) [ones[at], twos[at]] = [updates[at], updates[at] >> 8];
+    if (before === null) this.#note(updates);
+    else {
+      // Players need the logs, which the call doesn't write.
+      this.#library.bytes.set(before, this.#at);
+      this.#stepAll(ones, twos);
+    }
+    return [ones, twos];
+  }
+
+  // A random step of each battle, by a generator of its own: two words of its state for each.
+  #stepRandomMany(states) {
+    const { calls, bytes, length } = this.#library;
+    new Uint32Array(bytes.buffer, this.#at + this.#places.scratch, states.length).set(states);
+    const [none, count] = [this.#library.size(0), this.#library.size(this.length)];
+    const [first, generators, updates] = [0, this.#places.scratch, this.#places.updates].map((offset) => this.#pointer(offset));
+    calls.gen1_step_random_many(first, count, none, none, generators, count, updates, count, length);
+    return this.#updates;
   }
 
   /** What a side knows in each battle: a row of COLUMNS.length numbers each, from its player alone. The array needs `sides`. */
@@ -267,15 +293,6 @@ export class BattleArray {
 }
 
 if (Symbol.dispose) Object.defineProperty(BattleArray.prototype, Symbol.dispose, { value: BattleArray.prototype.free });
-
-// The bit of one of the choices in a mask, by a number from 0 to below 1.
-function nth(mask, part) {
-  let count = 0;
-  for (let rest = mask; rest; rest &= rest - 1) count++;
-  let rest = mask;
-  for (let left = Math.floor(part * count); left > 0; left--) rest &= rest - 1;
-  return 31 - Math.clz32(rest & -rest);
-}
 
 /** Creates `count` copies of a battle. */
 export function arrayOf(library, terms) {

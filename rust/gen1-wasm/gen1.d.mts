@@ -594,7 +594,10 @@ export class BattleArray {
    * and `codes` says why; so one that is over is unchanged whatever its choices are.
    */
   step(ones: Numbers, twos: Numbers): Uint8Array;
-  /** Makes a step with choices at random, which are equally likely, and returns the choices of both sides. `random` is Math.random by default. */
+  /**
+   * Makes a step with choices at random, which are equally likely, and returns the choices of both sides. `random` is Math.random by default,
+   * and is called twice for each battle.
+   */
   randomStep(random?: () => number): [Uint8Array, Uint8Array];
   /**
    * What a side knows in each battle: a row of COLUMNS.length numbers for each, one row after the other. A row is made of the side's Player

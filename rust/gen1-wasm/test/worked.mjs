@@ -604,6 +604,29 @@ function arrays(gen1, check) {
     watched.reset();
     equal(hexOf(watched.bytes), hexOf(arraysOf()[0].bytes));
   });
+  check("random steps are those of the generator of gen1.h, with players and without", () => {
+    const [both, counts] = [arraysOf(), [0, 0, 0]];
+    const alone = Array.from({ length: 5 }, (_, at) => both[0].at(at));
+    // Numbers of an LCG, the same for each counter.
+    const numbers = (of) => () => ((counts[of]++ * 2654435761 + 97) % 2 ** 32) / 2 ** 32;
+    const word = () => BigInt(Math.floor(numbers(2)() * 2 ** 32));
+    for (let step = 0; step < 40; step++) {
+      const pairs = both.map((it, at) => it.randomStep(numbers(at)).map((side) => Array.from(side)));
+      const want = [[], []];
+      for (const it of alone) {
+        let state = word() + (word() << 32n);
+        for (const side of [1, 2]) {
+          const choices = it.choices(side);
+          if (choices.length) state = BigInt.asUintN(64, state * 6364136223846793005n + 1442695040888963407n);
+          want[side - 1].push(choices.length ? library.byteOf(choices[Number((state >> 32n) % BigInt(choices.length))]) : 0);
+        }
+        if (!it.isOver) it.update(want[0].at(-1), want[1].at(-1));
+      }
+      const all = alone.map((it) => hexOf(it.bytes)).join("");
+      equal([pairs, both.map((it) => hexOf(it.bytes)), both[0].codes, both[0].results], [[want, want], [all, all], both[1].codes, both[1].results]);
+    }
+    equal(both[0].codes, Uint8Array.of(24, 24, 24, 24, 24));
+  });
   check("observations", () => {
     const [, watched] = arraysOf();
     const row = (it, side, place) => {
