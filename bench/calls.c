@@ -104,32 +104,53 @@ static void time_of(const char *row, void (*call)(void))
     printf("%s\t%.1f\n", row, least * 1e9);
 }
 
-/* A step of a batch: the masks of both sides, a choice of each battle and side, and the updates. */
-static void batch(void)
+static _Alignas(GEN1_ALIGNMENT) gen1_battle battles[BATCH];
+static gen1_batch_update updates[BATCH];
+static uint64_t generators[BATCH];
+static uint32_t lot = 1;
+
+/* A step of a batch in parts: the masks of both sides, a choice of each battle and side, and the updates. */
+static void step_by_parts(void)
 {
-    static _Alignas(GEN1_ALIGNMENT) gen1_battle battles[BATCH];
     static uint16_t masks[2][BATCH];
-    static gen1_batch_update updates[BATCH];
-    uint32_t draw = 1;
-    for (int i = 0; i < BATCH; i++)
-        new_battle(), battles[i] = battle;
-    double begun = seconds();
-    for (int step = 0; step < STEPS; step++) {
-        for (uint8_t side = 0; side < 2; side++)
-            gen1_offered_many(battles, BATCH, side + 1, masks[side], BATCH);
-        for (int i = 0; i < BATCH; i++) {
-            uint8_t *both[2] = {&updates[i].one, &updates[i].two};
-            for (int side = 0; side < 2; side++) {
-                draw = draw * 1664525u + 1013904223u;
-                uint16_t mask = masks[side][i];
-                for (int past = (int)((draw >> 16) % (uint32_t)(__builtin_popcount(mask) + !mask)); past > 0; past--)
-                    mask &= (uint16_t)(mask - 1);
-                *both[side] = mask ? byte_of_bit(__builtin_ctz(mask)) : 0;
-            }
+    for (uint8_t side = 0; side < 2; side++)
+        gen1_offered_many(battles, BATCH, side + 1, masks[side], BATCH);
+    for (int i = 0; i < BATCH; i++) {
+        uint8_t *both[2] = {&updates[i].one, &updates[i].two};
+        for (int side = 0; side < 2; side++) {
+            lot = lot * 1664525u + 1013904223u;
+            uint16_t mask = masks[side][i];
+            for (int past = (int)((lot >> 16) % (uint32_t)(__builtin_popcount(mask) + !mask)); past > 0; past--)
+                mask &= (uint16_t)(mask - 1);
+            *both[side] = mask ? byte_of_bit(__builtin_ctz(mask)) : 0;
         }
-        gen1_update_many(battles, BATCH, updates, BATCH);
     }
-    printf("batch\t%.1f\n", (seconds() - begun) * 1e9 / (BATCH * STEPS));
+    gen1_update_many(battles, BATCH, updates, BATCH);
+}
+
+/* The same in one call. */
+static void step_in_one(void)
+{
+    size_t over;
+    gen1_step_random_many(battles, BATCH, NULL, 0, generators, BATCH, updates, BATCH, &over);
+}
+
+/* The nanoseconds of a step of each battle: the least of five runs of sixty steps. */
+static void time_of_steps(const char *row, void (*step)(void))
+{
+    double least = 1e9;
+    for (int run = 0; run < 5; run++) {
+        new_battle();
+        for (int i = 0; i < BATCH; i++)
+            battles[i] = battle, generators[i] = (uint64_t)(i + 1) * 0x9e3779b97f4a7c15u;
+        double begun = seconds();
+        for (int i = 0; i < STEPS; i++)
+            step();
+        double spent = seconds() - begun;
+        if (spent < least)
+            least = spent;
+    }
+    printf("%s\t%.1f\n", row, least * 1e9 / (BATCH * STEPS));
 }
 
 int main(int count, char **words)
@@ -150,6 +171,7 @@ int main(int count, char **words)
     time_of("update", update);
     time_of("events", events);
     time_of("state", state);
-    batch();
+    time_of_steps("batch", step_by_parts);
+    time_of_steps("random", step_in_one);
     return 0;
 }

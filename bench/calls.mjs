@@ -7,8 +7,9 @@ import { readFile } from "node:fs/promises";
 import { pathToFileURL } from "node:url";
 
 const [folder, ...paths] = process.argv.slice(2);
-const { load } = await import(pathToFileURL(`${folder}/gen1.mjs`));
+const { byteOf, CHOICES, load } = await import(pathToFileURL(`${folder}/gen1.mjs`));
 const gen1 = await load();
+const BYTES = CHOICES.map((choice) => byteOf(choice));
 
 const SEED = [1, 36, 255, 7, 31, 100, 179, 254, 127, 10];
 const BATCH = 1024, STEPS = 60, BEFORE = 20;
@@ -35,12 +36,25 @@ function timeOf(row, call) {
   console.log(`${row}\t${(least * 1e6).toFixed(1)}`);
 }
 
-/** A step of a batch: the masks of both sides, a choice of each battle and side, and the updates. */
-function batch(battle) {
+/** A choice of each battle from the masks of a side. */
+function drawn(masks) {
+  return Uint8Array.from(masks, (mask) => {
+    const offered = BYTES.filter((_, bit) => mask >> bit & 1);
+    return offered[Math.floor(Math.random() * offered.length)] ?? 0;
+  });
+}
+
+/** Prints the nanoseconds of a step of each battle: the least of five runs of sixty steps. */
+function timeOfSteps(row, battle, step) {
   const battles = gen1.battleArray({ battle, count: BATCH });
-  const begun = performance.now();
-  for (let step = 0; step < STEPS; step += 1) battles.randomStep();
-  console.log(`batch\t${((performance.now() - begun) * 1e6 / (BATCH * STEPS)).toFixed(1)}`);
+  let least = Infinity;
+  for (let run = 0; run < 5; run += 1) {
+    battles.reset();
+    const begun = performance.now();
+    for (let count = 0; count < STEPS; count += 1) step(battles);
+    least = Math.min(least, performance.now() - begun);
+  }
+  console.log(`${row}\t${(least * 1e6 / (BATCH * STEPS)).toFixed(1)}`);
 }
 
 const [one, two] = await Promise.all(paths.map(async (path) => gen1.team(gen1.teamFromText(await readFile(path, "utf8")))));
@@ -55,4 +69,5 @@ timeOf("copy", () => scratch.copyFrom(middle));
 timeOf("update", () => { scratch.copyFrom(middle); scratch.update(...pair); });
 timeOf("events", () => { scratch.copyFrom(middle); scratch.update(...pair).events.length; });
 timeOf("state", () => middle.state.turn);
-batch(start);
+timeOfSteps("batch", start, (battles) => battles.step(drawn(battles.masks(1)), drawn(battles.masks(2))));
+timeOfSteps("random", start, (battles) => battles.randomStep());
