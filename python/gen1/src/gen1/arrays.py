@@ -200,7 +200,8 @@ class BattleArray:
         if not isinstance(dice, np.random.Generator):
             raise BadType(f"dice must be a numpy.random.Generator, not {shown(dice)}")
         draws = dice.integers(0, 1 << 64, len(self), np.uint64)
-        battles, starts, of_draws, updates = (it.ctypes.data for it in (self._bytes, self._first, draws, self._updates))
+        held: tuple[NDArray[Any], ...] = self._bytes, self._first, draws, self._updates
+        battles, starts, of_draws, updates = (it.ctypes.data for it in held)
 
         def part(first: int, past: int) -> None:
             count, over, row = past - first, c_size_t(), first * _library.BATTLE_BYTES
