@@ -4,7 +4,7 @@ use Rattle.gen1_machine.specs.declared.side.Side.{Side}
 use Rattle.gen1_machine.specs.declared.side.Side.TheVariants.{One, Two}
 use Rattle.gen1_machine.specs.declared.choice.Choice.{Choice}
 use Rattle.gen1_machine.specs.Laws.{accepted_in}
-use Rattle.gen1_machine.specs.Room.{AlreadyChosen, Advanced, begun, choice_made, ChoiceNotOffered, chosen, Course, ended_by, Reply, RoomOver, RoomRefusal, Stale, Submission, TurnedAway, Waiting}
+use Rattle.gen1_machine.specs.Room.{after, AlreadyChosen, Advanced, begun, choice_made, ChoiceNotOffered, chosen, Course, ended_by, Reply, reply_to, RoomOver, RoomRefusal, Stale, Submission, TurnedAway, Waiting}
 use Rattle.gen1_machine.specs.State.{is_over, State}
 use Rattle.gen1_machine.specs.Step.{events_of, run}
 use Rattle.gen1_machine.specs.Valid.{IsState, StandsAs}
@@ -94,3 +94,7 @@ reply_of_submitted (submitted.Advanced r) = Advanced r.outcome r.request_one r.r
 abbrev pub reply_of : Result Submitted Why → Reply
 reply_of (Ok s) = reply_of_submitted s
 reply_of (Err why) = TurnedAway (why_of why)
+
+-- A submission to a room that holds any course: then it holds what the machine's room does, whose reply is returned.
+abbrev pub Takes : Held → Held → Result Submitted Why → Submission → Type 0
+Takes old new result submission = (c : Course) → Holds old c → Holds new (after c submission) × (reply_of result ≡ reply_to c submission)

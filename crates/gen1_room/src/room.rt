@@ -1,11 +1,11 @@
 //! A room, for its players (docs/MECHANICS.md, "Rooms").
 ghost use Rattle.std.specs.Prelude.{length, map, ◌≡◌};
 ghost use Rattle.std.specs.Result.{OnErr};
-ghost use Rattle.gen1_machine.specs.Room.{Course, after, course_of, replies_of, reply_to, room_of};
+ghost use Rattle.gen1_machine.specs.Room.{Course, course_of, replies_of, room_of};
 ghost use Rattle.gen1_machine.specs.State.{State};
 ghost use Rattle.gen1_events.specs.Splits.{IsReading};
 ghost use Rattle.gen1_layout.specs.Within.{Stands};
-ghost use Rattle.gen1_room.specs.Rooms.{Holds, IsRoom, reply_of, submission_at, submission_of};
+ghost use Rattle.gen1_room.specs.Rooms.{Holds, IsRoom, Takes, reply_of, submission_at, submission_of};
 
 use crate::held::Held;
 use crate::reply::Reply;
@@ -73,9 +73,7 @@ impl Room {
     ///
     /// A refusal changes nothing. Once both choices are there the battle is updated, and the log is that of the update.
     pub fn submit(&mut self, side: Side, number: u32, byte: u8) -> Reply
-        ensures holds { (c : Course) → Holds self.old c
-            → Holds self.new (after c (submission_of side number byte))
-            × (reply_of result ≡ reply_to c (submission_of side number byte)) }
+        ensures holds { Takes self.old self.new result (submission_of side number byte) }
         ensures refused { OnErr result (self.new ≡ self.old) }
     {
         submit(&mut self.held, side, number, byte)

@@ -1,11 +1,11 @@
 //! A submission to a room (docs/MECHANICS.md, "Rooms").
 ghost use Rattle.std.specs.Prelude.{None, Some, false, is_some, ◌≡◌};
 ghost use Rattle.std.specs.Result.{OnErr};
-ghost use Rattle.gen1_machine.specs.Room.{Course, Submission, after, choice_by_byte, choice_made, chosen, reply_to, reply_to_choice};
+ghost use Rattle.gen1_machine.specs.Room.{Course, Submission, after, choice_by_byte, choice_made, chosen, reply_to_choice};
 ghost use Rattle.gen1_machine.specs.State.{is_over};
 ghost use Rattle.gen1_layout.specs.Within.{Stands};
 ghost use Rattle.gen1_engine.specs.Update.{AreOffered, result_of};
-ghost use Rattle.gen1_room.specs.Rooms.{Counts, EndsPair, Holds, IsRoom, MayChoose, chosen_in, ended, reply_of, reply_of_submitted, submission_of};
+ghost use Rattle.gen1_room.specs.Rooms.{Counts, EndsPair, Holds, IsRoom, MayChoose, Takes, chosen_in, ended, reply_of_submitted, submission_of};
 
 use crate::held::Held;
 use crate::reply::{Reply, RoomRefusal, Submitted};
@@ -16,9 +16,7 @@ use gen1_machine::{Choice, Side};
 /// Submits the byte of a side's choice for the pair with the given number.
 pub(crate) fn submit(held: &mut Held, side: Side, number: u32, byte: u8) -> Reply
     requires valid { IsRoom held.old }
-    ensures holds { (c : Course) → Holds held.old c
-        → Holds held.new (after c (submission_of side number byte))
-        × (reply_of result ≡ reply_to c (submission_of side number byte)) }
+    ensures holds { Takes held.old held.new result (submission_of side number byte) }
     ensures refused { OnErr result (held.new ≡ held.old) }
     ensures valid { IsRoom held.new }
 {
