@@ -45,7 +45,7 @@ pub extern "C" fn gen1_step_random_many(
     if generators.len() != count || updates.len() != count {
         return LENGTHS;
     }
-    if starts.len() != 0 && starts.len() != count {
+    if !starts.is_empty() && starts.len() != count {
         return LENGTHS;
     }
     *over = step_each(battles, starts, generators, updates);
@@ -88,7 +88,6 @@ fn one_if_over(result_byte: u8) -> usize
 }
 
 // A battle that is over begins anew, if it has a start.
-#[inline(always)]
 fn begin_anew(battle: &mut Packed, starts: &[Packed], place: usize, random: &mut ChoiceGenerator)
     ensures { (s : State) (start : Option State) → Stands battle.old s
         → IsStart starts.now place start
@@ -101,7 +100,6 @@ fn begin_anew(battle: &mut Packed, starts: &[Packed], place: usize, random: &mut
 }
 
 // A copy of a start that draws from ten numbers of its own, as a round of gen1_playout begins.
-#[inline(never)]
 fn restart(battle: &mut Packed, start: &Packed, random: &mut ChoiceGenerator)
     ensures { (s : State) → Stands start.now s
         → IsAt (begun s random.old.state) battle.new random.new.state }
@@ -114,7 +112,6 @@ fn restart(battle: &mut Packed, start: &Packed, random: &mut ChoiceGenerator)
 }
 
 // A step of a battle by choices at random, side 1 first.
-#[inline(always)]
 fn step_at_random(battle: &mut Packed, random: &mut ChoiceGenerator) -> BatchUpdate
     ensures { (s : State) → Stands battle.old s
         → IsStepped (record { battle = s; random = random.old.state }) battle.new
