@@ -711,7 +711,7 @@ export class Gen1 {
   readonly build: "proved" | "plain" | null;
   /** The version of the library, such as "1.0.0". */
   readonly version: string;
-  /** What the library was built from, as gen1_build of include/gen1.h says; "unknown" if it doesn't say. */
+  /** What the library was built from, as gen1_build of include/gen1.h says. The proved module has no such call: "unknown". */
   readonly libraryBuild: string;
   /** Creates a battle before its first update, in which both sides pass. Throws TeamError. */
   battle(terms: Terms): Battle;

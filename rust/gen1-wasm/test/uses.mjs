@@ -163,6 +163,7 @@ function battles(gen1) {
   /** @type {readonly import("../gen1.mjs").ChoiceName[]} */
   const choices = battle.choices(1);
   holds(choices.every((choice) => typeof choice === "string") && typeof gen1.is64 === "boolean" && /^\d+\.\d+\.\d+$/.test(gen1.version), "other types");
+  holds(/^(plain, rustc .+, sources sha256 .+|unknown)$/.test(gen1.libraryBuild), "another build");
   for (const [one, wanted] of /** @type {[object, Record<string, true>][]} */ ([[gen1, OF_GEN1], [battle, OF_BATTLE], [update, OF_UPDATE]])) offers(one, wanted);
   const { one, two, outcome } = battle.state;
   holds(one.active !== null && two.members.length === 2 && outcome === "ongoing", "another state");
