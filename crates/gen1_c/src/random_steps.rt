@@ -74,7 +74,7 @@ fn step_each(
         let update = step_at_random(battle, &mut random);
         over += one_if_over(update.result);
         updates[place] = update;
-        generators[place] = random.state();
+        generators[place] = random.state;
     }
     over
 }

@@ -17,13 +17,6 @@ impl ChoiceGenerator {
         ChoiceGenerator { state: seed }
     }
 
-    /// The state.
-    pub fn state(&self) -> u64
-        ensures { result ≡ self.now.state }
-    {
-        self.state
-    }
-
     /// Draws a number from 0 to `count - 1`: the upper bits of the next state, modulo the count.
     pub fn below(&mut self, count: usize) -> usize
         requires some { 1 ≤ count }

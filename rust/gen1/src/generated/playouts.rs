@@ -66,11 +66,6 @@ mod choice_generator {
             ChoiceGenerator { state: seed }
         }
 
-        /// The state.
-        pub fn state(&self) -> u64 {
-            self.state
-        }
-
         /// Draws a number from 0 to `count - 1`: the upper bits of the next state, modulo the count.
         pub fn below(&mut self, count: usize) -> usize {
             self.state = next_state(self.state);

@@ -18,14 +18,13 @@ loop-place-preserved c =
     let three : place < length updates = omega (arith, c.requires.updates) in
     let old = c.index-battles-place.result in
     let new = c.step_at_random-update.new.battle in
-    let after = c.state.result in
+    let after = c.step_at_random-update.new.random.state in
     let done = c.step_at_random-update.result in
     let stepped : (s : State) (start : Option State) → Stands (slice_index_or battles place old) s → IsStart c.args.starts.now place start
     → IsStepped (begun_anew start (record { battle = s; random = slice_index_or generators place 0 })) new after done =
     λ s start stands first.
     subst (λ (seed : ℕ). IsStepped (begun_anew start (record { battle = s; random = seed })) new after done) c.new-random.ensures
-    (subst (λ (last : ℕ). IsStepped (begun_anew start (record { battle = s; random = c.new-random.result.state })) new last done) (sym c.state.ensures)
-    (stepped-from (c.begin_anew.ensures s start stands first) c.step_at_random-update.ensures)) in
+    (stepped-from (c.begin_anew.ensures s start stands first) c.step_at_random-update.ensures) in
     let here = stepped-here c.args.starts.now c.args.battles.now battles c.args.generators.now generators place old new 0 after done one two
     c.loop-place.invariant.1 c.loop-place.invariant.2 stepped in (
       stepped-more c.args.starts.now c.args.battles.now battles c.args.generators.now generators updates place new after done one two three c.loop-place.invariant.0 here,
