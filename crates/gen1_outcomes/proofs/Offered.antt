@@ -1,14 +1,16 @@
 -- A pair that is accepted was offered.
-use Rattle.std.proofs.Common.{◌≡◌, Bool, true, false, Ok, refl, subst}
+use Rattle.std.proofs.Common.{◌≡◌, Bool, true, false, Err, Ok, Result, Some, refl, subst}
 use Rattle.gen1_machine.specs.declared.choice.Choice.{Choice}
 use Rattle.gen1_machine.specs.declared.side.Side.TheVariants.{One, Two}
 use Rattle.gen1_machine.specs.Ruling.{ruling_of}
 use Rattle.gen1_machine.specs.State.{State, is_over}
-use Rattle.gen1_machine.specs.Step.{answered, offers, opened, step, step_by, update}
+use Rattle.gen1_machine.specs.Step.{NotOffered, Over, answered, offers, opened, step, step_by, update}
 use Rattle.gen1_layout.specs.Parts.{Parts}
 use Rattle.gen1_engine.specs.declared.result.BattleResult.{BattleResult}
+use Rattle.gen1_engine.specs.declared.result.Refusal.{Refusal}
+use Rattle.gen1_engine.specs.declared.result.Refusal.TheVariants as refusals
 use Rattle.gen1_layout.specs.Shows.{Telling}
-use Rattle.gen1_engine.specs.Update.{Answers, AnswersAs, AreOffered}
+use Rattle.gen1_engine.specs.Update.{Answers, AnswersAs, AreOffered, Tests}
 use Rattle.gen1_outcomes.specs.Following.{CanFollow}
 
 pub accepted_offered : (s : State) (one two : Choice) (old new : Parts) (result : BattleResult) → Answers s one two old new (Ok result) → AreOffered s one two
@@ -24,7 +26,29 @@ accepted_offered s one two old new result h = by (is_over s.field.outcome) (offe
     by false true false e f h = absurd (let x = h.0 in cc)
     by false true true e f h = record { first = e; second = f }
 
+same_error : (r : Result BattleResult Refusal) (a b : Refusal) → r ≡ Err a → r ≡ Err b → a ≡ b
+same_error r a b e f = cc
+
+-- A pair that is refused was refused for that reason.
+pub refused_tests : (s : State) (one two : Choice) (old new : Parts) (why : Refusal) → Answers s one two old new (Err why) → Tests s one two (Some why)
+unfolding step step_by answered
+refused_tests s one two old new why h = by (is_over s.field.outcome) (offers s One one) (offers s Two two) refl h
+  where
+    by : (over first second : Bool)
+        → step s one two ≡ answered s over first second (update (ruling_of s.terms) one two (opened s))
+        → AnswersAs (answered s over first second (update (ruling_of s.terms) one two (opened s))).answer
+        (answered s over first second (update (ruling_of s.terms) one two (opened s))).state old new (Err why)
+        → Tests s one two (Some why)
+    by true first second e h = (Over, same_error (Err why) why refusals.Over refl h.0, e)
+    by false false second e h = (NotOffered One, same_error (Err why) why (refusals.NotOffered One) refl h.0, e)
+    by false true false e h = (NotOffered Two, same_error (Err why) why (refusals.NotOffered Two) refl h.0, e)
+    by false true true e h = absurd (let x = h.0 in cc)
+
 -- The same by other names of the choices.
+pub tests_as : (s : State) (a b one two : Choice) (why : Refusal) → a ≡ one → b ≡ two → Tests s a b (Some why) → Tests s one two (Some why)
+tests_as s a b one two why e f h =
+    subst (λ (x : Choice). Tests s x two (Some why)) e (subst (λ (y : Choice). Tests s a y (Some why)) f h)
+
 pub offered_as : (s : State) (a b one two : Choice) → a ≡ one → b ≡ two → AreOffered s a b → AreOffered s one two
 offered_as s a b one two e f h = subst (λ (x : Choice). AreOffered s x two) e (subst (λ (y : Choice). AreOffered s a y) f h)
 

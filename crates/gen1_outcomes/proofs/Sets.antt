@@ -1,12 +1,22 @@
 -- Sets of bytes: a word is changed at one bit.
-use Rattle.std.proofs.Common.{◌≡◌, ◌≢◌, ℕ, zero, suc, ◌+◌, ◌*◌, ◌%◌, ◌/◌, ◌<◌, ◌≤◌, ◌^◌, Bool, List, [], ◌∷◌, cond, length, get_or, get_or-set_other, get_or-set_same, set, ◌⊎◌, inl, inr, refl, ap, sym, ◌∙◌, arith}
+use Rattle.std.proofs.Common.{◌≡◌, ◌≢◌, ℕ, zero, suc, ◌+◌, ◌*◌, ◌%◌, ◌/◌, ◌<◌, ◌≤◌, ◌^◌, Bool, true, false, not, ◌==◌, List, [], ◌∷◌, cond, min, ◌-◌, nat_lt, length, get_or, get_or-set_other, get_or-set_same, set, ◌⊎◌, inl, inr, refl, ap, sym, ◌∙◌, arith}
 use Rattle.std.specs.Int.{bit_at, bit_not, w64}
 use Rattle.std.specs.Int.RustNames.{bit_and, bit_or}
 use Rattle.gen1_rolls.specs.declared.look.Look.{Look}
-use Rattle.gen1_rolls.specs.Looks.{alike}
+use Rattle.gen1_rolls.specs.Looks.{alike, rotated_left_3}
 use Rattle.gen1_outcomes.specs.declared.byte_set.ByteSet.{ByteSet}
-use Rattle.gen1_outcomes.specs.Bytes.{has}
-use Rattle.std.proofs.lemmas.Nat.Bits.{bit_at_clear_other, bit_at_clear_same, bit_at_ones, bit_at_set_other, bit_at_set_same}
+use Rattle.gen1_outcomes.specs.Bytes.{bits_set, has, size}
+use Rattle.std.proofs.lemmas.Nat.Bits.{bit_at_clear_other, bit_at_clear_same, bit_at_ones, bit_at_set_other, bit_at_set_same, bit_at-lt, bit_at-suc, bit_at-trailing_zeros, bit_at-zero, bit_at_and, bit_at_cat_high, bit_at_cat_low, bit_at_lowest, bit_at_not, bit_at_ones_above}
+use Rattle.std.specs.Int.RustNames.{count_ones}
+use Rattle.std.specs.Int.{trailing_zeros}
+use Rattle.std.specs.List.{range_with_len, sum_by}
+use Rattle.std.proofs.lemmas.Bool.Decides.{nat_tests}
+use Rattle.std.proofs.lemmas.List.Sums.{sum_by-append, sum_by-cons}
+use Rattle.std.proofs.lemmas.Nat.{ones_le_self}
+use Rattle.std.specs.Int.Count.{ones_step}
+use Rattle.std.proofs.Math.Numerals.{suc-eq-add-one}
+use Rattle.std.proofs.Math.Pow.{pow-lt, pow_mono}
+use Rattle.std.proofs.Math.Nat.{pow-suc}
 
 -- The bit of a byte in four words.
 abbrev pub bit_in : List ℕ → ℕ → ℕ
@@ -50,26 +60,6 @@ pub removed_other : (words : List ℕ) (byte b : ℕ) → byte < 256 → length 
 removed_other words byte b lt four apart =
     replaced_other words byte _ b lt four apart (λ i low ne. bit_at_clear_other w64 (get_or words (byte / 64) 0) (byte % 64) (omega arith) i low ne)
 
--- A set that loses what is alike to a byte, byte by byte.
-pub record Loses (look : Look) (byte : ℕ) (from : ByteSet) (n : ℕ) (now : ByteSet) : Type 0 where
-  pub below : (x : ℕ) → x < 256 → x < n → has now x ≡ cond (alike look byte x) 0 (has from x)
-  pub above : (x : ℕ) → x < 256 → n ≤ x → has now x ≡ has from x
-
-pub loses_more : (look : Look) (byte : ℕ) (from : ByteSet) (n : ℕ) (now new : ByteSet) → Loses look byte from n now → n < 256
-    → has new n ≡ cond (alike look byte n) 0 (has now n) → ((x : ℕ) → x < 256 → x ≢ n → has new x ≡ has now x) → Loses look byte from (n + 1) new
-loses_more look byte from n now new l lt here others =
-    record {
-      below = λ x small less.
-          elim (same_or x n) [
-            | inl e ↦
-                let at : has new x ≡ has new n = ap (has new) e in
-                let was : has now n ≡ has from n = l.above n lt (omega arith) in
-                at ∙ here ∙ ap (cond (alike look byte n) 0) was ∙ ap (λ (y : ℕ). cond (alike look byte y) 0 (has from y)) (sym e)
-            | inr ne ↦ others x small ne ∙ l.below x small (omega (arith, ne))
-          ];
-      above = λ x small more. let ne : x ≢ n = omega arith in others x small ne ∙ l.above x small (omega arith);
-    }
-
 -- A set that gets what passes a test, byte by byte.
 pub record Gets (p : ℕ → Bool) (n : ℕ) (now : ByteSet) : Type 0 where
   pub below : (x : ℕ) → x < 256 → x < n → has now x ≡ cond (p x) 1 0
@@ -102,3 +92,311 @@ pub all_has : (b : ℕ) → b < 256
     → bit_in (18446744073709551615 ∷ 18446744073709551615 ∷ 18446744073709551615 ∷ 18446744073709551615 ∷ []) b ≡ 1
 all_has b lt =
     ap (λ (w : ℕ). bit_at w (b % 64)) (four 18446744073709551615 (b / 64) (omega arith)) ∙ bit_at_ones 64 (b % 64) (omega arith)
+
+-- The words of a set, one by one.
+abbrev pub words_of : ℕ → ℕ → ℕ → ℕ → List ℕ
+words_of a b c d = a ∷ b ∷ c ∷ d ∷ []
+
+pub each_word : (a b c d : ℕ) (P : ℕ → ℕ → Type 0) → P 0 a → P 1 b → P 2 c → P 3 d → (i : ℕ) → i < 4 → P i (get_or (words_of a b c d) i 0)
+each_word a b c d P p q r s zero lt = p
+each_word a b c d P p q r s (suc zero) lt = q
+each_word a b c d P p q r s (suc (suc zero)) lt = r
+each_word a b c d P p q r s (suc (suc (suc zero))) lt = s
+each_word a b c d P p q r s (suc (suc (suc (suc i)))) lt = absurd (omega arith)
+
+-- Both sets, and one without the other.
+pub both_has : (xs ys : List ℕ) (i j : ℕ) → i < 4
+    → bit_at (get_or (words_of (bit_and (get_or xs 0 0) (get_or ys 0 0)) (bit_and (get_or xs 1 0) (get_or ys 1 0))
+    (bit_and (get_or xs 2 0) (get_or ys 2 0)) (bit_and (get_or xs 3 0) (get_or ys 3 0))) i 0) j
+    ≡ min (bit_at (get_or xs i 0) j) (bit_at (get_or ys i 0) j)
+both_has xs ys i j lt =
+    each_word _ _ _ _ (λ (k w : ℕ). bit_at w j ≡ min (bit_at (get_or xs k 0) j) (bit_at (get_or ys k 0) j))
+    (bit_at_and (get_or xs 0 0) (get_or ys 0 0) j) (bit_at_and (get_or xs 1 0) (get_or ys 1 0) j)
+    (bit_at_and (get_or xs 2 0) (get_or ys 2 0) j) (bit_at_and (get_or xs 3 0) (get_or ys 3 0) j) i lt
+
+min_minus : (a b : ℕ) → a < 2 → b < 2 → min a (1 - b) ≡ a - b
+min_minus zero zero p q = refl
+min_minus zero (suc zero) p q = refl
+min_minus (suc zero) zero p q = refl
+min_minus (suc zero) (suc zero) p q = refl
+min_minus (suc (suc a)) b p q = absurd (omega (arith, p))
+min_minus zero (suc (suc b)) p q = absurd (omega (arith, q))
+min_minus (suc zero) (suc (suc b)) p q = absurd (omega (arith, q))
+
+pub without_bit : (x y j : ℕ) → y < 18446744073709551616 → j < 64 → bit_at (bit_and x (18446744073709551615 - y)) j ≡ bit_at x j - bit_at y j
+without_bit x y j small lt =
+    bit_at_and x (18446744073709551615 - y) j ∙ ap (min (bit_at x j)) (bit_at_not w64 y j small lt) ∙ min_minus (bit_at x j) (bit_at y j) (bit_at-lt x j) (bit_at-lt y j)
+
+abbrev pub Lacks : ℕ → ℕ → ℕ → Type 0
+Lacks x y w = (j : ℕ) → j < 64 → bit_at w j ≡ bit_at x j - bit_at y j
+
+pub without_has : (xs ys : List ℕ) (a b c d i j : ℕ) → i < 4 → j < 64 → Lacks (get_or xs 0 0) (get_or ys 0 0) a → Lacks (get_or xs 1 0) (get_or ys 1 0) b
+    → Lacks (get_or xs 2 0) (get_or ys 2 0) c → Lacks (get_or xs 3 0) (get_or ys 3 0) d
+    → bit_at (get_or (words_of a b c d) i 0) j ≡ bit_at (get_or xs i 0) j - bit_at (get_or ys i 0) j
+without_has xs ys a b c d i j lt low p q r s =
+    each_word a b c d (λ (k w : ℕ). bit_at w j ≡ bit_at (get_or xs k 0) j - bit_at (get_or ys k 0) j) (p j low) (q j low) (r j low) (s j low) i lt
+
+-- Numbers of ones.
+true_or : (b : Bool) → (b ≡ true) ⊎ (b ≡ false)
+true_or true = inl refl
+true_or false = inr refl
+
+lt_of : (a b : ℕ) → nat_lt a b ≡ true → a < b
+lt_of a b e = grind (arith, nat_tests)
+
+le_of : (a b : ℕ) → nat_lt a b ≡ false → b ≤ a
+le_of a b e = grind (arith, nat_tests)
+
+lt_true : (a b : ℕ) → a < b → nat_lt a b ≡ true
+lt_true a b h = grind (arith, nat_tests)
+
+lt_false : (a b : ℕ) → b ≤ a → nat_lt a b ≡ false
+lt_false a b h = grind (arith, nat_tests)
+
+-- One test decides as another.
+same_test : (a b c d : ℕ) → (a < b → c < d) → (b ≤ a → d ≤ c) → nat_lt a b ≡ nat_lt c d
+same_test a b c d on off =
+    elim (true_or (nat_lt a b)) [
+      | inl e ↦ e ∙ sym (lt_true c d (on (lt_of a b e)))
+      | inr e ↦ e ∙ sym (lt_false c d (off (le_of a b e)))
+    ]
+
+ones_bits : (n i : ℕ) → bit_at (2 ^ n - 1) i ≡ cond (nat_lt i n) 1 0
+ones_bits n i =
+    elim (true_or (nat_lt i n)) [
+      | inl e ↦ rw e (bit_at_ones n i (lt_of i n e))
+      | inr e ↦ rw e (bit_at_ones_above n i (le_of i n e))
+    ]
+
+pub pow_small : (n : ℕ) → n < 64 → 1 * 2 ^ n % 18446744073709551616 ≡ 2 ^ n
+pow_small n lt = let less : 2 ^ n < 2 ^ 64 = pow-lt lt in omega (arith, less)
+
+pub ones_small : (n : ℕ) → n ≤ 32 → 2 ^ n ≤ 4294967296
+ones_small n le = pow_mono le
+
+ones_upto : (n : ℕ) → n ≤ 64 → 2 ^ min n 64 - 1 ≡ 2 ^ n - 1
+ones_upto n le = let same : min n 64 ≡ n = omega arith in ap (λ (m : ℕ). 2 ^ m - 1) same
+
+pub ones_all : (n : ℕ) → 64 ≤ n → 18446744073709551615 ≡ 2 ^ min n 64 - 1
+ones_all n le = let same : 64 ≡ min n 64 = omega arith in ap (λ (m : ℕ). 2 ^ m - 1) same
+
+pub ones_few : (n : ℕ) → n < 64 → 1 * 2 ^ n % 18446744073709551616 - 1 ≡ 2 ^ min n 64 - 1
+ones_few n lt = ap (λ (m : ℕ). m - 1) (pow_small n lt) ∙ sym (ones_upto n (omega (arith, lt)))
+
+-- Bits of a number of at most 64 ones.
+word_bits : (n i : ℕ) → i < 64 → bit_at (2 ^ min n 64 - 1) i ≡ cond (nat_lt i n) 1 0
+word_bits n i lt =
+    ones_bits (min n 64) i ∙ ap (λ (b : Bool). cond b 1 0) (same_test i (min n 64) i n (λ h. omega (arith, h)) (λ h. omega (arith, h, lt)))
+
+below_bit : (n at bound j : ℕ) → j < 64 → n ≡ bound - at → bit_at (2 ^ min n 64 - 1) j ≡ cond (nat_lt (at + j) bound) 1 0
+below_bit n at bound j lt e =
+    word_bits n j lt ∙ ap (λ (b : Bool). cond b 1 0) (same_test j n (at + j) bound (λ h. omega (arith, h, e)) (λ h. omega (arith, h, e)))
+
+pub below_has : (bound b p q r : ℕ) → b < 256 → p ≡ bound - 64 → q ≡ bound - 128 → r ≡ bound - 192
+    → bit_at (get_or (words_of (2 ^ min bound 64 - 1) (2 ^ min p 64 - 1) (2 ^ min q 64 - 1) (2 ^ min r 64 - 1)) (b / 64) 0) (b % 64) ≡ cond (nat_lt b bound) 1 0
+below_has bound b p q r lt e f g =
+    let low : b % 64 < 64 = omega arith in
+    let sum : 64 * (b / 64) + b % 64 ≡ b = omega arith in
+    each_word _ _ _ _ (λ (k w : ℕ). bit_at w (b % 64) ≡ cond (nat_lt (64 * k + b % 64) bound) 1 0)
+    (below_bit bound 0 bound (b % 64) low (omega arith)) (below_bit p 64 bound (b % 64) low e) (below_bit q 128 bound (b % 64) low f)
+    (below_bit r 192 bound (b % 64) low g) (b / 64) (omega (arith, lt))
+    ∙ ap (λ (x : ℕ). cond (nat_lt x bound) 1 0) sum
+
+-- A word of two halves, each of ones.
+pub eighths_low : (high low bound least i : ℕ) → low ≤ 32 → i < 32 → low ≡ (bound + 7 - least) / 8 → least ≤ 6
+    → bit_at ((2 ^ min high 64 - 1) * 4294967296 + (2 ^ min low 64 - 1)) i ≡ cond (nat_lt (8 * i + least) bound) 1 0
+eighths_low high low bound least i few lt e small =
+    bit_at_cat_low (2 ^ min high 64 - 1) 32 (2 ^ min low 64 - 1) i lt ∙ word_bits low i (omega (arith, lt))
+    ∙ ap (λ (b : Bool). cond b 1 0) (same_test i low (8 * i + least) bound (λ h. omega (arith, h, e, small)) (λ h. omega (arith, h, e, small)))
+
+pub eighths_high : (high low bound least i : ℕ) → low ≤ 32 → i < 32 → high ≡ (bound + 6 - least) / 8 → least ≤ 6
+    → bit_at ((2 ^ min high 64 - 1) * 4294967296 + (2 ^ min low 64 - 1)) (32 + i) ≡ cond (nat_lt (8 * i + least + 1) bound) 1 0
+eighths_high high low bound least i few lt e small =
+    let bounded : 2 ^ low ≤ 4294967296 = ones_small low few in
+    let positive : 2 ^ low - 1 < 4294967296 = omega (arith, bounded) in
+    let half : 2 ^ min low 64 - 1 < 4294967296 = omega (arith, ones_upto low (omega (arith, few)), positive) in
+    let back : 32 + i - 32 ≡ i = omega arith in
+    bit_at_cat_high (2 ^ min high 64 - 1) 32 (2 ^ min low 64 - 1) (32 + i) half (omega arith) ∙ ap (bit_at (2 ^ min high 64 - 1)) back ∙ word_bits high i (omega (arith, lt))
+    ∙ ap (λ (b : Bool). cond b 1 0) (same_test i high (8 * i + least + 1) bound (λ h. omega (arith, h, e, small)) (λ h. omega (arith, h, e, small)))
+
+abbrev pub Halves : ℕ → ℕ → ℕ → Type 0
+Halves bound least w =
+    ((i : ℕ) → i < 32 → bit_at w i ≡ cond (nat_lt (8 * i + least) bound) 1 0)
+    × ((i : ℕ) → i < 32 → bit_at w (32 + i) ≡ cond (nat_lt (8 * i + least + 1) bound) 1 0)
+
+half_or : (j : ℕ) → (j < 32) ⊎ (32 ≤ j)
+half_or j = grind arith
+
+halves_bit : (bound k w j : ℕ) → k < 4 → j < 64 → Halves bound (2 * k) w → bit_at w j ≡ cond (nat_lt (rotated_left_3 (64 * k + j)) bound) 1 0
+halves_bit bound k w j few lt h =
+    elim (half_or j) [
+      | inl low ↦
+          let is : 8 * j + 2 * k ≡ rotated_left_3 (64 * k + j) = omega (arith, low, few) in
+          h.0 j low ∙ ap (λ (x : ℕ). cond (nat_lt x bound) 1 0) is
+      | inr more ↦
+          let back : 32 + (j - 32) ≡ j = omega (arith, more) in
+          let is : 8 * (j - 32) + 2 * k + 1 ≡ rotated_left_3 (64 * k + j) = omega (arith, more, lt, few) in
+          ap (bit_at w) (sym back) ∙ h.1 (j - 32) (omega (arith, lt)) ∙ ap (λ (x : ℕ). cond (nat_lt x bound) 1 0) is
+    ]
+
+pub rotated_has : (bound w x y z b : ℕ) → b < 256 → Halves bound 0 w → Halves bound 2 x → Halves bound 4 y → Halves bound 6 z
+    → bit_at (get_or (words_of w x y z) (b / 64) 0) (b % 64) ≡ cond (nat_lt (rotated_left_3 b) bound) 1 0
+rotated_has bound w x y z b lt h i j k =
+    let low : b % 64 < 64 = omega arith in
+    let sum : 64 * (b / 64) + b % 64 ≡ b = omega arith in
+    each_word w x y z (λ (n v : ℕ). bit_at v (b % 64) ≡ cond (nat_lt (rotated_left_3 (64 * n + b % 64)) bound) 1 0)
+    (halves_bit bound 0 w (b % 64) (omega arith) low h) (halves_bit bound 1 x (b % 64) (omega arith) low i) (halves_bit bound 2 y (b % 64) (omega arith) low j)
+    (halves_bit bound 3 z (b % 64) (omega arith) low k) (b / 64) (omega (arith, lt))
+    ∙ ap (λ (v : ℕ). cond (nat_lt (rotated_left_3 v) bound) 1 0) sum
+
+-- The digits of a word that are set, one by one.
+shifted : (n a k : ℕ) → sum_by (bit_at n) (range_with_len (a + 1) k) ≡ sum_by (bit_at (n / 2)) (range_with_len a k)
+shifted n a zero = refl
+shifted n a (suc k) =
+    let here : bit_at n (a + 1) ≡ bit_at (n / 2) a = ap (bit_at n) (sym (suc-eq-add-one a)) ∙ bit_at-suc n a in
+    let left : sum_by (bit_at n) (range_with_len (a + 1) (suc k)) ≡ bit_at n (a + 1) + sum_by (bit_at n) (range_with_len (a + 1 + 1) k) =
+    sum_by-cons (bit_at n) (a + 1) (range_with_len (a + 1 + 1) k)
+    in
+    let right : sum_by (bit_at (n / 2)) (range_with_len a (suc k)) ≡ bit_at (n / 2) a + sum_by (bit_at (n / 2)) (range_with_len (a + 1) k) =
+    sum_by-cons (bit_at (n / 2)) a (range_with_len (a + 1) k)
+    in left ∙ rw here (rw (shifted n (a + 1) k) (sym right))
+
+ones_sum : (k n : ℕ) → n < 2 ^ k → count_ones n ≡ sum_by (bit_at n) (range_with_len 0 k)
+ones_sum zero n lt = omega (arith, ones_le_self n, lt)
+ones_sum (suc k) n lt =
+    let power : 2 ^ suc k ≡ 2 ^ k * 2 = pow-suc 2 k in
+    let rest : count_ones (n / 2) ≡ sum_by (bit_at (n / 2)) (range_with_len 0 k) = ones_sum k (n / 2) (omega (arith, lt, power)) in
+    let all : sum_by (bit_at n) (range_with_len 0 (suc k)) ≡ bit_at n 0 + sum_by (bit_at n) (range_with_len 1 k) = sum_by-cons (bit_at n) 0 (range_with_len 1 k) in
+    ones_step n ∙ rw rest (rw (sym (shifted n 0 k)) (rw (sym (bit_at_lowest n)) (sym all)))
+
+-- The bytes of a set are those of its four words.
+pub count_is : (n : ℕ) → n < 18446744073709551616 → count_ones n ≡ bits_set n
+unfolding bits_set
+count_is n lt = ones_sum 64 n lt
+
+pub size_of_words : (set : ByteSet)
+    → bits_set (get_or set.words 0 0) + bits_set (get_or set.words 1 0) + (bits_set (get_or set.words 2 0) + bits_set (get_or set.words 3 0)) ≡ size set
+unfolding size bits_set
+size_of_words set =
+    let low : sum_by (has set) (range_with_len 0 128) ≡ sum_by (has set) (range_with_len 0 64) + sum_by (has set) (range_with_len 64 64) =
+    sum_by-append (has set) (range_with_len 0 64) (range_with_len 64 64)
+    in
+    let high : sum_by (has set) (range_with_len 128 128) ≡ sum_by (has set) (range_with_len 128 64) + sum_by (has set) (range_with_len 192 64) =
+    sum_by-append (has set) (range_with_len 128 64) (range_with_len 192 64)
+    in
+    let all : sum_by (has set) (range_with_len 0 256) ≡ sum_by (has set) (range_with_len 0 128) + sum_by (has set) (range_with_len 128 128) =
+    sum_by-append (has set) (range_with_len 0 128) (range_with_len 128 128)
+    in
+    let halves : sum_by (has set) (range_with_len 0 64) + sum_by (has set) (range_with_len 64 64)
+    + (sum_by (has set) (range_with_len 128 64) + sum_by (has set) (range_with_len 192 64)) ≡ sum_by (has set) (range_with_len 0 256) =
+    rw (sym low) (rw (sym high) (sym all))
+    in halves
+
+-- A word keeps what is alike to a byte, bit by bit.
+pub record Keeps (look : Look) (byte base word n now : ℕ) : Type 0 where
+  pub below : (i : ℕ) → i < 64 → i < n → bit_at now i ≡ cond (alike look byte (base + i)) (bit_at word i) 0
+  pub above : (i : ℕ) → i < 64 → n ≤ i → bit_at now i ≡ bit_at word i
+
+pub keeps_zeros : (look : Look) (byte base word : ℕ) → word < 18446744073709551616 → Keeps look byte base word (trailing_zeros w64 word) word
+keeps_zeros look byte base word small =
+    record {
+      below = λ i lt less. let none : bit_at word i ≡ 0 = zeros word i small less in none ∙ sym (both_zero (alike look byte (base + i)) (bit_at word i) none);
+      above = λ i lt more. refl;
+    }
+  where
+    both_zero : (b : Bool) (n : ℕ) → n ≡ 0 → cond b n 0 ≡ 0
+    both_zero true n e = e
+    both_zero false n e = refl
+
+    positive_or : (n : ℕ) → (n ≡ 0) ⊎ (0 < n)
+    positive_or n = grind arith
+
+    zeros : (n i : ℕ) → n < 18446744073709551616 → i < trailing_zeros w64 n → bit_at n i ≡ 0
+    zeros n i small less =
+        elim (positive_or n) [
+          | inl e ↦ ap (λ (m : ℕ). bit_at m i) e ∙ bit_at-zero i
+          | inr p ↦ (bit_at-trailing_zeros w64 n p small).2 i less
+        ]
+
+pub keeps_more : (look : Look) (byte base word n now new : ℕ) → Keeps look byte base word n now → n < 64
+    → bit_at new n ≡ cond (alike look byte (base + n)) (bit_at now n) 0 → ((i : ℕ) → i < 64 → i ≢ n → bit_at new i ≡ bit_at now i)
+    → Keeps look byte base word (n + 1) new
+keeps_more look byte base word n now new k lt here others =
+    record {
+      below = λ i small less.
+          elim (same_or i n) [
+            | inl e ↦
+                let was : bit_at now n ≡ bit_at word n = k.above n lt (omega arith) in
+                ap (bit_at new) e ∙ here ∙ ap (λ (x : ℕ). cond (alike look byte (base + n)) x 0) was ∙ ap (λ (x : ℕ). cond (alike look byte (base + x)) (bit_at word x) 0) (sym e)
+            | inr ne ↦ others i small ne ∙ k.below i small (omega (arith, ne))
+          ];
+      above = λ i small more. let ne : i ≢ n = omega arith in others i small ne ∙ k.above i small (omega arith);
+    }
+
+-- The least byte of a word is in the set.
+pub first_has : (words : List ℕ) (place : ℕ) → 0 < get_or words place 0 → get_or words place 0 < 18446744073709551616
+    → bit_at (get_or words ((64 * place + trailing_zeros w64 (get_or words place 0)) / 64) 0) ((64 * place + trailing_zeros w64 (get_or words place 0)) % 64) ≡ 1
+first_has words place some small =
+    let found = bit_at-trailing_zeros w64 (get_or words place 0) some small in
+    let less : trailing_zeros w64 (get_or words place 0) < 64 = found.0 in
+    let word : (64 * place + trailing_zeros w64 (get_or words place 0)) / 64 ≡ place = omega (arith, less) in
+    let digit : (64 * place + trailing_zeros w64 (get_or words place 0)) % 64 ≡ trailing_zeros w64 (get_or words place 0) = omega (arith, less) in
+    rw word (rw digit found.1)
+
+-- A set that is split in two.
+split_sum : (f g h : ℕ → ℕ) (a k : ℕ) → ((x : ℕ) → a ≤ x → x < a + k → f x + g x ≡ h x)
+    → sum_by f (range_with_len a k) + sum_by g (range_with_len a k) ≡ sum_by h (range_with_len a k)
+split_sum f g h a zero each = refl
+split_sum f g h a (suc k) each =
+    let one : sum_by f (range_with_len a (suc k)) ≡ f a + sum_by f (range_with_len (a + 1) k) = sum_by-cons f a (range_with_len (a + 1) k) in
+    let two : sum_by g (range_with_len a (suc k)) ≡ g a + sum_by g (range_with_len (a + 1) k) = sum_by-cons g a (range_with_len (a + 1) k) in
+    let all : sum_by h (range_with_len a (suc k)) ≡ h a + sum_by h (range_with_len (a + 1) k) = sum_by-cons h a (range_with_len (a + 1) k) in
+    let rest : sum_by f (range_with_len (a + 1) k) + sum_by g (range_with_len (a + 1) k) ≡ sum_by h (range_with_len (a + 1) k) =
+    split_sum f g h (a + 1) k (λ x le lt. each x (omega (arith, le)) (omega (arith, lt)))
+    in
+    let here : f a + g a ≡ h a = each a (omega arith) (omega arith) in omega (arith, one, two, all, rest, here)
+
+pub split_size : (a b c : ByteSet) → ((x : ℕ) → x < 256 → has a x + has b x ≡ has c x) → size a + size b ≡ size c
+unfolding size
+split_size a b c each = split_sum (has a) (has b) (has c) 0 256 (λ x le lt. each x lt)
+
+-- What is taken out of a rest, and what stays of it.
+pub taken_rest : (b : Bool) (n : ℕ) → n - cond b n 0 ≡ cond b 0 n
+taken_rest true n = omega arith
+taken_rest false n = omega arith
+
+pub taken_all : (b : Bool) (n m : ℕ) → m ≡ cond b n 0 → m + (n - m) ≡ n
+taken_all true n m e = omega (arith, e)
+taken_all false n m e = omega (arith, e)
+
+-- Of a look that sees 0 or 1, what is alike to a byte of which it sees 1, and to one of which it sees 0.
+pub on_side : (b c : Bool) (n : ℕ) → n < 2 → b ≡ c → min n (cond c 1 0) ≡ cond b n 0
+on_side b true n lt e = rw e (omega (arith, lt))
+on_side b false n lt e = rw e (omega (arith, lt))
+
+pub off_side : (b c : Bool) (n : ℕ) → n < 2 → b ≡ not c → n - cond c 1 0 ≡ cond b n 0
+off_side b true n lt e = rw e (omega (arith, lt))
+off_side b false n lt e = rw e (omega (arith, lt))
+
+pub same_seen : (c : Bool) → (1 == cond c 1 0) ≡ c
+same_seen true = refl
+same_seen false = refl
+
+pub other_seen : (c : Bool) → (0 == cond c 1 0) ≡ not c
+other_seen true = refl
+other_seen false = refl
+
+-- A bit that is not set is not kept, and need not be tested.
+pub none_kept : (a b : Bool) (n : ℕ) → n ≡ 0 → cond a n 0 ≡ cond b n 0
+none_kept true true n e = refl
+none_kept true false n e = e
+none_kept false true n e = sym e
+none_kept false false n e = refl
+
+-- A class is taken out of a rest, which is counted by both.
+pub counted : (look : Look) (byte : ℕ) (old class new : ByteSet) (n : ℕ) → n ≡ size class
+    → ((x : ℕ) → x < 256 → has class x ≡ cond (alike look byte x) (has old x) 0) → ((x : ℕ) → x < 256 → has new x ≡ has old x - has class x)
+    → n + size new ≡ size old
+counted look byte old class new n e taken left =
+    ap (λ (m : ℕ). m + size new) e
+    ∙ split_size class new old (λ x lt. ap (λ (m : ℕ). has class x + m) (left x lt) ∙ taken_all (alike look byte x) (has old x) (has class x) (taken x lt))

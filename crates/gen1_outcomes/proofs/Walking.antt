@@ -1,5 +1,6 @@
 -- How one way leads to the next.
-use Rattle.std.proofs.Common.{◌≡◌, ◌≢◌, ℕ, ◌-◌, ◌<◌, ◌≤◌, List, length, get_or, get_or-set_other, get_or-set_same, set, ap, subst, sym, ◌∙◌, arith}
+use Rattle.std.proofs.Common.{◌≡◌, ◌≢◌, ℕ, ◌*◌, ◌/◌, ◌%◌, ◌-◌, ◌<◌, ◌≤◌, List, length, get_or, get_or-set_other, get_or-set_same, set, ap, subst, sym, ◌∙◌, arith}
+use Rattle.std.proofs.Math.Nat.{mul_assoc, mul_comm}
 use Rattle.std.proofs.lemmas.List.{get_or_default}
 use Rattle.gen1_outcomes.specs.declared.nodes.Node.{Node}
 use Rattle.gen1_outcomes.specs.declared.nodes.Nodes.{Nodes}
@@ -25,3 +26,20 @@ leads_on old new list len node is same_len same shorter some within d goes done 
           subst (λ (y : Node). GoesOn (get_or old.list (len - 1) none) y) new_is (subst (λ (x : Node). GoesOn x node) (get_or_default list (len - 1) d none inside ∙ old_is) goes);
       after = λ k none more less. done k none (omega (arith, more)) less;
     }
+
+-- Halves are in the same proportion.
+pub halved : (n t w c : ℕ) → n * t ≡ w * c → n % 2 ≡ 0 → w % 2 ≡ 0 → n / 2 * t ≡ w / 2 * c
+halved n t w c e even other =
+    let two : n ≡ 2 * (n / 2) = omega (arith, even) in
+    let half : w ≡ 2 * (w / 2) = omega (arith, other) in
+    let left : n * t ≡ 2 * (n / 2 * t) = ap (λ (x : ℕ). x * t) two ∙ mul_assoc 2 (n / 2) t in
+    let right : w * c ≡ 2 * (w / 2 * c) = ap (λ (x : ℕ). x * c) half ∙ mul_assoc 2 (w / 2) c in
+    omega (arith, e, left, right)
+
+-- Products of two fractions.
+crossed : (a b c d : ℕ) → a * b * (c * d) ≡ a * c * (b * d)
+crossed a b c d = mul_assoc a b (c * d) ∙ ap (λ (x : ℕ). a * x) (sym (mul_assoc b c d) ∙ ap (λ (x : ℕ). x * d) (mul_comm b c) ∙ mul_assoc c b d) ∙ sym (mul_assoc a c (b * d))
+
+pub then_is : (num whole p q t c : ℕ) → p * t ≡ q * c → num * p * (whole * t) ≡ whole * q * (num * c)
+then_is num whole p q t c e =
+    crossed num p whole t ∙ ap (λ (x : ℕ). num * whole * x) e ∙ ap (λ (x : ℕ). x * (q * c)) (mul_comm num whole) ∙ sym (crossed whole q num c)

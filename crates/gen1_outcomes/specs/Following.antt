@@ -1,6 +1,7 @@
 -- What can follow from a pair of choices: what the machine makes of it, with some stream of bytes for its draws
 -- (docs/MECHANICS.md, "Link numbers", "Falls and requests").
 use Rattle.std.specs.Prelude.{ℕ, ◌≡◌, ◌≢◌}
+use Rattle.gen1_rolls.specs.Draws.{Drawing}
 use Rattle.gen1_rolls.specs.Streams.{Drawn, IsStream, Stream}
 use Rattle.gen1_machine.specs.declared.choice.Choice.{Choice}
 use Rattle.gen1_machine.specs.declared.terms.Request.TheVariants.{Move}
@@ -11,8 +12,9 @@ use Rattle.gen1_machine.specs.Turn.{turn}
 use Rattle.gen1_machine.specs.Step.{close_update}
 use Rattle.gen1_layout.specs.Parts.{Parts}
 use Rattle.gen1_layout.specs.Shows.{Telling}
+use Rattle.gen1_layout.specs.Operations.{Scene}
 use Rattle.gen1_layout.specs.Within.{Within, setting_of}
-use Rattle.gen1_requests.specs.Updates.{Steps, drawing_on}
+use Rattle.gen1_requests.specs.Updates.{Steps, UpdatesDrawing, drawing_on}
 
 -- What a walk goes through: the ways of an update of a battle by a pair of choices.
 pub record Walk : Type 0 where
@@ -23,6 +25,12 @@ pub record Walk : Type 0 where
 -- A turn, and its close, with the draws of a stream from a place on.
 abbrev pub turn_on : State → Choice → Choice → Stream → ℕ → Progress
 turn_on s one two stream n = close_update (ruling_of s.terms) (turn (ruling_of s.terms) one two (drawing_on stream n s))
+
+-- An update by two offered choices with draws from a generator, as it was and as it is left: a turn with its draws, or
+-- where no turn is due, which draws nothing, the machine's step.
+pub record Plays {A : Type 0} (drawing : Drawing A) (old new : A) (s : State) (one two : Choice) (change : Scene) : Type 0 where
+  pub by_turn : s.field.request_one ≡ Move → UpdatesDrawing drawing old new (setting_of s) change (turn_on s one two)
+  pub by_step : s.field.request_one ≢ Move → (change λ _ _ _ parts events _. Steps s one two parts events) × (new ≡ old)
 
 -- The bytes represent the field that it leaves, in the setting from before, and the events are its.
 pub record AreOf (s : State) (parts : Parts) (events : Telling) (q : Progress) : Type 0 where

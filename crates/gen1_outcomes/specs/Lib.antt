@@ -5,3 +5,4 @@ pub mod Script
 pub mod Following
 pub mod Listing
 pub mod Merging
+pub mod Faults

@@ -15,25 +15,25 @@ weight_of x = x.low + x.high * 18446744073709551616
 abbrev pub sum_of : ℕ → List Successor → ℕ
 sum_of count xs = sum_by weight_of (take count xs)
 
--- The battle at a place. The third argument stands for places past the end.
+-- The battle at a place. A place past the end has the battle of `past`.
 abbrev pub battle_at : List Successor → ℕ → Successor → Parts
-battle_at xs k none = (slice_index_or xs k none).battle
+battle_at xs k past = (slice_index_or xs k past).battle
 
--- No event is asked about.
+-- True of all events.
 abbrev pub untold : Telling
 untold = λ _. Unit {0}
 
--- Each battle in the first places can follow.
+-- Each of the first battles can follow.
 abbrev pub EachFollows : State → Choice → Choice → ℕ → List Successor → Type 0
 EachFollows s one two count xs =
-    (k : ℕ) → (none : Successor) → k < count → CanFollow s one two (battle_at xs k none) untold
+    (k : ℕ) → (past : Successor) → k < count → CanFollow s one two (battle_at xs k past) untold
 
--- Each battle in the first places is one of those from before, or this one.
+-- Each of the first battles is the old one at its place, or this one.
 abbrev pub AreThoseOr : Parts → ℕ → List Successor → ℕ → List Successor → Type 0
 AreThoseOr battle before old count new =
-    (k : ℕ) → (none : Successor) → k < count
-    → ((k < before) × (battle_at new k none ≡ battle_at old k none)) ⊎ (battle_at new k none ≡ battle)
+    (k : ℕ) → (past : Successor) → k < count
+    → ((k < before) × (battle_at new k past ≡ battle_at old k past)) ⊎ (battle_at new k past ≡ battle)
 
--- The same battles.
+-- All places have the old battles.
 abbrev pub AreThose : List Successor → List Successor → Type 0
-AreThose old new = (k : ℕ) → (none : Successor) → battle_at new k none ≡ battle_at old k none
+AreThose old new = (k : ℕ) → (past : Successor) → battle_at new k past ≡ battle_at old k past

@@ -1,16 +1,21 @@
 -- The draws of a way, and how one way leads to the next.
-use Rattle.std.specs.Prelude.{ℕ, slice_index_or, ◌+◌, ◌<◌, ◌≡◌, if◌then◌else◌}
+use Rattle.std.specs.Prelude.{ℕ, slice_index_or, ◌+◌, ◌-◌, ◌*◌, ◌<◌, ◌≡◌, if◌then◌else◌}
+use Rattle.gen1_rolls.specs.declared.look.Look.{Look}
+use Rattle.gen1_outcomes.specs.declared.byte_set.ByteSet.{ByteSet}
+use Rattle.gen1_outcomes.specs.declared.nodes.Chance.{Chance}
 use Rattle.gen1_rolls.specs.Looks.{alike}
 use Rattle.gen1_outcomes.specs.declared.nodes.Node.{Node}
 use Rattle.gen1_outcomes.specs.declared.nodes.Nodes.{Nodes}
-use Rattle.gen1_outcomes.specs.Bytes.{has}
+use Rattle.gen1_outcomes.specs.Bytes.{has, size}
 
--- A draw takes a byte. The rest loses what is alike to it, and nothing else.
+-- A draw takes a byte. The rest loses what is alike to it, and nothing else. The count is how many bytes it loses.
 pub record Takes (taken : ℕ) (old new : Node) : Type 0 where
   pub byte : new.byte ≡ taken
   pub look : new.look ≡ old.look
+  pub above : new.above ≡ old.above
   pub total : new.total ≡ old.total
   pub rest : (x : ℕ) → x < 256 → has new.rest x ≡ (if alike old.look taken x then 0 else has old.rest x)
+  pub count : new.count + size new.rest ≡ size old.rest
 
 -- A draw goes on to a byte of its rest.
 pub record GoesOn (old new : Node) : Type 0 where
@@ -33,3 +38,21 @@ pub record LeadsOn (old new : Nodes) : Type 0 where
 -- All ways were gone through.
 abbrev pub AllDone : Nodes → Type 0
 AllDone nodes = (k : ℕ) → (none : Node) → k < nodes.len → IsDone (slice_index_or nodes.list k none)
+
+-- The probability of the draws before one, times the part of its bytes that are alike to the one that it has.
+abbrev pub IsThen : Node → Chance → Type 0
+IsThen node c = c.num * (node.above.whole * node.total) ≡ c.whole * (node.above.num * node.count)
+
+-- The probability of a way: 1 without draws, and else that of its last draw and those before it.
+pub record IsChance (nodes : Nodes) (c : Chance) : Type 0 where
+  pub without : nodes.len ≡ 0 → (c.num ≡ 1) × (c.whole ≡ 1)
+  pub last : (past : Node) → 0 < nodes.len → IsThen (slice_index_or nodes.list (nodes.len - 1) past) c
+
+-- A draw is added behind the others: its byte, how many it may have, and the probability of those before it.
+pub record Adds (drawn : ℕ) (seen : Look) (may : ByteSet) (old new : Nodes) : Type 0 where
+  pub length : new.len ≡ old.len + 1
+  pub before : (k : ℕ) → (past : Node) → k < old.len → slice_index_or new.list k past ≡ slice_index_or old.list k past
+  pub byte : (past : Node) → (slice_index_or new.list old.len past).byte ≡ drawn
+  pub look : (past : Node) → (slice_index_or new.list old.len past).look ≡ seen
+  pub total : (past : Node) → (slice_index_or new.list old.len past).total ≡ size may
+  pub above : (past : Node) → IsChance old (slice_index_or new.list old.len past).above

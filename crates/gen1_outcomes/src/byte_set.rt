@@ -1,7 +1,9 @@
 //! Sets of bytes (docs/MECHANICS.md, "Link numbers").
-ghost use Rattle.std.specs.Prelude.{Bool, IfNone, IfSome, IsTrue, ℕ, ◌<◌, ◌==◌, ◌≡◌, ◌≢◌, if◌then◌else◌};
+ghost use Rattle.std.specs.Prelude.{Bool, IfNone, IfSome, ℕ, min, nat_lt, ◌*◌, ◌+◌, ◌-◌, ◌^◌, ◌<◌, ◌≡◌, ◌≤◌, ◌≢◌, if◌then◌else◌};
+ghost use Rattle.std.specs.Int.{bit_at};
 ghost use Rattle.gen1_rolls.specs.Draws.{Settles};
-ghost use Rattle.gen1_outcomes.specs.Bytes.{has};
+ghost use Rattle.gen1_rolls.specs.Looks.{rotated_left_3};
+ghost use Rattle.gen1_outcomes.specs.Bytes.{bits_set, has, size};
 
 /// A set of bytes: each has a bit of 256.
 #[derive(Clone, Copy, PartialEq, Eq, Debug, Drop)]
@@ -41,13 +43,6 @@ impl ByteSet {
         set
     }
 
-    /// Whether the byte is in the set.
-    pub fn contains(&self, byte: u8) -> bool
-        ensures { result ≡ (has self.now byte == 1) }
-    {
-        self.words[(byte / 64) as usize] >> (byte % 64) & 1 == 1
-    }
-
     /// Puts the byte into the set.
     pub fn insert(&mut self, byte: u8)
         ensures there { has self.new byte ≡ 1 }
@@ -66,26 +61,61 @@ impl ByteSet {
         }
     }
 
-    /// Takes the byte out of the set on a condition. Returns whether it was there and is gone.
-    pub fn remove_if(&mut self, byte: u8, condition: bool) -> bool
-        ensures here { has self.new byte ≡ (if condition then 0 else has self.old byte) }
-        ensures others { (b : ℕ) → b < 256 → b ≢ byte → has self.new b ≡ has self.old b }
+    /// The bytes that are in both sets.
+    pub fn both(&self, other: &ByteSet) -> ByteSet
+        ensures { (b : ℕ) → b < 256 → has result b ≡ min (has self.now b) (has other.now b) }
     {
-        if condition {
-            let there = self.contains(byte);
-            self.remove(byte);
-            there
-        } else {
-            false
+        ByteSet {
+            words: [
+                self.words[0] & other.words[0],
+                self.words[1] & other.words[1],
+                self.words[2] & other.words[2],
+                self.words[3] & other.words[3],
+            ],
         }
     }
 
-    /// Takes the byte out of the set.
-    pub fn remove(&mut self, byte: u8)
-        ensures gone { has self.new byte ≡ 0 }
-        ensures others { (b : ℕ) → b < 256 → b ≢ byte → has self.new b ≡ has self.old b }
+    /// The bytes that are in this set and not in the other.
+    pub fn without(&self, other: &ByteSet) -> ByteSet
+        ensures { (b : ℕ) → b < 256 → has result b ≡ has self.now b - has other.now b }
     {
-        self.words[(byte / 64) as usize] &= !(1 << (byte % 64));
+        ByteSet {
+            words: [
+                minus(self.words[0], other.words[0]),
+                minus(self.words[1], other.words[1]),
+                minus(self.words[2], other.words[2]),
+                minus(self.words[3], other.words[3]),
+            ],
+        }
+    }
+
+    /// The bytes below a bound.
+    pub fn below(bound: u8) -> ByteSet
+        ensures { (b : ℕ) → b < 256 → has result b ≡ (if nat_lt b bound then 1 else 0) }
+    {
+        ByteSet {
+            words: [
+                ones(bound),
+                ones(bound.saturating_sub(64)),
+                ones(bound.saturating_sub(128)),
+                ones(bound.saturating_sub(192)),
+            ],
+        }
+    }
+
+    /// The bytes that, rotated left by 3 bits, are below a bound.
+    pub fn rotated_below(bound: u8) -> ByteSet
+        ensures { (b : ℕ) → b < 256
+            → has result b ≡ (if nat_lt (rotated_left_3 b) bound then 1 else 0) }
+    {
+        ByteSet {
+            words: [
+                eighths(bound, 0),
+                eighths(bound, 2),
+                eighths(bound, 4),
+                eighths(bound, 6),
+            ],
+        }
     }
 
     /// The least byte of the set.
@@ -93,23 +123,61 @@ impl ByteSet {
         ensures none { IfNone result ((b : ℕ) → b < 256 → has self.now b ≡ 0) }
         ensures some { IfSome result (λ first. has self.now first ≡ 1) }
     {
-        'bytes: for number in 0..256u16 {
-            let byte = number as u8;
-            if self.contains(byte) {
-                return Some(byte);
+        'words: for place in 0..4u8 {
+            let word = self.words[place as usize];
+            if word != 0 {
+                return Some(64 * place + word.trailing_zeros() as u8);
             }
         }
         None
     }
 
     /// How many bytes the set has.
-    pub fn count(&self) -> u16 {
-        let mut count = 0;
-        'bytes: for number in 0..256u16 {
-            if self.contains(number as u8) {
-                count += 1;
-            }
-        }
-        count
+    pub fn count(&self) -> u16
+        ensures { result ≡ size self.now }
+    {
+        let low = count_of(self.words[0]) + count_of(self.words[1]);
+        let high = count_of(self.words[2]) + count_of(self.words[3]);
+        low + high
     }
+}
+
+// The bits of a word that the other word lacks.
+fn minus(one: u64, other: u64) -> u64
+    ensures { (i : ℕ) → i < 64 → bit_at result i ≡ bit_at one i - bit_at other i }
+{
+    one & !other
+}
+
+// How many bits of a word are set.
+fn count_of(word: u64) -> u16
+    ensures value { result ≡ bits_set word }
+    ensures few { result ≤ 64 }
+{
+    word.count_ones() as u16
+}
+
+// The number whose lowest bits are set, as many as are given, or all 64.
+fn ones(count: u8) -> u64
+    ensures { result ≡ 2 ^ min count 64 - 1 }
+{
+    if count >= 64 {
+        u64::MAX
+    } else {
+        (1 << count) - 1
+    }
+}
+
+// A word of `rotated_below`. Its lower 32 bytes are, rotated, `least` and every eighth number from there, and its higher
+// 32 one more.
+fn eighths(bound: u8, least: u8) -> u64
+    requires { least ≤ 6 }
+    ensures low { (i : ℕ) → i < 32
+        → bit_at result i ≡ (if nat_lt (8 * i + least) bound then 1 else 0) }
+    ensures high { (i : ℕ) → i < 32
+        → bit_at result (32 + i) ≡ (if nat_lt (8 * i + least + 1) bound then 1 else 0) }
+{
+    let low = (u16::from(bound) + 7 - u16::from(least)) / 8;
+    let high = (u16::from(bound) + 6 - u16::from(least)) / 8;
+    ones(high as u8) * 0x1_0000_0000 + ones(low as u8)
 }

@@ -5,21 +5,44 @@ ghost use Rattle.gen1_rolls.specs.Draws.{stream_of};
 ghost use Rattle.gen1_rolls.specs.Streams.{IsStream};
 
 use crate::byte_set::ByteSet;
-use crate::nodes::{Chance, Nodes};
-use crate::script::Script;
+use crate::nodes::Nodes;
+use crate::script::{DEPTH, Script};
 use gen1_rolls::{Look, Rolls};
 use std::marker::Model;
+
+/// What draws are noted in.
+pub(crate) trait Notes {
+    /// Whether the next draw is one that no way had before.
+    fn is_new(&self) -> bool;
+
+    /// Notes that a draw has this byte, of those that it may have.
+    fn note(&mut self, byte: u8, look: Look, may_have: &ByteSet);
+}
+
+/// Nodes that are borrowed, so that an update moves a reference to them and not all of them.
+#[derive(Drop)]
+pub(crate) struct Borrowed<'a>(pub(crate) &'a mut Nodes);
+
+impl Notes for Borrowed<'_> {
+    fn is_new(&self) -> bool {
+        self.0.is_new()
+    }
+
+    fn note(&mut self, byte: u8, look: Look, may_have: &ByteSet) {
+        self.0.note(byte, look, may_have);
+    }
+}
 
 /// A script that notes the draws that are taken from it.
 ///
 /// For contracts it is its script. What it notes changes no byte that it draws.
 #[derive(Drop)]
-pub struct Explorer {
+pub(crate) struct Explorer<N> {
     script: Script,
-    nodes: Nodes,
+    notes: N,
 }
 
-impl Model for Explorer {
+impl<N> Model for Explorer<N> {
     ghost use Rattle.gen1_outcomes.specs.declared.script.Script.{Script};
 
     ghost Value = { Script };
@@ -27,34 +50,19 @@ impl Model for Explorer {
     ghost view = { λ e. e.script };
 }
 
-impl Explorer {
-    /// Before the first way.
-    pub fn new() -> Self {
-        let nodes = Nodes::new();
+impl<N: Notes> Explorer<N> {
+    /// An explorer of the way that begins with these bytes, before its first draw.
+    pub(crate) fn new(path: [u8; DEPTH], notes: N) -> Explorer<N>
+        ensures { result ≡ record { path = path; at = 0; number = 0 } }
+    {
         Explorer {
-            script: Script::new(nodes.path()),
-            nodes,
-        }
-    }
-
-    /// Goes to the next way, if there is one.
-    pub fn advance(&mut self) -> bool {
-        let more = self.nodes.advance();
-        self.script = Script::new(self.nodes.path());
-        more
-    }
-
-    /// The probability of the way that was played. `None` if it has too many draws, or if 128 bits do not hold it.
-    pub fn chance(&self) -> Option<Chance> {
-        if self.nodes.is_too_deep() {
-            None
-        } else {
-            self.nodes.chance()
+            script: Script::new(path),
+            notes,
         }
     }
 
     /// The draws from here on are a stream. Nothing happens.
-    pub fn draws_a_stream(&self)
+    pub(crate) fn draws_a_stream(&self)
         ensures { IsStream (stream_of scripted self.now) }
     {
         self.script.draws_a_stream();
@@ -67,12 +75,12 @@ impl Explorer {
         ensures stream { IsStream (stream_of scripted self.old) }
     {
         let byte = self.script.draw();
-        self.nodes.note(byte, look, &ByteSet::all());
+        self.notes.note(byte, look, &ByteSet::all());
         byte
     }
 }
 
-impl Rolls for Explorer {
+impl<N: Notes> Rolls for Explorer<N> {
     const SPAN: usize = 280;
 
     ghost SPAN = { 280 };
@@ -89,10 +97,10 @@ impl Rolls for Explorer {
     }
 
     fn until_as<F: Fn(u8) -> bool>(&mut self, test: F, look: Look) -> Option<u8> {
-        let bytes = may_have(&self.nodes, &test);
+        let bytes = may_have(&self.notes, &test);
         match self.script.until_as(test, look) {
             Some(byte) => {
-                self.nodes.note(byte, look, &bytes);
+                self.notes.note(byte, look, &bytes);
                 Some(byte)
             }
             None => None,
@@ -107,10 +115,10 @@ impl Rolls for Explorer {
 }
 
 // The bytes that a search may find, if they are to be noted.
-fn may_have<F: Fn(u8) -> bool>(nodes: &Nodes, test: &F) -> ByteSet
+fn may_have<N: Notes, F: Fn(u8) -> bool>(notes: &N, test: &F) -> ByteSet
     requires callable { F.IsAlwaysCallable test.now }
 {
-    if nodes.is_new() {
+    if notes.is_new() {
         ByteSet::that_pass(test)
     } else {
         ByteSet::none()

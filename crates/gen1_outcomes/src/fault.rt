@@ -1,10 +1,12 @@
-//! Why there is no list of outcomes (docs/MECHANICS.md, "Link numbers").
+//! Why outcomes are not listed (docs/MECHANICS.md, "Link numbers").
+ghost use Rattle.std.specs.Prelude.{Some, ◌≡◌};
+ghost use Rattle.gen1_outcomes.specs.Faults.{fault_number, fault_words};
 
 use gen1_engine::Refusal;
 use std::error::Error;
 use std::fmt;
 
-/// Why there is no list of outcomes.
+/// Why outcomes are not listed.
 #[derive(Clone, Copy, Debug, PartialEq, Eq, Drop)]
 pub enum OutcomesFault {
     /// The pair of choices is refused.
@@ -20,7 +22,9 @@ pub enum OutcomesFault {
 impl OutcomesFault {
     /// Returns the number of the fault: 1 the battle is over, 2 and 3 the choice of side 1 or 2 is not offered, 4 too few places for
     /// outcomes, 5 too few in the table, 6 the update is too large.
-    pub fn number(self) -> u8 {
+    pub fn number(self) -> u8
+        ensures { result ≡ fault_number self }
+    {
         match self {
             OutcomesFault::Refused(why) => why.number(),
             OutcomesFault::Places => 4,
@@ -31,6 +35,8 @@ impl OutcomesFault {
 }
 
 impl fmt::Display for OutcomesFault {
+    ghost output = { λ fault. Some (fault_words fault) };
+
     fn fmt<W: fmt::Write>(&self, f: &mut fmt::Formatter<W>) -> fmt::Result {
         match self {
             OutcomesFault::Refused(why) => write!(f, "{why}"),

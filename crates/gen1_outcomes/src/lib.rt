@@ -2,6 +2,7 @@
 //! (docs/MECHANICS.md, "Link numbers").
 //!
 //! - `byte_set`: sets of bytes
+//! - `alike`: the bytes that a look sees alike
 //! - `script`: a generator whose first bytes are given
 //! - `nodes`: the draws of a way, each with the bytes that are still to be tried
 //! - `explorer`: a generator that takes an update through all its ways, one after the other
@@ -10,9 +11,10 @@
 //! - `successor`: [`Successor`], a battle with its weight
 //! - `merging`: battles that are equal become one
 //! - `outcomes`: [`list_outcomes`], all battles that an update can lead to
-//! - `fault`: why there is no result
+//! - `fault`: why outcomes are not listed
 #![tactic(auto)]
 
+mod alike;
 mod byte_set;
 mod explorer;
 mod fault;

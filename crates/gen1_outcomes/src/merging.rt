@@ -7,6 +7,7 @@ ghost use Rattle.gen1_outcomes.specs.Merging.{IsPlace};
 use crate::fault::OutcomesFault;
 use crate::nodes::Chance;
 use crate::successor::Successor;
+use crate::ways::copy_of;
 use gen1_layout::Packed;
 
 /// What a list of successors has so far.
@@ -34,23 +35,23 @@ pub fn add(
     successors: &mut [Successor],
     table: &mut [u32],
     tally: &mut Tally,
-    battle: Packed,
+    battle: &Packed,
     chance: Chance,
 ) -> Result<(), OutcomesFault>
     requires within { tally.old.count ≤ length successors.old }
     ensures within { tally.new.count ≤ length successors.new }
-    ensures battles { OnOk result (AreThoseOr battle tally.old.count successors.old
+    ensures battles { OnOk result (AreThoseOr battle.now tally.old.count successors.old
         tally.new.count successors.new) }
 {
     let weight = scaled_weight(successors, tally, chance)?;
-    match find(&successors[..tally.count], table, &battle) {
+    match find(&successors[..tally.count], table, battle) {
         Place::Taken(place) => add_weight(successors, place, weight),
         Place::Free(slot) => append(
             successors,
             table,
             tally,
             slot,
-            Successor::new(battle, weight),
+            Successor::new(copy_of(battle), weight),
         ),
         Place::Full => Err(OutcomesFault::Table),
     }

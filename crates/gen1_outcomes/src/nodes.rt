@@ -1,8 +1,9 @@
 //! The draws of a way, each with the bytes that are still to be tried (docs/MECHANICS.md, "Link numbers").
-ghost use Rattle.std.specs.Prelude.{IsFalse, IsTrue, ℕ, ◌<◌, ◌≡◌, ◌≤◌, if◌then◌else◌};
+ghost use Rattle.std.specs.Prelude.{IfSome, IsFalse, IsTrue, false, nat_le, true, ℕ, ◌*◌, ◌+◌, ◌<◌, ◌≡◌, ◌≤◌, ◌⊎◌, if◌then◌else◌};
 ghost use Rattle.gen1_rolls.specs.Looks.{alike};
-ghost use Rattle.gen1_outcomes.specs.Bytes.{has};
+ghost use Rattle.gen1_outcomes.specs.Bytes.{has, size};
 
+use crate::alike::alike_to;
 use crate::byte_set::ByteSet;
 use crate::script::DEPTH;
 use gen1_rolls::Look;
@@ -24,37 +25,46 @@ pub struct Node {
     pub byte: u8,
     /// What is looked at of the byte.
     pub look: Look,
+    /// The probability of the draws before it.
+    pub above: Chance,
     /// Of the bytes that it may have: those that are alike neither to `byte` nor to one that it had before.
     pub rest: ByteSet,
     /// How many bytes it may have.
     pub total: u16,
     /// How many of them are alike to `byte`.
     pub count: u16,
+    ghost few: { count + size rest ≤ total },
 }
 
 impl Node {
-    ghost use Rattle.gen1_outcomes.specs.Nodes.{GoesOn, IsDone, Takes};
+    ghost use Rattle.gen1_outcomes.specs.Nodes.{GoesOn, IsDone, IsThen, Takes};
 
     fn none() -> Self {
+        let rest = ByteSet::none();
         Node {
             byte: 0,
             look: Look::Remainder(1),
-            rest: ByteSet::none(),
-            total: 1,
-            count: 1,
+            above: Chance { num: 1, whole: 1 },
+            rest,
+            total: rest.count(),
+            count: 0,
         }
     }
 
     /// A draw that may have these bytes, and has this one of them.
-    pub fn new(byte: u8, look: Look, may_have: &ByteSet) -> Self
+    pub fn new(byte: u8, look: Look, above: Chance, may_have: &ByteSet) -> Self
         ensures byte { result.byte ≡ byte }
         ensures look { result.look ≡ look }
         ensures rest { (x : ℕ) → x < 256
             → has result.rest x ≡ (if alike look byte x then 0 else has may_have.now x) }
+        ensures above { result.above ≡ above }
+        ensures total { result.total ≡ size may_have.now }
+        ensures count { result.count + size result.rest ≡ size may_have.now }
     {
         let mut node = Node {
             byte,
             look,
+            above,
             rest: *may_have,
             total: may_have.count(),
             count: 0,
@@ -67,14 +77,10 @@ impl Node {
     fn take(&mut self, byte: u8)
         ensures { Takes byte self.old self.new }
     {
-        let mut count = 0;
-        'bytes: for number in 0..256u16 {
-            let other = number as u8;
-            let alike = self.look.alike(byte, other);
-            count += u16::from(self.rest.remove_if(other, alike));
-        }
+        let class = alike_to(self.look, byte, &self.rest);
+        self.rest = self.rest.without(&class);
         self.byte = byte;
-        self.count = count;
+        self.count = class.count();
     }
 
     // Goes to a byte of the rest, if there is one.
@@ -92,9 +98,22 @@ impl Node {
         }
     }
 
+    // The probability of the draws up to this one. `None` if 128 bits do not hold it.
+    #[tactic(auto, using(crate::proofs::Walking::then_is))]
+    fn chance(&self) -> Option<Chance>
+        ensures { IfSome result (λ c. IsThen self.now c) }
+    {
+        let (num, whole) = self.part();
+        Some(Chance {
+            num: self.above.num.checked_mul(num as u128)?,
+            whole: self.above.whole.checked_mul(whole as u128)?,
+        })
+    }
+
     // The probability of the bytes that are alike to `byte`, in smaller numbers where both are even or equal.
-    fn chance(&self) -> (u16, u16)
-        ensures { 0 < result.1 }
+    fn part(&self) -> (u16, u16)
+        ensures positive { 0 < result.1 }
+        ensures exact { result.0 * self.now.total ≡ result.1 * self.now.count }
     {
         if self.count >= self.total {
             return (1, 1);
@@ -102,11 +121,24 @@ impl Node {
         let mut num = self.count;
         let mut whole = self.total;
         'halves: for _ in 0..8 {
-            if num % 2 == 0 && whole % 2 == 0 {
-                num /= 2;
-                whole /= 2;
-            }
+            let half = halved(num, whole);
+            num = half.0;
+            whole = half.1;
         }
+        (num, whole)
+    }
+}
+
+// Half of both, if both are even.
+#[tactic(auto, using(crate::proofs::Walking::halved))]
+fn halved(num: u16, whole: u16) -> (u16, u16)
+    requires { 0 < whole }
+    ensures positive { 0 < result.1 }
+    ensures exact { (t : ℕ) → (c : ℕ) → num * t ≡ whole * c → result.0 * t ≡ result.1 * c }
+{
+    if num % 2 == 0 && whole % 2 == 0 {
+        (num / 2, whole / 2)
+    } else {
         (num, whole)
     }
 }
@@ -120,44 +152,51 @@ pub struct Nodes {
     pub len: usize,
     /// How many of them this way has had so far.
     pub at: usize,
-    /// Whether there were more than there is room for.
-    pub too_deep: bool,
+    /// Whether there were more than there is room for, or 128 bits do not hold a probability.
+    pub too_large: bool,
     ghost few: { len ≤ 24 },
 }
 
 impl Nodes {
-    ghost use Rattle.gen1_outcomes.specs.Nodes.{AllDone, LeadsOn};
+    ghost use Rattle.gen1_outcomes.specs.Nodes.{Adds, AllDone, IsChance, LeadsOn};
 
     /// No draw yet.
-    pub fn new() -> Self {
+    pub fn new() -> Self
+        ensures empty { result.len ≡ 0 }
+        ensures fits { result.too_large ≡ false }
+    {
         Nodes {
             list: [Node::none(); DEPTH],
             len: 0,
             at: 0,
-            too_deep: false,
+            too_large: false,
         }
     }
 
     /// Whether the next draw is one that no way had before.
-    pub fn is_new(&self) -> bool {
+    pub fn is_new(&self) -> bool
+        ensures { result ≡ nat_le self.now.len self.now.at }
+    {
         self.at >= self.len
     }
 
-    /// Whether there were more draws than there is room for.
-    pub fn is_too_deep(&self) -> bool {
-        self.too_deep
-    }
-
     /// Notes that a draw has this byte, of those that it may have.
-    pub fn note(&mut self, byte: u8, look: Look, may_have: &ByteSet) {
+    pub fn note(&mut self, byte: u8, look: Look, may_have: &ByteSet)
+        ensures passed { self.old.at < self.old.len → self.new ≡ record self.old { at = self.old.at + 1 } }
+        ensures added { self.old.len ≤ self.old.at → (self.new ≡ record self.old { too_large = true })
+            ⊎ Adds byte look may_have.now self.old self.new }
+    {
         if self.at < self.len {
             self.at += 1;
-        } else if self.len < DEPTH {
-            self.list[self.len] = Node::new(byte, look, may_have);
-            self.len += 1;
-            self.at = self.len;
         } else {
-            self.too_deep = true;
+            match self.chance() {
+                Some(above) if self.len < DEPTH => {
+                    self.list[self.len] = Node::new(byte, look, above, may_have);
+                    self.len += 1;
+                    self.at = self.len;
+                }
+                _ => self.too_large = true,
+            }
         }
     }
 
@@ -185,25 +224,22 @@ impl Nodes {
     /// The bytes of the way, with 255 in the places after them.
     pub fn path(&self) -> [u8; DEPTH] {
         let mut path = [255; DEPTH];
-        for place in 0..DEPTH {
-            if place < self.len {
-                path[place] = self.list[place].byte;
-            }
+        for place in 0..self.len {
+            path[place] = self.list[place].byte;
         }
         path
     }
 
-    /// The probability of the way. `None` if 128 bits do not hold it.
-    pub fn chance(&self) -> Option<Chance> {
-        let mut num: u128 = 1;
-        let mut whole: u128 = 1;
-        for place in 0..DEPTH {
-            if place < self.len {
-                let one = self.list[place].chance();
-                num = num.checked_mul(one.0 as u128)?;
-                whole = whole.checked_mul(one.1 as u128)?;
-            }
+    /// The probability of the way. `None` if it has too many draws, or if 128 bits do not hold it.
+    pub fn chance(&self) -> Option<Chance>
+        ensures { IfSome result (λ c. IsChance self.now c) }
+    {
+        if self.too_large {
+            None
+        } else if self.len == 0 {
+            Some(Chance { num: 1, whole: 1 })
+        } else {
+            self.list[self.len - 1].chance()
         }
-        Some(Chance { num, whole })
     }
 }

@@ -76,10 +76,10 @@ fn list_ways(
     ensures within { IfOk result (λ o. o.count ≤ length successors.new) }
 {
     let mut tally = Tally { count: 0, whole: 1 };
+    let mut next = copy_of(battle);
     'walk: for played in 0..u32::MAX {
-        let mut next = copy_of(battle);
         match ways.next(&mut next, &mut Silent)? {
-            Some(chance) => add(successors, table, &mut tally, next, chance)?,
+            Some(chance) => add(successors, table, &mut tally, &next, chance)?,
             None => return finished(successors, tally, played),
         }
     }

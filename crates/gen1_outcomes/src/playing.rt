@@ -1,13 +1,11 @@
 //! An update whose draws come from any generator (docs/MECHANICS.md, "Falls and requests").
-ghost use Rattle.std.specs.Prelude.{[], ◌≡◌, ◌≢◌};
+ghost use Rattle.std.specs.Prelude.{[]};
 ghost use Rattle.gen1_machine.specs.State.{State};
-ghost use Rattle.gen1_machine.specs.declared.terms.Request.TheVariants.{Move};
 ghost use Rattle.gen1_layout.specs.Operations.{scene};
-ghost use Rattle.gen1_layout.specs.Within.{Stands, setting_of};
+ghost use Rattle.gen1_layout.specs.Within.{Stands};
 ghost use Rattle.gen1_layout.specs.Words.{AddsAtMost, HasRoom};
-ghost use Rattle.gen1_requests.specs.Updates.{Steps, UpdatesDrawing};
 ghost use Rattle.gen1_engine.specs.Update.{AreOffered};
-ghost use Rattle.gen1_outcomes.specs.Following.{turn_on};
+ghost use Rattle.gen1_outcomes.specs.Following.{Plays};
 
 use gen1_events::EventSink;
 use gen1_layout::Packed;
@@ -30,13 +28,8 @@ pub fn play<R: Rolls, S: EventSink>(
 ) -> R
     requires empty { S.tells events.old [] }
     requires room { HasRoom S.room 51 events.old }
-    ensures turn { (s : State) → Stands battle.old s → AreOffered s one two
-        → s.field.request_one ≡ Move
-        → UpdatesDrawing R.drawing random result (setting_of s) (scene S.tells battle events)
-        (turn_on s one two) }
-    ensures other { (s : State) → Stands battle.old s → AreOffered s one two
-        → s.field.request_one ≢ Move
-        → Steps s one two battle.new (S.tells events.new) × (result ≡ random) }
+    ensures played { (s : State) → Stands battle.old s → AreOffered s one two
+        → Plays R.drawing random result s one two (scene S.tells battle events) }
     ensures room { AddsAtMost S.room 51 events.old events.new }
 {
     match battle.request(Side::One) {

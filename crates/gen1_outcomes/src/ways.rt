@@ -1,14 +1,14 @@
 //! Each way of an update apart (docs/MECHANICS.md, "Link numbers").
-ghost use Rattle.std.specs.Prelude.{IfOk, IfSome, IsOk, [], ◌≡◌};
+ghost use Rattle.std.specs.Prelude.{IfErr, IfOk, IfSome, IsOk, Some, [], ◌≡◌};
 ghost use Rattle.gen1_machine.specs.State.{State};
 ghost use Rattle.gen1_layout.specs.Within.{Stands};
 ghost use Rattle.gen1_layout.specs.Words.{AddsAtMost, HasRoom};
-ghost use Rattle.gen1_engine.specs.Update.{AreOffered};
+ghost use Rattle.gen1_engine.specs.Update.{AreOffered, Tests};
 ghost use Rattle.gen1_outcomes.specs.Following.{CanFollow};
 
-use crate::explorer::Explorer;
+use crate::explorer::{Borrowed, Explorer};
 use crate::fault::OutcomesFault;
-use crate::nodes::Chance;
+use crate::nodes::{Chance, Nodes};
 use crate::playing::play;
 use gen1_engine::Refusal;
 use gen1_engine::packed::update_silent;
@@ -26,7 +26,7 @@ pub struct Ways {
     start: Packed,
     one: Choice,
     two: Choice,
-    explorer: Explorer,
+    nodes: Nodes,
     over: bool,
 }
 
@@ -48,6 +48,8 @@ impl Ways {
         ensures walk { IfOk result (λ w. w ≡ record { start = battle.now; one = one; two = two }) }
         ensures offered { (s : State) → Stands battle.now s
             → IfOk result (λ _. AreOffered s one two) }
+        ensures refused { (s : State) → Stands battle.now s
+            → IfErr result (λ why. Tests s one two (Some why)) }
     {
         // The update itself says whether it is refused.
         let mut copy = copy_of(battle);
@@ -57,7 +59,7 @@ impl Ways {
                 start: copy_of(battle),
                 one,
                 two,
-                explorer: Explorer::new(),
+                nodes: Nodes::new(),
                 over: false,
             }),
         }
@@ -84,18 +86,18 @@ impl Ways {
         if self.over {
             return Ok(None);
         }
-        let explorer = std::mem::replace(&mut self.explorer, Explorer::new());
         *battle = copy_of(&self.start);
-        self.explorer = play_way(
+        let path = self.nodes.path();
+        play_way(
             battle,
             copied(&self.one),
             copied(&self.two),
-            explorer,
+            Explorer::new(path, Borrowed(&mut self.nodes)),
             events,
         );
-        match self.explorer.chance() {
+        match self.nodes.chance() {
             Some(chance) => {
-                self.over = !self.explorer.advance();
+                self.over = !self.nodes.advance();
                 Ok(Some(chance))
             }
             None => Err(OutcomesFault::Size),
@@ -104,13 +106,13 @@ impl Ways {
 }
 
 /// Plays an update by two offered choices in the way that the explorer is at.
-pub fn play_way<S: EventSink>(
+pub(crate) fn play_way<S: EventSink>(
     battle: &mut Packed,
     one: Choice,
     two: Choice,
-    explorer: Explorer,
+    explorer: Explorer<Borrowed<'_>>,
     events: &mut S,
-) -> Explorer
+)
     requires empty { S.tells events.old [] }
     requires room { HasRoom S.room 51 events.old }
     ensures follows { (s : State) → Stands battle.old s → AreOffered s one two
@@ -118,7 +120,7 @@ pub fn play_way<S: EventSink>(
     ensures room { AddsAtMost S.room 51 events.old events.new }
 {
     explorer.draws_a_stream();
-    play(battle, one, two, explorer, events)
+    play(battle, one, two, explorer, events);
 }
 
 /// A copy of the battle.

@@ -3,6 +3,7 @@
 //! ([docs/MECHANICS.md, "Link numbers"](https://hibsuloy.example/gen1/blob/main/docs/MECHANICS.md#link-numbers)).
 //!
 //! - `byte_set`: sets of bytes
+//! - `alike`: the bytes that a look sees alike
 //! - `script`: a generator whose first bytes are given
 //! - `nodes`: the draws of a way, each with the bytes that are still to be tried
 //! - `explorer`: a generator that takes an update through all its ways, one after the other
@@ -11,7 +12,60 @@
 //! - `successor`: [`Successor`], a battle with its weight
 //! - `merging`: battles that are equal become one
 //! - `outcomes`: [`list_outcomes`], all battles that an update can lead to
-//! - `fault`: why there is no result
+//! - `fault`: why outcomes are not listed
+
+mod alike {
+    //! The bytes that a look sees alike ([docs/MECHANICS.md, "Link numbers"](https://hibsuloy.example/gen1/blob/main/docs/MECHANICS.md#link-numbers)).
+
+    use crate::generated::outcomes::byte_set::ByteSet;
+    use crate::generated::rolls::Look;
+
+    /// The bytes of a set that are alike to the byte.
+    pub fn alike_to(look: Look, byte: u8, among: &ByteSet) -> ByteSet {
+        let seen = look.sees(byte) == 1;
+        match look {
+            Look::Below(bound) => on_one_side(among, &ByteSet::below(bound), seen),
+            Look::RotatedBelow(bound) => on_one_side(among, &ByteSet::rotated_below(bound), seen),
+            _ => ByteSet {
+                words: [
+                    alike_in_word(look, byte, 0, among.words[0]),
+                    alike_in_word(look, byte, 64, among.words[1]),
+                    alike_in_word(look, byte, 128, among.words[2]),
+                    alike_in_word(look, byte, 192, among.words[3]),
+                ],
+            },
+        }
+    }
+
+    // The bytes of a set that are in the other set, or that are not.
+    fn on_one_side(among: &ByteSet, other: &ByteSet, inside: bool) -> ByteSet {
+        if inside {
+            among.both(other)
+        } else {
+            among.without(other)
+        }
+    }
+
+    // The bytes of a word that are alike to the byte. The first of the word is `base`.
+    fn alike_in_word(look: Look, byte: u8, base: u8, word: u64) -> u64 {
+        let seen = look.sees(byte);
+        let mut kept = word;
+        for place in word.trailing_zeros()..64 {
+            let stays = word >> place & 1 == 0 || seen == look.sees(base + place as u8);
+            kept = kept_if(kept, place, stays);
+        }
+        kept
+    }
+
+    // The word, with this bit of it only on a condition.
+    fn kept_if(word: u64, place: u32, condition: bool) -> u64 {
+        if condition {
+            word
+        } else {
+            word & !(1 << place)
+        }
+    }
+}
 
 mod byte_set {
     //! Sets of bytes ([docs/MECHANICS.md, "Link numbers"](https://hibsuloy.example/gen1/blob/main/docs/MECHANICS.md#link-numbers)).
@@ -46,11 +100,6 @@ mod byte_set {
             set
         }
 
-        /// Whether the byte is in the set.
-        pub fn contains(&self, byte: u8) -> bool {
-            self.words[(byte / 64) as usize] >> (byte % 64) & 1 == 1
-        }
-
         /// Puts the byte into the set.
         pub fn insert(&mut self, byte: u8) {
             self.words[(byte / 64) as usize] |= 1 << (byte % 64);
@@ -63,28 +112,60 @@ mod byte_set {
             }
         }
 
-        /// Takes the byte out of the set on a condition. Returns whether it was there and is gone.
-        pub fn remove_if(&mut self, byte: u8, condition: bool) -> bool {
-            if condition {
-                let there = self.contains(byte);
-                self.remove(byte);
-                there
-            } else {
-                false
+        /// The bytes that are in both sets.
+        pub fn both(&self, other: &ByteSet) -> ByteSet {
+            ByteSet {
+                words: [
+                    self.words[0] & other.words[0],
+                    self.words[1] & other.words[1],
+                    self.words[2] & other.words[2],
+                    self.words[3] & other.words[3],
+                ],
             }
         }
 
-        /// Takes the byte out of the set.
-        pub fn remove(&mut self, byte: u8) {
-            self.words[(byte / 64) as usize] &= !(1 << (byte % 64));
+        /// The bytes that are in this set and not in the other.
+        pub fn without(&self, other: &ByteSet) -> ByteSet {
+            ByteSet {
+                words: [
+                    minus(self.words[0], other.words[0]),
+                    minus(self.words[1], other.words[1]),
+                    minus(self.words[2], other.words[2]),
+                    minus(self.words[3], other.words[3]),
+                ],
+            }
+        }
+
+        /// The bytes below a bound.
+        pub fn below(bound: u8) -> ByteSet {
+            ByteSet {
+                words: [
+                    ones(bound),
+                    ones(bound.saturating_sub(64)),
+                    ones(bound.saturating_sub(128)),
+                    ones(bound.saturating_sub(192)),
+                ],
+            }
+        }
+
+        /// The bytes that, rotated left by 3 bits, are below a bound.
+        pub fn rotated_below(bound: u8) -> ByteSet {
+            ByteSet {
+                words: [
+                    eighths(bound, 0),
+                    eighths(bound, 2),
+                    eighths(bound, 4),
+                    eighths(bound, 6),
+                ],
+            }
         }
 
         /// The least byte of the set.
         pub fn first(&self) -> Option<u8> {
-            for number in 0..256u16 {
-                let byte = number as u8;
-                if self.contains(byte) {
-                    return Some(byte);
+            for place in 0..4u8 {
+                let word = self.words[place as usize];
+                if word != 0 {
+                    return Some(64 * place + word.trailing_zeros() as u8);
                 }
             }
             None
@@ -92,14 +173,37 @@ mod byte_set {
 
         /// How many bytes the set has.
         pub fn count(&self) -> u16 {
-            let mut count = 0;
-            for number in 0..256u16 {
-                if self.contains(number as u8) {
-                    count += 1;
-                }
-            }
-            count
+            let low = count_of(self.words[0]) + count_of(self.words[1]);
+            let high = count_of(self.words[2]) + count_of(self.words[3]);
+            low + high
         }
+    }
+
+    // The bits of a word that the other word lacks.
+    fn minus(one: u64, other: u64) -> u64 {
+        one & !other
+    }
+
+    // How many bits of a word are set.
+    fn count_of(word: u64) -> u16 {
+        word.count_ones() as u16
+    }
+
+    // The number whose lowest bits are set, as many as are given, or all 64.
+    fn ones(count: u8) -> u64 {
+        if count >= 64 {
+            u64::MAX
+        } else {
+            (1 << count) - 1
+        }
+    }
+
+    // A word of `rotated_below`. Its lower 32 bytes are, rotated, `least` and every eighth number from there, and its higher
+    // 32 one more.
+    fn eighths(bound: u8, least: u8) -> u64 {
+        let low = (u16::from(bound) + 7 - u16::from(least)) / 8;
+        let high = (u16::from(bound) + 6 - u16::from(least)) / 8;
+        ones(high as u8) * 0x1_0000_0000 + ones(low as u8)
     }
 }
 
@@ -107,59 +211,65 @@ mod explorer {
     //! A generator that takes an update through all its ways, one after the other ([docs/MECHANICS.md, "Link numbers"](https://hibsuloy.example/gen1/blob/main/docs/MECHANICS.md#link-numbers)).
 
     use crate::generated::outcomes::byte_set::ByteSet;
-    use crate::generated::outcomes::nodes::{Chance, Nodes};
-    use crate::generated::outcomes::script::Script;
+    use crate::generated::outcomes::nodes::Nodes;
+    use crate::generated::outcomes::script::{DEPTH, Script};
     use crate::generated::rolls::{Look, Rolls};
+
+    /// What draws are noted in.
+    pub(crate) trait Notes {
+        /// Whether the next draw is one that no way had before.
+        fn is_new(&self) -> bool;
+
+        /// Notes that a draw has this byte, of those that it may have.
+        fn note(&mut self, byte: u8, look: Look, may_have: &ByteSet);
+    }
+
+    /// Nodes that are borrowed, so that an update moves a reference to them and not all of them.
+
+    pub(crate) struct Borrowed<'a>(pub(crate) &'a mut Nodes);
+
+    impl Notes for Borrowed<'_> {
+        fn is_new(&self) -> bool {
+            self.0.is_new()
+        }
+
+        fn note(&mut self, byte: u8, look: Look, may_have: &ByteSet) {
+            self.0.note(byte, look, may_have);
+        }
+    }
 
     /// A script that notes the draws that are taken from it.
     ///
     /// For contracts it is its script. What it notes changes no byte that it draws.
 
-    pub struct Explorer {
+    pub(crate) struct Explorer<N> {
         script: Script,
-        nodes: Nodes,
+        notes: N,
     }
 
-    impl Explorer {
-        /// Before the first way.
-        pub fn new() -> Self {
-            let nodes = Nodes::new();
+    impl<N: Notes> Explorer<N> {
+        /// An explorer of the way that begins with these bytes, before its first draw.
+        pub(crate) fn new(path: [u8; DEPTH], notes: N) -> Explorer<N> {
             Explorer {
-                script: Script::new(nodes.path()),
-                nodes,
-            }
-        }
-
-        /// Goes to the next way, if there is one.
-        pub fn advance(&mut self) -> bool {
-            let more = self.nodes.advance();
-            self.script = Script::new(self.nodes.path());
-            more
-        }
-
-        /// The probability of the way that was played. `None` if it has too many draws, or if 128 bits do not hold it.
-        pub fn chance(&self) -> Option<Chance> {
-            if self.nodes.is_too_deep() {
-                None
-            } else {
-                self.nodes.chance()
+                script: Script::new(path),
+                notes,
             }
         }
 
         /// The draws from here on are a stream. Nothing happens.
-        pub fn draws_a_stream(&self) {
+        pub(crate) fn draws_a_stream(&self) {
             self.script.draws_a_stream();
         }
 
         // Draws a byte, and notes it.
         fn draw_noted(&mut self, look: Look) -> u8 {
             let byte = self.script.draw();
-            self.nodes.note(byte, look, &ByteSet::all());
+            self.notes.note(byte, look, &ByteSet::all());
             byte
         }
     }
 
-    impl Rolls for Explorer {
+    impl<N: Notes> Rolls for Explorer<N> {
         const SPAN: usize = 280;
 
         // A draw of which all is looked at.
@@ -172,10 +282,10 @@ mod explorer {
         }
 
         fn until_as<F: Fn(u8) -> bool>(&mut self, test: F, look: Look) -> Option<u8> {
-            let bytes = may_have(&self.nodes, &test);
+            let bytes = may_have(&self.notes, &test);
             match self.script.until_as(test, look) {
                 Some(byte) => {
-                    self.nodes.note(byte, look, &bytes);
+                    self.notes.note(byte, look, &bytes);
                     Some(byte)
                 }
                 None => None,
@@ -184,8 +294,8 @@ mod explorer {
     }
 
     // The bytes that a search may find, if they are to be noted.
-    fn may_have<F: Fn(u8) -> bool>(nodes: &Nodes, test: &F) -> ByteSet {
-        if nodes.is_new() {
+    fn may_have<N: Notes, F: Fn(u8) -> bool>(notes: &N, test: &F) -> ByteSet {
+        if notes.is_new() {
             ByteSet::that_pass(test)
         } else {
             ByteSet::none()
@@ -194,13 +304,13 @@ mod explorer {
 }
 
 mod fault {
-    //! Why there is no list of outcomes ([docs/MECHANICS.md, "Link numbers"](https://hibsuloy.example/gen1/blob/main/docs/MECHANICS.md#link-numbers)).
+    //! Why outcomes are not listed ([docs/MECHANICS.md, "Link numbers"](https://hibsuloy.example/gen1/blob/main/docs/MECHANICS.md#link-numbers)).
 
     use crate::generated::engine::Refusal;
     use core::error::Error;
     use core::fmt;
 
-    /// Why there is no list of outcomes.
+    /// Why outcomes are not listed.
     #[derive(Clone, Copy, Debug, PartialEq, Eq)]
     pub enum OutcomesFault {
         /// The pair of choices is refused.
@@ -246,6 +356,7 @@ mod merging {
     use crate::generated::outcomes::fault::OutcomesFault;
     use crate::generated::outcomes::nodes::Chance;
     use crate::generated::outcomes::successor::Successor;
+    use crate::generated::outcomes::ways::copy_of;
     use crate::generated::layout::Packed;
 
     /// What a list of successors has so far.
@@ -273,18 +384,18 @@ mod merging {
         successors: &mut [Successor],
         table: &mut [u32],
         tally: &mut Tally,
-        battle: Packed,
+        battle: &Packed,
         chance: Chance,
     ) -> Result<(), OutcomesFault> {
         let weight = scaled_weight(successors, tally, chance)?;
-        match find(&successors[..tally.count], table, &battle) {
+        match find(&successors[..tally.count], table, battle) {
             Place::Taken(place) => add_weight(successors, place, weight),
             Place::Free(slot) => append(
                 successors,
                 table,
                 tally,
                 slot,
-                Successor::new(battle, weight),
+                Successor::new(copy_of(battle), weight),
             ),
             Place::Full => Err(OutcomesFault::Table),
         }
@@ -423,6 +534,7 @@ mod merging {
 mod nodes {
     //! The draws of a way, each with the bytes that are still to be tried ([docs/MECHANICS.md, "Link numbers"](https://hibsuloy.example/gen1/blob/main/docs/MECHANICS.md#link-numbers)).
 
+    use crate::generated::outcomes::alike::alike_to;
     use crate::generated::outcomes::byte_set::ByteSet;
     use crate::generated::outcomes::script::DEPTH;
     use crate::generated::rolls::Look;
@@ -443,6 +555,8 @@ mod nodes {
         pub byte: u8,
         /// What is looked at of the byte.
         pub look: Look,
+        /// The probability of the draws before it.
+        pub above: Chance,
         /// Of the bytes that it may have: those that are alike neither to `byte` nor to one that it had before.
         pub rest: ByteSet,
         /// How many bytes it may have.
@@ -453,20 +567,23 @@ mod nodes {
 
     impl Node {
         fn none() -> Self {
+            let rest = ByteSet::none();
             Node {
                 byte: 0,
                 look: Look::Remainder(1),
-                rest: ByteSet::none(),
-                total: 1,
-                count: 1,
+                above: Chance { num: 1, whole: 1 },
+                rest,
+                total: rest.count(),
+                count: 0,
             }
         }
 
         /// A draw that may have these bytes, and has this one of them.
-        pub fn new(byte: u8, look: Look, may_have: &ByteSet) -> Self {
+        pub fn new(byte: u8, look: Look, above: Chance, may_have: &ByteSet) -> Self {
             let mut node = Node {
                 byte,
                 look,
+                above,
                 rest: *may_have,
                 total: may_have.count(),
                 count: 0,
@@ -477,14 +594,10 @@ mod nodes {
 
         // Takes the byte, and all that are alike to it, out of the rest.
         fn take(&mut self, byte: u8) {
-            let mut count = 0;
-            for number in 0..256u16 {
-                let other = number as u8;
-                let alike = self.look.alike(byte, other);
-                count += u16::from(self.rest.remove_if(other, alike));
-            }
+            let class = alike_to(self.look, byte, &self.rest);
+            self.rest = self.rest.without(&class);
             self.byte = byte;
-            self.count = count;
+            self.count = class.count();
         }
 
         // Goes to a byte of the rest, if there is one.
@@ -498,19 +611,38 @@ mod nodes {
             }
         }
 
+        // The probability of the draws up to this one. `None` if 128 bits do not hold it.
+
+        fn chance(&self) -> Option<Chance> {
+            let (num, whole) = self.part();
+            Some(Chance {
+                num: self.above.num.checked_mul(num as u128)?,
+                whole: self.above.whole.checked_mul(whole as u128)?,
+            })
+        }
+
         // The probability of the bytes that are alike to `byte`, in smaller numbers where both are even or equal.
-        fn chance(&self) -> (u16, u16) {
+        fn part(&self) -> (u16, u16) {
             if self.count >= self.total {
                 return (1, 1);
             }
             let mut num = self.count;
             let mut whole = self.total;
             for _ in 0..8 {
-                if num % 2 == 0 && whole % 2 == 0 {
-                    num /= 2;
-                    whole /= 2;
-                }
+                let half = halved(num, whole);
+                num = half.0;
+                whole = half.1;
             }
+            (num, whole)
+        }
+    }
+
+    // Half of both, if both are even.
+
+    fn halved(num: u16, whole: u16) -> (u16, u16) {
+        if num % 2 == 0 && whole % 2 == 0 {
+            (num / 2, whole / 2)
+        } else {
             (num, whole)
         }
     }
@@ -524,8 +656,8 @@ mod nodes {
         pub len: usize,
         /// How many of them this way has had so far.
         pub at: usize,
-        /// Whether there were more than there is room for.
-        pub too_deep: bool,
+        /// Whether there were more than there is room for, or 128 bits do not hold a probability.
+        pub too_large: bool,
     }
 
     impl Nodes {
@@ -535,7 +667,7 @@ mod nodes {
                 list: [Node::none(); DEPTH],
                 len: 0,
                 at: 0,
-                too_deep: false,
+                too_large: false,
             }
         }
 
@@ -544,21 +676,19 @@ mod nodes {
             self.at >= self.len
         }
 
-        /// Whether there were more draws than there is room for.
-        pub fn is_too_deep(&self) -> bool {
-            self.too_deep
-        }
-
         /// Notes that a draw has this byte, of those that it may have.
         pub fn note(&mut self, byte: u8, look: Look, may_have: &ByteSet) {
             if self.at < self.len {
                 self.at += 1;
-            } else if self.len < DEPTH {
-                self.list[self.len] = Node::new(byte, look, may_have);
-                self.len += 1;
-                self.at = self.len;
             } else {
-                self.too_deep = true;
+                match self.chance() {
+                    Some(above) if self.len < DEPTH => {
+                        self.list[self.len] = Node::new(byte, look, above, may_have);
+                        self.len += 1;
+                        self.at = self.len;
+                    }
+                    _ => self.too_large = true,
+                }
             }
         }
 
@@ -583,26 +713,21 @@ mod nodes {
         /// The bytes of the way, with 255 in the places after them.
         pub fn path(&self) -> [u8; DEPTH] {
             let mut path = [255; DEPTH];
-            for place in 0..DEPTH {
-                if place < self.len {
-                    path[place] = self.list[place].byte;
-                }
+            for place in 0..self.len {
+                path[place] = self.list[place].byte;
             }
             path
         }
 
-        /// The probability of the way. `None` if 128 bits do not hold it.
+        /// The probability of the way. `None` if it has too many draws, or if 128 bits do not hold it.
         pub fn chance(&self) -> Option<Chance> {
-            let mut num: u128 = 1;
-            let mut whole: u128 = 1;
-            for place in 0..DEPTH {
-                if place < self.len {
-                    let one = self.list[place].chance();
-                    num = num.checked_mul(one.0 as u128)?;
-                    whole = whole.checked_mul(one.1 as u128)?;
-                }
+            if self.too_large {
+                None
+            } else if self.len == 0 {
+                Some(Chance { num: 1, whole: 1 })
+            } else {
+                self.list[self.len - 1].chance()
             }
-            Some(Chance { num, whole })
         }
     }
 }
@@ -670,10 +795,10 @@ mod outcomes {
         table: &mut [u32],
     ) -> Result<Outcomes, OutcomesFault> {
         let mut tally = Tally { count: 0, whole: 1 };
+        let mut next = copy_of(battle);
         for played in 0..u32::MAX {
-            let mut next = copy_of(battle);
             match ways.next(&mut next, &mut Silent)? {
-                Some(chance) => add(successors, table, &mut tally, next, chance)?,
+                Some(chance) => add(successors, table, &mut tally, &next, chance)?,
                 None => return finished(successors, tally, played),
             }
         }
@@ -851,9 +976,9 @@ mod successor {
 mod ways {
     //! Each way of an update apart ([docs/MECHANICS.md, "Link numbers"](https://hibsuloy.example/gen1/blob/main/docs/MECHANICS.md#link-numbers)).
 
-    use crate::generated::outcomes::explorer::Explorer;
+    use crate::generated::outcomes::explorer::{Borrowed, Explorer};
     use crate::generated::outcomes::fault::OutcomesFault;
-    use crate::generated::outcomes::nodes::Chance;
+    use crate::generated::outcomes::nodes::{Chance, Nodes};
     use crate::generated::outcomes::playing::play;
     use crate::generated::engine::Refusal;
     use crate::generated::engine::packed::update_silent;
@@ -870,7 +995,7 @@ mod ways {
         start: Packed,
         one: Choice,
         two: Choice,
-        explorer: Explorer,
+        nodes: Nodes,
         over: bool,
     }
 
@@ -889,7 +1014,7 @@ mod ways {
                     start: copy_of(battle),
                     one,
                     two,
-                    explorer: Explorer::new(),
+                    nodes: Nodes::new(),
                     over: false,
                 }),
             }
@@ -909,18 +1034,18 @@ mod ways {
             if self.over {
                 return Ok(None);
             }
-            let explorer = core::mem::replace(&mut self.explorer, Explorer::new());
             *battle = copy_of(&self.start);
-            self.explorer = play_way(
+            let path = self.nodes.path();
+            play_way(
                 battle,
                 copied(&self.one),
                 copied(&self.two),
-                explorer,
+                Explorer::new(path, Borrowed(&mut self.nodes)),
                 events,
             );
-            match self.explorer.chance() {
+            match self.nodes.chance() {
                 Some(chance) => {
-                    self.over = !self.explorer.advance();
+                    self.over = !self.nodes.advance();
                     Ok(Some(chance))
                 }
                 None => Err(OutcomesFault::Size),
@@ -929,15 +1054,15 @@ mod ways {
     }
 
     /// Plays an update by two offered choices in the way that the explorer is at.
-    pub fn play_way<S: EventSink>(
+    pub(crate) fn play_way<S: EventSink>(
         battle: &mut Packed,
         one: Choice,
         two: Choice,
-        explorer: Explorer,
+        explorer: Explorer<Borrowed<'_>>,
         events: &mut S,
-    ) -> Explorer {
+    ) {
         explorer.draws_a_stream();
-        play(battle, one, two, explorer, events)
+        play(battle, one, two, explorer, events);
     }
 
     /// A copy of the battle.

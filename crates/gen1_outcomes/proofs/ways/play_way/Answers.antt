@@ -13,9 +13,9 @@ returns-clause-follows g c s h o =
         is,
         record {
           by_turn = λ asked.
-              let u = c.play.ensures.turn s h o asked now (stream_of scripted now) 0 is (stands_at_itself scripted now) in
+              let u = (c.play.ensures.played s h o).by_turn asked now (stream_of scripted now) 0 is (stands_at_itself scripted now) in
               record { within = u.within; written = u.written };
-          by_step = λ apart. (c.play.ensures.other s h o apart).0;
+          by_step = λ apart. ((c.play.ensures.played s h o).by_step apart).0;
         },
       ),
     )

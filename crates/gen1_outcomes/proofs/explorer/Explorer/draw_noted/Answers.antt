@@ -6,4 +6,4 @@ use Rattle.gen1_outcomes.specs.Script.{scripted}
 use Rattle.gen1_outcomes.proofs.explorer.Explorer.draw_noted.Goals as goal
 
 pub returns-clause-stream : goal.returns-clause-stream
-returns-clause-stream c = subst (λ (s : Script). IsStream (stream_of scripted s)) c.self.view_is c.draw-byte.ensures.stream
+returns-clause-stream g c = subst (λ (s : Script). IsStream (stream_of scripted s)) c.self.view_is c.draw-byte.ensures.stream

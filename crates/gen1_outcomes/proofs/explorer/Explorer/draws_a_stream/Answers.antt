@@ -6,4 +6,4 @@ use Rattle.gen1_outcomes.specs.Script.{scripted}
 use Rattle.gen1_outcomes.proofs.explorer.Explorer.draws_a_stream.Goals as goal
 
 pub returns : goal.returns
-returns c = subst (λ (s : Script). IsStream (stream_of scripted s)) c.self.view_is c.draws_a_stream.ensures
+returns g c = subst (λ (s : Script). IsStream (stream_of scripted s)) c.self.view_is c.draws_a_stream.ensures

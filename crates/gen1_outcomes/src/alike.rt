@@ -1,0 +1,68 @@
+//! The bytes that a look sees alike (docs/MECHANICS.md, "Link numbers").
+ghost use Rattle.std.specs.Prelude.{ℕ, min, ◌+◌, ◌-◌, ◌<◌, ◌≡◌, ◌≢◌, ◌≤◌, if◌then◌else◌};
+ghost use Rattle.std.specs.Int.{bit_at};
+ghost use Rattle.gen1_rolls.specs.Looks.{alike};
+ghost use Rattle.gen1_outcomes.specs.Bytes.{has};
+
+use crate::byte_set::ByteSet;
+use gen1_rolls::Look;
+
+/// The bytes of a set that are alike to the byte.
+pub fn alike_to(look: Look, byte: u8, among: &ByteSet) -> ByteSet
+    ensures { (x : ℕ) → x < 256
+        → has result x ≡ (if alike look byte x then has among.now x else 0) }
+{
+    let seen = look.sees(byte) == 1;
+    match look {
+        Look::Below(bound) => on_one_side(among, &ByteSet::below(bound), seen),
+        Look::RotatedBelow(bound) => on_one_side(among, &ByteSet::rotated_below(bound), seen),
+        _ => ByteSet {
+            words: [
+                alike_in_word(look, byte, 0, among.words[0]),
+                alike_in_word(look, byte, 64, among.words[1]),
+                alike_in_word(look, byte, 128, among.words[2]),
+                alike_in_word(look, byte, 192, among.words[3]),
+            ],
+        },
+    }
+}
+
+// The bytes of a set that are in the other set, or that are not.
+fn on_one_side(among: &ByteSet, other: &ByteSet, inside: bool) -> ByteSet
+    ensures { (x : ℕ) → x < 256
+        → has result x ≡ (if inside then min (has among.now x) (has other.now x) else has among.now x - has other.now x) }
+{
+    if inside {
+        among.both(other)
+    } else {
+        among.without(other)
+    }
+}
+
+// The bytes of a word that are alike to the byte. The first of the word is `base`.
+fn alike_in_word(look: Look, byte: u8, base: u8, word: u64) -> u64
+    requires { base ≤ 192 }
+    ensures { (i : ℕ) → i < 64
+        → bit_at result i ≡ (if alike look byte (base + i) then bit_at word i else 0) }
+{
+    let seen = look.sees(byte);
+    let mut kept = word;
+    'bits: for place in word.trailing_zeros()..64 {
+        let stays = word >> place & 1 == 0 || seen == look.sees(base + place as u8);
+        kept = kept_if(kept, place, stays);
+    }
+    kept
+}
+
+// The word, with this bit of it only on a condition.
+fn kept_if(word: u64, place: u32, condition: bool) -> u64
+    requires { place < 64 }
+    ensures here { bit_at result place ≡ (if condition then bit_at word place else 0) }
+    ensures others { (i : ℕ) → i < 64 → i ≢ place → bit_at result i ≡ bit_at word i }
+{
+    if condition {
+        word
+    } else {
+        word & !(1 << place)
+    }
+}
