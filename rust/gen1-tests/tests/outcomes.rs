@@ -553,7 +553,7 @@ fn samples_fall_on_the_list(count: usize, samples: u32, random: &mut Bytes) {
 
 #[test]
 fn samples_by_independent_bytes() {
-    samples_fall_on_the_list(40, 2_000, &mut Bytes::new(99));
+    samples_fall_on_the_list(40, 10_000, &mut Bytes::new(99));
 }
 
 #[test]
