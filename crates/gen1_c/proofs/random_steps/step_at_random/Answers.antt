@@ -21,12 +21,12 @@ returns c s h =
     let none : IsZeros [] = λ number. refl in
     let is_one = c.offered_mask.ensures.stands s h in
     let is_two = c.offered_mask-2.ensures.stands s h in
-    let first = drawn-alike One s [] c.offered_mask.result c.args.random.now.state h.valid going is_one (inl none) c.pick-one.ensures in
-    let second = drawn-alike Two s [] c.offered_mask-2.result c.pick-one.new.random.state h.valid going is_two (inl none) c.pick-two.ensures in
+    let first = drawn-alike One s [] c.offered_mask.result c.args.random.now.state h.valid going is_one (inl none) c.pick-one.ensures.drawn in
+    let second = drawn-alike Two s [] c.offered_mask-2.result c.pick-one.new.random.state h.valid going is_two (inl none) c.pick-two.ensures.drawn in
     let asked : AreOffered s c.pick-one.result c.pick-two.result =
     record { first = offers-drawn One s [] _ h.valid going first; second = offers-drawn Two s [] _ h.valid going second } in
     rw (c.byte_of-first.ensures, c.byte_of-second.ensures)
     (stepped-on s c.args.random.now.state h going first second
-    (drawn-offered One s c.offered_mask.result c.args.random.now.state h.valid going is_one c.pick-one.ensures)
-    (drawn-offered Two s c.offered_mask-2.result c.pick-one.new.random.state h.valid going is_two c.pick-two.ensures)
+    (drawn-offered One s c.offered_mask.result c.args.random.now.state h.valid going is_one c.pick-one.ensures.drawn)
+    (drawn-offered Two s c.offered_mask-2.result c.pick-one.new.random.state h.valid going is_two c.pick-two.ensures.drawn)
     (c.update_offered.ensures.steps s h asked) c.gen1_result-2.ensures)
