@@ -809,12 +809,17 @@ typedef struct gen1_outcome_list {
  * needs at least as many places as there are outcomes; twice as many make the call faster. Most updates have fewer than 100
  * outcomes, and all that were met have fewer than 65,536.
  *
+ * A search may want fewer. With `damage_classes` above 0 a roll of damage has at most that many classes: the 39 factors from 217
+ * to 255 are cut into as many runs, and damages of one run are a class. Of each class one damage near its middle is listed, with
+ * the weight of all. All damages from the HP of the target on (or of its substitute) are one class more, so the chance that a
+ * roll knocks out stays exact, and so does everything that is not a roll of damage. 0 lists each damage; above 39 is as 39.
+ *
  * Returns 0, or the first of these codes that applies, and then nothing has changed: GEN1_ERROR_OVER,
  * GEN1_ERROR_NOT_OFFERED_ONE, GEN1_ERROR_NOT_OFFERED_TWO. Otherwise it returns GEN1_ERROR_OUTCOMES or GEN1_ERROR_TABLE if that
  * array has too few places, or GEN1_ERROR_DRAWS. Then `*list` has not changed, and both arrays may have any content.
  */
-uint8_t gen1_outcomes(const gen1_battle *battle, uint8_t one, uint8_t two, gen1_successor *successors, size_t capacity,
-                      uint32_t *table, size_t table_size, gen1_outcome_list *list);
+uint8_t gen1_outcomes(const gen1_battle *battle, uint8_t one, uint8_t two, uint8_t damage_classes, gen1_successor *successors,
+                      size_t capacity, uint32_t *table, size_t table_size, gen1_outcome_list *list);
 
 /* Returns the probability of an outcome of a list, as a double near it. */
 static inline double GEN1_PROBABILITY(const gen1_successor *successor, const gen1_outcome_list *list)

@@ -40,7 +40,8 @@ def declare(calls):
         ("gen1_step_random_many", c_uint8,
          [battle, size, battle, size, POINTER(c_uint64), size, POINTER(BatchUpdate), size, POINTER(c_size_t)]),
         ("gen1_playout", c_uint8, [battle, POINTER(PlayoutOptionsStruct), POINTER(PlayoutsStruct)]),
-        ("gen1_outcomes", c_uint8, [battle, c_uint8, c_uint8, ctypes.c_char_p, size, POINTER(c_uint32), size, POINTER(OutcomeList)]),
+        ("gen1_outcomes", c_uint8,
+         [battle, c_uint8, c_uint8, c_uint8, ctypes.c_char_p, size, POINTER(c_uint32), size, POINTER(OutcomeList)]),
         ("gen1_team_from_text", c_uint8, [ctypes.c_char_p, size, POINTER(gen1.Team), POINTER(TextFault)]),
         ("gen1_team_from_packed", c_uint8, [ctypes.c_char_p, size, POINTER(gen1.Team), POINTER(TextFault)]),
     ):
@@ -217,7 +218,7 @@ def compare_outcomes(library, steps, count):
     found, table = ctypes.create_string_buffer(PLACES * SUCCESSOR.size), (c_uint32 * (2 * PLACES))()
     for at, (before, update) in enumerate(steps):
         of = OutcomeList(KEPT, KEPT, KEPT)
-        code = library.calls.gen1_outcomes(array_of([before]), *update["pair"], found, PLACES, table, 2 * PLACES, byref(of))
+        code = library.calls.gen1_outcomes(array_of([before]), *update["pair"], 0, found, PLACES, table, 2 * PLACES, byref(of))
         if update["refused"]:
             count.tell(f"outcomes of update {at}", (code, of.low, of.high, of.count), (update["refused"] + 23, KEPT, KEPT, KEPT))
             continue

@@ -239,9 +239,10 @@ export class Battle {
   }
 
   /** All battles that an update by a choice of each side can lead to, with their exact probabilities. The battle is unchanged. */
-  outcomes(one, two) {
+  outcomes(one, two, { damageClasses = 0 } = {}) {
     const pair = [choiceByte(one, 1), choiceByte(two, 2)];
-    const [code, found] = outcomesOf(this.#library, this.#begin(), pair, (block) => new Battle(this.#library, block));
+    const asked = [...pair, within(damageClasses, "damageClasses", 0, 39)];
+    const [code, found] = outcomesOf(this.#library, this.#begin(), asked, (block) => new Battle(this.#library, block));
     if (code) throw this.#refused(code, pair);
     return found;
   }

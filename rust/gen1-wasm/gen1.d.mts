@@ -429,6 +429,17 @@ export interface Playouts {
   faults: number;
 }
 
+/** How outcomes are listed. */
+export interface OutcomeOptions {
+  /**
+   * At most how many classes of damage a roll has, 1 to 39; by default 0, each damage. For a search, which wants fewer outcomes: the 39 factors
+   * from 217 to 255 are cut into as many runs, and damages of one run are a class. Of each class one damage near its middle is listed, with
+   * the weight of all. All damages from the HP of the target on (or of its substitute) are one class more, so the chance that a roll knocks
+   * out stays exact, and so does everything that is not a roll of damage.
+   */
+  damageClasses?: number;
+}
+
 /**
  * All battles that an update can lead to, each once. `Battle.outcomes` makes it.
  *
@@ -542,9 +553,9 @@ export class Battle {
   playout(seed: number | bigint, rounds: number, options?: PlayoutOptions): Playouts;
   /**
    * All battles that an update by a choice of each side can lead to, with their exact probabilities. The battle is unchanged. Throws
-   * RefusedError as `update` does.
+   * RefusedError as `update` does, and ArgumentError for an option that is out of range.
    */
-  outcomes(one: Choice, two: Choice): Outcomes;
+  outcomes(one: Choice, two: Choice, options?: OutcomeOptions): Outcomes;
   /** The odds of a side's move in the current state. Throws DamageError if no member is out. */
   odds(side: Side, move: MoveLike): Odds;
   /** The chances that a side's move knocks out the foe's active member, in one use and in two. Throws DamageError if no member is out. */

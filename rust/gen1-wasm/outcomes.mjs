@@ -51,23 +51,23 @@ export class Outcomes {
   }
 }
 
-/** The code of a refusal, or 0 and the outcomes of an update of the battle at a pointer, by the bytes of two choices. */
-export function outcomesOf(library, battle, pair, battleOf) {
+/** The code of a refusal, or 0 and the outcomes of an update of the battle at a pointer, by the bytes of two choices and the number of classes of damage. */
+export function outcomesOf(library, battle, asked, battleOf) {
   const list = library.roomOf("gen1_outcome_list");
   let code = CODES.ERROR_OUTCOMES;
   let rows = null;
-  for (let places = PLACES; FEW_PLACES.includes(code); places *= MORE) [code, rows] = listed(library, battle, pair, list, places);
+  for (let places = PLACES; FEW_PLACES.includes(code); places *= MORE) [code, rows] = listed(library, battle, asked, list, places);
   if (code === CODES.ERROR_DRAWS) throw new Gen1Error(library.sentence(code), code);
   if (code) return [code, null];
   return [code, new Outcomes(library, rows, numberAt(new DataView(library.bytes.buffer), Number(list)), battleOf)];
 }
 
 // The code of the call with space for so many outcomes, and a copy of their rows.
-function listed(library, battle, pair, list, places) {
+function listed(library, battle, asked, list, places) {
   const table = places * SUCCESSOR_SIZE;
   const region = library.arena.region(table + 8 * places, {});
   const arrays = [region.pointer, library.size(places), library.size(region.place + table), library.size(2 * places)];
-  const code = library.calls.gen1_outcomes(battle, ...pair, ...arrays, list);
+  const code = library.calls.gen1_outcomes(battle, ...asked, ...arrays, list);
   const { count } = library.readStruct("gen1_outcome_list", list);
   const rows = code ? null : library.read(region.pointer, count * SUCCESSOR_SIZE);
   library.arena.freeRegion(region);

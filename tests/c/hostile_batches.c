@@ -163,12 +163,12 @@ static void try_playout(void)
     tell("gen1_playout", got == want && is_kept, got, want);
 }
 
-/* Whether the weights sum to what the list says, and an ordinary update leads to one of the outcomes. */
-static bool is_whole(const gen1_battle *from, uint8_t one, uint8_t two, const gen1_successor *found, const gen1_outcome_list *list)
+/* Whether the weights sum to what the list says, and without classes of damage an ordinary update leads to one of the outcomes. */
+static bool is_whole(const gen1_battle *from, uint8_t one, uint8_t two, uint8_t damage_classes, const gen1_successor *found, const gen1_outcome_list *list)
 {
     uint64_t low = 0, high = 0;
     gen1_battle next = *from;
-    bool is_there = false;
+    bool is_there = damage_classes != 0;
     gen1_update_silent(&next, one, two);
     memcpy(next.bytes + 5, from->bytes + 5, 11); /* the numbers to draw */
     for (uint64_t at = 0; at < list->count; at++) {
@@ -189,8 +189,9 @@ static void try_outcomes(void)
     gen1_successor *found = block(1, capacity * sizeof *found);
     uint32_t *table = block(2, places * sizeof *table);
     gen1_outcome_list *list = block(3, sizeof *list);
+    uint8_t damage_classes = one_in(2) ? 0 : any_byte();
     note();
-    uint8_t got = gen1_outcomes(battle, one, two, found, capacity, table, places, list);
+    uint8_t got = gen1_outcomes(battle, one, two, damage_classes, found, capacity, table, places, list);
     uint8_t want = is_valid ? gen1_update_silent(&next, one, two) : 0;
     bool is_short = got == GEN1_ERROR_OUTCOMES || got == GEN1_ERROR_TABLE;
     size_t sizes[BLOCKS] = {0, capacity * sizeof *found, places * sizeof *table, got == 0 ? sizeof *list : 0};
@@ -200,7 +201,7 @@ static void try_outcomes(void)
     if (got == 0)
         is_right &= list->count <= capacity && list->count <= places;
     if (got == 0 && is_valid)
-        is_right &= is_whole(&from, one, two, found, list);
+        is_right &= is_whole(&from, one, two, damage_classes, found, list);
     tell("gen1_outcomes", is_right, got, want);
 }
 

@@ -17,7 +17,7 @@ uint8_t __real_gen1_room_submit(gen1_room *, uint8_t, uint32_t, uint8_t);
 uint8_t __real_gen1_spectator_feed(gen1_spectator *, const uint8_t *, size_t);
 uint8_t __real_gen1_odds_now(const gen1_battle *, uint8_t, uint8_t, gen1_odds *);
 uint32_t __real_gen1_odds_between(const gen1_member *, const gen1_member *, uint8_t, gen1_odds *);
-uint8_t __real_gen1_outcomes(const gen1_battle *, uint8_t, uint8_t, gen1_successor *, size_t, uint32_t *, size_t, gen1_outcome_list *);
+uint8_t __real_gen1_outcomes(const gen1_battle *, uint8_t, uint8_t, uint8_t, gen1_successor *, size_t, uint32_t *, size_t, gen1_outcome_list *);
 
 /* 1: a DV of 16 is taken as 15, so that its team is accepted. 2: a refused battle is emptied. */
 uint32_t __wrap_gen1_new(gen1_battle *battle, const gen1_team *one, const gen1_team *two, const uint8_t seed[10], uint8_t rules,
@@ -130,10 +130,10 @@ uint32_t __wrap_gen1_odds_between(const gen1_member *user, const gen1_member *fo
 }
 
 /* 20: an outcome is left out. 21: the list is written at a refusal. */
-uint8_t __wrap_gen1_outcomes(const gen1_battle *battle, uint8_t one, uint8_t two, gen1_successor *successors, size_t capacity,
-                             uint32_t *table, size_t table_size, gen1_outcome_list *list)
+uint8_t __wrap_gen1_outcomes(const gen1_battle *battle, uint8_t one, uint8_t two, uint8_t damage_classes,
+                             gen1_successor *successors, size_t capacity, uint32_t *table, size_t table_size, gen1_outcome_list *list)
 {
-    uint8_t answer = __real_gen1_outcomes(battle, one, two, successors, capacity, table, table_size, list);
+    uint8_t answer = __real_gen1_outcomes(battle, one, two, damage_classes, successors, capacity, table, table_size, list);
     if (WRONG == 20 && answer == 0 && list->count > 1)
         list->count--;
     if (WRONG == 21 && answer != 0)

@@ -3,9 +3,10 @@ use Rattle.std.proofs.Common.{◌≡◌, ◌≢◌, ℕ, zero, suc, ◌+◌, ◌
 use Rattle.std.specs.Int.{bit_at, bit_not, w64}
 use Rattle.std.specs.Int.RustNames.{bit_and, bit_or}
 use Rattle.gen1_rolls.specs.declared.look.Look.{Look}
-use Rattle.gen1_rolls.specs.Looks.{alike, rotated_left_3}
+use Rattle.gen1_rolls.specs.Looks.{rotated_left_3}
 use Rattle.gen1_outcomes.specs.declared.byte_set.ByteSet.{ByteSet}
 use Rattle.gen1_outcomes.specs.Bytes.{bits_set, has, size}
+use Rattle.gen1_outcomes.specs.Classes.{alike_in}
 use Rattle.std.proofs.lemmas.Nat.Bits.{bit_at_clear_other, bit_at_clear_same, bit_at_ones, bit_at_set_other, bit_at_set_same, bit_at-lt, bit_at-suc, bit_at-trailing_zeros, bit_at-zero, bit_at_and, bit_at_cat_high, bit_at_cat_low, bit_at_lowest, bit_at_not, bit_at_ones_above}
 use Rattle.std.specs.Int.RustNames.{count_ones}
 use Rattle.std.specs.Int.{trailing_zeros}
@@ -293,14 +294,14 @@ size_of_words set =
     in halves
 
 -- A word keeps what is alike to a byte, bit by bit.
-pub record Keeps (look : Look) (byte base word n now : ℕ) : Type 0 where
-  pub below : (i : ℕ) → i < 64 → i < n → bit_at now i ≡ cond (alike look byte (base + i)) (bit_at word i) 0
+pub record Keeps (classes : ℕ) (look : Look) (byte base word n now : ℕ) : Type 0 where
+  pub below : (i : ℕ) → i < 64 → i < n → bit_at now i ≡ cond (alike_in classes look byte (base + i)) (bit_at word i) 0
   pub above : (i : ℕ) → i < 64 → n ≤ i → bit_at now i ≡ bit_at word i
 
-pub keeps_zeros : (look : Look) (byte base word : ℕ) → word < 18446744073709551616 → Keeps look byte base word (trailing_zeros w64 word) word
-keeps_zeros look byte base word small =
+pub keeps_zeros : (classes : ℕ) (look : Look) (byte base word : ℕ) → word < 18446744073709551616 → Keeps classes look byte base word (trailing_zeros w64 word) word
+keeps_zeros classes look byte base word small =
     record {
-      below = λ i lt less. let none : bit_at word i ≡ 0 = zeros word i small less in none ∙ sym (both_zero (alike look byte (base + i)) (bit_at word i) none);
+      below = λ i lt less. let none : bit_at word i ≡ 0 = zeros word i small less in none ∙ sym (both_zero (alike_in classes look byte (base + i)) (bit_at word i) none);
       above = λ i lt more. refl;
     }
   where
@@ -318,16 +319,16 @@ keeps_zeros look byte base word small =
           | inr p ↦ (bit_at-trailing_zeros w64 n p small).2 i less
         ]
 
-pub keeps_more : (look : Look) (byte base word n now new : ℕ) → Keeps look byte base word n now → n < 64
-    → bit_at new n ≡ cond (alike look byte (base + n)) (bit_at now n) 0 → ((i : ℕ) → i < 64 → i ≢ n → bit_at new i ≡ bit_at now i)
-    → Keeps look byte base word (n + 1) new
-keeps_more look byte base word n now new k lt here others =
+pub keeps_more : (classes : ℕ) (look : Look) (byte base word n now new : ℕ) → Keeps classes look byte base word n now → n < 64
+    → bit_at new n ≡ cond (alike_in classes look byte (base + n)) (bit_at now n) 0 → ((i : ℕ) → i < 64 → i ≢ n → bit_at new i ≡ bit_at now i)
+    → Keeps classes look byte base word (n + 1) new
+keeps_more classes look byte base word n now new k lt here others =
     record {
       below = λ i small less.
           elim (same_or i n) [
             | inl e ↦
                 let was : bit_at now n ≡ bit_at word n = k.above n lt (omega arith) in
-                ap (bit_at new) e ∙ here ∙ ap (λ (x : ℕ). cond (alike look byte (base + n)) x 0) was ∙ ap (λ (x : ℕ). cond (alike look byte (base + x)) (bit_at word x) 0) (sym e)
+                ap (bit_at new) e ∙ here ∙ ap (λ (x : ℕ). cond (alike_in classes look byte (base + n)) x 0) was ∙ ap (λ (x : ℕ). cond (alike_in classes look byte (base + x)) (bit_at word x) 0) (sym e)
             | inr ne ↦ others i small ne ∙ k.below i small (omega (arith, ne))
           ];
       above = λ i small more. let ne : i ≢ n = omega arith in others i small ne ∙ k.above i small (omega arith);
@@ -394,9 +395,9 @@ none_kept false true n e = sym e
 none_kept false false n e = refl
 
 -- A class is taken out of a rest, which is counted by both.
-pub counted : (look : Look) (byte : ℕ) (old class new : ByteSet) (n : ℕ) → n ≡ size class
-    → ((x : ℕ) → x < 256 → has class x ≡ cond (alike look byte x) (has old x) 0) → ((x : ℕ) → x < 256 → has new x ≡ has old x - has class x)
+pub counted : (classes : ℕ) (look : Look) (byte : ℕ) (old class new : ByteSet) (n : ℕ) → n ≡ size class
+    → ((x : ℕ) → x < 256 → has class x ≡ cond (alike_in classes look byte x) (has old x) 0) → ((x : ℕ) → x < 256 → has new x ≡ has old x - has class x)
     → n + size new ≡ size old
-counted look byte old class new n e taken left =
+counted classes look byte old class new n e taken left =
     ap (λ (m : ℕ). m + size new) e
-    ∙ split_size class new old (λ x lt. ap (λ (m : ℕ). has class x + m) (left x lt) ∙ taken_all (alike look byte x) (has old x) (has class x) (taken x lt))
+    ∙ split_size class new old (λ x lt. ap (λ (m : ℕ). has class x + m) (left x lt) ∙ taken_all (alike_in classes look byte x) (has old x) (has class x) (taken x lt))

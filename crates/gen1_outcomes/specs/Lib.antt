@@ -1,5 +1,6 @@
 -- Definitions that the contracts cite.
 pub mod Bytes
+pub mod Classes
 pub mod Nodes
 pub mod Script
 pub mod Following

@@ -3,18 +3,19 @@ use Rattle.std.specs.Prelude.{ℕ, slice_index_or, ◌+◌, ◌-◌, ◌*◌, �
 use Rattle.gen1_rolls.specs.declared.look.Look.{Look}
 use Rattle.gen1_outcomes.specs.declared.byte_set.ByteSet.{ByteSet}
 use Rattle.gen1_outcomes.specs.declared.nodes.Chance.{Chance}
-use Rattle.gen1_rolls.specs.Looks.{alike}
 use Rattle.gen1_outcomes.specs.declared.nodes.Node.{Node}
 use Rattle.gen1_outcomes.specs.declared.nodes.Nodes.{Nodes}
 use Rattle.gen1_outcomes.specs.Bytes.{has, size}
+use Rattle.gen1_outcomes.specs.Classes.{alike_in}
 
--- A draw takes a byte. The rest loses what is alike to it, and nothing else. The count is how many bytes it loses.
+-- A draw takes a byte. The rest loses what is alike to it in the classes of damage, and nothing else. The count is how many bytes it loses.
 pub record Takes (taken : ℕ) (old new : Node) : Type 0 where
   pub byte : new.byte ≡ taken
   pub look : new.look ≡ old.look
+  pub classes : new.damage_classes ≡ old.damage_classes
   pub above : new.above ≡ old.above
   pub total : new.total ≡ old.total
-  pub rest : (x : ℕ) → x < 256 → has new.rest x ≡ (if alike old.look taken x then 0 else has old.rest x)
+  pub rest : (x : ℕ) → x < 256 → has new.rest x ≡ (if alike_in old.damage_classes old.look taken x then 0 else has old.rest x)
   pub count : new.count + size new.rest ≡ size old.rest
 
 -- A draw goes on to a byte of its rest.
@@ -31,6 +32,7 @@ pub record LeadsOn (old new : Nodes) : Type 0 where
   pub place : ℕ
   pub within : place < old.len
   pub length : new.len ≡ place + 1
+  pub classes : new.damage_classes ≡ old.damage_classes
   pub before : (k : ℕ) → (none : Node) → k < place → slice_index_or new.list k none ≡ slice_index_or old.list k none
   pub here : (none : Node) → GoesOn (slice_index_or old.list place none) (slice_index_or new.list place none)
   pub after : (k : ℕ) → (none : Node) → place < k → k < old.len → IsDone (slice_index_or old.list k none)
@@ -51,8 +53,10 @@ pub record IsChance (nodes : Nodes) (c : Chance) : Type 0 where
 -- A draw is added behind the others: its byte, how many it may have, and the probability of those before it.
 pub record Adds (drawn : ℕ) (seen : Look) (may : ByteSet) (old new : Nodes) : Type 0 where
   pub length : new.len ≡ old.len + 1
+  pub classes : new.damage_classes ≡ old.damage_classes
   pub before : (k : ℕ) → (past : Node) → k < old.len → slice_index_or new.list k past ≡ slice_index_or old.list k past
   pub byte : (past : Node) → (slice_index_or new.list old.len past).byte ≡ drawn
   pub look : (past : Node) → (slice_index_or new.list old.len past).look ≡ seen
+  pub told : (past : Node) → (slice_index_or new.list old.len past).damage_classes ≡ old.damage_classes
   pub total : (past : Node) → (slice_index_or new.list old.len past).total ≡ size may
   pub above : (past : Node) → IsChance old (slice_index_or new.list old.len past).above

@@ -1,16 +1,17 @@
-//! The bytes that a look sees alike (docs/MECHANICS.md, "Link numbers").
+//! The bytes that a look sees alike, or that are in a class of damage (docs/MECHANICS.md, "Link numbers").
 ghost use Rattle.std.specs.Prelude.{ℕ, min, ◌+◌, ◌-◌, ◌<◌, ◌≡◌, ◌≢◌, ◌≤◌, if◌then◌else◌};
 ghost use Rattle.std.specs.Int.{bit_at};
-ghost use Rattle.gen1_rolls.specs.Looks.{alike};
 ghost use Rattle.gen1_outcomes.specs.Bytes.{has};
+ghost use Rattle.gen1_outcomes.specs.Classes.{alike_in};
 
 use crate::byte_set::ByteSet;
+use crate::classes::told;
 use gen1_rolls::Look;
 
-/// The bytes of a set that are alike to the byte.
-pub fn alike_to(look: Look, byte: u8, among: &ByteSet) -> ByteSet
+/// The bytes of a set that are alike to the byte in as many classes of damage.
+pub fn alike_to(damage_classes: u8, look: Look, byte: u8, among: &ByteSet) -> ByteSet
     ensures { (x : ℕ) → x < 256
-        → has result x ≡ (if alike look byte x then has among.now x else 0) }
+        → has result x ≡ (if alike_in damage_classes look byte x then has among.now x else 0) }
 {
     let seen = look.sees(byte) == 1;
     match look {
@@ -18,10 +19,10 @@ pub fn alike_to(look: Look, byte: u8, among: &ByteSet) -> ByteSet
         Look::RotatedBelow(bound) => on_one_side(among, &ByteSet::rotated_below(bound), seen),
         _ => ByteSet {
             words: [
-                alike_in_word(look, byte, 0, among.words[0]),
-                alike_in_word(look, byte, 64, among.words[1]),
-                alike_in_word(look, byte, 128, among.words[2]),
-                alike_in_word(look, byte, 192, among.words[3]),
+                alike_in_word(damage_classes, look, byte, 0, among.words[0]),
+                alike_in_word(damage_classes, look, byte, 64, among.words[1]),
+                alike_in_word(damage_classes, look, byte, 128, among.words[2]),
+                alike_in_word(damage_classes, look, byte, 192, among.words[3]),
             ],
         },
     }
@@ -40,15 +41,16 @@ fn on_one_side(among: &ByteSet, other: &ByteSet, inside: bool) -> ByteSet
 }
 
 // The bytes of a word that are alike to the byte. The first of the word is `base`.
-fn alike_in_word(look: Look, byte: u8, base: u8, word: u64) -> u64
+fn alike_in_word(damage_classes: u8, look: Look, byte: u8, base: u8, word: u64) -> u64
     requires { base ≤ 192 }
     ensures { (i : ℕ) → i < 64
-        → bit_at result i ≡ (if alike look byte (base + i) then bit_at word i else 0) }
+        → bit_at result i ≡ (if alike_in damage_classes look byte (base + i) then bit_at word i else 0) }
 {
-    let seen = look.sees(byte);
+    let seen = told(damage_classes, look, byte);
     let mut kept = word;
     'bits: for place in word.trailing_zeros()..64 {
-        let stays = word >> place & 1 == 0 || seen == look.sees(base + place as u8);
+        let stays = word >> place & 1 == 0
+            || seen == told(damage_classes, look, base + place as u8);
         kept = kept_if(kept, place, stays);
     }
     kept

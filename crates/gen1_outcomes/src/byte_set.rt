@@ -1,5 +1,5 @@
 //! Sets of bytes (docs/MECHANICS.md, "Link numbers").
-ghost use Rattle.std.specs.Prelude.{Bool, IfNone, IfSome, ℕ, min, nat_lt, ◌*◌, ◌+◌, ◌-◌, ◌^◌, ◌<◌, ◌≡◌, ◌≤◌, ◌≢◌, if◌then◌else◌};
+ghost use Rattle.std.specs.Prelude.{Bool, IfNone, IfSome, IsTrue, ℕ, min, nat_lt, ◌*◌, ◌+◌, ◌-◌, ◌^◌, ◌<◌, ◌≡◌, ◌≤◌, ◌≢◌, if◌then◌else◌};
 ghost use Rattle.std.specs.Int.{bit_at};
 ghost use Rattle.gen1_rolls.specs.Draws.{Settles};
 ghost use Rattle.gen1_rolls.specs.Looks.{rotated_left_3};
@@ -59,6 +59,13 @@ impl ByteSet {
         if condition {
             self.insert(byte);
         }
+    }
+
+    /// Whether the byte is in the set.
+    pub fn contains(&self, byte: u8) -> bool
+        ensures { IsTrue result → has self.now byte ≡ 1 }
+    {
+        self.words[(byte / 64) as usize] >> (byte % 64) & 1 == 1
     }
 
     /// The bytes that are in both sets.

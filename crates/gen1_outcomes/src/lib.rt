@@ -2,7 +2,8 @@
 //! (docs/MECHANICS.md, "Link numbers").
 //!
 //! - `byte_set`: sets of bytes
-//! - `alike`: the bytes that a look sees alike
+//! - `classes`: classes of damage
+//! - `alike`: the bytes that a look sees alike, or that are in a class of damage
 //! - `script`: a generator whose first bytes are given
 //! - `nodes`: the draws of a way, each with the bytes that are still to be tried
 //! - `explorer`: a generator that takes an update through all its ways, one after the other
@@ -16,6 +17,7 @@
 
 mod alike;
 mod byte_set;
+mod classes;
 mod explorer;
 mod fault;
 mod merging;

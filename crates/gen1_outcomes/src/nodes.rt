@@ -1,7 +1,7 @@
 //! The draws of a way, each with the bytes that are still to be tried (docs/MECHANICS.md, "Link numbers").
 ghost use Rattle.std.specs.Prelude.{IfSome, IsFalse, IsTrue, false, nat_le, true, ℕ, ◌*◌, ◌+◌, ◌<◌, ◌≡◌, ◌≤◌, ◌⊎◌, if◌then◌else◌};
-ghost use Rattle.gen1_rolls.specs.Looks.{alike};
 ghost use Rattle.gen1_outcomes.specs.Bytes.{has, size};
+ghost use Rattle.gen1_outcomes.specs.Classes.{alike_in};
 
 use crate::alike::alike_to;
 use crate::byte_set::ByteSet;
@@ -25,6 +25,8 @@ pub struct Node {
     pub byte: u8,
     /// What is looked at of the byte.
     pub look: Look,
+    /// How many classes of damage are told apart, 1 to 39. 0: each damage.
+    pub damage_classes: u8,
     /// The probability of the draws before it.
     pub above: Chance,
     /// Of the bytes that it may have: those that are alike neither to `byte` nor to one that it had before.
@@ -44,6 +46,7 @@ impl Node {
         Node {
             byte: 0,
             look: Look::Remainder(1),
+            damage_classes: 0,
             above: Chance { num: 1, whole: 1 },
             rest,
             total: rest.count(),
@@ -52,11 +55,18 @@ impl Node {
     }
 
     /// A draw that may have these bytes, and has this one of them.
-    pub fn new(byte: u8, look: Look, above: Chance, may_have: &ByteSet) -> Self
+    pub fn new(
+        byte: u8,
+        look: Look,
+        damage_classes: u8,
+        above: Chance,
+        may_have: &ByteSet,
+    ) -> Self
         ensures byte { result.byte ≡ byte }
         ensures look { result.look ≡ look }
+        ensures classes { result.damage_classes ≡ damage_classes }
         ensures rest { (x : ℕ) → x < 256
-            → has result.rest x ≡ (if alike look byte x then 0 else has may_have.now x) }
+            → has result.rest x ≡ (if alike_in damage_classes look byte x then 0 else has may_have.now x) }
         ensures above { result.above ≡ above }
         ensures total { result.total ≡ size may_have.now }
         ensures count { result.count + size result.rest ≡ size may_have.now }
@@ -64,6 +74,7 @@ impl Node {
         let mut node = Node {
             byte,
             look,
+            damage_classes,
             above,
             rest: *may_have,
             total: may_have.count(),
@@ -77,7 +88,7 @@ impl Node {
     fn take(&mut self, byte: u8)
         ensures { Takes byte self.old self.new }
     {
-        let class = alike_to(self.look, byte, &self.rest);
+        let class = alike_to(self.damage_classes, self.look, byte, &self.rest);
         self.rest = self.rest.without(&class);
         self.byte = byte;
         self.count = class.count();
@@ -90,11 +101,32 @@ impl Node {
         ensures kept { IsFalse result → self.new ≡ self.old }
     {
         match self.rest.first() {
-            Some(byte) => {
+            Some(first) => {
+                let byte = self.one_for(first);
                 self.take(byte);
                 true
             }
             None => false,
+        }
+    }
+
+    // The byte of the rest that is played for those that are alike to its first: with classes of damage the middle one, and
+    // else the first.
+    fn one_for(&self, first: u8) -> u8
+        requires { has self.now.rest first ≡ 1 }
+        ensures { has self.now.rest result ≡ 1 }
+    {
+        if self.damage_classes == 0 {
+            return first;
+        }
+        match self.look {
+            Look::Factor { .. } => {
+                let class = alike_to(self.damage_classes, self.look, first, &self.rest);
+                // The bytes that a roll of damage accepts are odd.
+                let middle = first.wrapping_add(class.count().saturating_sub(1).min(38) as u8 & 0xFE);
+                if self.rest.contains(middle) { middle } else { first }
+            }
+            _ => first,
         }
     }
 
@@ -154,6 +186,8 @@ pub struct Nodes {
     pub at: usize,
     /// Whether there were more than there is room for, or 128 bits do not hold a probability.
     pub too_large: bool,
+    /// How many classes of damage are told apart, 1 to 39. 0: each damage.
+    pub damage_classes: u8,
     ghost few: { len ≤ 24 },
 }
 
@@ -161,7 +195,8 @@ impl Nodes {
     ghost use Rattle.gen1_outcomes.specs.Nodes.{Adds, AllDone, IsChance, LeadsOn};
 
     /// No draw yet.
-    pub fn new() -> Self
+    pub fn new(damage_classes: u8) -> Self
+        ensures classes { result.damage_classes ≡ damage_classes }
         ensures empty { result.len ≡ 0 }
         ensures fits { result.too_large ≡ false }
     {
@@ -170,6 +205,7 @@ impl Nodes {
             len: 0,
             at: 0,
             too_large: false,
+            damage_classes,
         }
     }
 
@@ -191,7 +227,7 @@ impl Nodes {
         } else {
             match self.chance() {
                 Some(above) if self.len < DEPTH => {
-                    self.list[self.len] = Node::new(byte, look, above, may_have);
+                    self.list[self.len] = Node::new(byte, look, self.damage_classes, above, may_have);
                     self.len += 1;
                     self.at = self.len;
                 }
@@ -221,9 +257,9 @@ impl Nodes {
         false
     }
 
-    /// The bytes of the way, with 255 in the places after them.
+    /// The bytes of the way. The places after them have the byte of the middle factor of the last class of damage.
     pub fn path(&self) -> [u8; DEPTH] {
-        let mut path = [255; DEPTH];
+        let mut path = [middle_of_last(self.damage_classes); DEPTH];
         for place in 0..self.len {
             path[place] = self.list[place].byte;
         }
@@ -241,5 +277,15 @@ impl Nodes {
         } else {
             self.list[self.len - 1].chance()
         }
+    }
+}
+
+// The byte whose factor is the middle one of the last class of damage. Without classes it is 255, whose factor is the
+// last. Bytes of two neighbouring factors are 2 apart.
+fn middle_of_last(damage_classes: u8) -> u8 {
+    if damage_classes == 0 {
+        255
+    } else {
+        255 - (39 / damage_classes & 0xFE)
     }
 }

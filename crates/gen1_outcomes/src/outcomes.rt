@@ -28,7 +28,9 @@ pub struct Outcomes {
 ///
 /// They are written to the first places of `successors`. The weights sum to `whole`. The probability of a battle is its
 /// weight over `whole`, if every draw is an independent uniform byte. `table` is for the call's own use, and has at
-/// least as many places as there are outcomes; twice as many make the call faster.
+/// least as many places as there are outcomes; twice as many make the call faster. With `damage_classes` above 0, up to
+/// 39, rolls of damage are told apart in that many classes, as by `Ways::new`: the battles are some of those, and a
+/// weight is that of a whole class.
 ///
 /// # Errors
 ///
@@ -36,17 +38,17 @@ pub struct Outcomes {
 /// `successors` or in `table`: then both may have any content.
 pub fn list_outcomes(
     battle: &Packed,
-    one: Choice,
-    two: Choice,
+    pair: (Choice, Choice),
+    damage_classes: u8,
     successors: &mut [Successor],
     table: &mut [u32],
 ) -> Result<Outcomes, OutcomesFault>
     ensures follow { (s : State) → Stands battle.now s
-        → IfOk result (λ o. EachFollows s one two o.count successors.new) }
+        → IfOk result (λ o. EachFollows s pair.0 pair.1 o.count successors.new) }
     ensures sum { IfOk result (λ o. sum_of o.count successors.new ≡ o.whole) }
     ensures within { IfOk result (λ o. o.count ≤ length successors.new) }
 {
-    match Ways::new(battle, one, two) {
+    match Ways::new(battle, pair.0, pair.1, damage_classes) {
         Err(why) => Err(OutcomesFault::Refused(why)),
         Ok(ways) => {
             clear(table);

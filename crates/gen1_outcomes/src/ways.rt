@@ -41,10 +41,19 @@ impl Model for Ways {
 impl Ways {
     /// The ways of an update of the battle by a choice of each side, before the first.
     ///
+    /// A roll of damage is told apart in as many classes as `damage_classes` says, 1 to 39. 0: each damage. A class has
+    /// neighbouring damages below the HP that is left, and one of them near its middle is played for all. All damages from
+    /// the HP on are one class more.
+    ///
     /// # Errors
     ///
     /// The first that applies: the battle is over, side 1's choice is not offered, side 2's is not.
-    pub fn new(battle: &Packed, one: Choice, two: Choice) -> Result<Ways, Refusal>
+    pub fn new(
+        battle: &Packed,
+        one: Choice,
+        two: Choice,
+        damage_classes: u8,
+    ) -> Result<Ways, Refusal>
         ensures walk { IfOk result (λ w. w ≡ record { start = battle.now; one = one; two = two }) }
         ensures offered { (s : State) → Stands battle.now s
             → IfOk result (λ _. AreOffered s one two) }
@@ -59,7 +68,7 @@ impl Ways {
                 start: copy_of(battle),
                 one,
                 two,
-                nodes: Nodes::new(),
+                nodes: Nodes::new(damage_classes),
                 over: false,
             }),
         }

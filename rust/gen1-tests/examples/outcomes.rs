@@ -176,18 +176,19 @@ fn chosen(battle: &Packed, side: Side, kind: &Kind, random: &mut Numbers) -> Cho
 #[inline(never)]
 fn list(
     battle: &Packed,
-    one: Choice,
-    two: Choice,
+    pair: (Choice, Choice),
+    classes: u8,
     successors: &mut [Successor],
     table: &mut [u32],
 ) -> Outcomes {
-    black_box(list_outcomes(battle, one, two, successors, table).unwrap())
+    black_box(list_outcomes(battle, pair, classes, successors, table).unwrap())
 }
 
 fn main() {
     let words: Vec<String> = std::env::args().skip(1).collect();
     let kind = kind_of(&words[0]);
     let calls: usize = words[1].parse().unwrap();
+    let classes: u8 = words.get(2).map_or(0, |word| word.parse().unwrap());
     let mut random = Numbers(0x9E37_79B9_7F4A_7C15);
     let mut successors: Vec<Successor> = Vec::new();
     let mut found: Vec<(u32, usize)> = Vec::new();
@@ -205,10 +206,10 @@ fn main() {
             if update % EVERY == 0 {
                 // With a table of twice as many places as there are outcomes, which a call that is not counted finds.
                 let count =
-                    list_outcomes(&battle, one, two, &mut successors, &mut vec![0; 2 * PLACES])
+                    list_outcomes(&battle, (one, two), classes, &mut successors, &mut vec![0; 2 * PLACES])
                         .unwrap()
                         .count;
-                let outcomes = list(&battle, one, two, &mut successors, &mut vec![0; 2 * count]);
+                let outcomes = list(&battle, (one, two), classes, &mut successors, &mut vec![0; 2 * count]);
                 found.push((outcomes.ways, outcomes.count));
             }
             update_silent(&mut battle, one, two).unwrap();

@@ -86,7 +86,7 @@ impl List {
         loop {
             let mut successors: Vec<Successor> = (0..places).map(|_| Successor::new(battle.clone(), 0)).collect();
             let mut table = vec![0; 2 * places];
-            match list_outcomes(battle, one, two, &mut successors, &mut table) {
+            match list_outcomes(battle, (one, two), 0, &mut successors, &mut table) {
                 Ok(outcomes) => {
                     successors.truncate(outcomes.count);
                     return List { successors, table, outcomes };
@@ -340,7 +340,7 @@ fn updates_without_draws_have_one_outcome() {
 fn faults() {
     let battle = uses("Tauros", "Body Slam", "Tauros");
     let places = |count: usize| (0..count).map(|_| Successor::new(battle.clone(), 0)).collect::<Vec<_>>();
-    let ask = |one, two, places: &mut [Successor], table: usize| list_outcomes(&battle, one, two, places, &mut vec![0; table]);
+    let ask = |one, two, places: &mut [Successor], table: usize| list_outcomes(&battle, (one, two), 0, places, &mut vec![0; table]);
     let refused = |side| Err(OutcomesFault::Refused(Refusal::NotOffered(side)));
     assert_eq!(ask(slot(2), slot(3), &mut places(1), 1), refused(ONE));
     assert_eq!(ask(slot(1), Choice::Pass, &mut places(1), 1), refused(TWO));
@@ -352,7 +352,7 @@ fn faults() {
     let mut over = battle.clone();
     over.put_hp(TWO, 1);
     let over = List::of(&over, slot(1), slot(1)).successors.into_iter().find(|next| next.battle.outcome().is_over()).unwrap();
-    let fault = list_outcomes(&over.battle, slot(1), slot(1), &mut places(1), &mut [0]);
+    let fault = list_outcomes(&over.battle, (slot(1), slot(1)), 0, &mut places(1), &mut [0]);
     assert_eq!(fault, Err(OutcomesFault::Refused(Refusal::Over)));
     assert_eq!(fault.unwrap_err().number(), 1);
 }
@@ -567,7 +567,7 @@ fn ways_sum_to_the_outcomes() {
     for it in positions(60, &mut Bytes::new(7)) {
         let list = List::of(&it.battle, it.one, it.two);
         let weights = list.weights();
-        let mut ways = Ways::new(&it.battle, it.one, it.two).unwrap();
+        let mut ways = Ways::new(&it.battle, it.one, it.two, 0).unwrap();
         let mut sums: HashMap<Vec<u8>, u128> = HashMap::new();
         let mut next = it.battle.clone();
         let mut played = 0;

@@ -80,7 +80,7 @@ impl Battle {
     pub fn ways<A: Chosen, B: Chosen>(&self, one: A, two: B) -> Result<Ways, Refusal> {
         let (one, two) = self.pair(one, two)?;
         Ok(Ways {
-            ways: outcomes::Ways::new(&self.packed, one, two)?,
+            ways: outcomes::Ways::new(&self.packed, one, two, 0)?,
             start: self.clone(),
             is_over: false,
         })
@@ -119,13 +119,41 @@ impl Battle {
         successors: &mut [Successor],
         table: &mut [u32],
     ) -> Result<Outcomes, OutcomesFault> {
-        let (one, two) = self.pair(one, two)?;
-        outcomes::list_outcomes(&self.packed, one, two, successors, table)
+        outcomes::list_outcomes(&self.packed, self.pair(one, two)?, 0, successors, table)
     }
 
     /// The choices of both sides, if they are offered now.
     fn pair<A: Chosen, B: Chosen>(&self, one: A, two: B) -> Result<(Choice, Choice), Refusal> {
         Ok((one.checked(self, Side::One)?, two.checked(self, Side::Two)?))
+    }
+}
+
+/// How outcomes are listed: by default each damage of a roll apart.
+///
+/// [`Battle::outcomes_with`] takes it.
+#[cfg(feature = "alloc")]
+#[derive(Clone, Copy, Debug, Default, PartialEq, Eq, Hash)]
+pub struct OutcomeOptions {
+    damage_classes: u8,
+}
+
+#[cfg(feature = "alloc")]
+impl OutcomeOptions {
+    /// Each damage of a roll is listed apart.
+    #[must_use]
+    pub const fn new() -> Self {
+        OutcomeOptions { damage_classes: 0 }
+    }
+
+    /// The same with at most so many classes of damage for each roll: for a search, which wants fewer outcomes.
+    ///
+    /// The 39 factors from 217 to 255 are cut into as many runs, and damages of one run are a class. Of each class one damage near its
+    /// middle is listed, with the weight of all. All damages from the HP of the target on (or of its substitute) are one class more, so
+    /// the chance that a roll knocks out stays exact, and so does everything that is not a roll of damage. 0 lists each damage, and so
+    /// does any number from 39 on.
+    #[must_use]
+    pub const fn with_damage_classes(self, damage_classes: u8) -> Self {
+        OutcomeOptions { damage_classes }
     }
 }
 
@@ -186,12 +214,41 @@ impl Battle {
     ///
     /// A refusal as of [`Battle::update`], or [`OutcomesFault::Size`], of which no update is known.
     pub fn outcomes<A: Chosen, B: Chosen>(&self, one: A, two: B) -> Result<OutcomeList, OutcomesFault> {
+        self.outcomes_with(one, two, &OutcomeOptions::new())
+    }
+
+    /// As [`Battle::outcomes`], with options. Needs the feature `alloc`.
+    ///
+    /// ```
+    /// use gen1::{Battle, Choice, OutcomeOptions, Team, member};
+    ///
+    /// # fn main() -> Result<(), Box<dyn std::error::Error>> {
+    /// let team = Team::new(&[member("Tauros", &["Body Slam"])?])?;
+    /// let mut battle = Battle::new(&team, &team, [0; 10]);
+    /// battle.update(Choice::Pass, Choice::Pass)?;
+    /// let all = battle.outcomes(Choice::MOVE_1, Choice::MOVE_1)?;
+    /// let options = OutcomeOptions::new().with_damage_classes(3);
+    /// let few = battle.outcomes_with(Choice::MOVE_1, Choice::MOVE_1, &options)?;
+    /// assert!(10 * few.successors().len() < all.successors().len());
+    /// # Ok(())
+    /// # }
+    /// ```
+    ///
+    /// # Errors
+    ///
+    /// As for [`Battle::outcomes`].
+    pub fn outcomes_with<A: Chosen, B: Chosen>(
+        &self,
+        one: A,
+        two: B,
+        options: &OutcomeOptions,
+    ) -> Result<OutcomeList, OutcomesFault> {
         let pair = self.pair(one, two)?;
         let mut places = 256;
         loop {
             let mut successors = alloc::vec![Successor::from(self); places];
             let mut table = alloc::vec![0; 2 * places];
-            match self.outcomes_into(pair.0, pair.1, &mut successors, &mut table) {
+            match outcomes::list_outcomes(&self.packed, pair, options.damage_classes, &mut successors, &mut table) {
                 Ok(found) => {
                     successors.truncate(found.count);
                     successors.shrink_to_fit();

@@ -93,14 +93,14 @@ def _numpy() -> Any:
     return numpy
 
 
-def outcomes_of(held: Any, one: int, two: int) -> tuple[int, Outcomes | None]:
+def outcomes_of(held: Any, one: int, two: int, damage_classes: int) -> tuple[int, Outcomes | None]:
     """The outcomes of an update of the battle with these 384 bytes, or the
     code of the refusal.
     """
     places = PLACES
     while True:
         rows, table, of = (SuccessorStruct * places)(), (c_uint32 * (2 * places))(), OutcomeListStruct()
-        code = _library.outcomes(byref(held), one, two, rows, places, table, 2 * places, byref(of))
+        code = _library.outcomes(byref(held), one, two, damage_classes, rows, places, table, 2 * places, byref(of))
         if code == 0:
             return code, Outcomes(string_at(rows, SIZE * of.count), of.high << 64 | of.low)
         if code == _library.TOO_MANY_DRAWS:  # no update is known that has

@@ -395,16 +395,26 @@ class Battle:
                 return Playouts(*counts)
             number = dice.getrandbits(64)
 
-    def outcomes(self, one: Choice | int, two: Choice | int) -> Outcomes:
+    def outcomes(self, one: Choice | int, two: Choice | int, *, damage_classes: int = 0) -> Outcomes:
         """All battles that an update by a choice of each side can lead to,
         each with its exact probability (`Outcomes` says of what draws).
 
         The battle is unchanged. Most updates have fewer than a hundred
-        outcomes, and the most that were met are some fifty thousand. Raises
-        `Refused` and `BadArgument` as `update` does.
+        outcomes, and the most that were met are some fifty thousand.
+
+        A search may want fewer. With `damage_classes`, 1 to 39, a roll of
+        damage has at most that many classes: the 39 factors from 217 to 255
+        are cut into as many runs, and damages of one run are a class. Of
+        each class one damage near its middle is listed, with the weight of
+        all. All damages from the HP of the target on (or of its substitute)
+        are one class more, so the chance that a roll knocks out stays
+        exact, and so does everything that is not a roll of damage.
+
+        Raises `Refused` and `BadArgument` as `update` does, and
+        `BadArgument` or `BadType` for another `damage_classes`.
         """
         pair = a_choice(one, 1), a_choice(two, 2)
-        code, found = outcomes_of(self._held, *pair)
+        code, found = outcomes_of(self._held, *pair, within(damage_classes, "damage_classes", 0, 39))
         if found is None:
             raise self._refused(Refusal(code), pair)
         return found

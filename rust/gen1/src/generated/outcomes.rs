@@ -3,7 +3,8 @@
 //! ([docs/MECHANICS.md, "Link numbers"](https://hibsuloy.example/gen1/blob/main/docs/MECHANICS.md#link-numbers)).
 //!
 //! - `byte_set`: sets of bytes
-//! - `alike`: the bytes that a look sees alike
+//! - `classes`: classes of damage
+//! - `alike`: the bytes that a look sees alike, or that are in a class of damage
 //! - `script`: a generator whose first bytes are given
 //! - `nodes`: the draws of a way, each with the bytes that are still to be tried
 //! - `explorer`: a generator that takes an update through all its ways, one after the other
@@ -15,23 +16,24 @@
 //! - `fault`: why outcomes are not listed
 
 mod alike {
-    //! The bytes that a look sees alike ([docs/MECHANICS.md, "Link numbers"](https://hibsuloy.example/gen1/blob/main/docs/MECHANICS.md#link-numbers)).
+    //! The bytes that a look sees alike, or that are in a class of damage ([docs/MECHANICS.md, "Link numbers"](https://hibsuloy.example/gen1/blob/main/docs/MECHANICS.md#link-numbers)).
 
     use crate::generated::outcomes::byte_set::ByteSet;
+    use crate::generated::outcomes::classes::told;
     use crate::generated::rolls::Look;
 
-    /// The bytes of a set that are alike to the byte.
-    pub fn alike_to(look: Look, byte: u8, among: &ByteSet) -> ByteSet {
+    /// The bytes of a set that are alike to the byte in as many classes of damage.
+    pub fn alike_to(damage_classes: u8, look: Look, byte: u8, among: &ByteSet) -> ByteSet {
         let seen = look.sees(byte) == 1;
         match look {
             Look::Below(bound) => on_one_side(among, &ByteSet::below(bound), seen),
             Look::RotatedBelow(bound) => on_one_side(among, &ByteSet::rotated_below(bound), seen),
             _ => ByteSet {
                 words: [
-                    alike_in_word(look, byte, 0, among.words[0]),
-                    alike_in_word(look, byte, 64, among.words[1]),
-                    alike_in_word(look, byte, 128, among.words[2]),
-                    alike_in_word(look, byte, 192, among.words[3]),
+                    alike_in_word(damage_classes, look, byte, 0, among.words[0]),
+                    alike_in_word(damage_classes, look, byte, 64, among.words[1]),
+                    alike_in_word(damage_classes, look, byte, 128, among.words[2]),
+                    alike_in_word(damage_classes, look, byte, 192, among.words[3]),
                 ],
             },
         }
@@ -47,11 +49,12 @@ mod alike {
     }
 
     // The bytes of a word that are alike to the byte. The first of the word is `base`.
-    fn alike_in_word(look: Look, byte: u8, base: u8, word: u64) -> u64 {
-        let seen = look.sees(byte);
+    fn alike_in_word(damage_classes: u8, look: Look, byte: u8, base: u8, word: u64) -> u64 {
+        let seen = told(damage_classes, look, byte);
         let mut kept = word;
         for place in word.trailing_zeros()..64 {
-            let stays = word >> place & 1 == 0 || seen == look.sees(base + place as u8);
+            let stays = word >> place & 1 == 0
+                || seen == told(damage_classes, look, base + place as u8);
             kept = kept_if(kept, place, stays);
         }
         kept
@@ -110,6 +113,11 @@ mod byte_set {
             if condition {
                 self.insert(byte);
             }
+        }
+
+        /// Whether the byte is in the set.
+        pub fn contains(&self, byte: u8) -> bool {
+            self.words[(byte / 64) as usize] >> (byte % 64) & 1 == 1
         }
 
         /// The bytes that are in both sets.
@@ -204,6 +212,42 @@ mod byte_set {
         let low = (u16::from(bound) + 7 - u16::from(least)) / 8;
         let high = (u16::from(bound) + 6 - u16::from(least)) / 8;
         ones(high as u8) * 0x1_0000_0000 + ones(low as u8)
+    }
+}
+
+mod classes {
+    //! Classes of damage ([docs/MECHANICS.md, "Link numbers"](https://hibsuloy.example/gen1/blob/main/docs/MECHANICS.md#link-numbers)).
+
+    use crate::generated::rolls::Look;
+
+    /// What of the byte is told apart, as a number: what the look sees, or with classes of damage the class of the damage.
+    ///
+    /// There are as many classes as the first number says, or with 0 as many as there are damages. A damage from the limit
+    /// on is in none of them: all of these are told apart from the others, and not from each other.
+    pub fn told(damage_classes: u8, look: Look, byte: u8) -> u32 {
+        let seen = look.sees(byte);
+        match look {
+            Look::Factor { damage, limit } => {
+                if damage_classes == 0 {
+                    u32::from(seen)
+                } else if seen >= limit {
+                    u32::from(damage_classes)
+                } else {
+                    class_of(damage_classes, damage, seen)
+                }
+            }
+            _ => u32::from(seen),
+        }
+    }
+
+    // The class of a part of the damage.
+    fn class_of(damage_classes: u8, damage: u16, part: u16) -> u32 {
+        least_factor(damage, part).saturating_sub(217) * u32::from(damage_classes) / 39
+    }
+
+    // The least factor, in 255ths, that makes the part of the damage.
+    fn least_factor(damage: u16, part: u16) -> u32 {
+        (u32::from(part) * 255 + u32::from(damage.saturating_sub(1))) / u32::from(damage.max(1))
     }
 }
 
@@ -555,6 +599,8 @@ mod nodes {
         pub byte: u8,
         /// What is looked at of the byte.
         pub look: Look,
+        /// How many classes of damage are told apart, 1 to 39. 0: each damage.
+        pub damage_classes: u8,
         /// The probability of the draws before it.
         pub above: Chance,
         /// Of the bytes that it may have: those that are alike neither to `byte` nor to one that it had before.
@@ -571,6 +617,7 @@ mod nodes {
             Node {
                 byte: 0,
                 look: Look::Remainder(1),
+                damage_classes: 0,
                 above: Chance { num: 1, whole: 1 },
                 rest,
                 total: rest.count(),
@@ -579,10 +626,17 @@ mod nodes {
         }
 
         /// A draw that may have these bytes, and has this one of them.
-        pub fn new(byte: u8, look: Look, above: Chance, may_have: &ByteSet) -> Self {
+        pub fn new(
+            byte: u8,
+            look: Look,
+            damage_classes: u8,
+            above: Chance,
+            may_have: &ByteSet,
+        ) -> Self {
             let mut node = Node {
                 byte,
                 look,
+                damage_classes,
                 above,
                 rest: *may_have,
                 total: may_have.count(),
@@ -594,7 +648,7 @@ mod nodes {
 
         // Takes the byte, and all that are alike to it, out of the rest.
         fn take(&mut self, byte: u8) {
-            let class = alike_to(self.look, byte, &self.rest);
+            let class = alike_to(self.damage_classes, self.look, byte, &self.rest);
             self.rest = self.rest.without(&class);
             self.byte = byte;
             self.count = class.count();
@@ -603,11 +657,29 @@ mod nodes {
         // Goes to a byte of the rest, if there is one.
         fn advance(&mut self) -> bool {
             match self.rest.first() {
-                Some(byte) => {
+                Some(first) => {
+                    let byte = self.one_for(first);
                     self.take(byte);
                     true
                 }
                 None => false,
+            }
+        }
+
+        // The byte of the rest that is played for those that are alike to its first: with classes of damage the middle one, and
+        // else the first.
+        fn one_for(&self, first: u8) -> u8 {
+            if self.damage_classes == 0 {
+                return first;
+            }
+            match self.look {
+                Look::Factor { .. } => {
+                    let class = alike_to(self.damage_classes, self.look, first, &self.rest);
+                    // The bytes that a roll of damage accepts are odd.
+                    let middle = first.wrapping_add(class.count().saturating_sub(1).min(38) as u8 & 0xFE);
+                    if self.rest.contains(middle) { middle } else { first }
+                }
+                _ => first,
             }
         }
 
@@ -658,16 +730,19 @@ mod nodes {
         pub at: usize,
         /// Whether there were more than there is room for, or 128 bits do not hold a probability.
         pub too_large: bool,
+        /// How many classes of damage are told apart, 1 to 39. 0: each damage.
+        pub damage_classes: u8,
     }
 
     impl Nodes {
         /// No draw yet.
-        pub fn new() -> Self {
+        pub fn new(damage_classes: u8) -> Self {
             Nodes {
                 list: [Node::none(); DEPTH],
                 len: 0,
                 at: 0,
                 too_large: false,
+                damage_classes,
             }
         }
 
@@ -683,7 +758,7 @@ mod nodes {
             } else {
                 match self.chance() {
                     Some(above) if self.len < DEPTH => {
-                        self.list[self.len] = Node::new(byte, look, above, may_have);
+                        self.list[self.len] = Node::new(byte, look, self.damage_classes, above, may_have);
                         self.len += 1;
                         self.at = self.len;
                     }
@@ -710,9 +785,9 @@ mod nodes {
             false
         }
 
-        /// The bytes of the way, with 255 in the places after them.
+        /// The bytes of the way. The places after them have the byte of the middle factor of the last class of damage.
         pub fn path(&self) -> [u8; DEPTH] {
-            let mut path = [255; DEPTH];
+            let mut path = [middle_of_last(self.damage_classes); DEPTH];
             for place in 0..self.len {
                 path[place] = self.list[place].byte;
             }
@@ -728,6 +803,16 @@ mod nodes {
             } else {
                 self.list[self.len - 1].chance()
             }
+        }
+    }
+
+    // The byte whose factor is the middle one of the last class of damage. Without classes it is 255, whose factor is the
+    // last. Bytes of two neighbouring factors are 2 apart.
+    fn middle_of_last(damage_classes: u8) -> u8 {
+        if damage_classes == 0 {
+            255
+        } else {
+            255 - (39 / damage_classes & 0xFE)
         }
     }
 }
@@ -758,7 +843,9 @@ mod outcomes {
     ///
     /// They are written to the first places of `successors`. The weights sum to `whole`. The probability of a battle is its
     /// weight over `whole`, if every draw is an independent uniform byte. `table` is for the call's own use, and has at
-    /// least as many places as there are outcomes; twice as many make the call faster.
+    /// least as many places as there are outcomes; twice as many make the call faster. With `damage_classes` above 0, up to
+    /// 39, rolls of damage are told apart in that many classes, as by `Ways::new`: the battles are some of those, and a
+    /// weight is that of a whole class.
     ///
     /// # Errors
     ///
@@ -766,12 +853,12 @@ mod outcomes {
     /// `successors` or in `table`: then both may have any content.
     pub fn list_outcomes(
         battle: &Packed,
-        one: Choice,
-        two: Choice,
+        pair: (Choice, Choice),
+        damage_classes: u8,
         successors: &mut [Successor],
         table: &mut [u32],
     ) -> Result<Outcomes, OutcomesFault> {
-        match Ways::new(battle, one, two) {
+        match Ways::new(battle, pair.0, pair.1, damage_classes) {
             Err(why) => Err(OutcomesFault::Refused(why)),
             Ok(ways) => {
                 clear(table);
@@ -1002,10 +1089,19 @@ mod ways {
     impl Ways {
         /// The ways of an update of the battle by a choice of each side, before the first.
         ///
+        /// A roll of damage is told apart in as many classes as `damage_classes` says, 1 to 39. 0: each damage. A class has
+        /// neighbouring damages below the HP that is left, and one of them near its middle is played for all. All damages from
+        /// the HP on are one class more.
+        ///
         /// # Errors
         ///
         /// The first that applies: the battle is over, side 1's choice is not offered, side 2's is not.
-        pub fn new(battle: &Packed, one: Choice, two: Choice) -> Result<Ways, Refusal> {
+        pub fn new(
+            battle: &Packed,
+            one: Choice,
+            two: Choice,
+            damage_classes: u8,
+        ) -> Result<Ways, Refusal> {
             // The update itself says whether it is refused.
             let mut copy = copy_of(battle);
             match update_silent(&mut copy, copied(&one), copied(&two)) {
@@ -1014,7 +1110,7 @@ mod ways {
                     start: copy_of(battle),
                     one,
                     two,
-                    nodes: Nodes::new(),
+                    nodes: Nodes::new(damage_classes),
                     over: false,
                 }),
             }

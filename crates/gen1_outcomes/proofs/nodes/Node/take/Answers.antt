@@ -1,13 +1,13 @@
 use Rattle.std.proofs.Common.{arith, ℕ, refl, ap, ◌∙◌, ◌-◌}
-use Rattle.gen1_rolls.specs.Looks.{alike}
 use Rattle.gen1_outcomes.specs.Bytes.{has}
+use Rattle.gen1_outcomes.specs.Classes.{alike_in}
 use Rattle.gen1_outcomes.proofs.Sets.{counted, taken_rest}
 use Rattle.gen1_outcomes.proofs.nodes.Node.take.Goals as goal
 
 pub invariant_of-self : goal.invariant_of-self
 invariant_of-self c =
     let old = c.args.self.now in
-    let all = counted old.look c.args.byte old.rest c.alike_to-class.result c.without-self.result c.count-self.result c.count-self.ensures c.alike_to-class.ensures
+    let all = counted old.damage_classes old.look c.args.byte old.rest c.alike_to-class.result c.without-self.result c.count-self.result c.count-self.ensures c.alike_to-class.ensures
     c.without-self.ensures in
     grind (arith, all)
 
@@ -17,10 +17,11 @@ returns c =
     record {
       byte = refl;
       look = refl;
+      classes = refl;
       above = refl;
       total = refl;
       rest = λ x lt.
-          c.without-self.ensures x lt ∙ ap (λ (n : ℕ). has old.rest x - n) (c.alike_to-class.ensures x lt) ∙ taken_rest (alike old.look c.args.byte x) (has old.rest x);
-      count = counted old.look c.args.byte old.rest c.alike_to-class.result c.without-self.result c.count-self.result c.count-self.ensures c.alike_to-class.ensures
+          c.without-self.ensures x lt ∙ ap (λ (n : ℕ). has old.rest x - n) (c.alike_to-class.ensures x lt) ∙ taken_rest (alike_in old.damage_classes old.look c.args.byte x) (has old.rest x);
+      count = counted old.damage_classes old.look c.args.byte old.rest c.alike_to-class.result c.without-self.result c.count-self.result c.count-self.ensures c.alike_to-class.ensures
           c.without-self.ensures;
     }

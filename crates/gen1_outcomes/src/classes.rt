@@ -1,0 +1,42 @@
+//! Classes of damage (docs/MECHANICS.md, "Link numbers").
+ghost use Rattle.std.specs.Prelude.{◌≡◌, ◌≤◌};
+ghost use Rattle.gen1_outcomes.specs.Classes.{class_of, least_factor, told};
+
+use gen1_rolls::Look;
+
+/// What of the byte is told apart, as a number: what the look sees, or with classes of damage the class of the damage.
+///
+/// There are as many classes as the first number says, or with 0 as many as there are damages. A damage from the limit
+/// on is in none of them: all of these are told apart from the others, and not from each other.
+pub fn told(damage_classes: u8, look: Look, byte: u8) -> u32
+    ensures { result ≡ told damage_classes look byte }
+{
+    let seen = look.sees(byte);
+    match look {
+        Look::Factor { damage, limit } => {
+            if damage_classes == 0 {
+                u32::from(seen)
+            } else if seen >= limit {
+                u32::from(damage_classes)
+            } else {
+                class_of(damage_classes, damage, seen)
+            }
+        }
+        _ => u32::from(seen),
+    }
+}
+
+// The class of a part of the damage.
+fn class_of(damage_classes: u8, damage: u16, part: u16) -> u32
+    ensures { result ≡ class_of damage_classes damage part }
+{
+    least_factor(damage, part).saturating_sub(217) * u32::from(damage_classes) / 39
+}
+
+// The least factor, in 255ths, that makes the part of the damage.
+fn least_factor(damage: u16, part: u16) -> u32
+    ensures value { result ≡ least_factor damage part }
+    ensures bound { result ≤ 16776959 }
+{
+    (u32::from(part) * 255 + u32::from(damage.saturating_sub(1))) / u32::from(damage.max(1))
+}
