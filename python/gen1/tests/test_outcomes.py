@@ -35,9 +35,9 @@ def facing(one, two):
     return battle
 
 
-def chances(battle, look, one=FIRST, two=FIRST):
+def chances(battle, look, one=FIRST, two=FIRST, damage_classes=0):
     """The exact probability of each value of `look`."""
-    of, sums = battle.outcomes(one, two), {}
+    of, sums = battle.outcomes(one, two, damage_classes=damage_classes), {}
     for state, weight in zip(of.battles, of.weights):
         seen = look(state)
         sums[seen] = sums.get(seen, 0) + Fraction(weight, of.whole)
@@ -73,6 +73,56 @@ def test_factors_and_critical_hits():
         other = set(battle.damage(1, "Body Slam", not critical))
         for damage in set(damages) - other:
             assert found[damage] == Fraction(255 * part * damages.count(damage), 65536 * 39)
+
+
+@pytest.mark.parametrize("classes", (1, 3, 8, 39))
+@pytest.mark.parametrize("left", (523, 260, 250, 136, 125, 120, 60))
+def test_classes_of_damage(classes, left):
+    """Of each class one damage is listed, with the weight of all. Those that knock out are a class more, which is exact.
+
+    A damage is in the class of the first of the 39 factors that makes it.
+    """
+    battle = facing(("Tauros", "Body Slam"), ("Snorlax", "Splash")).with_hp(2, 1, left)
+    sums, losses = {"miss": Fraction(1, 256)}, {"miss": {0}}
+    for critical, part in ((False, 201), (True, 55)):
+        damages = battle.damage(1, "Body Slam", critical)
+        for damage in damages:
+            name = "out" if damage >= left else (critical, damages.index(damage) * classes // 39)
+            sums[name] = sums.get(name, 0) + Fraction(255 * part, 65536 * 39)
+            losses.setdefault(name, set()).add(min(damage, left))
+    found = chances(battle, lambda it: left - hp(it, 2), damage_classes=classes)
+    assert len(found) == len(sums)
+    for name, within in losses.items():
+        assert [found[loss] for loss in found if min(within) <= loss <= max(within)] == [sums[name]]
+    if classes == 39:
+        assert found == chances(battle, lambda it: left - hp(it, 2))
+
+
+def test_classes_keep_the_chances_to_fall():
+    """Random battles: with classes each outcome is one of all, and each end and each fall has its exact probability."""
+    dice, listed = random.Random(12), {0: 0, 1: 0, 3: 0, 8: 0}
+    for _ in range(12):
+        battle = Battle(random_team(dice), random_team(dice), bytes(dice.randrange(256) for _ in range(10)))
+        for _ in range(12):
+            if not battle.result.is_over:
+                battle.update_silent(*(dice.choice(battle.choices(side)) for side in (1, 2)))
+        if battle.result.is_over:
+            continue
+        pair = [dice.choice(battle.choices(side)) for side in (1, 2)]
+        every = {it.bytes for it in battle.outcomes(*pair).battles}
+        falls = {}
+        for classes in listed:
+            found = battle.outcomes(*pair, damage_classes=classes)
+            listed[classes] += len(found)
+            assert sum(found.weights) == found.whole and {it.bytes for it in found.battles} <= every
+            falls[classes] = chances(battle, has_fallen, *pair, damage_classes=classes)
+        assert falls[1] == falls[3] == falls[8] == falls[0]
+    assert listed[1] < listed[3] < listed[8] < listed[0]
+
+
+def has_fallen(battle):
+    """How the battle has ended, and which members are down."""
+    return battle.result.outcome, tuple(it.hp == 0 for side in (1, 2) for it in battle.state.side(side).members)
 
 
 def test_sleep_and_confusion():
@@ -238,6 +288,11 @@ def test_bad_choices():
     for thing in NO_NUMBERS:
         with pytest.raises(BadType):
             battle.outcomes(FIRST, thing)
+        with pytest.raises(BadType, match="damage_classes"):
+            battle.outcomes(FIRST, FIRST, damage_classes=thing)
+    for number in (-1, 40, 255, *BIG):
+        with pytest.raises(BadArgument, match="damage_classes must be 0 to 39"):
+            battle.outcomes(FIRST, FIRST, damage_classes=number)
     fallen = facing(("Tauros", "Horn Drill"), ("Snorlax", "Splash")).outcomes(FIRST, FIRST)
     over = next(it for it in fallen.battles if it.result.is_over)
     with pytest.raises(Refused, match="the battle is over"):

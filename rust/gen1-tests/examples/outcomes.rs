@@ -1,6 +1,6 @@
 //! Lists the outcomes of positions of one kind. `bench/outcomes` counts its instructions, and says what the kinds are.
 //!
-//! cargo run --release -p gen1-tests --example outcomes -- KIND CALLS
+//! cargo run --release -p gen1-tests --example outcomes -- KIND CALLS [CLASSES]
 
 use gen1::generated::engine::packed::update_silent;
 use gen1::generated::layout::Packed;

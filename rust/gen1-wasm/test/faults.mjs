@@ -295,6 +295,11 @@ function seeds(battle, check) {
     for (const place of [-1, outcomes.length, 2 ** 32, 2 ** 53]) outside(() => outcomes.at(place), /^place is -?\d.*, not 0 to \d+$/);
     for (const place of NO_NUMBERS) wrong(() => outcomes.at(place), /^place is .*, not a whole number$/);
   });
+  check("classes of damage", () => {
+    const listed = (damageClasses) => battle.outcomes(17, 17, { damageClasses });
+    for (const number of [-1, 40, 255, ...BIG]) outside(() => listed(number), /^damageClasses is -?\d.*, not 0 to 39$/);
+    for (const number of NO_NUMBERS) wrong(() => listed(number), /^damageClasses is .*, not a whole number$/);
+  });
   check("playouts of nothing", () => {
     for (const seed of [-1, -1n, 2n ** 64n, 2 ** 53, 2 ** 64])
       outside(() => battle.playout(seed, 1), /^seed is -?\d.*, not 0 to 2/);

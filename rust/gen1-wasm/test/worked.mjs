@@ -165,6 +165,22 @@ function outcomes(gen1, check) {
     wins("win two", 255 * 257, 131072);
     wins("ongoing", 1, 65536);
   });
+  check("classes of damage", () => {
+    // Without a critical hit 201 of 256 bytes, and of 39 factors 13 in each class.
+    const battle = facing("Tauros", "Snorlax", "Splash");
+    const body = begun(gen1, "Tauros", "Snorlax", ["Splash", "Body Slam"]);
+    const damages = body.damage(1, "Body Slam");
+    const most = body.state.two.members[0].hp;
+    const sums = [0n, 0n, 0n];
+    const found = body.outcomes("move 2", "move 1", { damageClasses: 3 });
+    for (const { battle: next, weight } of found) {
+      const place = damages.indexOf(most - next.state.two.members[0].hp);
+      if (place >= 0) sums[Math.floor(place / 13)] += weight;
+      next.free();
+    }
+    for (const sum of sums) equal(`${sum * 65536n * 3n}`, `${found.whole * 255n * 201n}`);
+    holds(battle.outcomes("move 1", "move 1", { damageClasses: 1 }).length === 1, "other outcomes of Splash");
+  });
   check("more outcomes than the first space holds", () => {
     const found = facing("Tauros", "Starmie", "Thunder").outcomes("move 1", "move 1");
     const bytes = new Set(Array.from(found, ({ battle }) => hexOf(battle.bytes)));
