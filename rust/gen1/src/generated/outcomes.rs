@@ -626,13 +626,7 @@ mod nodes {
         }
 
         /// A draw that may have these bytes, and has this one of them.
-        pub fn new(
-            byte: u8,
-            look: Look,
-            damage_classes: u8,
-            above: Chance,
-            may_have: &ByteSet,
-        ) -> Self {
+        pub fn new(byte: u8, look: Look, damage_classes: u8, above: Chance, may_have: &ByteSet) -> Self {
             let mut node = Node {
                 byte,
                 look,
@@ -676,8 +670,14 @@ mod nodes {
                 Look::Factor { .. } => {
                     let class = alike_to(self.damage_classes, self.look, first, &self.rest);
                     // The bytes that a roll of damage accepts are odd.
-                    let middle = first.wrapping_add(class.count().saturating_sub(1).min(38) as u8 & 0xFE);
-                    if self.rest.contains(middle) { middle } else { first }
+                    let middle = first.wrapping_add(
+                        class.count().saturating_sub(1).min(38) as u8 & 0xFE,
+                    );
+                    if self.rest.contains(middle) {
+                        middle
+                    } else {
+                        first
+                    }
                 }
                 _ => first,
             }
@@ -758,7 +758,13 @@ mod nodes {
             } else {
                 match self.chance() {
                     Some(above) if self.len < DEPTH => {
-                        self.list[self.len] = Node::new(byte, look, self.damage_classes, above, may_have);
+                        self.list[self.len] = Node::new(
+                            byte,
+                            look,
+                            self.damage_classes,
+                            above,
+                            may_have,
+                        );
                         self.len += 1;
                         self.at = self.len;
                     }
