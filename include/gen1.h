@@ -625,14 +625,14 @@ typedef struct gen1_hp_change {
 
 /* What happens to the HP of the foe after the first use of a move, and after the second. */
 typedef struct gen1_between {
-    gen1_hp_change after_first;
-    gen1_hp_change after_second;
+    gen1_hp_change after_first;  /* after the first use */
+    gen1_hp_change after_second; /* after the second use */
 } gen1_between;
 
 /* A number of 128 bits: high * 2^64 + low. */
 typedef struct gen1_wide {
-    uint64_t low;
-    uint64_t high;
+    uint64_t low;  /* the lower 64 bits */
+    uint64_t high; /* the upper 64 bits */
 } gen1_wide;
 
 /*

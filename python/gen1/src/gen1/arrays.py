@@ -188,14 +188,14 @@ class BattleArray:
         return self._results.copy()
 
     def random_step(self, dice: np.random.Generator, *, reset: bool = False) -> tuple[Bytes, Bytes]:
-        """Makes a step with a random choice of each side, all equally likely,
-        and returns these choices.
+        """Makes a step with a random choice of each side, all equally
+        likely, and returns these choices.
 
-        A battle that is over is unchanged. With `reset` it is first restored
-        to what it was when the array was created, with random numbers to
-        draw. So all battles are updated, and one that ends can be looked at
-        until the next step. Raises `BadType` if `dice` is not a numpy
-        generator.
+        A battle that is over is unchanged. With `reset` it is first
+        restored to what it was when the array was created, with random
+        numbers to draw. So all battles are updated, and one that ends can
+        be looked at until the next step. Raises `BadType` if `dice` is not
+        a numpy generator.
         """
         if not isinstance(dice, np.random.Generator):
             raise BadType(f"dice must be a numpy.random.Generator, not {shown(dice)}")
