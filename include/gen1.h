@@ -722,7 +722,7 @@ uint8_t gen1_update_many(gen1_battle *battles, size_t count, gen1_batch_update *
  * of battles that are over after the step.
  *
  * A battle that is over before the step draws nothing and doesn't change: its choices are GEN1_CHOICE_PASS, its code is
- * GEN1_ERROR_OVER. With starts it begins anew instead: it becomes a copy of starts[i], draws ten numbers (draw modulo 256), which are
+ * GEN1_ERROR_OVER. With starts it is replaced first: it becomes a copy of starts[i], draws ten numbers (draw modulo 256), which are
  * set as gen1_reseed does with index 0, and is then stepped. So an ended battle is there to be read until the next call, and no call
  * leaves a battle out. Without starts, `start_count` is 0, and `starts` may be NULL.
  *
