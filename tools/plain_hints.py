@@ -5,9 +5,8 @@ import re
 FIELDS = {"active", "codes", "condition_fields", "conditions", "event_fields", "header", "member", "packed"}
 NOT_FIELDS = {"clone", "flags", "of_bytes"}
 INLINED = {
-    "gen1_action": {"hit_or_miss"},
     "gen1_engine": {"result"},
-    "gen1_hits": {"current_stats", "own_stats", "type_steps", "types"},
+    "gen1_hits": {"current_stats", "hit_or_miss", "own_stats", "type_steps", "types"},
     "gen1_multiturn": {"hit_effect", "land_hit", "note_first_hit"},
     "gen1_requests": {"coming_out", "faint_and_settle", "put_out", "tell_coming_out"},
     "gen1_turn": {"damage_unless_landing", "is_cut", "move_taken"},

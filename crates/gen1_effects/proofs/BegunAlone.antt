@@ -2,10 +2,10 @@
 use Rattle.std.proofs.Common.{◌≡◌}
 use Rattle.gen1_layout.proofs.Words.{Bool, Frame, Parts, Phase, Progress, Side, Telling, false, refl, stop, subst, then-goes, then-stops, true, ◌▸◌}
 use Rattle.gen1_rolls.specs.Draws.{Drawing}
-use Rattle.gen1_action.specs.declared.known.Known.{Known}
-use Rattle.gen1_action.specs.Alone.{just_begun, Remains}
-use Rattle.gen1_action.specs.Knowing.{ShowsKnown}
-use Rattle.gen1_action.proofs.Knowledge.{leaves}
+use Rattle.gen1_hits.specs.declared.known.Known.{Known}
+use Rattle.gen1_hits.specs.Alone.{just_begun, Remains}
+use Rattle.gen1_hits.specs.Knowing.{ShowsKnown}
+use Rattle.gen1_hits.proofs.Knowledge.{leaves}
 
 module _ {A : Type 0} {d : Drawing A} {origin : A} {parts : Parts} {events : Telling} {now : A} {b : Bool} where
   pub begun_alone : {p : Progress} (k : Known) (g : Frame) (s : Side) → k ≡ just_begun s

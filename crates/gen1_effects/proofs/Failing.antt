@@ -4,9 +4,9 @@ use Rattle.gen1_layout.proofs.Words.{Bool, Frame, Parts, Phase, Progress, Shows,
 use Rattle.gen1_rolls.specs.Draws.{Drawing}
 use Rattle.gen1_machine.specs.Progress.{fail, fails_if}
 use Rattle.gen1_layout.specs.Operations.{Does, between}
-use Rattle.gen1_action.specs.declared.known.Known.{Known}
-use Rattle.gen1_action.specs.Knowing.{ShowsKnown}
-use Rattle.gen1_action.proofs.Knowledge.{plain_still}
+use Rattle.gen1_hits.specs.declared.known.Known.{Known}
+use Rattle.gen1_hits.specs.Knowing.{ShowsKnown}
+use Rattle.gen1_hits.proofs.Knowledge.{plain_still}
 
 module _ {g : Frame} {parts : Parts} {events : Telling} {p : Progress} where
   pub ended : {b : Bool} (f : Phase) → Shows g parts events b (f p) → Shows g parts events true ((f ▸ stop) p)

@@ -4,12 +4,12 @@ ghost use Rattle.std.specs.Prelude.{◌≡◌};
 ghost use Rattle.gen1_layout.specs.Operations.{DrawsWhere, anything, scene};
 ghost use Rattle.gen1_layout.specs.Words.{AddsAtMost, HasRoom, move_at, stop, true, ◌▸◌};
 ghost use Rattle.gen1_machine.specs.LateEffects.{late_effect};
-ghost use Rattle.gen1_action.specs.Alone.{Leaves, beginning};
-ghost use Rattle.gen1_action.specs.Knowing.{aware};
+ghost use Rattle.gen1_hits.specs.Alone.{Leaves, beginning};
+ghost use Rattle.gen1_hits.specs.Knowing.{aware};
 ghost use Rattle.gen1_effects.specs.LateEffects.{is_late_but_bide};
 
-use gen1_action::Known;
 use gen1_events::EventSink;
+use gen1_hits::Known;
 use gen1_layout::Packed;
 use gen1_machine::Side;
 use gen1_rolls::Rolls;

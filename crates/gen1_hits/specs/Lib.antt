@@ -7,3 +7,9 @@ pub mod UsualDamage
 -- What is known of an action after a landing, and after a hit test.
 pub mod Landing
 pub mod HitTests
+-- What is known of an action, and what its operations show.
+pub mod Knowing
+-- The plan of the side that acts.
+pub mod Planned
+-- What a call by itself shows.
+pub mod Alone

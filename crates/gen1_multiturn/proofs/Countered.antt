@@ -7,7 +7,7 @@ use Rattle.gen1_machine.specs.declared.picks.UsedMove.{UsedMove}
 use Rattle.gen1_machine.specs.declared.picks.UsedMove.TheVariants.{Nothing, Slot, Struggle}
 use Rattle.gen1_machine.specs.Picks.{number_in}
 use Rattle.gen1_machine.specs.Valid.{IsUsedMove}
-use Rattle.gen1_action.proofs.Planning.{slot-number}
+use Rattle.gen1_hits.proofs.Planning.{slot-number}
 
 pub missed-if : (b : Bool) (x : ℕ) → (if b then Some x else None) ≡ None → b ≡ false
 missed-if false x e = refl

@@ -16,8 +16,8 @@ use Rattle.gen1_machine.specs.Valid.{IsUnderway}
 use Rattle.gen1_machine.proofs.Sound.{party-valid, planned-holds}
 use Rattle.gen1_layout.specs.Decoding.{turns_stored}
 use Rattle.gen1_layout.specs.Storable.{IsStorableUnderway}
-use Rattle.gen1_action.specs.Planned.{Follows}
-use Rattle.gen1_action.proofs.Planning.{nothing-there}
+use Rattle.gen1_hits.specs.Planned.{Follows}
+use Rattle.gen1_hits.proofs.Planning.{nothing-there}
 
 none-on : {A : Type 0} (o : Option A) → bit_of (is_some o) ≤ 0 → o ≡ None
 none-on None h = refl

@@ -12,3 +12,5 @@ pub mod Charging
 pub mod ManyHits
 -- How many factors of a foe's types have a given value.
 pub mod Effectiveness
+-- How many times a move hits or holds.
+pub mod Counts

@@ -3,7 +3,7 @@ use Rattle.std.specs.Prelude.{Bool, false, true}
 use Rattle.gen1_tables.specs.declared.effect.Effect.{Effect}
 use Rattle.gen1_tables.specs.declared.effect.Effect.TheVariants as effects
 use Rattle.gen1_machine.specs.Valid.{IsCount}
-use Rattle.gen1_action.specs.declared.known.Known.{Known}
+use Rattle.gen1_hits.specs.declared.known.Known.{Known}
 use Rattle.gen1_multiturn.specs.declared.hit_effects.Consequence.{Consequence}
 use Rattle.gen1_multiturn.specs.declared.hit_effects.Consequence.TheVariants.{Drain, Explosion, Nothing, Rage, Recoil}
 

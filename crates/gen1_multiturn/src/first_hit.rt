@@ -6,11 +6,11 @@ ghost use Rattle.gen1_layout.specs.Words.{AddsAtMost, HasRoom, false, move_at, o
 ghost use Rattle.gen1_machine.specs.Damage.{numbers};
 ghost use Rattle.gen1_machine.specs.ManyHits.{note_critical, note_effectiveness, note_first_hit};
 ghost use Rattle.gen1_machine.specs.Progress.{given};
-ghost use Rattle.gen1_action.specs.Knowing.{aware_of};
+ghost use Rattle.gen1_hits.specs.Knowing.{aware_of};
 ghost use Rattle.gen1_multiturn.specs.Effectiveness.{how_many};
 
-use gen1_action::Known;
 use gen1_events::EventSink;
+use gen1_hits::Known;
 use gen1_layout::Packed;
 use gen1_machine::{Event, Side};
 use gen1_tables::{MoveId, effectiveness};

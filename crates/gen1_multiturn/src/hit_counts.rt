@@ -8,11 +8,12 @@ ghost use Rattle.gen1_tables.specs.Effects.{hits_more};
 ghost use Rattle.gen1_machine.specs.Progress.{broke_substitute, given, unless, when};
 ghost use Rattle.gen1_machine.specs.Valid.{IsCount};
 ghost use Rattle.gen1_layout.specs.Parts.{Parts};
-ghost use Rattle.gen1_action.specs.Knowing.{aware, aware_of};
+ghost use Rattle.gen1_hits.specs.Knowing.{aware, aware_of};
 ghost use Rattle.gen1_multiturn.specs.ManyHits.{IsFew, is_multi_hit};
 
-use gen1_action::{Known, draw_count};
+use crate::counts::draw_count;
 use gen1_events::EventSink;
+use gen1_hits::Known;
 use gen1_layout::Packed;
 use gen1_machine::{Event, HitCount, Side};
 use gen1_rolls::Rolls;

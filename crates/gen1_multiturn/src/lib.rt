@@ -3,12 +3,14 @@
 //!
 //! - `moves`: the moves: Bide, charging, Counter, fixed damage, one-hit moves, Rage, Substitute, Thrash and trapping
 //! - `many_hits`: the hits of a move, one after another
+//! - `counts`: how many times a move hits or holds, by a draw
 //! - `hit_counts`: how many hits a move makes
 //! - `first_hit`: the reports before the first hit
 //! - `hit_effects`: what follows the hit of a move that makes one
 //! - `miss`: what follows a miss
 #![tactic(auto)]
 
+mod counts;
 mod first_hit;
 mod hit_counts;
 mod hit_effects;

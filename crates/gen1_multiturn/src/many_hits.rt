@@ -11,16 +11,15 @@ ghost use Rattle.gen1_tables.specs.Effects.{hits_more, knocks_out};
 ghost use Rattle.gen1_machine.specs.Progress.{broke_substitute, note, only, unless};
 ghost use Rattle.gen1_layout.specs.Parts.{Parts};
 ghost use Rattle.gen1_hits.specs.Landing.{has_broken};
-ghost use Rattle.gen1_action.specs.Knowing.{IsUncounted, aware, aware_of};
+ghost use Rattle.gen1_hits.specs.Knowing.{IsUncounted, aware, aware_of};
 ghost use Rattle.gen1_multiturn.specs.ManyHits.{IsFew};
 
 use crate::first_hit::note_first_hit;
 use crate::hit_counts::{hits_left, note_hit_count, plan_unless_broken};
 use crate::hit_effects::hit_effect;
 use crate::moves::rage::rage;
-use gen1_action::Known;
 use gen1_events::EventSink;
-use gen1_hits::{Landed, land};
+use gen1_hits::{Known, Landed, land};
 use gen1_layout::Packed;
 use gen1_machine::{Event, Side};
 use gen1_rolls::Rolls;

@@ -8,9 +8,8 @@ ghost use Rattle.gen1_tables.specs.Effects.{crashes, explodes};
 ghost use Rattle.gen1_machine.specs.Progress.{only};
 
 use crate::hit_effects::explode;
-use gen1_action::note_miss;
 use gen1_events::EventSink;
-use gen1_hits::lose_hp;
+use gen1_hits::{lose_hp, note_miss};
 use gen1_layout::Packed;
 use gen1_machine::{DamageSource, Side};
 use gen1_tables::{Effect, MoveId};

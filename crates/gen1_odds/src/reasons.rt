@@ -14,8 +14,7 @@ use crate::own_reasons::{
 use crate::sights::{has_focus_energy, has_mist, is_fallen, is_invulnerable};
 use crate::status_reasons::{paralysis_reason, poison_reason, sleep_reason};
 use crate::trials::{Trial, traps_on, trial_of};
-use gen1_action::is_immune;
-use gen1_hits::{damage, numbers, settled_hit, type_steps};
+use gen1_hits::{damage, is_immune, numbers, settled_hit, type_steps};
 use gen1_layout::Packed;
 use gen1_machine::Side;
 use gen1_multiturn::counter;

@@ -9,9 +9,9 @@ ghost use Rattle.gen1_odds.specs.Trials.{ReadsUnder};
 
 use crate::reasons::{Reason, first, settled_reason};
 use crate::sights::{has_status, has_substitute, has_type, is_recharging};
-use gen1_action::has_marked_sleeper;
 use gen1_layout::Packed;
 use gen1_machine::Side;
+use gen1_status::has_marked_sleeper;
 use gen1_tables::{Element, MoveId};
 
 pub(crate) fn poison_reason(battle: &Packed, side: Side, id: MoveId) -> Option<Reason>

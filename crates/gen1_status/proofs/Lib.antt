@@ -13,3 +13,5 @@ pub mod Restaging
 pub mod Shifting
 -- Statuses, counters and stages are in their ranges.
 pub mod Fitting
+-- Any living member, place by place.
+pub mod Six

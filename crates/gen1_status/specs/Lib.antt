@@ -7,3 +7,5 @@ pub mod Infliction
 pub mod ResidualDamage
 -- A stage that moves.
 pub mod StageShift
+-- What the clauses count.
+pub mod Clauses

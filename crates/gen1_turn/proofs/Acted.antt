@@ -7,8 +7,8 @@ use Rattle.gen1_machine.specs.Action.{resume}
 use Rattle.gen1_status.specs.declared.gate_answer.Gate.{Gate}
 use Rattle.gen1_status.specs.declared.gate_answer.Gate.TheVariants.{Fault, Go, Stop}
 use Rattle.gen1_status.specs.GateAnswer.{TellsDrawn, stopped_by}
-use Rattle.gen1_action.specs.declared.known.Known.{Known}
-use Rattle.gen1_action.specs.Knowing.{knowing, ShowsOver}
+use Rattle.gen1_hits.specs.declared.known.Known.{Known}
+use Rattle.gen1_hits.specs.Knowing.{knowing, ShowsOver}
 
 module _ {A : Type 0} {d : Drawing A} {origin : A} where
   -- An action that the gate ends may have broken a substitute.

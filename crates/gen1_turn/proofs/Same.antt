@@ -1,4 +1,4 @@
--- The words of an action in a turn, spelled out (gen1_layout and gen1_action, `Same`, have those of every operation).
+-- The words of an action in a turn, spelled out (gen1_layout and gen1_hits, `Same`, have those of every operation).
 use Rattle.std.proofs.Common.{Bool, false, refl, ◌≡◌}
 use Rattle.gen1_rolls.specs.Draws.{Drawing, Ref}
 use Rattle.gen1_machine.specs.declared.picks.Pick.{Pick}
@@ -10,9 +10,9 @@ use Rattle.gen1_machine.specs.Turn.{Acts as ActsPart, do_part}
 use Rattle.gen1_layout.specs.Operations.{scene}
 use Rattle.gen1_layout.specs.Parts.{Parts}
 use Rattle.gen1_layout.specs.Shows.{Frame, Telling}
-use Rattle.gen1_action.specs.declared.known.Known.{Known}
-use Rattle.gen1_action.specs.Knowing.{ShowsKnown, ShowsOver}
-use Rattle.gen1_action.specs.Planned.{Follows}
+use Rattle.gen1_hits.specs.declared.known.Known.{Known}
+use Rattle.gen1_hits.specs.Knowing.{ShowsKnown, ShowsOver}
+use Rattle.gen1_hits.specs.Planned.{Follows}
 use Rattle.gen1_turn.specs.Action.{Acts, DoesParts, acting, picked, planning, ready}
 use Rattle.gen1_turn.specs.TurnParts.{ActsAndSuffers, DoesTurn, EndsCut, PartLeaves}
 

@@ -30,9 +30,9 @@ use Rattle.gen1_machine.proofs.Tame.{without_flinch-tame}
 use Rattle.gen1_machine.proofs.Turns.{part-suffers}
 use Rattle.gen1_machine.proofs.ValidTurns.{comes-kept, pick-plan, range-kept, room-free, sends-room, Picked}
 use Rattle.gen1_layout.specs.Operations.{Does, between}
-use Rattle.gen1_action.specs.declared.known.Known.{Known}
-use Rattle.gen1_action.specs.Knowing.{begun, knowing, with_broke, ShowsOver}
-use Rattle.gen1_action.specs.Planned.{Follows}
+use Rattle.gen1_hits.specs.declared.known.Known.{Known}
+use Rattle.gen1_hits.specs.Knowing.{begun, knowing, with_broke, ShowsOver}
+use Rattle.gen1_hits.specs.Planned.{Follows}
 use Rattle.gen1_turn.specs.TurnParts.{suffering, Ends, EndsCut, LeavesRest, PartLeaves}
 
 -- Residual damage, and whether the turn is cut after it

@@ -9,9 +9,9 @@ use Rattle.gen1_machine.specs.Ruling.{Ruling, ruling_of}
 use Rattle.gen1_machine.specs.Plans.{FitsPick, Plan}
 use Rattle.gen1_layout.specs.Operations.{Premise, Scene}
 use Rattle.gen1_layout.specs.Parts.{Parts}
-use Rattle.gen1_action.specs.declared.known.Known.{Known}
-use Rattle.gen1_action.specs.Knowing.{ShowsKnown, ShowsOver, knowing, with_broke}
-use Rattle.gen1_action.specs.Planned.{Follows}
+use Rattle.gen1_hits.specs.declared.known.Known.{Known}
+use Rattle.gen1_hits.specs.Knowing.{ShowsKnown, ShowsOver, knowing, with_broke}
+use Rattle.gen1_hits.specs.Planned.{Follows}
 
 -- A scene with the value of what is known. Once an action is over, whether a substitute broke in it is left open.
 abbrev pub Acting : Type 1

@@ -12,8 +12,8 @@ use Rattle.gen1_machine.specs.Turn.{do_part, is_cut, Acts, Part, Suffers}
 use Rattle.gen1_machine.specs.Plans.{Comes, Plan, PlanOf}
 use Rattle.gen1_layout.specs.Operations.{Premise}
 use Rattle.gen1_layout.specs.Parts.{Parts}
-use Rattle.gen1_action.specs.declared.known.Known.{Known}
-use Rattle.gen1_action.specs.Knowing.{ShowsOver}
+use Rattle.gen1_hits.specs.declared.known.Known.{Known}
+use Rattle.gen1_hits.specs.Knowing.{ShowsOver}
 use Rattle.gen1_turn.specs.Action.{Acting, picked}
 
 -- The side that begins. Nothing changes but the draws, and any phase that follows in the machine gets this side.

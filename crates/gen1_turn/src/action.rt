@@ -4,13 +4,13 @@ ghost use Rattle.gen1_layout.specs.Operations.{scene};
 ghost use Rattle.gen1_layout.specs.Words.{AddsAtMost, Bool, Event, Frame, HasRoom, List, Progress, Reads, Shows, Told, active_in, is_some, underway_in};
 ghost use Rattle.gen1_machine.specs.Action.{accuracy_after, act, action_parts, keep_accuracy};
 ghost use Rattle.gen1_machine.specs.State.{is_over};
-ghost use Rattle.gen1_action.specs.Knowing.{IsUncounted};
+ghost use Rattle.gen1_hits.specs.Knowing.{IsUncounted};
 ghost use Rattle.gen1_turn.specs.Action.{Acts, DoesParts, acting, picked, ready};
 
 use crate::action_steps::carry_out;
 use crate::taken_move::{move_taken, see_if_going_on};
-use gen1_action::Known;
 use gen1_events::EventSink;
+use gen1_hits::Known;
 use gen1_layout::{Conditions, Packed};
 use gen1_machine::{Pick, Side};
 use gen1_rolls::Rolls;

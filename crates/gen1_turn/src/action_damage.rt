@@ -5,12 +5,11 @@ ghost use Rattle.gen1_layout.specs.Words.{Event, List, Reads, conditions_in, mem
 ghost use Rattle.gen1_machine.specs.Action.{damage_of, usual_damage};
 ghost use Rattle.gen1_machine.specs.Damage.{roll_damage};
 ghost use Rattle.gen1_machine.specs.Progress.{choose, set_last_damage};
-ghost use Rattle.gen1_action.specs.Knowing.{IsUncounted, aware};
+ghost use Rattle.gen1_hits.specs.Knowing.{IsUncounted, aware};
 ghost use Rattle.gen1_turn.specs.ByEffect.{way_of};
 ghost use Rattle.gen1_turn.specs.DamageLimit.{damage_limit};
 
-use gen1_action::{Known, hit_or_miss};
-use gen1_hits::{critical, damage, factor_up_to, numbers, type_steps};
+use gen1_hits::{Known, critical, damage, factor_up_to, hit_or_miss, numbers, type_steps};
 use gen1_layout::Packed;
 use gen1_machine::{Outcome, Side};
 use gen1_multiturn::{counter_knowing, fixed_knowing, knock_out};

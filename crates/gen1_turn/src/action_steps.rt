@@ -6,16 +6,16 @@ ghost use Rattle.gen1_machine.specs.Action.{carry_out, damage_of, lands_at_once,
 ghost use Rattle.gen1_machine.specs.LateEffects.{is_late, late_effect};
 ghost use Rattle.gen1_tables.specs.Effects.{traps};
 ghost use Rattle.gen1_machine.specs.Progress.{only, unless};
-ghost use Rattle.gen1_action.specs.Knowing.{IsUncounted, aware};
-ghost use Rattle.gen1_action.specs.Planned.{taking, using};
+ghost use Rattle.gen1_hits.specs.Knowing.{IsUncounted, aware};
+ghost use Rattle.gen1_hits.specs.Planned.{taking, using};
 ghost use Rattle.gen1_turn.specs.ActionSteps.{late_part, damage_and_strike};
 
 use crate::action_damage::damage_of;
 use crate::lead_up::lead_up;
 use crate::strike::strike;
-use gen1_action::Known;
 use gen1_effects::{group_two_knowing, is_late_but_bide};
 use gen1_events::EventSink;
+use gen1_hits::Known;
 use gen1_layout::Packed;
 use gen1_machine::{Pick, Side};
 use gen1_multiturn::{bide_knowing, start_bide};

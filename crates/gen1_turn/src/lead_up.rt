@@ -6,15 +6,15 @@ ghost use Rattle.gen1_layout.specs.Words.{AddsAtMost, AddsNone, HasRoom, false, 
 ghost use Rattle.gen1_machine.specs.Action.{lead_up, prelude};
 ghost use Rattle.gen1_machine.specs.EarlyEffects.{early_effect, is_early};
 ghost use Rattle.gen1_machine.specs.Progress.{only};
-ghost use Rattle.gen1_action.specs.Knowing.{aware, aware_of};
-ghost use Rattle.gen1_action.specs.Planned.{taking, using};
+ghost use Rattle.gen1_hits.specs.Knowing.{aware, aware_of};
+ghost use Rattle.gen1_hits.specs.Planned.{taking, using};
 ghost use Rattle.gen1_turn.specs.ActionSteps.{begin_move};
 ghost use Rattle.gen1_turn.specs.ByEffect.{makes_substitute};
 
 use crate::used_move::use_move;
-use gen1_action::Known;
 use gen1_effects::{group_one_knowing, is_early_but_substitute};
 use gen1_events::EventSink;
+use gen1_hits::Known;
 use gen1_layout::Packed;
 use gen1_machine::{Pick, Side};
 use gen1_multiturn::{charge_knowing, make_substitute, thrash_knowing, trap_knowing};

@@ -4,12 +4,12 @@ ghost use Rattle.gen1_layout.specs.Operations.{DrawsWhere, anything, scene};
 ghost use Rattle.gen1_layout.specs.Words.{AddsAtMost, HasRoom, Reads, move_at, other};
 ghost use Rattle.gen1_machine.specs.Action.{strike};
 ghost use Rattle.gen1_machine.specs.State.{has_fallen_in};
-ghost use Rattle.gen1_action.specs.Knowing.{IsUncounted, aware};
+ghost use Rattle.gen1_hits.specs.Knowing.{IsUncounted, aware};
 ghost use Rattle.gen1_turn.specs.ActionSteps.{hits_with_effect};
 
-use gen1_action::Known;
 use gen1_effects::side_effect_knowing;
 use gen1_events::EventSink;
+use gen1_hits::Known;
 use gen1_layout::Packed;
 use gen1_machine::Side;
 use gen1_multiturn::{hits, missed_move};

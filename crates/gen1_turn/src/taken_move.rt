@@ -5,9 +5,9 @@ ghost use Rattle.gen1_layout.specs.Words.{Event, Field, IsBetween, List, Reads, 
 ghost use Rattle.gen1_machine.specs.Action.{keeps_going, see_if_going_on};
 ghost use Rattle.gen1_machine.specs.Picks.{is_use, number_in, used_by};
 ghost use Rattle.gen1_machine.specs.Valid.{IsUsedMove};
-ghost use Rattle.gen1_action.specs.Knowing.{IsUncounted, aware};
+ghost use Rattle.gen1_hits.specs.Knowing.{IsUncounted, aware};
 
-use gen1_action::Known;
+use gen1_hits::Known;
 use gen1_layout::{Conditions, Packed};
 use gen1_machine::{Pick, Side, UsedMove};
 use gen1_status::used_by;

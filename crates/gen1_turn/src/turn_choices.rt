@@ -11,15 +11,15 @@ ghost use Rattle.gen1_machine.specs.Plans.{Any, FitsPick, InRange};
 ghost use Rattle.gen1_machine.specs.Turn.{both_pick, both_switch, do_parts, is_cut, one_picks, play_turn, set_picked, turn};
 ghost use Rattle.gen1_machine.specs.Valid.{IsUsedMove};
 ghost use Rattle.gen1_machine.specs.Ruling.{ruling_of};
-ghost use Rattle.gen1_action.specs.Knowing.{knowing, with_broke};
+ghost use Rattle.gen1_hits.specs.Knowing.{knowing, with_broke};
 ghost use Rattle.gen1_turn.specs.TurnParts.{Chooses, DoesTurn, acts_in_turn};
 ghost use Rattle.gen1_turn.specs.Action.{acting, aware_after, planning};
 
 use crate::by_side::BySide;
 use crate::turn_order::first_side;
 use crate::turn_parts::{act_and_suffer, end_turn, sends_and_suffers};
-use gen1_action::Known;
 use gen1_events::EventSink;
+use gen1_hits::Known;
 use gen1_layout::{Conditions, Packed};
 use gen1_machine::{Choice, Pick, Place, Side, UsedMove};
 use gen1_rolls::Rolls;

@@ -8,14 +8,14 @@ ghost use Rattle.gen1_machine.specs.Plans.{InRange};
 ghost use Rattle.gen1_machine.specs.ResidualDamage.{residual};
 ghost use Rattle.gen1_machine.specs.Ruling.{Ruling};
 ghost use Rattle.gen1_machine.specs.Turn.{Acts as ActsPart, Sends, do_part, end_spent_trapping, end_turn, is_spent};
-ghost use Rattle.gen1_action.specs.Knowing.{knowing, with_broke};
+ghost use Rattle.gen1_hits.specs.Knowing.{knowing, with_broke};
 ghost use Rattle.gen1_turn.specs.Action.{Acts, acting, picked};
 ghost use Rattle.gen1_turn.specs.TurnParts.{ActsAndSuffers, LeavesRest, PartLeaves, suffering};
 
 use crate::act;
 use crate::by_side::BySide;
-use gen1_action::Known;
 use gen1_events::EventSink;
+use gen1_hits::Known;
 use gen1_layout::Packed;
 use gen1_machine::{Pick, Place, Side};
 use gen1_requests::send_out;

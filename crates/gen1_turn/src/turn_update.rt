@@ -14,8 +14,8 @@ ghost use Rattle.gen1_requests.specs.Updates.{Plays, UpdatesDrawing, drawing_on}
 
 use crate::by_side::BySide;
 use crate::turn_choices::take_turn;
-use gen1_action::Known;
 use gen1_events::EventSink;
+use gen1_hits::Known;
 use gen1_layout::Packed;
 use gen1_machine::{Choice, Side};
 use gen1_requests::{close, close_uncut};

@@ -7,12 +7,12 @@ ghost use Rattle.gen1_machine.specs.Action.{spend_pp, use_move};
 ghost use Rattle.gen1_tables.specs.Effects.{bides};
 ghost use Rattle.gen1_machine.specs.Progress.{goes_on_now, note, on_member, only, unless};
 ghost use Rattle.gen1_machine.specs.State.{with_pp_spent};
-ghost use Rattle.gen1_action.specs.Knowing.{aware_of};
+ghost use Rattle.gen1_hits.specs.Knowing.{aware_of};
 ghost use Rattle.gen1_multiturn.specs.Charging.{PicksMove};
 
 use crate::taken_move::among_slots;
-use gen1_action::Known;
 use gen1_events::EventSink;
+use gen1_hits::Known;
 use gen1_layout::Packed;
 use gen1_machine::{Event, Pick, Side, UsedMove};
 use gen1_multiturn::make_current;

@@ -4,7 +4,7 @@ use crate::duel::{
     FOE, LAST, USER, assert_bytes, assert_same, assert_same_for, battle_of, bytes_of, named,
     send_out, tauros, with,
 };
-use gen1_action::Known;
+use gen1_hits::Known;
 use gen1_layout::Packed;
 use gen1_machine::UsedMove::{self, Nothing, Slot, Struggle};
 use gen1_multiturn::{counter, counter_knowing};

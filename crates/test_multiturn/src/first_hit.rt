@@ -1,6 +1,6 @@
 //! The reports before the first hit (docs/MECHANICS.md, "Order of events", "Types").
 use crate::duel::{FOE, USER, assert_same, assert_same_for, named, two_tauros};
-use gen1_action::Known;
+use gen1_hits::Known;
 use gen1_layout::Packed;
 use gen1_machine::{Event, EventList};
 use gen1_multiturn::hits;

@@ -3,7 +3,7 @@ use crate::duel::{
     FOE, LAST, OUTCOME, USER, assert_bytes, assert_same, assert_same_for, battle_of, bytes_of,
     named, tauros, two_tauros, with,
 };
-use gen1_action::Known;
+use gen1_hits::Known;
 use gen1_layout::Packed;
 use gen1_machine::Outcome;
 use gen1_multiturn::{fixed, fixed_knowing};

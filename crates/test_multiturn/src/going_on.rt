@@ -3,8 +3,7 @@
 use crate::duel::{
     FLAGS, FOE, KEPT, TURNS, USER, assert_bytes, assert_same, bytes_of, named, two_tauros, with,
 };
-use gen1_action::{Known, hit_or_miss};
-use gen1_hits::{land, numbers, type_steps};
+use gen1_hits::{Known, hit_or_miss, land, numbers, type_steps};
 use gen1_layout::{Conditions, Packed};
 use gen1_machine::{Event, EventList, Volatile};
 use gen1_multiturn::{thrash, thrash_knowing, trap, trap_knowing};

@@ -3,8 +3,7 @@
 use crate::duel::{
     FOE, LAST, USER, assert_bytes, assert_same, assert_same_for, bytes_of, named, two_tauros, with,
 };
-use gen1_action::Known;
-use gen1_hits::{Landed, land};
+use gen1_hits::{Known, Landed, land};
 use gen1_layout::Packed;
 use gen1_machine::{EventList, Side};
 use gen1_multiturn::knock_out;

@@ -1,6 +1,6 @@
 //! A move that hits, for the tests, and its events. Both sides have a Tauros out: 353 HP.
 use crate::duel::{USER, named};
-use gen1_action::Known;
+use gen1_hits::Known;
 use gen1_layout::Packed;
 use gen1_machine::{DamageSource, Event, EventList, Health, HitCount, Side};
 use gen1_multiturn::hits;

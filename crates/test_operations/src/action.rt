@@ -1,7 +1,7 @@
 //! What is known of an action, and its hit test, with the numbers of docs/MECHANICS.md, "Hit test" and "Action", and
 //! the type rows of docs/TABLES.md. Both sides have a Tauros out.
 use crate::battles::{self, FOE, USER, assert_same, named, tells};
-use gen1_action::{Known, hit_or_miss, must_hit, note_miss};
+use gen1_hits::{Known, hit_or_miss, must_hit, note_miss};
 use gen1_layout::{Conditions, Packed};
 use gen1_machine::{Event, EventList};
 use gen1_rolls::{LinkRandom, Rolls, Sweep};

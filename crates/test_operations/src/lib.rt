@@ -1,4 +1,4 @@
-//! Tests of `gen1_hits`, `gen1_odds`, `gen1_status` and `gen1_action`, through their public functions. They are in a
+//! Tests of `gen1_hits`, `gen1_odds` and `gen1_status`, through their public functions. They are in a
 //! crate of their own because a crate with tests is proved twice.
 //!
 //! - `hits`: hits, their damage and their chances

@@ -7,7 +7,7 @@
 use crate::setting::{
     FOE, USER, assert_bytes, assert_same, assert_told, bytes_of, started_with, who, with,
 };
-use gen1_action::Known;
+use gen1_hits::Known;
 use gen1_layout::{Conditions, Packed};
 use gen1_machine::{
     CantReason, DamageSource, Event, EventList, Health, Outcome, Pick, Side, StageCount, UsedMove,

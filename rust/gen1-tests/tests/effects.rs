@@ -279,8 +279,8 @@ mod early_effects {
         //! Haze, which acts on both sides ([docs/MECHANICS.md, "Early effects"](https://hibsuloy.example/gen1/blob/main/docs/MECHANICS.md#early-effects)).
         use super::{BOTH, EarlyEffects, FOE, USER, apply_from, bytes_with, named, tauros};
         use crate::battles::assert_same;
-        use gen1::generated::action::Known;
         use gen1::generated::effects::{group_one_knowing, is_early_but_substitute};
+        use gen1::generated::hits::Known;
         use gen1::generated::layout::{Conditions, Packed};
         use gen1::generated::machine::{DisabledSlot, Event, EventList, Kind};
         use gen1::generated::rolls::Sweep;
@@ -1244,8 +1244,8 @@ mod side_effects {
         //! Disable, with its draws ([docs/MECHANICS.md, "Side effects"](https://hibsuloy.example/gen1/blob/main/docs/MECHANICS.md#side-effects)). Its accuracy of 55 percent is the byte 140.
         use super::{Abort, BOTH, FOE, Fail, USER, named, plays, tauros, tauros_with, tells};
         use crate::battles::assert_same;
-        use gen1::generated::action::Known;
         use gen1::generated::effects::side_effect_knowing;
+        use gen1::generated::hits::Known;
         use gen1::generated::layout::Packed;
         use gen1::generated::machine::{DisabledSlot, Event, EventList, Volatile};
         use gen1::generated::rolls::{LinkRandom, Rolls, Sweep};

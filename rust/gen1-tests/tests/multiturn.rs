@@ -24,7 +24,7 @@ mod counter {
         FOE, LAST, USER, assert_bytes, assert_same, assert_same_for, battle_of, bytes_of, named,
         send_out, tauros, with,
     };
-    use gen1::generated::action::Known;
+    use gen1::generated::hits::Known;
     use gen1::generated::layout::Packed;
     use gen1::generated::machine::UsedMove::{self, Nothing, Slot, Struggle};
     use gen1::generated::multiturn::{counter, counter_knowing};
@@ -294,7 +294,7 @@ mod duel {
 mod first_hit {
     //! The reports before the first hit ([docs/MECHANICS.md, "Order of events"](https://hibsuloy.example/gen1/blob/main/docs/MECHANICS.md#order-of-events), "Types").
     use crate::duel::{FOE, USER, assert_same, assert_same_for, named, two_tauros};
-    use gen1::generated::action::Known;
+    use gen1::generated::hits::Known;
     use gen1::generated::layout::Packed;
     use gen1::generated::machine::{Event, EventList};
     use gen1::generated::multiturn::hits;
@@ -394,7 +394,7 @@ mod fixed_damage {
         FOE, LAST, OUTCOME, USER, assert_bytes, assert_same, assert_same_for, battle_of, bytes_of,
         named, tauros, two_tauros, with,
     };
-    use gen1::generated::action::Known;
+    use gen1::generated::hits::Known;
     use gen1::generated::layout::Packed;
     use gen1::generated::machine::Outcome;
     use gen1::generated::multiturn::{fixed, fixed_knowing};
@@ -571,8 +571,7 @@ mod going_on {
     use crate::duel::{
         FLAGS, FOE, KEPT, TURNS, USER, assert_bytes, assert_same, bytes_of, named, two_tauros, with,
     };
-    use gen1::generated::action::{Known, hit_or_miss};
-    use gen1::generated::hits::{land, numbers, type_steps};
+    use gen1::generated::hits::{Known, hit_or_miss, land, numbers, type_steps};
     use gen1::generated::layout::{Conditions, Packed};
     use gen1::generated::machine::{Event, EventList, Volatile};
     use gen1::generated::multiturn::{thrash, thrash_knowing, trap, trap_knowing};
@@ -1309,8 +1308,7 @@ mod one_hit_moves {
     use crate::duel::{
         FOE, LAST, USER, assert_bytes, assert_same, assert_same_for, bytes_of, named, two_tauros, with,
     };
-    use gen1::generated::action::Known;
-    use gen1::generated::hits::{Landed, land};
+    use gen1::generated::hits::{Known, Landed, land};
     use gen1::generated::layout::Packed;
     use gen1::generated::machine::{EventList, Side};
     use gen1::generated::multiturn::knock_out;
@@ -1563,7 +1561,7 @@ mod rage {
 mod setting {
     //! A move that hits, for the tests, and its events. Both sides have a Tauros out: 353 HP.
     use crate::duel::{USER, named};
-    use gen1::generated::action::Known;
+    use gen1::generated::hits::Known;
     use gen1::generated::layout::Packed;
     use gen1::generated::machine::{DamageSource, Event, EventList, Health, HitCount, Side};
     use gen1::generated::multiturn::hits;

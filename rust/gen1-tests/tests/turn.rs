@@ -25,7 +25,7 @@ mod action {
     use crate::setting::{
         FOE, USER, assert_bytes, assert_same, assert_told, bytes_of, started_with, who, with,
     };
-    use gen1::generated::action::Known;
+    use gen1::generated::hits::Known;
     use gen1::generated::layout::{Conditions, Packed};
     use gen1::generated::machine::{
         CantReason, DamageSource, Event, EventList, Health, Outcome, Pick, Side, StageCount, UsedMove,

@@ -2,14 +2,15 @@
 ghost use Rattle.gen1_layout.specs.Operations.{Draws, scene};
 ghost use Rattle.gen1_layout.specs.Words.{AddsAtMost, HasRoom, move_at, stop, true, ◌▸◌};
 ghost use Rattle.gen1_machine.specs.EarlyEffects.{confuse_foe};
-ghost use Rattle.gen1_action.specs.Knowing.{IsUncounted, aware};
+ghost use Rattle.gen1_hits.specs.Knowing.{IsUncounted, aware};
 
 use crate::targets::{has_substitute, is_confused};
-use gen1_action::{Known, confuse, fail, must_hit};
 use gen1_events::EventSink;
+use gen1_hits::{Known, must_hit};
 use gen1_layout::Packed;
 use gen1_machine::Side;
 use gen1_rolls::Rolls;
+use gen1_status::{confuse, fail};
 use gen1_tables::MoveId;
 
 pub(super) fn confuse_foe<R: Rolls, S: EventSink>(

@@ -3,10 +3,10 @@ ghost use Rattle.gen1_layout.specs.Operations.{Does, scene};
 ghost use Rattle.gen1_layout.specs.Words.{AddsAtMost, HasRoom, stop, true, ◌▸◌};
 ghost use Rattle.gen1_machine.specs.EarlyEffects.{convert};
 
-use gen1_action::fail;
 use gen1_events::EventSink;
 use gen1_layout::{Conditions, Packed};
 use gen1_machine::{Event, Side, Volatile};
+use gen1_status::fail;
 
 pub(super) fn convert<S: EventSink>(battle: &mut Packed, side: Side, events: &mut S)
     requires room { HasRoom S.room 1 events.old }

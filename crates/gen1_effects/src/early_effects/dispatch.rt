@@ -3,8 +3,8 @@ ghost use Rattle.std.specs.Prelude.{◌≡◌};
 ghost use Rattle.gen1_layout.specs.Operations.{Draws, anything, scene};
 ghost use Rattle.gen1_layout.specs.Words.{AddsAtMost, HasRoom, move_at, stop, true, ◌▸◌};
 ghost use Rattle.gen1_machine.specs.EarlyEffects.{early_effect};
-ghost use Rattle.gen1_action.specs.Knowing.{IsUncounted, aware};
-ghost use Rattle.gen1_action.specs.Alone.{Leaves, beginning};
+ghost use Rattle.gen1_hits.specs.Knowing.{IsUncounted, aware};
+ghost use Rattle.gen1_hits.specs.Alone.{Leaves, beginning};
 ghost use Rattle.gen1_effects.specs.EarlyEffects.{is_early_but_substitute, way_of};
 
 use super::confusion_moves::confuse_foe;
@@ -16,11 +16,12 @@ use super::paralysis_moves::paralyse_foe;
 use super::poison_moves::poison_foe;
 use super::recovery::heal;
 use super::splash::splash;
-use gen1_action::{Known, fail};
 use gen1_events::EventSink;
+use gen1_hits::Known;
 use gen1_layout::Packed;
 use gen1_machine::Side;
 use gen1_rolls::Rolls;
+use gen1_status::fail;
 use gen1_tables::{Effect, MoveId};
 
 /// Whether an effect is one that [`group_one`] handles: an early effect other than Substitute (docs/MECHANICS.md,

@@ -3,11 +3,11 @@ ghost use Rattle.gen1_layout.specs.Operations.{Does, quiet, scene};
 ghost use Rattle.gen1_layout.specs.Words.{AddsAtMost, Event, HasRoom, List, false, status_of, stop, true, ◌▸◌};
 ghost use Rattle.gen1_machine.specs.EarlyEffects.{clear_side, cure_kind, haze, haze_cures};
 ghost use Rattle.gen1_machine.specs.Progress.{given};
-ghost use Rattle.gen1_action.specs.Knowing.{IsUncounted, aware};
+ghost use Rattle.gen1_hits.specs.Knowing.{IsUncounted, aware};
 
 use super::stage_reset::reset_stages;
-use gen1_action::Known;
 use gen1_events::EventSink;
+use gen1_hits::Known;
 use gen1_layout::Packed;
 use gen1_machine::{Event, Kind, Side};
 use gen1_stats::Status;

@@ -5,14 +5,15 @@ ghost use Rattle.gen1_layout.specs.Words.{AddsAtMost, HasRoom, Reads, active_in,
 ghost use Rattle.gen1_machine.specs.EarlyEffects.{seed_foe};
 ghost use Rattle.gen1_machine.specs.State.{has_type};
 ghost use Rattle.gen1_tables.specs.declared.element.Element.TheVariants.{Grass};
-ghost use Rattle.gen1_action.specs.Knowing.{IsUncounted, aware};
+ghost use Rattle.gen1_hits.specs.Knowing.{IsUncounted, aware};
 
 use crate::targets::has_type;
-use gen1_action::{Known, fail, must_hit};
 use gen1_events::EventSink;
+use gen1_hits::{Known, must_hit};
 use gen1_layout::{Conditions, Packed};
 use gen1_machine::{Event, Side, Volatile};
 use gen1_rolls::Rolls;
+use gen1_status::fail;
 use gen1_tables::{Element, MoveId};
 
 pub(super) fn seed_foe<R: Rolls, S: EventSink>(

@@ -8,10 +8,10 @@ ghost use Rattle.gen1_machine.specs.Moves.{light_screen_move};
 ghost use Rattle.gen1_machine.specs.Progress.{fails_if, starts};
 ghost use Rattle.gen1_layout.specs.Flags.{SameNumbers};
 
-use gen1_action::fail;
 use gen1_events::EventSink;
 use gen1_layout::{Conditions, Packed};
 use gen1_machine::{Event, Side, Volatile};
+use gen1_status::fail;
 use gen1_tables::MoveId;
 
 pub(super) fn set_mist<S: EventSink>(battle: &mut Packed, side: Side, events: &mut S)

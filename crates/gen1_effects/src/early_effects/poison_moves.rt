@@ -8,15 +8,15 @@ ghost use Rattle.gen1_machine.specs.Progress.{inflict, on_conditions, only};
 ghost use Rattle.gen1_stats.specs.declared.status.Status.TheVariants.{Poisoned};
 ghost use Rattle.gen1_machine.specs.declared.health.Kind.TheVariants as kinds;
 ghost use Rattle.gen1_machine.specs.Conditions.{with_bad_poison};
-ghost use Rattle.gen1_action.specs.Knowing.{IsUncounted, aware};
+ghost use Rattle.gen1_hits.specs.Knowing.{IsUncounted, aware};
 
 use crate::targets::{has_status, has_substitute, has_type};
-use gen1_action::{Known, fail, must_hit};
 use gen1_events::EventSink;
+use gen1_hits::{Known, must_hit};
 use gen1_layout::Packed;
 use gen1_machine::{Kind, Side};
 use gen1_rolls::Rolls;
-use gen1_status::inflict;
+use gen1_status::{fail, inflict};
 use gen1_tables::{Element, MoveId};
 
 pub(super) fn poison_foe<R: Rolls, S: EventSink>(

@@ -5,12 +5,12 @@ ghost use Rattle.std.specs.Prelude.{◌==◌, ◌-◌, ◌≡◌};
 ghost use Rattle.gen1_machine.specs.EarlyEffects.{heal, recover, resists_healing, rest_up};
 ghost use Rattle.gen1_machine.specs.Moves.{rest};
 
-use gen1_action::fail;
 use gen1_events::EventSink;
 use gen1_hits::gain_hp;
 use gen1_layout::Packed;
 use gen1_machine::{Event, Kind, Side};
 use gen1_stats::Status;
+use gen1_status::fail;
 use gen1_tables::MoveId;
 
 #[inline(always)] // docs/SPEED.md, "Hints on inlining"

@@ -4,15 +4,15 @@ ghost use Rattle.gen1_layout.specs.Operations.{DoesWhere, Draws, DrawsWhere, any
 ghost use Rattle.gen1_layout.specs.Words.{AddsAtMost, HasRoom, false, move_at, true};
 ghost use Rattle.gen1_machine.specs.LateEffects.{put_to_sleep, ready_to_sleep};
 ghost use Rattle.gen1_machine.specs.Ruling.{fall_asleep, is_sleep_count, sleep_for, sleep_only_one};
-ghost use Rattle.gen1_action.specs.Knowing.{aware};
+ghost use Rattle.gen1_hits.specs.Knowing.{aware};
 
-use gen1_action::{Known, fail, has_marked_sleeper, must_hit};
 use gen1_events::EventSink;
+use gen1_hits::{Known, must_hit};
 use gen1_layout::{Conditions, Packed};
 use gen1_machine::{Kind, Side};
 use gen1_rolls::{Look, Rolls};
 use gen1_stats::Status;
-use gen1_status::inflict_status;
+use gen1_status::{fail, has_marked_sleeper, inflict_status};
 use gen1_tables::MoveId;
 
 // Returns whether it fails or misses, which an event reports.

@@ -4,14 +4,14 @@ ghost use Rattle.gen1_layout.specs.Words.{AddsAtMost, HasRoom, IsBetween, move_a
 ghost use Rattle.gen1_machine.specs.LateEffects.{lower_foes_stat};
 ghost use Rattle.gen1_machine.specs.Progress.{fail, fails_if, is_invulnerable};
 ghost use Rattle.gen1_machine.specs.StageShift.{lower_stage, raise_stage};
-ghost use Rattle.gen1_action.specs.Knowing.{aware};
+ghost use Rattle.gen1_hits.specs.Knowing.{aware};
 
-use gen1_action::{Known, fail, must_hit};
 use gen1_events::EventSink;
+use gen1_hits::{Known, must_hit};
 use gen1_layout::{Conditions, Packed};
 use gen1_machine::Side;
 use gen1_rolls::Rolls;
-use gen1_status::{lower_stage, raise_stage};
+use gen1_status::{fail, lower_stage, raise_stage};
 use gen1_tables::{MoveId, Stat};
 
 // Raises a stat of the user by 1 or 2 stages. Returns whether it fails, which an event reports.

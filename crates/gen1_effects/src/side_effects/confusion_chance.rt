@@ -4,11 +4,11 @@ ghost use Rattle.gen1_layout.specs.Words.{AddsAtMost, HasRoom, false};
 ghost use Rattle.gen1_machine.specs.SideEffects.{may_confuse};
 
 use super::chance::is_drawn_below;
-use gen1_action::confuse;
 use gen1_events::EventSink;
 use gen1_layout::{Conditions, Packed};
 use gen1_machine::Side;
 use gen1_rolls::Rolls;
+use gen1_status::confuse;
 
 // The draw comes first, even if the foe is confused already.
 pub(super) fn may_confuse<R: Rolls, S: EventSink>(

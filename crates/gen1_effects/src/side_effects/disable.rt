@@ -5,14 +5,15 @@ ghost use Rattle.gen1_layout.specs.Operations.{DoesWhere, Draws, DrawsWhere, hol
 ghost use Rattle.gen1_layout.specs.Words.{AddsAtMost, Field, HasRoom, Reads, Setting, Within, false, member_in, move_at, other, true};
 ghost use Rattle.gen1_machine.specs.Progress.{member};
 ghost use Rattle.gen1_machine.specs.SideEffects.{disable, disable_for, disable_slot, has_pp, names_slot};
-ghost use Rattle.gen1_action.specs.Knowing.{IsUncounted, aware};
+ghost use Rattle.gen1_hits.specs.Knowing.{IsUncounted, aware};
 ghost use Rattle.gen1_effects.specs.SideEffects.{draw_slot};
 
-use gen1_action::{Known, fail, must_hit};
 use gen1_events::EventSink;
+use gen1_hits::{Known, must_hit};
 use gen1_layout::{Conditions, Packed};
 use gen1_machine::{DisabledSlot, Event, Side, Volatile};
 use gen1_rolls::{Look, Rolls};
+use gen1_status::fail;
 use gen1_tables::MoveId;
 
 pub(super) fn disable<R: Rolls, S: EventSink>(

@@ -12,13 +12,12 @@ ghost use Rattle.gen1_effects.specs.SideEffects.{afflict, is_freeze};
 
 use super::chance::is_drawn_below;
 use crate::targets::{has_status, has_type};
-use gen1_action::has_frozen_member;
 use gen1_events::EventSink;
 use gen1_layout::{Conditions, Packed};
 use gen1_machine::{Event, Kind, Side};
 use gen1_rolls::Rolls;
 use gen1_stats::Status;
-use gen1_status::inflict;
+use gen1_status::{has_frozen_member, inflict};
 use gen1_tables::{Element, MoveId};
 
 // Nothing is drawn if the foe has a status, or is a Poison type.

@@ -9,13 +9,13 @@ ghost use Rattle.gen1_machine.specs.GoingOn.{bide_goes_on, let_energy_go, let_ou
 ghost use Rattle.gen1_machine.specs.LateEffects.{bide_for, start_bide};
 ghost use Rattle.gen1_tables.specs.Effects.{bides};
 ghost use Rattle.gen1_machine.specs.Progress.{underway};
-ghost use Rattle.gen1_action.specs.Knowing.{IsUncounted, aware, aware_of};
-ghost use Rattle.gen1_action.specs.Alone.{Leaves, beginning};
-ghost use Rattle.gen1_action.specs.Planned.{using};
+ghost use Rattle.gen1_hits.specs.Knowing.{IsUncounted, aware, aware_of};
+ghost use Rattle.gen1_hits.specs.Alone.{Leaves, beginning};
+ghost use Rattle.gen1_hits.specs.Planned.{using};
 ghost use Rattle.gen1_multiturn.specs.Bide.{energy_let_out, use_bide};
 
-use gen1_action::Known;
 use gen1_events::EventSink;
+use gen1_hits::Known;
 use gen1_layout::{Conditions, Packed};
 use gen1_machine::{Event, Side, Volatile};
 use gen1_rolls::{Look, Rolls};

@@ -6,12 +6,12 @@ ghost use Rattle.gen1_machine.specs.Charging.{begin_charge, charge, end_charge, 
 ghost use Rattle.gen1_machine.specs.Conditions.{with_invulnerability};
 ghost use Rattle.gen1_tables.specs.Effects.{hides};
 ghost use Rattle.gen1_machine.specs.Progress.{on_conditions, only};
-ghost use Rattle.gen1_action.specs.Knowing.{aware_of};
-ghost use Rattle.gen1_action.specs.Planned.{taking};
+ghost use Rattle.gen1_hits.specs.Knowing.{aware_of};
+ghost use Rattle.gen1_hits.specs.Planned.{taking};
 ghost use Rattle.gen1_multiturn.specs.Charging.{PicksMove, charge_picked};
 
-use gen1_action::Known;
 use gen1_events::EventSink;
+use gen1_hits::Known;
 use gen1_layout::{Conditions, Packed};
 use gen1_machine::{Event, Pick, Side};
 use gen1_rolls::Rolls;

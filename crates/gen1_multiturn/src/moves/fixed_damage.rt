@@ -4,10 +4,10 @@ ghost use Rattle.gen1_layout.specs.Operations.{Draws, quiet};
 ghost use Rattle.gen1_layout.specs.Words.{Event, List, Reads, false, member_in, move_at};
 ghost use Rattle.gen1_layout.specs.Parts.{Parts};
 ghost use Rattle.gen1_machine.specs.FixedDamage.{deal_fixed, fixed_damage, half_hp, is_psywave, psywave};
-ghost use Rattle.gen1_action.specs.Knowing.{IsUncounted, aware};
+ghost use Rattle.gen1_hits.specs.Knowing.{IsUncounted, aware};
 ghost use Rattle.gen1_multiturn.specs.FixedDamage.{DealsAs};
 
-use gen1_action::{Known, hit_or_miss};
+use gen1_hits::{Known, hit_or_miss};
 use gen1_layout::Packed;
 use gen1_machine::{Outcome, Side};
 use gen1_rolls::{Look, Rolls};

@@ -3,10 +3,10 @@ ghost use Rattle.gen1_layout.specs.Operations.{Does, learns, unchanged};
 ghost use Rattle.gen1_layout.specs.Words.{Event, List, Reads, false, underway_in};
 ghost use Rattle.gen1_machine.specs.declared.picks.Pick.TheVariants.{Continue};
 ghost use Rattle.gen1_machine.specs.Action.{keeps_going, see_if_going_on};
-ghost use Rattle.gen1_action.specs.Alone.{beginning};
-ghost use Rattle.gen1_action.specs.Knowing.{knowing};
+ghost use Rattle.gen1_hits.specs.Alone.{beginning};
+ghost use Rattle.gen1_hits.specs.Knowing.{knowing};
 
-use gen1_action::Known;
+use gen1_hits::Known;
 use gen1_layout::{Conditions, Packed};
 use gen1_machine::Side;
 

@@ -5,10 +5,9 @@ ghost use Rattle.gen1_tables.specs.declared.effect.Stat.TheVariants.{Speed};
 ghost use Rattle.gen1_machine.specs.Damage.{is_factor};
 ghost use Rattle.gen1_machine.specs.FixedDamage.{deal_everything, knock_out, knock_out_by_type};
 ghost use Rattle.gen1_machine.specs.Progress.{draw_until};
-ghost use Rattle.gen1_action.specs.Knowing.{IsUncounted, aware};
+ghost use Rattle.gen1_hits.specs.Knowing.{IsUncounted, aware};
 
-use gen1_action::{Known, hit_or_miss, is_immune};
-use gen1_hits::{critical, is_factor};
+use gen1_hits::{Known, critical, hit_or_miss, is_factor, is_immune};
 use gen1_layout::Packed;
 use gen1_machine::Side;
 use gen1_rolls::{Look, Rolls};

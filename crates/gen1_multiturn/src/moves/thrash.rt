@@ -8,17 +8,18 @@ ghost use Rattle.gen1_tables.specs.Effects.{thrashes};
 ghost use Rattle.gen1_machine.specs.Moves.{Move, accuracy_byte};
 ghost use Rattle.gen1_machine.specs.GoingOn.{thrash_about, thrash_for, thrash_less};
 ghost use Rattle.gen1_machine.specs.Progress.{underway};
-ghost use Rattle.gen1_action.specs.Alone.{Leaves, beginning};
-ghost use Rattle.gen1_action.specs.Knowing.{aware_of};
-ghost use Rattle.gen1_action.specs.Planned.{using};
+ghost use Rattle.gen1_hits.specs.Alone.{Leaves, beginning};
+ghost use Rattle.gen1_hits.specs.Knowing.{aware_of};
+ghost use Rattle.gen1_hits.specs.Planned.{using};
 ghost use Rattle.gen1_multiturn.specs.GoingOn.{use_thrash};
 
 use crate::moves::going_on::seen_going_on;
-use gen1_action::{Known, confuse};
 use gen1_events::EventSink;
+use gen1_hits::Known;
 use gen1_layout::Packed;
 use gen1_machine::Side;
 use gen1_rolls::{Look, Rolls};
+use gen1_status::confuse;
 use gen1_tables::MoveId;
 
 // The accuracy byte of Thrash and of Petal Dance.

@@ -8,13 +8,14 @@ ghost use Rattle.gen1_machine.specs.Conditions.{with_trapping_one_less, without_
 ghost use Rattle.gen1_tables.specs.Effects.{traps};
 ghost use Rattle.gen1_machine.specs.GoingOn.{draw_count, trap, trap_for};
 ghost use Rattle.gen1_machine.specs.Progress.{on_conditions, underway};
-ghost use Rattle.gen1_action.specs.Alone.{Leaves, beginning};
-ghost use Rattle.gen1_action.specs.Knowing.{aware_of};
-ghost use Rattle.gen1_action.specs.Planned.{using};
+ghost use Rattle.gen1_hits.specs.Alone.{Leaves, beginning};
+ghost use Rattle.gen1_hits.specs.Knowing.{aware_of};
+ghost use Rattle.gen1_hits.specs.Planned.{using};
 ghost use Rattle.gen1_multiturn.specs.GoingOn.{use_trap};
 
+use crate::counts::draw_count;
 use crate::moves::going_on::seen_going_on;
-use gen1_action::{Known, draw_count};
+use gen1_hits::Known;
 use gen1_layout::{Conditions, Packed};
 use gen1_machine::Side;
 use gen1_rolls::Rolls;

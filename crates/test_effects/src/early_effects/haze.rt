@@ -1,8 +1,8 @@
 //! Haze, which acts on both sides (docs/MECHANICS.md, "Early effects").
 use super::{BOTH, EarlyEffects, FOE, USER, apply_from, bytes_with, named, tauros};
 use crate::battles::assert_same;
-use gen1_action::Known;
 use gen1_effects::{group_one_knowing, is_early_but_substitute};
+use gen1_hits::Known;
 use gen1_layout::{Conditions, Packed};
 use gen1_machine::{DisabledSlot, Event, EventList, Kind};
 use gen1_rolls::Sweep;

@@ -1,8 +1,8 @@
 //! Disable, with its draws (docs/MECHANICS.md, "Side effects"). Its accuracy of 55 percent is the byte 140.
 use super::{Abort, BOTH, FOE, Fail, USER, named, plays, tauros, tauros_with, tells};
 use crate::battles::assert_same;
-use gen1_action::Known;
 use gen1_effects::side_effect_knowing;
+use gen1_hits::Known;
 use gen1_layout::Packed;
 use gen1_machine::{DisabledSlot, Event, EventList, Volatile};
 use gen1_rolls::{LinkRandom, Rolls, Sweep};

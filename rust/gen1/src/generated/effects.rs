@@ -13,11 +13,12 @@ mod early_effects {
         //! Supersonic and Confuse Ray ([docs/MECHANICS.md, "Early effects"](https://hibsuloy.example/gen1/blob/main/docs/MECHANICS.md#early-effects)).
 
         use crate::generated::effects::targets::{has_substitute, is_confused};
-        use crate::generated::action::{Known, confuse, fail, must_hit};
         use crate::generated::events::EventSink;
+        use crate::generated::hits::{Known, must_hit};
         use crate::generated::layout::Packed;
         use crate::generated::machine::Side;
         use crate::generated::rolls::Rolls;
+        use crate::generated::status::{confuse, fail};
         use crate::generated::tables::MoveId;
 
         pub(super) fn confuse_foe<R: Rolls, S: EventSink>(
@@ -47,10 +48,10 @@ mod early_effects {
     mod conversion {
         //! Conversion ([docs/MECHANICS.md, "Early effects"](https://hibsuloy.example/gen1/blob/main/docs/MECHANICS.md#early-effects)).
 
-        use crate::generated::action::fail;
         use crate::generated::events::EventSink;
         use crate::generated::layout::{Conditions, Packed};
         use crate::generated::machine::{Event, Side, Volatile};
+        use crate::generated::status::fail;
 
         pub(super) fn convert<S: EventSink>(battle: &mut Packed, side: Side, events: &mut S) {
             let foe = side.other();
@@ -77,11 +78,12 @@ mod early_effects {
         use super::poison_moves::poison_foe;
         use super::recovery::heal;
         use super::splash::splash;
-        use crate::generated::action::{Known, fail};
         use crate::generated::events::EventSink;
+        use crate::generated::hits::Known;
         use crate::generated::layout::Packed;
         use crate::generated::machine::Side;
         use crate::generated::rolls::Rolls;
+        use crate::generated::status::fail;
         use crate::generated::tables::{Effect, MoveId};
 
         /// Whether an effect is one that [`group_one`] handles: an early effect other than Substitute ([docs/MECHANICS.md](https://hibsuloy.example/gen1/blob/main/docs/MECHANICS.md),
@@ -188,8 +190,8 @@ mod early_effects {
         //! Haze ([docs/MECHANICS.md, "Early effects"](https://hibsuloy.example/gen1/blob/main/docs/MECHANICS.md#early-effects)).
 
         use super::stage_reset::reset_stages;
-        use crate::generated::action::Known;
         use crate::generated::events::EventSink;
+        use crate::generated::hits::Known;
         use crate::generated::layout::Packed;
         use crate::generated::machine::{Event, Kind, Side};
         use crate::generated::stats::Status;
@@ -224,11 +226,12 @@ mod early_effects {
         //! Leech Seed ([docs/MECHANICS.md, "Early effects"](https://hibsuloy.example/gen1/blob/main/docs/MECHANICS.md#early-effects)).
 
         use crate::generated::effects::targets::has_type;
-        use crate::generated::action::{Known, fail, must_hit};
         use crate::generated::events::EventSink;
+        use crate::generated::hits::{Known, must_hit};
         use crate::generated::layout::{Conditions, Packed};
         use crate::generated::machine::{Event, Side, Volatile};
         use crate::generated::rolls::Rolls;
+        use crate::generated::status::fail;
         use crate::generated::tables::{Element, MoveId};
 
         pub(super) fn seed_foe<R: Rolls, S: EventSink>(
@@ -259,10 +262,10 @@ mod early_effects {
     mod mist_and_screens {
         //! Mist, Focus Energy and the screens, which fail if they are up already ([docs/MECHANICS.md, "Early effects"](https://hibsuloy.example/gen1/blob/main/docs/MECHANICS.md#early-effects)).
 
-        use crate::generated::action::fail;
         use crate::generated::events::EventSink;
         use crate::generated::layout::{Conditions, Packed};
         use crate::generated::machine::{Event, Side, Volatile};
+        use crate::generated::status::fail;
         use crate::generated::tables::MoveId;
 
         pub(super) fn set_mist<S: EventSink>(battle: &mut Packed, side: Side, events: &mut S) {
@@ -321,12 +324,12 @@ mod early_effects {
         //! Stun Spore, Thunder Wave and Glare ([docs/MECHANICS.md, "Early effects"](https://hibsuloy.example/gen1/blob/main/docs/MECHANICS.md#early-effects)).
 
         use crate::generated::effects::targets::{has_status, is_grounded};
-        use crate::generated::action::{Known, fail, must_hit};
         use crate::generated::events::EventSink;
+        use crate::generated::hits::{Known, must_hit};
         use crate::generated::layout::Packed;
         use crate::generated::machine::{Kind, Side};
         use crate::generated::rolls::Rolls;
-        use crate::generated::status::inflict;
+        use crate::generated::status::{fail, inflict};
         use crate::generated::tables::MoveId;
 
         pub(super) fn paralyse_foe<R: Rolls, S: EventSink>(
@@ -357,12 +360,12 @@ mod early_effects {
         //! Poison Powder, Poison Gas and Toxic ([docs/MECHANICS.md, "Early effects"](https://hibsuloy.example/gen1/blob/main/docs/MECHANICS.md#early-effects)).
 
         use crate::generated::effects::targets::{has_status, has_substitute, has_type};
-        use crate::generated::action::{Known, fail, must_hit};
         use crate::generated::events::EventSink;
+        use crate::generated::hits::{Known, must_hit};
         use crate::generated::layout::Packed;
         use crate::generated::machine::{Kind, Side};
         use crate::generated::rolls::Rolls;
-        use crate::generated::status::inflict;
+        use crate::generated::status::{fail, inflict};
         use crate::generated::tables::{Element, MoveId};
 
         pub(super) fn poison_foe<R: Rolls, S: EventSink>(
@@ -409,12 +412,12 @@ mod early_effects {
     mod recovery {
         //! Recover, Soft-Boiled and Rest ([docs/MECHANICS.md, "Early effects"](https://hibsuloy.example/gen1/blob/main/docs/MECHANICS.md#early-effects)).
 
-        use crate::generated::action::fail;
         use crate::generated::events::EventSink;
         use crate::generated::hits::gain_hp;
         use crate::generated::layout::Packed;
         use crate::generated::machine::{Event, Kind, Side};
         use crate::generated::stats::Status;
+        use crate::generated::status::fail;
         use crate::generated::tables::MoveId;
 
         #[inline(always)] // docs/SPEED.md, "Hints on inlining"
@@ -507,8 +510,8 @@ mod late_effects {
     //! Moves that act after the damage step: they raise and lower stages, and put the foe to sleep
     //! ([docs/MECHANICS.md, "Late effects"](https://hibsuloy.example/gen1/blob/main/docs/MECHANICS.md#late-effects)). Bide, which lasts, isn't one of these.
 
-    use crate::generated::action::Known;
     use crate::generated::events::EventSink;
+    use crate::generated::hits::Known;
     use crate::generated::layout::Packed;
     use crate::generated::machine::Side;
     use crate::generated::rolls::Rolls;
@@ -517,13 +520,13 @@ mod late_effects {
     mod sleep_moves {
         //! Moves that put the foe to sleep ([docs/MECHANICS.md, "Late effects"](https://hibsuloy.example/gen1/blob/main/docs/MECHANICS.md#late-effects), "Rules (sleep clause, freeze clause)").
 
-        use crate::generated::action::{Known, fail, has_marked_sleeper, must_hit};
         use crate::generated::events::EventSink;
+        use crate::generated::hits::{Known, must_hit};
         use crate::generated::layout::{Conditions, Packed};
         use crate::generated::machine::{Kind, Side};
         use crate::generated::rolls::{Look, Rolls};
         use crate::generated::stats::Status;
-        use crate::generated::status::inflict_status;
+        use crate::generated::status::{fail, has_marked_sleeper, inflict_status};
         use crate::generated::tables::MoveId;
 
         // Returns whether it fails or misses, which an event reports.
@@ -618,12 +621,12 @@ mod late_effects {
     mod stat_moves {
         //! Moves that raise a stat of the user or lower a stat of the foe ([docs/MECHANICS.md, "Late effects"](https://hibsuloy.example/gen1/blob/main/docs/MECHANICS.md#late-effects), "Stage shift").
 
-        use crate::generated::action::{Known, fail, must_hit};
         use crate::generated::events::EventSink;
+        use crate::generated::hits::{Known, must_hit};
         use crate::generated::layout::{Conditions, Packed};
         use crate::generated::machine::Side;
         use crate::generated::rolls::Rolls;
-        use crate::generated::status::{lower_stage, raise_stage};
+        use crate::generated::status::{fail, lower_stage, raise_stage};
         use crate::generated::tables::{MoveId, Stat};
 
         // Raises a stat of the user by 1 or 2 stages. Returns whether it fails, which an event reports.
@@ -756,11 +759,11 @@ mod side_effects {
         //! Confusion by chance ([docs/MECHANICS.md, "Side effects"](https://hibsuloy.example/gen1/blob/main/docs/MECHANICS.md#side-effects)).
 
         use super::chance::is_drawn_below;
-        use crate::generated::action::confuse;
         use crate::generated::events::EventSink;
         use crate::generated::layout::{Conditions, Packed};
         use crate::generated::machine::Side;
         use crate::generated::rolls::Rolls;
+        use crate::generated::status::confuse;
 
         // The draw comes first, even if the foe is confused already.
         pub(super) fn may_confuse<R: Rolls, S: EventSink>(
@@ -784,11 +787,12 @@ mod side_effects {
     mod disable {
         //! Disable, with its draws ([docs/MECHANICS.md, "Side effects"](https://hibsuloy.example/gen1/blob/main/docs/MECHANICS.md#side-effects)).
 
-        use crate::generated::action::{Known, fail, must_hit};
         use crate::generated::events::EventSink;
+        use crate::generated::hits::{Known, must_hit};
         use crate::generated::layout::{Conditions, Packed};
         use crate::generated::machine::{DisabledSlot, Event, Side, Volatile};
         use crate::generated::rolls::{Look, Rolls};
+        use crate::generated::status::fail;
         use crate::generated::tables::MoveId;
 
         pub(super) fn disable<R: Rolls, S: EventSink>(
@@ -948,13 +952,12 @@ mod side_effects {
 
         use super::chance::is_drawn_below;
         use crate::generated::effects::targets::{has_status, has_type};
-        use crate::generated::action::has_frozen_member;
         use crate::generated::events::EventSink;
         use crate::generated::layout::{Conditions, Packed};
         use crate::generated::machine::{Event, Kind, Side};
         use crate::generated::rolls::Rolls;
         use crate::generated::stats::Status;
-        use crate::generated::status::inflict;
+        use crate::generated::status::{has_frozen_member, inflict};
         use crate::generated::tables::{Element, MoveId};
 
         // Nothing is drawn if the foe has a status, or is a Poison type.
@@ -1054,8 +1057,8 @@ mod side_effects {
     use confusion_chance::may_confuse;
     use disable::disable;
     use flinch_chance::may_flinch;
-    use crate::generated::action::Known;
     use crate::generated::events::EventSink;
+    use crate::generated::hits::Known;
     use crate::generated::layout::{Conditions, Packed};
     use crate::generated::machine::{Kind, Side};
     use crate::generated::rolls::Rolls;

@@ -3,7 +3,6 @@
 #![allow(missing_docs, missing_debug_implementations, unused_imports, unused_variables, dead_code, unreachable_pub)]
 #![allow(rustdoc::all, clippy::all)]
 
-pub mod action;
 pub mod effects;
 pub mod engine;
 pub mod events;

@@ -4,17 +4,35 @@
 //!
 //! - `moves`: the moves: Bide, charging, Counter, fixed damage, one-hit moves, Rage, Substitute, Thrash and trapping
 //! - `many_hits`: the hits of a move, one after another
+//! - `counts`: how many times a move hits or holds, by a draw
 //! - `hit_counts`: how many hits a move makes
 //! - `first_hit`: the reports before the first hit
 //! - `hit_effects`: what follows the hit of a move that makes one
 //! - `miss`: what follows a miss
 
+mod counts {
+    //! How many times a move hits or holds ([docs/MECHANICS.md, "Many hits"](https://hibsuloy.example/gen1/blob/main/docs/MECHANICS.md#many-hits), "Going on").
+
+    use crate::generated::rolls::{Look, Rolls};
+
+    /// Draws how many times a move hits, or how long it holds, less 2: 0 to 3 ([docs/MECHANICS.md, "Many hits"](https://hibsuloy.example/gen1/blob/main/docs/MECHANICS.md#many-hits)).
+    ///
+    /// 2 and 3 are rarer. It takes one draw, and a second if the first has 2 or 3 in its low bits.
+    pub fn draw_count<R: Rolls>(random: &mut R) -> u8 {
+        let first = random.draw_as(Look::Remainder(4)) % 4;
+        if first <= 1 {
+            return first;
+        }
+        random.draw_as(Look::Remainder(4)) % 4
+    }
+}
+
 mod first_hit {
     //! The reports before the first hit: whether it is critical, and its effectiveness ([docs/MECHANICS.md](https://hibsuloy.example/gen1/blob/main/docs/MECHANICS.md), "Order of
     //! events").
 
-    use crate::generated::action::Known;
     use crate::generated::events::EventSink;
+    use crate::generated::hits::Known;
     use crate::generated::layout::Packed;
     use crate::generated::machine::{Event, Side};
     use crate::generated::tables::{MoveId, effectiveness};
@@ -62,8 +80,9 @@ mod first_hit {
 mod hit_counts {
     //! How many hits a move makes ([docs/MECHANICS.md, "Many hits"](https://hibsuloy.example/gen1/blob/main/docs/MECHANICS.md#many-hits)).
 
-    use crate::generated::action::{Known, draw_count};
+    use crate::generated::multiturn::counts::draw_count;
     use crate::generated::events::EventSink;
+    use crate::generated::hits::Known;
     use crate::generated::layout::Packed;
     use crate::generated::machine::{Event, HitCount, Side};
     use crate::generated::rolls::Rolls;
@@ -218,9 +237,8 @@ mod many_hits {
     use crate::generated::multiturn::hit_counts::{hits_left, note_hit_count, plan_unless_broken};
     use crate::generated::multiturn::hit_effects::hit_effect;
     use crate::generated::multiturn::moves::rage::rage;
-    use crate::generated::action::Known;
     use crate::generated::events::EventSink;
-    use crate::generated::hits::{Landed, land};
+    use crate::generated::hits::{Known, Landed, land};
     use crate::generated::layout::Packed;
     use crate::generated::machine::{Event, Side};
     use crate::generated::rolls::Rolls;
@@ -371,9 +389,8 @@ mod miss {
     //! What follows a miss: a crash, or an explosion ([docs/MECHANICS.md, "Action"](https://hibsuloy.example/gen1/blob/main/docs/MECHANICS.md#action), step 9).
 
     use crate::generated::multiturn::hit_effects::explode;
-    use crate::generated::action::note_miss;
     use crate::generated::events::EventSink;
-    use crate::generated::hits::lose_hp;
+    use crate::generated::hits::{lose_hp, note_miss};
     use crate::generated::layout::Packed;
     use crate::generated::machine::{DamageSource, Side};
     use crate::generated::tables::{Effect, MoveId};
@@ -416,8 +433,8 @@ mod moves {
     pub mod bide {
         //! Bide, which begins, stores the last damage, and lets out twice the sum ([docs/MECHANICS.md, "Going on"](https://hibsuloy.example/gen1/blob/main/docs/MECHANICS.md#going-on)).
 
-        use crate::generated::action::Known;
         use crate::generated::events::EventSink;
+        use crate::generated::hits::Known;
         use crate::generated::layout::{Conditions, Packed};
         use crate::generated::machine::{Event, Side, Volatile};
         use crate::generated::rolls::{Look, Rolls};
@@ -530,8 +547,8 @@ mod moves {
     pub mod charging {
         //! Moves that charge for a turn before they strike ([docs/MECHANICS.md, "Charging"](https://hibsuloy.example/gen1/blob/main/docs/MECHANICS.md#charging)).
 
-        use crate::generated::action::Known;
         use crate::generated::events::EventSink;
+        use crate::generated::hits::Known;
         use crate::generated::layout::{Conditions, Packed};
         use crate::generated::machine::{Event, Pick, Side};
         use crate::generated::rolls::Rolls;
@@ -626,8 +643,7 @@ mod moves {
     pub mod counter {
         //! Counter, which deals twice the last damage ([docs/MECHANICS.md, "Counter"](https://hibsuloy.example/gen1/blob/main/docs/MECHANICS.md#counter)).
 
-        use crate::generated::action::{Known, hit_or_miss};
-        use crate::generated::hits::critical;
+        use crate::generated::hits::{Known, critical, hit_or_miss};
         use crate::generated::layout::Packed;
         use crate::generated::machine::{Side, UsedMove};
         use crate::generated::rolls::Rolls;
@@ -700,7 +716,7 @@ mod moves {
     pub mod fixed_damage {
         //! Moves of fixed damage, Super Fang and Psywave ([docs/MECHANICS.md, "Fixed damage and one-hit moves"](https://hibsuloy.example/gen1/blob/main/docs/MECHANICS.md#fixed-damage-and-one-hit-moves)).
 
-        use crate::generated::action::{Known, hit_or_miss};
+        use crate::generated::hits::{Known, hit_or_miss};
         use crate::generated::layout::Packed;
         use crate::generated::machine::{Outcome, Side};
         use crate::generated::rolls::{Look, Rolls};
@@ -789,7 +805,7 @@ mod moves {
     mod going_on {
         //! Whether the move of a side goes on, by its conditions ([docs/MECHANICS.md, "Going on"](https://hibsuloy.example/gen1/blob/main/docs/MECHANICS.md#going-on)).
 
-        use crate::generated::action::Known;
+        use crate::generated::hits::Known;
         use crate::generated::layout::{Conditions, Packed};
         use crate::generated::machine::Side;
 
@@ -815,8 +831,7 @@ mod moves {
     pub mod one_hit_moves {
         //! One-hit moves ([docs/MECHANICS.md, "Fixed damage and one-hit moves"](https://hibsuloy.example/gen1/blob/main/docs/MECHANICS.md#fixed-damage-and-one-hit-moves)).
 
-        use crate::generated::action::{Known, hit_or_miss, is_immune};
-        use crate::generated::hits::{critical, is_factor};
+        use crate::generated::hits::{Known, critical, hit_or_miss, is_factor, is_immune};
         use crate::generated::layout::Packed;
         use crate::generated::machine::Side;
         use crate::generated::rolls::{Look, Rolls};
@@ -907,11 +922,11 @@ mod moves {
     pub mod substitute {
         //! Making a substitute ([docs/MECHANICS.md, "Early effects"](https://hibsuloy.example/gen1/blob/main/docs/MECHANICS.md#early-effects)).
 
-        use crate::generated::action::fail;
         use crate::generated::events::EventSink;
         use crate::generated::hits::lose_hp;
         use crate::generated::layout::{Conditions, Packed};
         use crate::generated::machine::{DamageSource, Event, Side, Volatile};
+        use crate::generated::status::fail;
 
         /// Makes a Substitute for the member of `side` that is out ([docs/MECHANICS.md, "Early effects"](https://hibsuloy.example/gen1/blob/main/docs/MECHANICS.md#early-effects)).
         ///
@@ -954,11 +969,12 @@ mod moves {
         //! Thrashing, which begins, goes on, and ends in confusion ([docs/MECHANICS.md, "Going on"](https://hibsuloy.example/gen1/blob/main/docs/MECHANICS.md#going-on)).
 
         use crate::generated::multiturn::moves::going_on::seen_going_on;
-        use crate::generated::action::{Known, confuse};
         use crate::generated::events::EventSink;
+        use crate::generated::hits::Known;
         use crate::generated::layout::Packed;
         use crate::generated::machine::Side;
         use crate::generated::rolls::{Look, Rolls};
+        use crate::generated::status::confuse;
         use crate::generated::tables::MoveId;
 
         // The accuracy byte of Thrash and of Petal Dance.
@@ -1039,8 +1055,9 @@ mod moves {
     pub mod trapping {
         //! Trapping, which begins or goes on ([docs/MECHANICS.md, "Going on"](https://hibsuloy.example/gen1/blob/main/docs/MECHANICS.md#going-on)).
 
+        use crate::generated::multiturn::counts::draw_count;
         use crate::generated::multiturn::moves::going_on::seen_going_on;
-        use crate::generated::action::{Known, draw_count};
+        use crate::generated::hits::Known;
         use crate::generated::layout::{Conditions, Packed};
         use crate::generated::machine::Side;
         use crate::generated::rolls::Rolls;

@@ -881,8 +881,7 @@ mod reasons {
     use crate::generated::odds::sights::{has_focus_energy, has_mist, is_fallen, is_invulnerable};
     use crate::generated::odds::status_reasons::{paralysis_reason, poison_reason, sleep_reason};
     use crate::generated::odds::trials::{Trial, traps_on, trial_of};
-    use crate::generated::action::is_immune;
-    use crate::generated::hits::{damage, numbers, settled_hit, type_steps};
+    use crate::generated::hits::{damage, is_immune, numbers, settled_hit, type_steps};
     use crate::generated::layout::Packed;
     use crate::generated::machine::Side;
     use crate::generated::multiturn::counter;
@@ -1203,9 +1202,9 @@ mod status_reasons {
 
     use crate::generated::odds::reasons::{Reason, first, settled_reason};
     use crate::generated::odds::sights::{has_status, has_substitute, has_type, is_recharging};
-    use crate::generated::action::has_marked_sleeper;
     use crate::generated::layout::Packed;
     use crate::generated::machine::Side;
+    use crate::generated::status::has_marked_sleeper;
     use crate::generated::tables::{Element, MoveId};
 
     pub(crate) fn poison_reason(battle: &Packed, side: Side, id: MoveId) -> Option<Reason> {

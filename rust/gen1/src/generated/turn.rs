@@ -19,8 +19,8 @@ mod action {
 
     use crate::generated::turn::action_steps::carry_out;
     use crate::generated::turn::taken_move::{move_taken, see_if_going_on};
-    use crate::generated::action::Known;
     use crate::generated::events::EventSink;
+    use crate::generated::hits::Known;
     use crate::generated::layout::{Conditions, Packed};
     use crate::generated::machine::{Pick, Side};
     use crate::generated::rolls::Rolls;
@@ -89,8 +89,7 @@ mod action {
 mod action_damage {
     //! The damage of an action ([docs/MECHANICS.md, "Action"](https://hibsuloy.example/gen1/blob/main/docs/MECHANICS.md#action), step 7).
 
-    use crate::generated::action::{Known, hit_or_miss};
-    use crate::generated::hits::{critical, damage, factor_up_to, numbers, type_steps};
+    use crate::generated::hits::{Known, critical, damage, factor_up_to, hit_or_miss, numbers, type_steps};
     use crate::generated::layout::Packed;
     use crate::generated::machine::{Outcome, Side};
     use crate::generated::multiturn::{counter_knowing, fixed_knowing, knock_out};
@@ -193,9 +192,9 @@ mod action_steps {
     use crate::generated::turn::action_damage::damage_of;
     use crate::generated::turn::lead_up::lead_up;
     use crate::generated::turn::strike::strike;
-    use crate::generated::action::Known;
     use crate::generated::effects::{group_two_knowing, is_late_but_bide};
     use crate::generated::events::EventSink;
+    use crate::generated::hits::Known;
     use crate::generated::layout::Packed;
     use crate::generated::machine::{Pick, Side};
     use crate::generated::multiturn::{bide_knowing, start_bide};
@@ -342,9 +341,9 @@ mod lead_up {
     //! first ([docs/MECHANICS.md, "Action"](https://hibsuloy.example/gen1/blob/main/docs/MECHANICS.md#action), steps 3 to 6).
 
     use crate::generated::turn::used_move::use_move;
-    use crate::generated::action::Known;
     use crate::generated::effects::{group_one_knowing, is_early_but_substitute};
     use crate::generated::events::EventSink;
+    use crate::generated::hits::Known;
     use crate::generated::layout::Packed;
     use crate::generated::machine::{Pick, Side};
     use crate::generated::multiturn::{charge_knowing, make_substitute, thrash_knowing, trap_knowing};
@@ -429,9 +428,9 @@ mod lead_up {
 mod strike {
     //! A move that hits or misses, and its side effect ([docs/MECHANICS.md, "Action"](https://hibsuloy.example/gen1/blob/main/docs/MECHANICS.md#action), from step 9 on).
 
-    use crate::generated::action::Known;
     use crate::generated::effects::side_effect_knowing;
     use crate::generated::events::EventSink;
+    use crate::generated::hits::Known;
     use crate::generated::layout::Packed;
     use crate::generated::machine::Side;
     use crate::generated::multiturn::{hits, missed_move};
@@ -478,7 +477,7 @@ mod strike {
 mod taken_move {
     //! The move that an action takes, and whether it goes on ([docs/MECHANICS.md, "Picks"](https://hibsuloy.example/gen1/blob/main/docs/MECHANICS.md#picks), "Going on").
 
-    use crate::generated::action::Known;
+    use crate::generated::hits::Known;
     use crate::generated::layout::{Conditions, Packed};
     use crate::generated::machine::{Pick, Side, UsedMove};
     use crate::generated::status::used_by;
@@ -540,8 +539,8 @@ mod turn_choices {
     use crate::generated::turn::by_side::BySide;
     use crate::generated::turn::turn_order::first_side;
     use crate::generated::turn::turn_parts::{act_and_suffer, end_turn, sends_and_suffers};
-    use crate::generated::action::Known;
     use crate::generated::events::EventSink;
+    use crate::generated::hits::Known;
     use crate::generated::layout::{Conditions, Packed};
     use crate::generated::machine::{Choice, Pick, Place, Side, UsedMove};
     use crate::generated::rolls::Rolls;
@@ -748,8 +747,8 @@ mod turn_parts {
 
     use crate::generated::turn::act;
     use crate::generated::turn::by_side::BySide;
-    use crate::generated::action::Known;
     use crate::generated::events::EventSink;
+    use crate::generated::hits::Known;
     use crate::generated::layout::Packed;
     use crate::generated::machine::{Pick, Place, Side};
     use crate::generated::requests::send_out;
@@ -865,8 +864,8 @@ mod turn_update {
 
     use crate::generated::turn::by_side::BySide;
     use crate::generated::turn::turn_choices::take_turn;
-    use crate::generated::action::Known;
     use crate::generated::events::EventSink;
+    use crate::generated::hits::Known;
     use crate::generated::layout::Packed;
     use crate::generated::machine::{Choice, Side};
     use crate::generated::requests::{close, close_uncut};
@@ -908,8 +907,8 @@ mod used_move {
     //! The use of a move: it becomes the current one, and costs PP ([docs/MECHANICS.md, "Action"](https://hibsuloy.example/gen1/blob/main/docs/MECHANICS.md#action), step 4).
 
     use crate::generated::turn::taken_move::among_slots;
-    use crate::generated::action::Known;
     use crate::generated::events::EventSink;
+    use crate::generated::hits::Known;
     use crate::generated::layout::Packed;
     use crate::generated::machine::{Event, Pick, Side, UsedMove};
     use crate::generated::multiturn::make_current;

@@ -4,7 +4,7 @@ use Rattle.gen1_machine.specs.Moves.{move_at}
 use Rattle.gen1_machine.specs.Progress.{fail}
 use Rattle.gen1_machine.specs.Ruling.{ruling_of}
 use Rattle.gen1_machine.specs.StageShift.{raise_stage}
-use Rattle.gen1_action.proofs.Knowledge.{plain_still}
+use Rattle.gen1_hits.proofs.Knowledge.{plain_still}
 use Rattle.gen1_effects.proofs.LateEffects.{lowers, no_other, raises, sleeps}
 use Rattle.gen1_effects.proofs.Searching.{ended}
 use Rattle.gen1_effects.proofs.ShiftingMoves.{falls-by, rises-by}

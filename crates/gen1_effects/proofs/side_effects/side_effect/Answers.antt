@@ -1,4 +1,4 @@
-use Rattle.gen1_action.proofs.Knowledge.{leaves}
+use Rattle.gen1_hits.proofs.Knowledge.{leaves}
 use Rattle.gen1_effects.proofs.side_effects.side_effect.Goals as goal
 
 pub returns-clause-shown : goal.returns-clause-shown

@@ -1,8 +1,8 @@
 use Rattle.std.proofs.Common.{ap, sym, ◌∙◌}
 use Rattle.gen1_machine.specs.Moves.{move_at}
 use Rattle.gen1_machine.specs.Ruling.{ruling_of}
-use Rattle.gen1_action.specs.Knowing.{knowing}
-use Rattle.gen1_action.proofs.Knowledge.{plain_still}
+use Rattle.gen1_hits.specs.Knowing.{knowing}
+use Rattle.gen1_hits.proofs.Knowledge.{plain_still}
 use Rattle.gen1_effects.specs.declared.side_effects.Way.TheVariants as ways
 use Rattle.gen1_effects.specs.SideEffects.{way_of}
 use Rattle.gen1_effects.proofs.SideEffects.{side_effect-by}

@@ -1,6 +1,6 @@
 use Rattle.gen1_layout.proofs.Words.{Action, ap, goes, if_not, if_so, stays, ◌∙◌}
 use Rattle.gen1_machine.specs.ManyHits.{note_first_hit}
-use Rattle.gen1_action.specs.Knowing.{knowing}
+use Rattle.gen1_hits.specs.Knowing.{knowing}
 use Rattle.gen1_multiturn.proofs.first_hit.note_first_hit.Goals as goal
 
 pub returns-then-not-known-clause-shown : goal.returns-then-not-known-clause-shown

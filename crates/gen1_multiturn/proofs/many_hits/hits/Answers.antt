@@ -2,7 +2,7 @@ use Rattle.gen1_layout.proofs.Words.{ap, drawn_goes, drawn_if_not, drawn_if_so, 
 use Rattle.gen1_machine.specs.ManyHits.{hit_once, hits, note_first_hit}
 use Rattle.gen1_tables.specs.Effects.{hits_more}
 use Rattle.gen1_machine.specs.Moves.{move_at}
-use Rattle.gen1_action.proofs.Knowledge.{does_still}
+use Rattle.gen1_hits.proofs.Knowledge.{does_still}
 use Rattle.gen1_multiturn.proofs.many_hits.hits.Goals as goal
 
 pub returns-then-hits_more-clause-shown : goal.returns-then-hits_more-clause-shown

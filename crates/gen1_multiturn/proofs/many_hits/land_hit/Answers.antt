@@ -1,6 +1,6 @@
 use Rattle.gen1_machine.specs.Landing.{land}
 use Rattle.gen1_machine.specs.Progress.{choose, given}
-use Rattle.gen1_action.specs.Knowing.{knowing}
+use Rattle.gen1_hits.specs.Knowing.{knowing}
 use Rattle.gen1_multiturn.proofs.many_hits.land_hit.Goals as goal
 
 pub returns-clause-shown : goal.returns-clause-shown

@@ -3,7 +3,7 @@ use Rattle.gen1_layout.proofs.Words.{Action, ap, drawn_goes, is_some, sym, â—Œâˆ
 use Rattle.gen1_machine.specs.ManyHits.{note_hit_count, other_hits}
 use Rattle.gen1_machine.specs.Sides.{other}
 use Rattle.gen1_machine.specs.Progress.{given, when}
-use Rattle.gen1_action.proofs.Knowledge.{does_still}
+use Rattle.gen1_hits.proofs.Knowledge.{does_still}
 use Rattle.gen1_multiturn.proofs.many_hits.other_hits.Goals as goal
 
 pub returns-clause-shown : goal.returns-clause-shown

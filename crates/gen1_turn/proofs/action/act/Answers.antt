@@ -2,7 +2,7 @@ use Rattle.gen1_layout.proofs.Words.{ap, quietly, refl, still, ◌∙◌}
 use Rattle.gen1_machine.specs.Action.{act}
 use Rattle.gen1_machine.specs.State.{is_over}
 use Rattle.gen1_machine.proofs.Acts.{begin-quiet}
-use Rattle.gen1_action.proofs.Knowledge.{begun_so}
+use Rattle.gen1_hits.proofs.Knowledge.{begun_so}
 use Rattle.gen1_turn.proofs.Acted.{resumed}
 use Rattle.gen1_turn.proofs.action.act.Goals as goal
 

@@ -3,8 +3,8 @@ use Rattle.gen1_machine.specs.Action.{action_parts, carry_out}
 use Rattle.gen1_machine.specs.Moves.{move_at}
 use Rattle.gen1_machine.specs.Ruling.{ruling_of}
 use Rattle.gen1_status.proofs.Told.{went}
-use Rattle.gen1_action.proofs.Knowledge.{does_still, over, over_stops}
-use Rattle.gen1_action.proofs.Planning.{awake, before-from, gates, sees, taken-number, taking-from, used-fits}
+use Rattle.gen1_hits.proofs.Knowledge.{does_still, over, over_stops}
+use Rattle.gen1_hits.proofs.Planning.{awake, before-from, gates, sees, taken-number, taking-from, used-fits}
 use Rattle.gen1_turn.proofs.Acted.{over_gate}
 use Rattle.gen1_turn.proofs.action.action_parts.Goals as goal
 

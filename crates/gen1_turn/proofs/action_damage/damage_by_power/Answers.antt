@@ -3,7 +3,7 @@ use Rattle.gen1_layout.proofs.Words.{ap, arith, drawn_goes, drawn_if_not, drawn_
 use Rattle.gen1_machine.specs.Action.{usual_damage}
 use Rattle.gen1_machine.specs.Moves.{move_at}
 use Rattle.gen1_status.proofs.Comparing.{below}
-use Rattle.gen1_action.specs.Knowing.{knowing}
+use Rattle.gen1_hits.specs.Knowing.{knowing}
 use Rattle.gen1_turn.proofs.action_damage.damage_by_power.Goals as goal
 
 pub returns-then-power-eq0-clause-shown : goal.returns-then-power-eq0-clause-shown

@@ -2,8 +2,8 @@ use Rattle.gen1_layout.proofs.Words.{drawn_goes, drawn_settled, drawn_stops}
 use Rattle.gen1_machine.specs.Action.{carry_out}
 use Rattle.gen1_machine.specs.Moves.{move_at}
 use Rattle.gen1_machine.proofs.SoundFacts.{is-move}
-use Rattle.gen1_action.proofs.Knowledge.{does_still}
-use Rattle.gen1_action.proofs.Planning.{bide-before, doing, led_up, next}
+use Rattle.gen1_hits.proofs.Knowledge.{does_still}
+use Rattle.gen1_hits.proofs.Planning.{bide-before, doing, led_up, next}
 use Rattle.gen1_turn.proofs.action_steps.carry_out.Goals as goal
 
 pub returns-then-bide_knowing-clause-shown : goal.returns-then-bide_knowing-clause-shown

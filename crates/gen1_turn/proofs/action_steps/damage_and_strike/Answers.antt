@@ -1,7 +1,7 @@
 use Rattle.gen1_layout.proofs.Words.{drawn_goes, drawn_quietly, drawn_settled, drawn_stops}
 use Rattle.gen1_machine.specs.Moves.{move_at}
 use Rattle.gen1_machine.proofs.SoundFacts.{is-move}
-use Rattle.gen1_action.proofs.Planning.{damages}
+use Rattle.gen1_hits.proofs.Planning.{damages}
 use Rattle.gen1_turn.proofs.action_steps.damage_and_strike.Goals as goal
 
 pub returns-then-damage_unless_landing-clause-shown : goal.returns-then-damage_unless_landing-clause-shown

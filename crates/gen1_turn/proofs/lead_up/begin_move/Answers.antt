@@ -2,7 +2,7 @@ use Rattle.std.proofs.Common.{◌≡◌}
 use Rattle.gen1_layout.proofs.Words.{drawn_goes, drawn_settled, drawn_stops, false, sym, ◌∙◌}
 use Rattle.gen1_machine.specs.EarlyEffects.{is_early}
 use Rattle.gen1_machine.specs.Moves.{move_at}
-use Rattle.gen1_action.proofs.Planning.{unchosen-valid}
+use Rattle.gen1_hits.proofs.Planning.{unchosen-valid}
 use Rattle.gen1_turn.proofs.lead_up.begin_move.Goals as goal
 
 pub returns-then-early_effect-clause-shown : goal.returns-then-early_effect-clause-shown

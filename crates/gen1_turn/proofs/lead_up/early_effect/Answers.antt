@@ -1,7 +1,7 @@
 use Rattle.gen1_layout.proofs.Words.{ap, drawn_if_not, drawn_if_so, drawn_stays, sym, ◌∙◌}
 use Rattle.gen1_machine.specs.EarlyEffects.{make_substitute}
 use Rattle.gen1_machine.specs.Moves.{move_at}
-use Rattle.gen1_action.proofs.Knowledge.{plain_still}
+use Rattle.gen1_hits.proofs.Knowledge.{plain_still}
 use Rattle.gen1_effects.specs.EarlyEffects.{is_early_but_substitute}
 use Rattle.gen1_effects.proofs.Failing.{drawn_ended}
 use Rattle.gen1_turn.specs.ByEffect.{makes_substitute}

@@ -3,8 +3,8 @@ use Rattle.gen1_machine.specs.Action.{lead_up}
 use Rattle.gen1_machine.specs.Charging.{charge}
 use Rattle.gen1_machine.specs.Moves.{move_at}
 use Rattle.gen1_machine.proofs.SoundFacts.{is-move}
-use Rattle.gen1_action.specs.Knowing.{knowing}
-use Rattle.gen1_action.proofs.Planning.{before-valid, charge-passes, doing, next, use_move-leads, used-fits, went-on}
+use Rattle.gen1_hits.specs.Knowing.{knowing}
+use Rattle.gen1_hits.proofs.Planning.{before-valid, charge-passes, doing, next, use_move-leads, used-fits, went-on}
 use Rattle.gen1_turn.proofs.lead_up.lead_up.Goals as goal
 
 pub returns-then-charge_knowing-clause-shown : goal.returns-then-charge_knowing-clause-shown

@@ -3,7 +3,7 @@ use Rattle.gen1_layout.proofs.Words.{ap, drawn_goes, drawn_if_not, drawn_if_so, 
 use Rattle.gen1_machine.specs.Action.{prelude}
 use Rattle.gen1_tables.specs.Effects.{thrashes, traps}
 use Rattle.gen1_machine.specs.Moves.{move_at}
-use Rattle.gen1_action.proofs.Planning.{not-both, unchosen-valid}
+use Rattle.gen1_hits.proofs.Planning.{not-both, unchosen-valid}
 use Rattle.gen1_turn.proofs.lead_up.prelude.Goals as goal
 
 pub returns-then-traps-clause-shown : goal.returns-then-traps-clause-shown

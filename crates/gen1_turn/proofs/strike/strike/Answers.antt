@@ -1,6 +1,6 @@
 use Rattle.gen1_layout.proofs.Words.{Action, ap, drawn_goes, drawn_if_not, drawn_if_so, drawn_stays, drawn_stops, ◌∙◌}
 use Rattle.gen1_machine.specs.Action.{strike}
-use Rattle.gen1_action.proofs.Knowledge.{plain_still}
+use Rattle.gen1_hits.proofs.Knowledge.{plain_still}
 use Rattle.gen1_turn.proofs.strike.strike.Goals as goal
 
 pub returns-then-known-clause-shown : goal.returns-then-known-clause-shown

@@ -4,7 +4,7 @@ use Rattle.gen1_machine.specs.Ruling.{ruling_of}
 use Rattle.gen1_machine.specs.Sides.{other}
 use Rattle.gen1_machine.specs.Turn.{do_part, do_parts, end_turn, one_picks, set_picked, Acts, Suffers}
 use Rattle.gen1_machine.proofs.ValidTurns.{send_part, set_picked-keeps, suffers_part}
-use Rattle.gen1_action.specs.Knowing.{knowing, with_broke}
+use Rattle.gen1_hits.specs.Knowing.{knowing, with_broke}
 use Rattle.gen1_turn.proofs.Turns.{cut_short, ended, ended_uncut, ends_as, ends_still, over_still, picked-fits, picked-range}
 use Rattle.gen1_turn.proofs.turn_choices.one_picks.Goals as goal
 

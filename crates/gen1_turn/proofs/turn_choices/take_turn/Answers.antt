@@ -2,7 +2,7 @@ use Rattle.gen1_layout.proofs.Words.{on_conditions, quietly, refl, still, then-g
 use Rattle.gen1_machine.specs.declared.side.Side.TheVariants.{One, Two}
 use Rattle.gen1_machine.specs.Conditions.{without_flinch}
 use Rattle.gen1_machine.specs.Turn.{turn}
-use Rattle.gen1_action.specs.Knowing.{knowing, with_broke}
+use Rattle.gen1_hits.specs.Knowing.{knowing, with_broke}
 use Rattle.gen1_turn.proofs.Turns.{cut_as, flinch-comes, flinch-planned}
 use Rattle.gen1_turn.proofs.turn_choices.take_turn.Goals as goal
 

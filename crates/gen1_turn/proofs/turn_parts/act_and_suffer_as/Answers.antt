@@ -1,5 +1,5 @@
 use Rattle.gen1_layout.proofs.Words.{drawn_settled, true}
-use Rattle.gen1_action.proofs.Knowledge.{over_stops}
+use Rattle.gen1_hits.proofs.Knowledge.{over_stops}
 use Rattle.gen1_turn.proofs.Turns.{acted_left}
 use Rattle.gen1_turn.proofs.turn_parts.act_and_suffer_as.Goals as goal
 

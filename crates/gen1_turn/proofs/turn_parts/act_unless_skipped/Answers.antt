@@ -1,7 +1,7 @@
 use Rattle.gen1_layout.proofs.Words.{drawn_goes, drawn_if_not, drawn_if_so, drawn_stays, ◌∙◌}
 use Rattle.gen1_machine.specs.Turn.{do_part}
 use Rattle.gen1_machine.proofs.Acts.{begin-keeps}
-use Rattle.gen1_action.proofs.Knowledge.{begun_so, over}
+use Rattle.gen1_hits.proofs.Knowledge.{begun_so, over}
 use Rattle.gen1_turn.proofs.turn_parts.act_unless_skipped.Goals as goal
 
 pub returns-then-known-clause-shown : goal.returns-then-known-clause-shown

@@ -1,7 +1,7 @@
 use Rattle.gen1_layout.proofs.Words.{drawn_goes, drawn_settled, drawn_stops, sym, ◌∙◌}
 use Rattle.gen1_machine.specs.EarlyEffects.{confuse_foe}
 use Rattle.gen1_machine.specs.Progress.{has_substitute, is_confused}
-use Rattle.gen1_action.specs.Knowing.{knowing}
+use Rattle.gen1_hits.specs.Knowing.{knowing}
 use Rattle.gen1_effects.proofs.Failing.{drawn_ended, drawn_fails, drawn_past}
 use Rattle.gen1_effects.proofs.early_effects.confusion_moves.confuse_foe.Goals as goal
 

@@ -1,7 +1,7 @@
 use Rattle.std.proofs.Common.{ap, ◌∙◌, ◌≡◌}
-use Rattle.gen1_action.specs.Alone.{just_begun}
-use Rattle.gen1_action.specs.Knowing.{begun}
-use Rattle.gen1_action.proofs.Knowledge.{leaves}
+use Rattle.gen1_hits.specs.Alone.{just_begun}
+use Rattle.gen1_hits.specs.Knowing.{begun}
+use Rattle.gen1_hits.proofs.Knowledge.{leaves}
 use Rattle.gen1_effects.proofs.early_effects.dispatch.group_one.Goals as goal
 
 pub returns-clause-shown : goal.returns-clause-shown

@@ -1,5 +1,5 @@
 use Rattle.std.proofs.Common.{ap, sym, ◌∙◌}
-use Rattle.gen1_action.proofs.Knowledge.{does_still, plain_still}
+use Rattle.gen1_hits.proofs.Knowledge.{does_still, plain_still}
 use Rattle.gen1_effects.specs.EarlyEffects.{way_of}
 use Rattle.gen1_effects.proofs.EarlyEffects.{early-by}
 use Rattle.gen1_effects.proofs.Failing.{drawn_ended}

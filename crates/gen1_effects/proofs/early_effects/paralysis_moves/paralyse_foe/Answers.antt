@@ -6,7 +6,7 @@ use Rattle.gen1_tables.specs.Types.{same_type}
 use Rattle.gen1_machine.specs.EarlyEffects.{paralyse_foe}
 use Rattle.gen1_machine.specs.Moves.{move_at, Move}
 use Rattle.gen1_machine.specs.Progress.{has_status, is_of}
-use Rattle.gen1_action.proofs.Knowledge.{plain_still}
+use Rattle.gen1_hits.proofs.Knowledge.{plain_still}
 use Rattle.gen1_effects.proofs.Failing.{drawn_ended, drawn_fails, drawn_past}
 use Rattle.gen1_effects.proofs.early_effects.paralysis_moves.paralyse_foe.Goals as goal
 

@@ -2,7 +2,7 @@ use Rattle.gen1_layout.proofs.Words.{drawn_goes, drawn_settled, drawn_stops, sym
 use Rattle.gen1_tables.specs.declared.element.Element.TheVariants.{Poison}
 use Rattle.gen1_machine.specs.EarlyEffects.{poison_foe}
 use Rattle.gen1_machine.specs.Progress.{has_status, has_substitute, is_of}
-use Rattle.gen1_action.proofs.Knowledge.{plain_still}
+use Rattle.gen1_hits.proofs.Knowledge.{plain_still}
 use Rattle.gen1_effects.proofs.Failing.{drawn_ended, drawn_fails, drawn_past}
 use Rattle.gen1_effects.proofs.early_effects.poison_moves.poison_foe.Goals as goal
 

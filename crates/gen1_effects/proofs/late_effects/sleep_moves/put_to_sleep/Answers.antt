@@ -1,6 +1,6 @@
 use Rattle.gen1_machine.specs.LateEffects.{put_to_sleep}
 use Rattle.gen1_layout.proofs.Chain.{drawn_goes, drawn_settled, drawn_stops}
-use Rattle.gen1_action.specs.Knowing.{knowing}
+use Rattle.gen1_hits.specs.Knowing.{knowing}
 use Rattle.gen1_effects.proofs.late_effects.sleep_moves.put_to_sleep.Goals as goal
 
 pub returns-then-ready_to_sleep-clause-shown : goal.returns-then-ready_to_sleep-clause-shown

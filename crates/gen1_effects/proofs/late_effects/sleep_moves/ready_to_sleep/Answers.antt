@@ -5,7 +5,7 @@ use Rattle.gen1_machine.specs.Conditions.{without_recharge}
 use Rattle.gen1_machine.specs.LateEffects.{ready_to_sleep}
 use Rattle.gen1_machine.specs.Progress.{fail, fails_if, has_status}
 use Rattle.gen1_status.proofs.Clearing.{recharge-same}
-use Rattle.gen1_action.proofs.Knowledge.{plain_still}
+use Rattle.gen1_hits.proofs.Knowledge.{plain_still}
 use Rattle.gen1_effects.proofs.late_effects.sleep_moves.ready_to_sleep.Goals as goal
 
 pub returns-then-is_on-clause-shown : goal.returns-then-is_on-clause-shown

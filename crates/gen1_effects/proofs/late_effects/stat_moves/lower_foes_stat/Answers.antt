@@ -2,7 +2,7 @@ use Rattle.gen1_layout.proofs.Words.{Side, ap, conditions_in, drawn_goes, drawn_
 use Rattle.gen1_machine.specs.LateEffects.{lower_foes_stat}
 use Rattle.gen1_machine.specs.Progress.{fail, fails_if, has_substitute}
 use Rattle.gen1_machine.specs.Sides.{other}
-use Rattle.gen1_action.proofs.Knowledge.{plain_still}
+use Rattle.gen1_hits.proofs.Knowledge.{plain_still}
 use Rattle.gen1_effects.proofs.late_effects.stat_moves.lower_foes_stat.Goals as goal
 
 pub returns-then-is_on-clause-shown : goal.returns-then-is_on-clause-shown

@@ -1,8 +1,8 @@
 use Rattle.gen1_layout.proofs.Words.{drawn_goes, drawn_if_so, drawn_settled, drawn_stops, refl, sym, ◌∙◌}
 use Rattle.gen1_machine.specs.Progress.{fails_if}
 use Rattle.gen1_machine.specs.SideEffects.{disable}
-use Rattle.gen1_action.specs.Knowing.{knowing}
-use Rattle.gen1_action.proofs.Knowledge.{plain_still}
+use Rattle.gen1_hits.specs.Knowing.{knowing}
+use Rattle.gen1_hits.proofs.Knowledge.{plain_still}
 use Rattle.gen1_effects.proofs.Chances.{drawn_past}
 use Rattle.gen1_effects.proofs.side_effects.disable.disable.Goals as goal
 

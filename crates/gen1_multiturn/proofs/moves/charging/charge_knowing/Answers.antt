@@ -1,5 +1,5 @@
 use Rattle.gen1_machine.specs.Moves.{move_at}
-use Rattle.gen1_action.proofs.Planning.{before-valid, used-fits}
+use Rattle.gen1_hits.proofs.Planning.{before-valid, used-fits}
 use Rattle.gen1_multiturn.proofs.moves.charging.charge_knowing.Goals as goal
 
 pub returns-clause-shown : goal.returns-clause-shown

@@ -3,7 +3,7 @@ use Rattle.gen1_machine.specs.declared.terms.Outcome.TheVariants as outcomes
 use Rattle.gen1_machine.specs.FixedDamage.{fixed_damage}
 use Rattle.gen1_machine.specs.Progress.{fault}
 use Rattle.gen1_machine.specs.State.{with_outcome}
-use Rattle.gen1_action.specs.Knowing.{knowing}
+use Rattle.gen1_hits.specs.Knowing.{knowing}
 use Rattle.gen1_multiturn.proofs.moves.fixed_damage.fixed_knowing.Goals as goal
 
 pub returns-then-known-clause-shown : goal.returns-then-known-clause-shown

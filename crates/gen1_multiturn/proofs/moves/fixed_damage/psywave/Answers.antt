@@ -2,7 +2,7 @@ use Rattle.std.proofs.Common.{◌≡◌}
 use Rattle.gen1_layout.proofs.Words.{arith, false, lit<, nat_le, nat_tests, rules, true, ◌∙◌}
 use Rattle.gen1_machine.specs.FixedDamage.{is_psywave}
 use Rattle.gen1_machine.specs.Progress.{set_last_damage}
-use Rattle.gen1_action.proofs.Searching.{found_by_drawing}
+use Rattle.gen1_hits.proofs.Searching.{found_by_drawing}
 use Rattle.gen1_multiturn.proofs.FixedDamage.{above_level_one, at_level_one}
 use Rattle.gen1_multiturn.proofs.moves.fixed_damage.psywave.Goals as goal
 

@@ -1,7 +1,7 @@
 use Rattle.gen1_layout.proofs.Words.{put_damage, refl, rules, still}
 use Rattle.gen1_machine.specs.Damage.{is_factor}
 use Rattle.gen1_machine.specs.FixedDamage.{deal_everything}
-use Rattle.gen1_action.proofs.Searching.{drawn_none, drawn_until}
+use Rattle.gen1_hits.proofs.Searching.{drawn_none, drawn_until}
 use Rattle.gen1_multiturn.proofs.moves.one_hit_moves.deal_everything.Goals as goal
 
 pub returns-in_default : goal.returns-in_default

@@ -1,7 +1,7 @@
 use Rattle.gen1_layout.proofs.Words.{Action, drawn_acted, drawn_goes, drawn_if_not, drawn_if_so, put_damage, refl, still, sym, true, ◌∙◌}
 use Rattle.gen1_machine.specs.FixedDamage.{knock_out}
 use Rattle.gen1_machine.specs.Progress.{set_missed}
-use Rattle.gen1_action.specs.Knowing.{knowing}
+use Rattle.gen1_hits.specs.Knowing.{knowing}
 use Rattle.gen1_multiturn.proofs.moves.one_hit_moves.knock_out.Goals as goal
 
 pub returns-then-is_slower-clause-shown : goal.returns-then-is_slower-clause-shown

@@ -1,7 +1,7 @@
 use Rattle.gen1_layout.proofs.Words.{Action, drawn_acted, drawn_if_not, drawn_if_so, sym, true, ◌∙◌}
 use Rattle.gen1_machine.specs.FixedDamage.{knock_out_by_type}
 use Rattle.gen1_machine.specs.Progress.{set_missed}
-use Rattle.gen1_action.specs.Knowing.{knowing}
+use Rattle.gen1_hits.specs.Knowing.{knowing}
 use Rattle.gen1_multiturn.proofs.moves.one_hit_moves.knock_out_by_type.Goals as goal
 
 pub returns-then-is_immune-clause-shown : goal.returns-then-is_immune-clause-shown

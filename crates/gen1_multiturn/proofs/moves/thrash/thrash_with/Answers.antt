@@ -1,6 +1,6 @@
 use Rattle.gen1_layout.proofs.Words.{Action, Option, ap, drawn_if_not, drawn_if_so, drawn_quietly, drawn_seeing, sym, ℕ, ◌∙◌}
 use Rattle.gen1_machine.specs.GoingOn.{thrash_about, thrash_less}
-use Rattle.gen1_action.specs.Knowing.{knowing}
+use Rattle.gen1_hits.specs.Knowing.{knowing}
 use Rattle.gen1_multiturn.proofs.Underways.{alone-thrashing}
 use Rattle.gen1_multiturn.proofs.moves.thrash.thrash_with.Goals as goal
 

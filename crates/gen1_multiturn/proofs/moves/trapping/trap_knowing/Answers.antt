@@ -1,8 +1,8 @@
 use Rattle.gen1_layout.proofs.Words.{Action, ap, drawn_if_not, drawn_if_so, ◌∙◌}
 use Rattle.gen1_machine.specs.GoingOn.{trap}
-use Rattle.gen1_action.proofs.Knowledge.{plain_still}
-use Rattle.gen1_action.proofs.Planning.{alone-trapping}
-use Rattle.gen1_action.specs.Knowing.{knowing}
+use Rattle.gen1_hits.proofs.Knowledge.{plain_still}
+use Rattle.gen1_hits.proofs.Planning.{alone-trapping}
+use Rattle.gen1_hits.specs.Knowing.{knowing}
 use Rattle.gen1_multiturn.proofs.moves.trapping.trap_knowing.Goals as goal
 
 pub returns-then-known : goal.returns-then-known
