@@ -31,7 +31,7 @@ LAYERS = (
     ("Battle", "a turn, an update, all that it can lead to, playouts, a room of two players, what a player knows", (
         "gen1_player", "gen1_room", "gen1_playouts", "gen1_outcomes", "gen1_engine", "gen1_turn")),
     ("Operations", "one phase of the machine each, over the 384 bytes", (
-        "gen1_requests", "gen1_multiturn", "gen1_effects", "gen1_status", "gen1_odds", "gen1_hits")),
+        "gen1_switching", "gen1_offers", "gen1_multiturn", "gen1_effects", "gen1_status", "gen1_odds", "gen1_hits")),
     ("Representations", "a state as 384 bytes and as plain structs; events as bytes, as lines, as a view", (
         "gen1_states", "gen1_layout", "gen1_spectator", "gen1_printer", "gen1_events")),
     ("Machine", "what a battle is: definitions and laws; its code is types and devices", (

@@ -8,10 +8,10 @@ INLINED = {
     "gen1_engine": {"result"},
     "gen1_hits": {"current_stats", "hit_or_miss", "own_stats", "type_steps", "types"},
     "gen1_multiturn": {"hit_effect", "land_hit", "note_first_hit"},
-    "gen1_requests": {"coming_out", "faint_and_settle", "put_out", "tell_coming_out"},
+    "gen1_switching": {"coming_out", "faint_and_settle", "put_out", "tell_coming_out"},
     "gen1_turn": {"damage_unless_landing", "is_cut", "move_taken"},
 }
-COLD = {"gen1_requests": {"put_out_with_penalty"}}
+COLD = {"gen1_switching": {"put_out_with_penalty"}}
 FUNCTION = re.compile(r"( *)((?:pub(?:\([a-z]+\))? )?(?:const )?fn (\w+)\b.*)")
 MODULE = re.compile(r"(?:pub )?mod (\w+) \{")
 

@@ -11,7 +11,7 @@ use Rattle.gen1_machine.specs.SwitchingIn.{send_out, start, with_sent_out}
 use Rattle.gen1_machine.specs.Valid.{IsStarted, IsState, IsUnstarted}
 use Rattle.gen1_machine.specs.declared.side.Side.TheVariants.{One, Two}
 use Rattle.gen1_layout.proofs.Words.{then-goes}
-use Rattle.gen1_requests.proofs.SwitchingIn.{sends_as}
+use Rattle.gen1_switching.proofs.SwitchingIn.{sends_as}
 use Rattle.battle_commands.specs.Duel.{duel}
 
 -- nothing is drawn, so any seed will do

@@ -7,8 +7,8 @@ ghost use Rattle.battle_commands.specs.Duel.{duel};
 
 use gen1_layout::Packed;
 use gen1_machine::EventList;
-use gen1_requests::send_both_first;
 use gen1_stats::Team;
+use gen1_switching::send_both_first;
 
 /// Makes a battle of two teams of one, whose members are both out (docs/MECHANICS.md, "Switching in").
 pub fn begin_duel(one: &Team, two: &Team) -> Packed

@@ -6,10 +6,10 @@ use Rattle.std.proofs.Math.Seq.{set-append_seam}
 use Rattle.gen1_machine.specs.declared.choice.Choice.{Choice}
 use Rattle.gen1_machine.specs.declared.choice.Choice.TheVariants as choices
 use Rattle.gen1_machine.specs.Choices.{byte_of_choice}
-use Rattle.gen1_requests.specs.OfferedMask.{all_choices, chosen_by}
-use Rattle.gen1_requests.proofs.MaskChoices.{chosen-even, chosen-odd}
-use Rattle.gen1_requests.proofs.Digits.{equal_number}
-use Rattle.gen1_requests.proofs.OfferedSet.{other_number}
+use Rattle.gen1_offers.specs.OfferedMask.{all_choices, chosen_by}
+use Rattle.gen1_offers.proofs.MaskChoices.{chosen-even, chosen-odd}
+use Rattle.gen1_offers.proofs.Digits.{equal_number}
+use Rattle.gen1_offers.proofs.OfferedSet.{other_number}
 use Rattle.gen1_c.specs.Choices.{IsWritten}
 use Rattle.gen1_c.specs.Update.{Offers}
 

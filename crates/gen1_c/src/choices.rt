@@ -7,7 +7,7 @@ ghost use Rattle.gen1_machine.specs.State.{State};
 ghost use Rattle.gen1_machine.specs.declared.choice.Choice.{Choice};
 ghost use Rattle.gen1_machine.specs.declared.side.Side.{Side};
 ghost use Rattle.gen1_layout.specs.Within.{Stands};
-ghost use Rattle.gen1_requests.specs.OfferedMask.{all_choices, choices_in, chosen_by};
+ghost use Rattle.gen1_offers.specs.OfferedMask.{all_choices, choices_in, chosen_by};
 ghost use Rattle.gen1_c.specs.Choices.{IsWritten};
 ghost use Rattle.gen1_c.specs.Update.{IsNoSide, Offers};
 

@@ -9,7 +9,7 @@ use Rattle.gen1_events.specs.Splits.{IsReading}
 use Rattle.gen1_layout.specs.Parts.{Parts}
 use Rattle.gen1_layout.specs.Shows.{Telling}
 use Rattle.gen1_layout.specs.Within.{Stands}
-use Rattle.gen1_requests.specs.Updates.{Steps}
+use Rattle.gen1_switching.specs.Updates.{Steps}
 use Rattle.gen1_engine.specs.declared.result.BattleResult.{BattleResult}
 use Rattle.gen1_engine.specs.declared.result.Refusal.{Refusal}
 use Rattle.gen1_engine.specs.Update.{Answers, AnswersAs, Logs, LogsAs, Tells, Tests, ToldAs, refusal_of, result_of}

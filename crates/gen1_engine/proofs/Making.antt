@@ -18,8 +18,8 @@ use Rattle.gen1_machine.proofs.Bounds.{step_is_bounded}
 use Rattle.gen1_layout.specs.Parts.{Parts}
 use Rattle.gen1_layout.specs.Shows.{Telling}
 use Rattle.gen1_layout.specs.Within.{Stands, Within, setting_of}
-use Rattle.gen1_requests.specs.Updates.{Plays, Starts, Steps}
-use Rattle.gen1_requests.proofs.Stepped.{step_accepts, valid-after}
+use Rattle.gen1_switching.specs.Updates.{Plays, Starts, Steps}
+use Rattle.gen1_switching.proofs.Stepped.{step_accepts, valid-after}
 use Rattle.gen1_engine.specs.declared.result.Refusal.{Refusal}
 use Rattle.gen1_engine.specs.declared.result.Refusal.TheVariants as refusals
 use Rattle.gen1_engine.specs.Replay.{IsRefused}

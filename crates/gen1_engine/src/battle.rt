@@ -8,7 +8,7 @@ ghost use Rattle.gen1_layout.specs.Loading.{IsLoadedAs};
 ghost use Rattle.gen1_layout.specs.LoadingMeaning.{IsBattle, StandsForSome};
 ghost use Rattle.gen1_layout.specs.Within.{Stands};
 ghost use Rattle.gen1_layout.specs.Words.{AddsAtMost, HasRoom};
-ghost use Rattle.gen1_requests.specs.Updates.{Steps};
+ghost use Rattle.gen1_switching.specs.Updates.{Steps};
 ghost use Rattle.gen1_engine.specs.OfferedMask.{offered_mask};
 ghost use Rattle.gen1_engine.specs.Replay.{AnswersBytes, LogsBytes, Replays, TellsBytes, is_write_fault};
 ghost use Rattle.gen1_engine.specs.Reseed.{reseeded};
@@ -23,7 +23,7 @@ use crate::update::{result, update, update_events, update_offered, update_silent
 use gen1_events::{EventSink, LogBuf};
 use gen1_layout::{LoadFault, Packed};
 use gen1_machine::{Choice, EventList, Rules, Side, Sink, TurnLimit};
-use gen1_requests::{Choices, offered};
+use gen1_offers::{Choices, offered};
 use gen1_rolls::LinkRandom;
 use gen1_stats::Team;
 use std::alloc::AllocError;

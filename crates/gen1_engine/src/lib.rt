@@ -26,7 +26,7 @@ mod update;
 
 pub use battle::Battle;
 pub use gen1_layout::LoadFault;
-pub use gen1_requests::Choices;
+pub use gen1_offers::Choices;
 pub use log::write_log;
 pub use replay::ReplayFault;
 pub use result::{BattleResult, Refusal};

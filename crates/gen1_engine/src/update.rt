@@ -7,7 +7,7 @@ ghost use Rattle.gen1_machine.specs.declared.terms.Request.TheVariants.{Move};
 ghost use Rattle.gen1_layout.specs.Within.{Stands};
 ghost use Rattle.gen1_layout.specs.Words.{AddsAtMost, HasRoom};
 ghost use Rattle.gen1_layout.specs.LoadingMeaning.{StandsForSome};
-ghost use Rattle.gen1_requests.specs.Updates.{Plays, Steps};
+ghost use Rattle.gen1_switching.specs.Updates.{Plays, Steps};
 ghost use Rattle.gen1_engine.specs.Replay.{IsRefused};
 ghost use Rattle.gen1_engine.specs.Update.{Answers, AreOffered, Logs, Tells, Tests, result_of};
 
@@ -15,7 +15,8 @@ use crate::result::{BattleResult, Refusal};
 use gen1_events::{EventSink, LogBuf, Silent};
 use gen1_layout::Packed;
 use gen1_machine::{Choice, EventList, Request, Side};
-use gen1_requests::{is_offered, replace, start};
+use gen1_offers::is_offered;
+use gen1_switching::{replace, start};
 use gen1_turn::turn;
 
 /// Plays one update by a choice of each side, and puts its log bytes into the buffer, and nothing else. It takes any bytes of a

@@ -14,7 +14,7 @@ use Rattle.gen1_layout.specs.Parts.{Parts}
 use Rattle.gen1_layout.specs.Shows.{Telling}
 use Rattle.gen1_layout.specs.Operations.{Scene}
 use Rattle.gen1_layout.specs.Within.{Within, setting_of}
-use Rattle.gen1_requests.specs.Updates.{Steps, UpdatesDrawing, drawing_on}
+use Rattle.gen1_switching.specs.Updates.{Steps, UpdatesDrawing, drawing_on}
 
 -- What a walk goes through: the ways of an update of a battle by a pair of choices.
 pub record Walk : Type 0 where

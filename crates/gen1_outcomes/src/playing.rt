@@ -10,8 +10,8 @@ ghost use Rattle.gen1_outcomes.specs.Following.{Plays};
 use gen1_events::EventSink;
 use gen1_layout::Packed;
 use gen1_machine::{Choice, Request, Side};
-use gen1_requests::{replace, start};
 use gen1_rolls::Rolls;
+use gen1_switching::{replace, start};
 use gen1_turn::turn;
 
 /// Plays one update by two offered choices, without testing that they are.

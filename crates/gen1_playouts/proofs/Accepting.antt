@@ -10,7 +10,7 @@ use Rattle.gen1_machine.proofs.Runs.{runs_append}
 use Rattle.gen1_layout.specs.Parts.{Parts}
 use Rattle.gen1_layout.specs.Shows.{Telling}
 use Rattle.gen1_layout.specs.Within.{Stands}
-use Rattle.gen1_requests.specs.Updates.{Steps}
+use Rattle.gen1_switching.specs.Updates.{Steps}
 
 -- that many pairs were accepted from s, and the battle represents the state that they lead to
 pub record Accepts (s : State) (count : ℕ) (battle : Parts) : Type 0 where

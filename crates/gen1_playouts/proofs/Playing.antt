@@ -17,10 +17,10 @@ use Rattle.gen1_layout.specs.Parts.{Parts}
 use Rattle.gen1_layout.specs.Shows.{Telling}
 use Rattle.gen1_layout.specs.Within.{Stands, Within, setting_of}
 use Rattle.gen1_layout.proofs.Storing.{within_of}
-use Rattle.gen1_requests.specs.OfferedMask.{choices_in, offered_mask}
-use Rattle.gen1_requests.specs.Updates.{Steps}
-use Rattle.gen1_requests.proofs.BetweenUpdates.{asks_nothing}
-use Rattle.gen1_requests.proofs.MaskChoices.{offered_chosen}
+use Rattle.gen1_offers.specs.OfferedMask.{choices_in, offered_mask}
+use Rattle.gen1_switching.specs.Updates.{Steps}
+use Rattle.gen1_offers.proofs.BetweenUpdates.{asks_nothing}
+use Rattle.gen1_offers.proofs.MaskChoices.{offered_chosen}
 use Rattle.gen1_playouts.specs.Playouts.{IsDrawn, IsZeros, Playout, drawn_from, end_in, most_updates, next_state, play_on, played, weight_in, weighted}
 use Rattle.gen1_playouts.proofs.Offers.{offers-some}
 use Rattle.gen1_playouts.proofs.Weighing.{among-weighted, only-drawn, weighted-not_empty, zeros-weighted}

@@ -9,9 +9,9 @@ use Rattle.gen1_machine.specs.declared.choice.Choice.TheVariants.{Move, Pass, Sw
 use Rattle.gen1_machine.specs.declared.side.Side.{Side}
 use Rattle.gen1_machine.specs.State.{Field}
 use Rattle.gen1_machine.specs.Step.{is_among, same_choice}
-use Rattle.gen1_requests.specs.OfferedMask.{all_choices, chosen_by}
-use Rattle.gen1_requests.proofs.MaskChoices.{chosen-even, chosen-odd}
-use Rattle.gen1_requests.proofs.OfferedSet.{other_number}
+use Rattle.gen1_offers.specs.OfferedMask.{all_choices, chosen_by}
+use Rattle.gen1_offers.proofs.MaskChoices.{chosen-even, chosen-odd}
+use Rattle.gen1_offers.proofs.OfferedSet.{other_number}
 use Rattle.gen1_playouts.specs.Playouts.{IsZeros, choice_by, repeated, weight_in, weighted}
 use Rattle.gen1_playouts.proofs.Offers.{among-at, or-yes}
 

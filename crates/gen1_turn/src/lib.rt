@@ -28,7 +28,8 @@ mod turn_update;
 mod used_move;
 
 pub use action::act;
-pub use gen1_requests::{Choices, offered, replace, send_out, start};
+pub use gen1_offers::{Choices, offered};
+pub use gen1_switching::{replace, send_out, start};
 pub use turn_choices::{end_flinch, set_picked};
 pub use turn_order::first_side;
 pub use turn_parts::{act_and_suffer_as, end_turn, sends_and_suffers};

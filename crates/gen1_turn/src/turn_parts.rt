@@ -18,9 +18,9 @@ use gen1_events::EventSink;
 use gen1_hits::Known;
 use gen1_layout::Packed;
 use gen1_machine::{Pick, Place, Side};
-use gen1_requests::send_out;
 use gen1_rolls::Rolls;
 use gen1_status::{residual, suffers};
+use gen1_switching::send_out;
 
 // A side's action, and its residual damage, by separate code for each side. Returns whether the rest of the turn is
 // skipped.

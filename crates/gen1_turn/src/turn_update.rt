@@ -10,7 +10,7 @@ ghost use Rattle.gen1_machine.specs.Ruling.{ruling_of};
 ghost use Rattle.gen1_machine.specs.Turn.{is_cut, turn};
 ghost use Rattle.gen1_machine.specs.Step.{close_update};
 ghost use Rattle.gen1_layout.specs.Within.{Stands, setting_of};
-ghost use Rattle.gen1_requests.specs.Updates.{Plays, UpdatesDrawing, drawing_on};
+ghost use Rattle.gen1_switching.specs.Updates.{Plays, UpdatesDrawing, drawing_on};
 
 use crate::by_side::BySide;
 use crate::turn_choices::take_turn;
@@ -18,8 +18,8 @@ use gen1_events::EventSink;
 use gen1_hits::Known;
 use gen1_layout::Packed;
 use gen1_machine::{Choice, Side};
-use gen1_requests::{close, close_uncut};
 use gen1_rolls::Rolls;
+use gen1_switching::{close, close_uncut};
 
 /// Plays a turn of a battle that asks for moves, by an offered choice of each side (docs/MECHANICS.md, "Order of a
 /// turn", "Falls and requests").

@@ -5,8 +5,8 @@ use crate::setting::{
 };
 use gen1_layout::Packed;
 use gen1_machine::{Event, EventList, FaultCode, Outcome, Request, Side};
-use gen1_requests::{close, close_uncut};
 use gen1_stats::Status;
+use gen1_switching::{close, close_uncut};
 use std::test::Fail;
 
 // The events of the end of an update in which the members of these sides have fallen, and side 1 acted last.

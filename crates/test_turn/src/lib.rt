@@ -1,5 +1,5 @@
-//! Tests of `gen1_requests` and `gen1_turn`, through their public functions. They are in a crate of their own because
-//! a crate with tests is proved twice.
+//! Tests of `gen1_offers`, `gen1_switching` and `gen1_turn`, through their public functions. They are in a crate of
+//! their own because a crate with tests is proved twice.
 //!
 //! - `start`: the first update
 //! - `switching_in`: members that come out

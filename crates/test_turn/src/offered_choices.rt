@@ -3,8 +3,9 @@ use crate::setting::{FOE, SEED, USER, assert_same, member_of};
 use arrayvec::ArrayVec;
 use gen1_layout::{Conditions, Packed};
 use gen1_machine::{DisabledSlot, EventList, Outcome, Place, Request, Side};
-use gen1_requests::{offered, send_out, start};
+use gen1_offers::offered;
 use gen1_stats::{MemberSpec, Status, Team};
+use gen1_switching::{send_out, start};
 use std::test::Fail;
 
 fn member() -> Result<MemberSpec, Fail> {

@@ -6,8 +6,8 @@ use gen1_layout::Packed;
 use gen1_machine::{
     Event, EventList, Health, Kind, Level, Place, Rules, Side, TurnLimit, TurnNumber, Who,
 };
-use gen1_requests::start;
 use gen1_stats::{MemberSpec, Team};
+use gen1_switching::start;
 use gen1_tables::{MoveId, Species};
 use std::fmt::Debug;
 use std::process::Abort;

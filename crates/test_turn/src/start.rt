@@ -5,7 +5,7 @@ use crate::setting::{
 };
 use gen1_layout::Packed;
 use gen1_machine::{EventList, Kind, Outcome, Request};
-use gen1_requests::{send_both_first, start};
+use gen1_switching::{send_both_first, start};
 use std::test::Fail;
 
 #[test]

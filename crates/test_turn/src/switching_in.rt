@@ -5,8 +5,8 @@ use crate::setting::{
 };
 use gen1_layout::{Conditions, Packed};
 use gen1_machine::{Choice, DisabledSlot, EventList, Kind, Place, Request, Side, UsedMove};
-use gen1_requests::{close, replace, send_out};
 use gen1_stats::Status;
+use gen1_switching::{close, replace, send_out};
 use gen1_tables::Stat;
 use std::test::Fail;
 

@@ -11,7 +11,7 @@ use Rattle.gen1_machine.specs.Step.{Accepted, Answer, Ran, Refused, Stepped, off
 use Rattle.gen1_machine.proofs.Runs.{runs_append}
 use Rattle.gen1_layout.specs.Parts.{Parts}
 use Rattle.gen1_layout.specs.Within.{Stands}
-use Rattle.gen1_requests.proofs.Stepped.{step_accepts}
+use Rattle.gen1_switching.proofs.Stepped.{step_accepts}
 use Rattle.gen1_engine.specs.declared.result.BattleResult.{BattleResult}
 use Rattle.gen1_engine.specs.declared.result.Refusal.{Refusal}
 use Rattle.gen1_engine.specs.Update.{Answers, AnswersAs}

@@ -8,8 +8,8 @@ ghost use Rattle.uses.specs.Calculations.{calculation_in, faced_off, taking_all}
 use gen1_hits::{critical_bound, damage_list, numbers, scaled_accuracy};
 use gen1_layout::{Conditions, Packed};
 use gen1_machine::{EventList, Side};
-use gen1_requests::start;
 use gen1_stats::{MemberSpec, Team, TeamRefusal};
+use gen1_switching::start;
 use gen1_tables::MoveId;
 
 /// What a move of one side's active member does to the other's, in the present state of a battle.

@@ -6,7 +6,7 @@ use gen1::generated::engine::packed::update_silent;
 use gen1::generated::layout::Packed;
 use gen1::generated::machine::{Choice, Side};
 use gen1::generated::outcomes::{Outcomes, Successor, list_outcomes};
-use gen1::generated::requests::offered;
+use gen1::generated::offers::offered;
 use gen1::generated::stats::{MemberSpec, Team};
 use gen1::generated::tables::{MoveId, Species};
 use std::hint::black_box;

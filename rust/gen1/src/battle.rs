@@ -1,7 +1,7 @@
 //! Battles.
 use crate::generated::engine::packed;
 use crate::generated::layout::Packed;
-use crate::generated::requests;
+use crate::generated::offers;
 use crate::generated::rolls::LinkRandom;
 use crate::update::{Chosen, EventSink, Pushed, Silent, Update};
 use crate::{
@@ -113,7 +113,7 @@ impl Battle {
     /// over.
     #[must_use]
     pub fn choices(&self, side: Side) -> Choices {
-        requests::offered(&self.packed, side)
+        offers::offered(&self.packed, side)
     }
 
     /// The offered choices as twelve bits, which takes a fraction of the time of [`Battle::choices`]. Updates don't check them again.
@@ -252,7 +252,7 @@ impl Battle {
     #[inline(always)]
     pub(crate) fn checked(&self, side: Side, choice: Option<Choice>) -> Result<Choice, Refusal> {
         match choice {
-            Some(choice) if requests::is_offered(&self.packed, side, &choice) => Ok(choice),
+            Some(choice) if offers::is_offered(&self.packed, side, &choice) => Ok(choice),
             _ => Err(self.refusal(side)),
         }
     }

@@ -1,6 +1,6 @@
 //! The choices that a side is offered, as one number.
 use crate::Offered;
-use crate::generated::requests::{choice_at, count_of};
+use crate::generated::offers::{choice_at, count_of};
 
 /// The choices that a side is offered, as twelve bits: for callers that draw a choice and need no list.
 ///

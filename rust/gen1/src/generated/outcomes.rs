@@ -929,8 +929,8 @@ mod playing {
     use crate::generated::events::EventSink;
     use crate::generated::layout::Packed;
     use crate::generated::machine::{Choice, Request, Side};
-    use crate::generated::requests::{replace, start};
     use crate::generated::rolls::Rolls;
+    use crate::generated::switching::{replace, start};
     use crate::generated::turn::turn;
 
     /// Plays one update by two offered choices, without testing that they are.

@@ -751,9 +751,9 @@ mod turn_parts {
     use crate::generated::hits::Known;
     use crate::generated::layout::Packed;
     use crate::generated::machine::{Pick, Place, Side};
-    use crate::generated::requests::send_out;
     use crate::generated::rolls::Rolls;
     use crate::generated::status::{residual, suffers};
+    use crate::generated::switching::send_out;
 
     // A side's action, and its residual damage, by separate code for each side. Returns whether the rest of the turn is
     // skipped.
@@ -868,8 +868,8 @@ mod turn_update {
     use crate::generated::hits::Known;
     use crate::generated::layout::Packed;
     use crate::generated::machine::{Choice, Side};
-    use crate::generated::requests::{close, close_uncut};
     use crate::generated::rolls::Rolls;
+    use crate::generated::switching::{close, close_uncut};
 
     /// Plays a turn of a battle that asks for moves, by an offered choice of each side ([docs/MECHANICS.md](https://hibsuloy.example/gen1/blob/main/docs/MECHANICS.md), "Order of a
     /// turn", "Falls and requests").
@@ -978,7 +978,8 @@ mod used_move {
 
 
 pub use action::act;
-pub use crate::generated::requests::{Choices, offered, replace, send_out, start};
+pub use crate::generated::offers::{Choices, offered};
+pub use crate::generated::switching::{replace, send_out, start};
 pub use turn_choices::{end_flinch, set_picked};
 pub use turn_order::first_side;
 pub use turn_parts::{act_and_suffer_as, end_turn, sends_and_suffers};

@@ -1,7 +1,7 @@
 use Rattle.std.proofs.Common.{List, Ok, ap, codes, sym, ◌++◌, ◌+◌, ◌∙◌, ◌≡◌, ◌∷◌, ℕ}
 use Rattle.gen1_tables.specs.Names.{move_name}
 use Rattle.gen1_layout.specs.Within.{setting_of}
-use Rattle.gen1_requests.proofs.BetweenUpdates.{packs_of}
+use Rattle.gen1_offers.proofs.BetweenUpdates.{packs_of}
 use Rattle.gen1_c.proofs.Begun.{let_through}
 use Rattle.gen1_c.proofs.Hits.{within_out}
 use Rattle.gen1_c.proofs.Writing.{move_early, move_named, move_unnamed, none_through, refused, written}

@@ -1,7 +1,7 @@
 use Rattle.std.proofs.Common.{List, ap, length, subst, sym, ◌≤◌, ◌∙◌}
 use Rattle.gen1_machine.specs.declared.choice.Choice.{Choice}
-use Rattle.gen1_requests.specs.OfferedMask.{choices_in}
-use Rattle.gen1_requests.proofs.MaskChoices.{few_offered, offered_chosen}
+use Rattle.gen1_offers.specs.OfferedMask.{choices_in}
+use Rattle.gen1_offers.proofs.MaskChoices.{few_offered, offered_chosen}
 use Rattle.gen1_c.specs.Update.{Offers}
 use Rattle.gen1_c.proofs.choices.put_offered.Goals as goal
 

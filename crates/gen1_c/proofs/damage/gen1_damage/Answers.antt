@@ -2,7 +2,7 @@ use Rattle.std.proofs.Common.{Err, Ok, ap, sym, refl, ◌∙◌}
 use Rattle.gen1_machine.specs.Damage.{numbers_in}
 use Rattle.gen1_machine.specs.Moves.{move_at}
 use Rattle.gen1_layout.specs.Within.{setting_of}
-use Rattle.gen1_requests.proofs.BetweenUpdates.{packs_of}
+use Rattle.gen1_offers.proofs.BetweenUpdates.{packs_of}
 use Rattle.gen1_hits.specs.Factors.{damages}
 use Rattle.gen1_hits.specs.UsualDamage.{has_usual_damage}
 use Rattle.gen1_c.proofs.Begun.{kept_out, let_through}

@@ -2,7 +2,7 @@ use Rattle.std.proofs.Common.{Err, Ok, ap, refl, sym, ◌≡◌, ◌∙◌, ℕ}
 use Rattle.gen1_machine.specs.declared.side.Side.{Side}
 use Rattle.gen1_machine.specs.Moves.{move_at}
 use Rattle.gen1_layout.specs.Within.{setting_of}
-use Rattle.gen1_requests.proofs.BetweenUpdates.{packs_of}
+use Rattle.gen1_offers.proofs.BetweenUpdates.{packs_of}
 use Rattle.gen1_odds.specs.Odds.{odds_in}
 use Rattle.gen1_c.proofs.Begun.{kept_out, let_through}
 use Rattle.gen1_c.proofs.Hits.{same_side, within_out}

@@ -9,7 +9,7 @@ use Rattle.gen1_machine.specs.Ruling.{ruling_of}
 use Rattle.gen1_machine.specs.Turn.{turn}
 use Rattle.gen1_machine.specs.Step.{close_update, opened}
 use Rattle.gen1_layout.specs.Within.{setting_of}
-use Rattle.gen1_requests.proofs.BetweenUpdates.{within_asked}
+use Rattle.gen1_offers.proofs.BetweenUpdates.{within_asked}
 use Rattle.gen1_engine.proofs.Making.{both_move, turn_made, turned_so}
 use Rattle.gen1_engine.proofs.update.step_turn.Goals as goal
 

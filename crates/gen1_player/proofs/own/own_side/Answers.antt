@@ -1,7 +1,7 @@
 use Rattle.std.proofs.Common.{refl, sym, ◌∙◌}
 use Rattle.gen1_layout.specs.Within.{setting_of}
 use Rattle.gen1_machine.specs.State.{party}
-use Rattle.gen1_requests.proofs.BetweenUpdates.{packs_of}
+use Rattle.gen1_offers.proofs.BetweenUpdates.{packs_of}
 use Rattle.gen1_player.proofs.OwnSides.{as_many, fault_fits, shown_at}
 use Rattle.gen1_player.proofs.own.own_side.Goals as goal
 

@@ -6,7 +6,7 @@ use Rattle.gen1_machine.specs.State.{State, is_over}
 use Rattle.gen1_machine.specs.Step.{run}
 use Rattle.gen1_machine.proofs.RunsEnd.{runs_end}
 use Rattle.gen1_layout.specs.Within.{Stands, setting_of}
-use Rattle.gen1_requests.proofs.BetweenUpdates.{packs_of}
+use Rattle.gen1_offers.proofs.BetweenUpdates.{packs_of}
 use Rattle.gen1_engine.specs.Update.{AreOffered}
 use Rattle.gen1_engine.specs.declared.result.BattleResult.{BattleResult}
 use Rattle.gen1_playouts.specs.Playouts.{IsDrawn, Playout, drawn_from, end_in, most_updates, played}

@@ -12,8 +12,8 @@ use Rattle.gen1_layout.specs.Shows.{Frame}
 use Rattle.gen1_layout.specs.Within.{setting_of}
 use Rattle.gen1_layout.proofs.Storing.{within_of}
 use Rattle.gen1_hits.specs.Knowing.{knowing, with_broke}
-use Rattle.gen1_requests.specs.Updates.{drawing_on}
-use Rattle.gen1_requests.proofs.OfferedChoices.{comes_offered, planned, reopened, started}
+use Rattle.gen1_switching.specs.Updates.{drawing_on}
+use Rattle.gen1_switching.proofs.OfferedChoices.{comes_offered, planned, reopened, started}
 use Rattle.gen1_turn.proofs.turn_update.turn.Goals as goal
 
 pub returns-clause-updated : goal.returns-clause-updated

@@ -1,0 +1,17 @@
+-- What is read of a battle between two updates.
+pub mod BetweenUpdates
+-- Choices that are collected number by number.
+pub mod Collecting
+-- The machine's list of offered choices is the set of `specs/OfferedChoices.antt`.
+pub mod OfferedSet
+-- Whether a choice is among those offered, without their list.
+pub mod OneChoice
+-- The same, by the request and in the order of the tests.
+pub mod TestedChoice
+-- The bytes of the offered choices rise.
+pub mod RisingOffers
+-- Binary digits: of four bytes, and with one of them cleared.
+pub mod Digits
+-- The digits of offered choices, and the choices of digits.
+pub mod MaskDigits
+pub mod MaskChoices

@@ -1,0 +1,344 @@
+-- The choices of a mask: how many there are, which is at a place, and that the mask of the offered choices gives
+-- their list.
+use Rattle.std.proofs.Common.{Bool, List, Option, [], ap, arith, drop, false, get_or, inl, inr, length, min, refl, suc, sym, true, zero, ℕ, ◌%◌, ◌*◌, ◌++◌, ◌+◌, ◌-◌, ◌/◌, ◌<◌, ◌==◌, ◌^◌, ◌≡◌, ◌≢◌, ◌≤◌, ◌⊎◌, ◌∙◌, ◌∷◌}
+use Rattle.std.specs.Prelude.{if◌then◌else◌}
+use Rattle.std.proofs.lemmas.Bool.{cases_eq, cases_lt}
+use Rattle.std.proofs.lemmas.List.{get_or-drop, length-append, length-drop}
+use Rattle.std.proofs.lemmas.Nat.{ones_le_self}
+use Rattle.std.proofs.lemmas.Nat.Bits.{bit_at-suc, bit_at_lowest}
+use Rattle.std.proofs.Math.Nat.{div-eq_of_lt, pow-le-pow_right}
+use Rattle.std.specs.Int.{bit_at}
+use Rattle.std.specs.Int.Bits.{and_self, and_step}
+use Rattle.std.specs.Int.Count.{ones_step}
+use Rattle.std.specs.Int.RustNames.{bit_and, count_ones}
+use Rattle.gen1_stats.specs.declared.known_move.KnownMove.{KnownMove}
+use Rattle.gen1_stats.specs.Members.{IsBetween, Member, is_living}
+use Rattle.gen1_machine.specs.declared.picks.DisabledSlot.{DisabledSlot}
+use Rattle.gen1_machine.specs.declared.side.Side.{Side}
+use Rattle.gen1_machine.specs.declared.side.Side.TheVariants.{One, Two}
+use Rattle.gen1_machine.specs.declared.choice.Choice.{Choice}
+use Rattle.gen1_machine.specs.declared.choice.Choice.TheVariants as choices
+use Rattle.gen1_machine.specs.declared.terms.Request.{Request}
+use Rattle.gen1_machine.specs.declared.terms.Request.TheVariants as requests
+use Rattle.gen1_machine.specs.Layout.{number_of_bits}
+use Rattle.gen1_machine.specs.OfferedChoices.{has_no_slot_in, is_committed, moves_offered, offered, offered_for, or_struggle, switches_offered}
+use Rattle.gen1_machine.specs.State.{Field, State, Terms, active_in, is_over, member_in, party, request_of, underway_in}
+use Rattle.gen1_machine.specs.Valid.{IsField, IsStarted, IsState, IsUnstarted}
+use Rattle.gen1_offers.specs.OfferedMask.{all_choices, choices_in, chosen_by, living_of, mask_of, digits_of, moves_and_pass, offered_mask, passing, switches, usable_of}
+use Rattle.gen1_offers.proofs.BetweenUpdates.{asks_nothing}
+use Rattle.gen1_offers.proofs.Collecting.{if_front, one_if, places_living, slots_usable}
+use Rattle.gen1_offers.proofs.Digits.{and_false, equal_number}
+use Rattle.gen1_offers.proofs.MaskDigits.{both_digits, move_digits, switch_digits, usable_list}
+use Rattle.gen1_offers.proofs.OfferedSet.{move_passes, other_number, switch_passes, usable-behind}
+use Rattle.gen1_offers.proofs.RisingOffers.{four_in}
+use Rattle.gen1_machine.specs.OfferedChoices.{others_living_from, usable_from}
+use Rattle.gen1_machine.specs.State.{conditions_in}
+
+-- One more choice, by the lowest digit
+
+parity : (m : ℕ) → (m % 2 ≡ 1) ⊎ (m % 2 ≡ 0)
+parity m = grind arith
+
+pub chosen-odd : (m : ℕ) (c : Choice) (cs : List Choice) → m % 2 ≡ 1 → chosen_by m (c ∷ cs) ≡ c ∷ chosen_by (m / 2) cs
+chosen-odd m c cs odd = rw (equal_number (m % 2) 1 odd) refl
+
+pub chosen-even : (m : ℕ) (c : Choice) (cs : List Choice) → m % 2 ≡ 0 → chosen_by m (c ∷ cs) ≡ chosen_by (m / 2) cs
+chosen-even m c cs even = rw (other_number (m % 2) 1 (λ e. omega (arith, e, even))) refl
+
+-- Their number
+
+abbrev pub room : List Choice → ℕ
+room [] = 1
+room (c ∷ cs) = 2 * room cs
+
+pub ones-chosen : (m : ℕ) (cs : List Choice) → m < room cs → count_ones m ≡ length (chosen_by m cs)
+ones-chosen m [] few = omega (arith, ones_le_self m)
+ones-chosen m (c ∷ cs) few = by (parity m) (ones-chosen (m / 2) cs (omega arith)) (ones_step m)
+  where
+    by : (m % 2 ≡ 1) ⊎ (m % 2 ≡ 0) → count_ones (m / 2) ≡ length (chosen_by (m / 2) cs) → count_ones m ≡ m % 2 + count_ones (m / 2)
+        → count_ones m ≡ length (chosen_by m (c ∷ cs))
+    by (inl odd) rest step = rw (chosen-odd m c cs odd) (omega (arith, odd, rest, step))
+    by (inr even) rest step = rw (chosen-even m c cs even) (omega (arith, even, rest, step))
+
+-- Without the first
+
+half_of : (r m n q : ℕ) → r ≡ bit_and (m / 2) (n / 2) * 2 + q → q ≡ 0 → (r / 2 ≡ bit_and (m / 2) (n / 2)) × (r % 2 ≡ 0)
+half_of r m n q is none = (omega arith, omega arith)
+
+pub chosen-rest : (m : ℕ) (cs : List Choice) → chosen_by (bit_and m (m - 1)) cs ≡ drop 1 (chosen_by m cs)
+chosen-rest m [] = refl
+chosen-rest m (c ∷ cs) = by (parity m) (chosen-rest (m / 2) cs) (and_step m (m - 1))
+  where
+    by : (m % 2 ≡ 1) ⊎ (m % 2 ≡ 0) → chosen_by (bit_and (m / 2) (m / 2 - 1)) cs ≡ drop 1 (chosen_by (m / 2) cs)
+        → bit_and m (m - 1) ≡ bit_and (m / 2) ((m - 1) / 2) * 2 + min (m % 2) ((m - 1) % 2)
+        → chosen_by (bit_and m (m - 1)) (c ∷ cs) ≡ drop 1 (chosen_by m (c ∷ cs))
+    by (inl odd) rest step =
+        let lower : (m - 1) % 2 ≡ 0 = omega arith in
+        let none : min (m % 2) ((m - 1) % 2) ≡ 0 = omega arith in
+        let half : (m - 1) / 2 ≡ m / 2 = omega arith in
+        let parts = half_of (bit_and m (m - 1)) m (m - 1) (min (m % 2) ((m - 1) % 2)) step none in
+        let below : bit_and m (m - 1) / 2 ≡ m / 2 = parts.0 ∙ ap (bit_and (m / 2)) half ∙ and_self (m / 2) in
+        chosen-even (bit_and m (m - 1)) c cs parts.1 ∙ ap (λ (n : ℕ). chosen_by n cs) below ∙ sym (ap (drop 1) (chosen-odd m c cs odd))
+    by (inr even) rest step =
+        let none : min (m % 2) ((m - 1) % 2) ≡ 0 = omega arith in
+        let half : (m - 1) / 2 ≡ m / 2 - 1 = omega arith in
+        let parts = half_of (bit_and m (m - 1)) m (m - 1) (min (m % 2) ((m - 1) % 2)) step none in
+        let below : bit_and m (m - 1) / 2 ≡ bit_and (m / 2) (m / 2 - 1) = parts.0 ∙ ap (bit_and (m / 2)) half in
+        chosen-even (bit_and m (m - 1)) c cs parts.1 ∙ ap (λ (n : ℕ). chosen_by n cs) below ∙ rest ∙ sym (ap (drop 1) (chosen-even m c cs even))
+
+pub chosen-zero : (cs : List Choice) → chosen_by 0 cs ≡ []
+chosen-zero [] = refl
+chosen-zero (c ∷ cs) = chosen-even 0 c cs refl ∙ chosen-zero cs
+
+-- The first
+
+pub chosen-first : (t m : ℕ) (cs : List Choice) (d : Choice) → bit_at m t ≡ 1 → ((i : ℕ) → i < t → bit_at m i ≡ 0) → t < length cs
+    → get_or (chosen_by m cs) 0 d ≡ get_or cs t d
+chosen-first t m [] d one none inside = absurd (omega arith)
+chosen-first zero m (c ∷ cs) d one none inside = ap (λ (l : List Choice). get_or l 0 d) (chosen-odd m c cs (sym (bit_at_lowest m) ∙ one))
+chosen-first (suc t) m (c ∷ cs) d one none inside =
+    ap (λ (l : List Choice). get_or l 0 d) (chosen-even m c cs (sym (bit_at_lowest m) ∙ none 0 (omega arith)))
+    ∙ chosen-first t (m / 2) cs d (sym (bit_at-suc m t) ∙ one) (λ i below. sym (bit_at-suc m i) ∙ none (suc i) (omega (arith, below))) (omega arith)
+
+-- A digit of a number below 4096 is one of twelve.
+pub digit-below : (m t : ℕ) → m < 4096 → bit_at m t ≡ 1 → t < 12
+digit-below m t few one = by (cases_lt t 12)
+  where
+    by : (t < 12) ⊎ (12 ≤ t) → t < 12
+    by (inl h) = h
+    by (inr h) =
+        let large : 2 ^ 12 ≤ 2 ^ t = pow-le-pow_right (omega arith) h in
+        let none : m / 2 ^ t ≡ 0 = div-eq_of_lt (omega (arith, large)) in
+        absurd (let two : m / 2 ^ t % 2 ≡ 1 = one in omega arith)
+
+-- Digits as a list of tests
+
+abbrev pub picked : List Bool → List Choice → List Choice
+picked [] cs = []
+picked (b ∷ bs) [] = []
+picked (b ∷ bs) (c ∷ cs) = if b then c ∷ picked bs cs else picked bs cs
+
+pub chosen-picked : (bs : List Bool) (cs : List Choice) → chosen_by (number_of_bits bs) cs ≡ picked bs cs
+chosen-picked [] cs = chosen-zero cs
+chosen-picked (b ∷ bs) [] = refl
+chosen-picked (true ∷ bs) (c ∷ cs) =
+    let odd : number_of_bits (true ∷ bs) % 2 ≡ 1 = omega arith in
+    let half : number_of_bits (true ∷ bs) / 2 ≡ number_of_bits bs = omega arith in
+    chosen-odd (number_of_bits (true ∷ bs)) c cs odd ∙ ap (λ (n : ℕ). c ∷ chosen_by n cs) half ∙ ap (λ (l : List Choice). c ∷ l) (chosen-picked bs cs)
+chosen-picked (false ∷ bs) (c ∷ cs) =
+    let even : number_of_bits (false ∷ bs) % 2 ≡ 0 = omega arith in
+    let half : number_of_bits (false ∷ bs) / 2 ≡ number_of_bits bs = omega arith in
+    chosen-even (number_of_bits (false ∷ bs)) c cs even ∙ ap (λ (n : ℕ). chosen_by n cs) half ∙ chosen-picked bs cs
+
+-- The same, joined from what each test passes.
+abbrev pub all_ifs : List Bool → List Choice → List Choice
+all_ifs [] cs = []
+all_ifs (b ∷ bs) [] = []
+all_ifs (b ∷ bs) (c ∷ cs) = one_if b c ++ all_ifs bs cs
+
+pub picked_ifs : (bs : List Bool) (cs : List Choice) → picked bs cs ≡ all_ifs bs cs
+picked_ifs [] cs = refl
+picked_ifs (b ∷ bs) [] = refl
+picked_ifs (b ∷ bs) (c ∷ cs) = if_front b c (picked bs cs) ∙ ap (λ (l : List Choice). one_if b c ++ l) (picked_ifs bs cs)
+
+picked_append : (bs : List Bool) (cs : List Choice) (bs' : List Bool) (cs' : List Choice) → length bs ≡ length cs
+    → picked (bs ++ bs') (cs ++ cs') ≡ picked bs cs ++ picked bs' cs'
+picked_append [] [] bs' cs' e = refl
+picked_append [] (c ∷ cs) bs' cs' e = absurd (omega (arith, e))
+picked_append (b ∷ bs) [] bs' cs' e = absurd (omega (arith, e))
+picked_append (true ∷ bs) (c ∷ cs) bs' cs' e = ap (λ (l : List Choice). c ∷ l) (picked_append bs cs bs' cs' (omega (arith, e)))
+picked_append (false ∷ bs) (c ∷ cs) bs' cs' e = picked_append bs cs bs' cs' (omega (arith, e))
+
+-- The switches.
+switches_picked : (s : Side) (f : Field) → length (party s f).members ≤ 6 → picked (passing 1 (active_in s f).place (living_of s f)) switches ≡ switches_offered s f
+switches_picked s f few =
+    picked_ifs (passing 1 (active_in s f).place (living_of s f)) switches ∙ places_living s f (active_in s f).place few
+
+-- The moves before them
+
+abbrev four_moves : List Choice
+four_moves = choices.Move 1 ∷ choices.Move 2 ∷ choices.Move 3 ∷ choices.Move 4 ∷ []
+
+moves_picked : (s : Side) (f : Field) → length (member_in s f).moves ≤ 4 → picked (usable_of s f) four_moves ≡ usable_list s f
+moves_picked s f few = picked_ifs (usable_of s f) four_moves ∙ slots_usable s f few
+
+with_struggle : (l rest : List Choice) → (if length l == 0 then choices.Move 0 ∷ (l ++ rest) else l ++ rest) ≡ or_struggle l ++ rest
+with_struggle [] rest = refl
+with_struggle (c ∷ l) rest = rw (other_number (length (c ∷ l)) 0 (λ e. cc)) refl
+
+module _ (s : Side) (f : Field) (slots : length (member_in s f).moves ≤ 4) (members : length (party s f).members ≤ 6) where
+  no_slot_chosen : has_no_slot_in s f ≡ true
+      → chosen_by (number_of_bits (digits_of moves_and_pass (moves_offered s f) ++ passing 1 (active_in s f).place (living_of s f))) all_choices
+      ≡ moves_offered s f ++ switches_offered s f
+  no_slot_chosen e =
+      let high : List Bool = passing 1 (active_in s f).place (living_of s f) in
+      let is : moves_offered s f ≡ choices.Move 0 ∷ [] = rw e refl in
+      ap (λ (l : List Choice). chosen_by (number_of_bits (digits_of moves_and_pass l ++ high)) all_choices) is
+      ∙ chosen-picked (false ∷ true ∷ false ∷ false ∷ false ∷ false ∷ high) all_choices
+      ∙ ap (λ (l : List Choice). choices.Move 0 ∷ l) (switches_picked s f members)
+      ∙ ap (λ (l : List Choice). l ++ switches_offered s f) (sym is)
+
+  slots_chosen : has_no_slot_in s f ≡ false
+      → chosen_by (number_of_bits (digits_of moves_and_pass (moves_offered s f) ++ passing 1 (active_in s f).place (living_of s f))) all_choices
+      ≡ moves_offered s f ++ switches_offered s f
+  slots_chosen e =
+      let high : List Bool = passing 1 (active_in s f).place (living_of s f) in
+      let l = usable_list s f in
+      let none : Bool = length l == 0 in
+      let is : moves_offered s f ≡ or_struggle l = rw e refl in
+      let rest = picked_append (usable_of s f) four_moves high switches refl
+      ∙ ap (λ (k : List Choice). k ++ picked high switches) (moves_picked s f slots)
+      ∙ ap (λ (k : List Choice). l ++ k) (switches_picked s f members) in
+      ap (λ (k : List Bool). chosen_by (number_of_bits (k ++ high)) all_choices)
+      (move_digits s f e (usable-behind (conditions_in s f).disabled (member_in s f).moves))
+      ∙ chosen-picked (false ∷ none ∷ (usable_of s f ++ high)) all_choices
+      ∙ ap (λ (k : List Choice). if none then choices.Move 0 ∷ k else k) rest
+      ∙ with_struggle l (switches_offered s f)
+      ∙ ap (λ (k : List Choice). k ++ switches_offered s f) (sym is)
+
+  moves_chosen : (b : Bool) → has_no_slot_in s f ≡ b
+      → chosen_by (number_of_bits (digits_of moves_and_pass (moves_offered s f) ++ passing 1 (active_in s f).place (living_of s f))) all_choices
+      ≡ moves_offered s f ++ switches_offered s f
+  moves_chosen true e = no_slot_chosen e
+  moves_chosen false e = slots_chosen e
+
+  move_chosen : (b : Bool) → is_committed (underway_in s f) ≡ b → chosen_by (mask_of (offered_for requests.Move s f)) all_choices ≡ offered_for requests.Move s f
+  unfolding mask_of
+  move_chosen true e = rw e refl
+  move_chosen false e =
+      let is : offered_for requests.Move s f ≡ moves_offered s f ++ switches_offered s f = rw e refl in
+      ap (λ (l : List Bool). chosen_by (number_of_bits l) all_choices) (both_digits s f e) ∙ moves_chosen (has_no_slot_in s f) refl ∙ sym is
+
+  switch_chosen : chosen_by (mask_of (switches_offered s f)) all_choices ≡ switches_offered s f
+  unfolding mask_of
+  switch_chosen =
+      let high : List Bool = passing 1 (active_in s f).place (living_of s f) in
+      ap (λ (l : List Bool). chosen_by (number_of_bits l) all_choices) (switch_digits s f)
+      ∙ chosen-picked (false ∷ false ∷ false ∷ false ∷ false ∷ false ∷ high) all_choices
+      ∙ switches_picked s f members
+
+-- By the request, and by whether the battle goes on
+
+six_in : (s : Side) (terms : Terms) (f : Field) → IsField terms f → length (party s f).members ≤ 6
+six_in One terms f h = h.one.members.size.1
+six_in Two terms f h = h.two.members.size.1
+
+asked_chosen : (r : Request) (s : Side) (t : State) → IsState t → request_of s t.field ≡ r → chosen_by (mask_of (offered_for r s t.field)) all_choices ≡ offered_for r s t.field
+unfolding mask_of
+asked_chosen requests.Pass s t valid is = refl
+asked_chosen requests.Move s t valid is = by valid.field
+  where
+    by : IsUnstarted t.terms t.field ⊎ IsStarted t.terms t.field → chosen_by (mask_of (offered_for requests.Move s t.field)) all_choices ≡ offered_for requests.Move s t.field
+    by (inl u) = absurd (let e = sym (asks_nothing s t.terms t.field u) ∙ is in cc)
+    by (inr v) = move_chosen s t.field (four_in s t.terms t.field v.field) (six_in s t.terms t.field v.field) (is_committed (underway_in s t.field)) refl
+asked_chosen requests.Switch s t valid is = by valid.field
+  where
+    by : IsUnstarted t.terms t.field ⊎ IsStarted t.terms t.field → chosen_by (mask_of (switches_offered s t.field)) all_choices ≡ switches_offered s t.field
+    by (inl u) = absurd (let e = sym (asks_nothing s t.terms t.field u) ∙ is in cc)
+    by (inr v) = switch_chosen s t.field (four_in s t.terms t.field v.field) (six_in s t.terms t.field v.field)
+
+chosen_by_over : (b : Bool) (s : Side) (t : State) → IsState t → is_over t.field.outcome ≡ b → choices_in (offered_mask t s) ≡ offered s t.field
+unfolding offered mask_of choices_in
+chosen_by_over true s t valid e = rw e refl
+chosen_by_over false s t valid e = rw e (asked_chosen (request_of s t.field) s t valid refl)
+
+pub offered_chosen : (t : State) (s : Side) → IsState t → choices_in (offered_mask t s) ≡ offered s t.field
+offered_chosen t s valid = chosen_by_over (is_over t.field.outcome) s t valid refl
+
+-- Something is left if fewer are taken away than there are.
+pub some_left : (m k : ℕ) (xs : List Choice) → chosen_by m all_choices ≡ drop k xs → k < length xs → 1 ≤ m
+some_left zero k xs is few =
+    let none : length (chosen_by 0 all_choices) ≡ 0 = ap length (chosen-zero all_choices) in
+    let long : length (chosen_by 0 all_choices) ≡ length xs - k = ap length is ∙ length-drop k xs in
+    absurd (omega arith)
+some_left (suc m) k xs is few = omega arith
+
+-- One more is taken away, and the first of those left
+
+pub taken_away : (m k : ℕ) (xs : List Choice) → chosen_by m all_choices ≡ drop k xs → chosen_by (bit_and m (m - 1)) all_choices ≡ drop (k + 1) xs
+taken_away m k xs is =
+    chosen-rest m all_choices ∙ ap (drop 1) is ∙ drop_one k xs
+  where
+    drop_one : (k : ℕ) (xs : List Choice) → drop 1 (drop k xs) ≡ drop (k + 1) xs
+    drop_one zero [] = refl
+    drop_one zero (x ∷ xs) = refl
+    drop_one (suc k) [] = let e : suc k + 1 ≡ suc (k + 1) = omega arith in rw e refl
+    drop_one (suc k) (x ∷ xs) = let e : suc k + 1 ≡ suc (k + 1) = omega arith in rw e (drop_one k xs)
+
+pub left_at : (m k place : ℕ) (xs : List Choice) (d : Choice) → chosen_by m all_choices ≡ drop k xs → k ≡ place → get_or (chosen_by m all_choices) 0 d ≡ get_or xs place d
+left_at m k place xs d is at =
+    let here : k + 0 ≡ place = omega (arith, at) in
+    ap (λ (l : List Choice). get_or l 0 d) is ∙ get_or-drop k xs 0 d ∙ ap (λ (n : ℕ). get_or xs n d) here
+
+-- At most four moves and five switches
+
+usable-few : (k : ℕ) (disabled : Option DisabledSlot) (ms : List KnownMove) → length (usable_from k disabled ms) ≤ length ms
+usable-few k disabled [] = omega arith
+usable-few k disabled (m ∷ ms) = by (move_passes disabled m k) (usable-few (k + 1) disabled ms)
+  where
+    by : (b : Bool) → length (usable_from (k + 1) disabled ms) ≤ length ms
+        → length (if b then choices.Move k ∷ usable_from (k + 1) disabled ms else usable_from (k + 1) disabled ms) ≤ length (m ∷ ms)
+    by true h = omega (arith, h)
+    by false h = omega (arith, h)
+
+others-few : (place out : ℕ) (ms : List Member) → length (others_living_from place out ms) ≤ length ms
+others-few place out [] = omega arith
+others-few place out (m ∷ ms) = by (switch_passes out m place) (others-few (place + 1) out ms)
+  where
+    by : (b : Bool) → length (others_living_from (place + 1) out ms) ≤ length ms
+        → length (if b then choices.Switch place ∷ others_living_from (place + 1) out ms else others_living_from (place + 1) out ms) ≤ length (m ∷ ms)
+    by true h = omega (arith, h)
+    by false h = omega (arith, h)
+
+others-fewer : (place out : ℕ) (ms : List Member) → place ≤ out → out < place + length ms → length (others_living_from place out ms) + 1 ≤ length ms
+others-fewer place out [] low high = absurd (omega arith)
+others-fewer place out (m ∷ ms) low high = by (cases_eq place out) (λ (apart : place ≢ out). others-fewer (place + 1) out ms (omega (arith, apart)) (omega arith))
+  where
+    passed : (b : Bool) → length (others_living_from (place + 1) out ms) + 1 ≤ length ms
+        → length (if b then choices.Switch place ∷ others_living_from (place + 1) out ms else others_living_from (place + 1) out ms) + 1 ≤ length (m ∷ ms)
+    passed true h = omega (arith, h)
+    passed false h = omega (arith, h)
+
+    by : (place ≡ out) ⊎ (place ≢ out) → (place ≢ out → length (others_living_from (place + 1) out ms) + 1 ≤ length ms)
+        → length (others_living_from place out (m ∷ ms)) + 1 ≤ length (m ∷ ms)
+    by (inl here) rest =
+        rw (equal_number place out here, and_false (is_living m)) (let h = others-few (place + 1) out ms in omega (arith, h))
+    by (inr apart) rest = passed (switch_passes out m place) (rest apart)
+
+few_by : (b c : Bool) (l sw : List Choice) → length l ≤ 4 → length sw ≤ 5
+    → length (if b then choices.Move 0 ∷ [] else (if c then choices.Move 0 ∷ [] else or_struggle l) ++ sw) ≤ 9
+few_by true c l sw few fewer = omega arith
+few_by false true l sw few fewer = omega (arith, length-append (choices.Move 0 ∷ []) sw)
+few_by false false [] sw few fewer = omega (arith, length-append (choices.Move 0 ∷ []) sw)
+few_by false false (x ∷ l) sw few fewer = omega (arith, length-append (x ∷ l) sw)
+
+out_in : (s : Side) (terms : Terms) (f : Field) → IsField terms f → IsBetween 1 (length (party s f).members) (active_in s f).place
+out_in One terms f h = h.one.place
+out_in Two terms f h = h.two.place
+
+asked_few : (r : Request) (s : Side) (t : State) → IsState t → request_of s t.field ≡ r → length (offered_for r s t.field) ≤ 9
+asked_few requests.Pass s t valid is = omega arith
+asked_few requests.Switch s t valid is = by valid.field
+  where
+    by : IsUnstarted t.terms t.field ⊎ IsStarted t.terms t.field → length (switches_offered s t.field) ≤ 9
+    by (inl u) = absurd (let e = sym (asks_nothing s t.terms t.field u) ∙ is in cc)
+    by (inr v) = let few = others-few 1 (active_in s t.field).place (party s t.field).members in omega (arith, few, six_in s t.terms t.field v.field)
+asked_few requests.Move s t valid is = by valid.field
+  where
+    by : IsUnstarted t.terms t.field ⊎ IsStarted t.terms t.field → length (offered_for requests.Move s t.field) ≤ 9
+    by (inl u) = absurd (let e = sym (asks_nothing s t.terms t.field u) ∙ is in cc)
+    by (inr v) =
+        let f = t.field in
+        let place = out_in s t.terms f v.field in
+        let slots = usable-few 1 (conditions_in s f).disabled (member_in s f).moves in
+        let others = others-fewer 1 (active_in s f).place (party s f).members place.0 (omega (arith, place.1)) in
+        few_by (is_committed (underway_in s f)) (has_no_slot_in s f) (usable_list s f) (switches_offered s f)
+        (omega (arith, slots, four_in s t.terms f v.field)) (omega (arith, others, six_in s t.terms f v.field))
+
+pub few_offered : (t : State) (s : Side) → IsState t → length (offered s t.field) ≤ 9
+unfolding offered
+few_offered t s valid = by (is_over t.field.outcome)
+  where
+    by : (b : Bool) → length (if b then [] else offered_for (request_of s t.field) s t.field) ≤ 9
+    by true = omega arith
+    by false = asked_few (request_of s t.field) s t valid refl

@@ -1,0 +1,4 @@
+-- What each side may choose, as a set.
+pub mod OfferedChoices
+-- The same set as a number.
+pub mod OfferedMask

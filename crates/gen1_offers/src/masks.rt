@@ -1,0 +1,205 @@
+//! What a side may choose, as a number of twelve binary digits, read straight from the bytes (docs/MECHANICS.md,
+//! "Offered choices"). Digits are gathered from the highest down, and each is one comparison with memory.
+ghost use Rattle.std.specs.Prelude.{Bool, List, [], false, length, nat_lt, ◌*◌, ◌++◌, ◌+◌, ◌<◌, ◌≡◌, ◌≤◌, ◌∷◌};
+ghost use Rattle.gen1_layout.specs.Words.{Field, Packs, Reads, Setting, Within, is_living, member_at, member_in, party, request_of, status_in};
+ghost use Rattle.gen1_layout.specs.Within.{Stands};
+ghost use Rattle.gen1_machine.specs.Layout.{member_block, number_of_bits, request_byte, status_byte};
+ghost use Rattle.gen1_machine.specs.Rules.{bit_of};
+ghost use Rattle.gen1_machine.specs.OfferedChoices.{has_no_slot_in, moves_offered, offered_for};
+ghost use Rattle.gen1_machine.specs.State.{State};
+ghost use Rattle.gen1_machine.specs.declared.terms.Request.TheVariants as requests;
+ghost use Rattle.gen1_offers.specs.OfferedMask.{digits_of, living_of, mask_of, moves_and_pass, offered_mask, passing, usable_of};
+
+use crate::offered_choices::is_committed;
+use bitflags::Flags;
+use gen1_layout::{Conditions, Packed};
+use gen1_machine::{Outcome, Side};
+
+// The status bytes of sleeping and frozen members have one of these bits. No other status byte has.
+pub(crate) const SLEEPS_OR_FREEZES: u8 = 0x27;
+
+/// What a side may choose, as a number of twelve binary digits (docs/MECHANICS.md, "Offered choices").
+///
+/// Each digit says whether a choice is offered, by rising bytes and from the lowest digit. Pass is digit 0. Move with
+/// slots 0 to 4 is digits 1 to 5, and Switch to places 1 to 6 is digits 6 to 11. The number is 0 once the battle is
+/// over.
+#[inline(always)] // docs/SPEED.md, "Hints on inlining"
+pub fn offered_mask(battle: &Packed, side: Side) -> u16
+    ensures stands { (s : State) → Stands battle.now s → result ≡ offered_mask s side }
+    ensures twelve { result < 4096 }
+{
+    // The compiler knows the side in each arm, so each address is a constant.
+    match side {
+        Side::One => mask(battle, Side::One) as u16,
+        Side::Two => mask(battle, Side::Two) as u16,
+    }
+}
+
+#[inline(always)]
+fn mask(battle: &Packed, side: Side) -> u32
+    ensures stands { (s : State) → Stands battle.now s → result ≡ offered_mask s side }
+    ensures twelve { result < 4096 }
+{
+    let request = asked(battle, side);
+    if request == 1 {
+        return mask_to_move(battle, side);
+    }
+    if request == 2 {
+        return mask_to_switch(battle, side);
+    }
+    mask_to_pass(battle)
+}
+
+// The byte of a side's request.
+#[inline(always)]
+pub(crate) fn asked(battle: &Packed, side: Side) -> u8
+    ensures packs { (g : Setting) (f : Field) → Packs g battle.now f
+        → result ≡ request_byte (request_of side f) }
+{
+    match side {
+        Side::One => battle.header()[17],
+        Side::Two => battle.header()[18],
+    }
+}
+
+// When nothing is asked for.
+#[inline(always)]
+fn mask_to_pass(battle: &Packed) -> u32
+    ensures stands { (s : State) (side : Side) → Stands battle.now s
+        → request_of side s.field ≡ requests.Pass → result ≡ offered_mask s side }
+    ensures twelve { result ≤ 1 }
+{
+    match battle.outcome() {
+        Outcome::Ongoing => 1,
+        _ => 0,
+    }
+}
+
+#[inline(always)]
+fn mask_to_switch(battle: &Packed, side: Side) -> u32
+    ensures stands { Reads battle.now result λ f. mask_of (offered_for requests.Switch side f) }
+    ensures twelve { result < 4096 }
+{
+    without(64 * living(battle, side), battle.place(side))
+}
+
+#[inline(always)]
+fn mask_to_move(battle: &Packed, side: Side) -> u32
+    ensures stands { Reads battle.now result λ f. mask_of (offered_for requests.Move side f) }
+    ensures twelve { result < 4096 }
+{
+    if is_committed(battle, side) {
+        return 2;
+    }
+    let place = battle.place(side);
+    let member = battle.member(side, place);
+    without(
+        moves(battle, side, member) + 64 * living(battle, side),
+        place,
+    )
+}
+
+// The digits, without that of the switch to a place.
+#[inline(always)]
+fn without(mask: u32, place: u8) -> u32
+    requires low { 1 ≤ place }
+    requires high { place ≤ 6 }
+    ensures digits { (low high : List Bool) → length low ≡ 6 → length high ≡ 6
+        → mask ≡ number_of_bits (low ++ high)
+        → result ≡ number_of_bits (low ++ passing 1 place high) }
+    ensures fewer { result ≤ mask }
+{
+    mask & !(1_u32 << (place as u32 + 5))
+}
+
+// For each member, whether it lives.
+#[inline(always)]
+fn living(battle: &Packed, side: Side) -> u32
+    ensures stands { Reads battle.now result λ f. number_of_bits (living_of side f) }
+    ensures six { result < 64 }
+{
+    let six = digit(lives(battle, side, 6), 0);
+    let five = digit(lives(battle, side, 5), six);
+    let four = digit(lives(battle, side, 4), five);
+    let three = digit(lives(battle, side, 3), four);
+    let two = digit(lives(battle, side, 2), three);
+    digit(lives(battle, side, 1), two)
+}
+
+#[inline(always)]
+pub(crate) fn lives(battle: &Packed, side: Side, place: u8) -> bool
+    requires low { 1 ≤ place }
+    requires high { place ≤ 6 }
+    ensures stands { Reads battle.now result λ f. is_living (member_at place (party side f)) }
+{
+    battle.hp_at(side, place) > 0
+}
+
+// Appends a digit below others.
+#[inline(always)]
+fn digit(holds: bool, above: u32) -> u32
+    requires few { above < 32768 }
+    ensures value { result ≡ bit_of holds + 2 * above }
+    ensures bound { result ≤ 2 * above + 1 }
+{
+    2 * above + u32::from(holds)
+}
+
+// Whether Pass and each move is offered, below the digits of switches, by the bytes of the member that is out.
+#[inline(always)]
+fn moves(battle: &Packed, side: Side, member: &[u8]) -> u32
+    requires { length member.now ≡ 24 }
+    ensures stands { (g : Setting) (f : Field) → Within g battle.now f
+        → member.now ≡ member_block (member_in side f)
+        → result ≡ number_of_bits (digits_of moves_and_pass (moves_offered side f)) }
+    ensures six { result < 64 }
+{
+    if picks_none(battle, side, member[14]) {
+        return 2;
+    }
+    let usable = usable(battle, side, member);
+    if usable == 0 { 2 } else { 2 * usable }
+}
+
+// Whether no slot can be chosen, by the byte of the member's status.
+#[inline(always)]
+fn picks_none(battle: &Packed, side: Side, status: u8) -> bool
+    ensures stands { (g : Setting) (f : Field) → Within g battle.now f
+        → status ≡ status_byte (status_in side f) → result ≡ has_no_slot_in side f }
+{
+    if status & SLEEPS_OR_FREEZES != 0 {
+        return true;
+    }
+    if battle.has_any(side, Conditions::BIDE.union(Conditions::TRAPPING)) {
+        return true;
+    }
+    battle.is_on(side.other(), Conditions::TRAPPING)
+}
+
+// For each slot, whether it has PP and isn't disabled, above one digit that is 0.
+#[inline(always)]
+pub(crate) fn usable(battle: &Packed, side: Side, member: &[u8]) -> u32
+    requires { length member.now ≡ 24 }
+    ensures stands { (g : Setting) (f : Field) → Within g battle.now f
+        → member.now ≡ member_block (member_in side f)
+        → result ≡ number_of_bits (false ∷ usable_of side f) }
+    ensures five { result < 32 }
+{
+    let all = 2 * some_of_four(member[19], member[20], member[21], member[22]);
+    match battle.disabled(side) {
+        Some(disabled) => all & !(1_u32 << (disabled.slot % 32) as u32),
+        None => all,
+    }
+}
+
+// For each of four bytes of at most 63, whether it is above 0. Its sum with 127 then has its highest bit, and a
+// product brings the four highest bits together.
+#[inline(always)]
+fn some_of_four(a: u8, b: u8, c: u8, d: u8) -> u32
+    ensures digits { a ≤ 63 → b ≤ 63 → c ≤ 63 → d ≤ 63
+        → result ≡ number_of_bits (nat_lt 0 a ∷ nat_lt 0 b ∷ nat_lt 0 c ∷ nat_lt 0 d ∷ []) }
+    ensures four { result < 16 }
+{
+    let four = u32::from_le_bytes([a, b, c, d]);
+    (four.wrapping_add(0x7f7f_7f7f) & 0x8080_8080).wrapping_mul(0x0020_4081) >> 28
+}

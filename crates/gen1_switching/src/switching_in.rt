@@ -1,0 +1,117 @@
+//! Members that come out (docs/MECHANICS.md, "Switching in").
+ghost use Rattle.std.specs.Prelude.{[], ◌++◌, ◌≡◌, ◌∷◌};
+ghost use Rattle.gen1_layout.specs.Operations.{DoesWhere, holding, scene};
+ghost use Rattle.gen1_layout.specs.Words.{AddsAtMost, Event as EventOf, Field, Frame, HasRoom, List, None, Packs, Progress, Setting, Shows, Some, Within, false, member_at, other, party, underway_in};
+ghost use Rattle.gen1_machine.specs.Plans.{InRange};
+ghost use Rattle.gen1_machine.specs.SwitchingIn.{send_out};
+ghost use Rattle.gen1_layout.specs.Shows.{ShowsPacked};
+ghost use Rattle.gen1_switching.specs.SwitchingIn.{PutsOut, coming_out, stats_out};
+
+use gen1_events::EventSink;
+use gen1_layout::Packed;
+use gen1_machine::{Event, Place, Side, Who};
+use gen1_stats::Status;
+
+/// Sends out the member of `side` at a place of its team, and writes `Switch` (docs/MECHANICS.md, "Switching in").
+///
+/// All its stages are 0, no condition is on, and it has no current and no picked move. It has one penalty if it is
+/// paralysed or burned. The foe's Trapping ends. Members, last damage and header stay as they are. It needs one free
+/// place in `events`.
+#[inline(always)] // docs/SPEED.md, "Hints on inlining"
+pub fn send_out<S: EventSink>(battle: &mut Packed, side: Side, place: Place, events: &mut S)
+    requires space { HasRoom S.room 1 events.old }
+    ensures shown { DoesWhere (holding λ p. InRange side place p.field) (scene S.tells battle events)
+        false (λ r. send_out side place) }
+    ensures room { AddsAtMost S.room 1 events.old events.new }
+{
+    tell_coming_out(battle, side, place, events);
+    put_out(battle, side, place);
+    battle.end_trapping(side.other());
+}
+
+// The same while a side may have no member out and the foe isn't trapping.
+pub(crate) fn send_first<S: EventSink>(
+    battle: &mut Packed,
+    side: Side,
+    place: Place,
+    events: &mut S,
+)
+    requires space { HasRoom S.room 1 events.old }
+    ensures shown { (g : Frame) (p : Progress) → InRange side place p.field
+        → (underway_in (other side) p.field).trapping ≡ None
+        → ShowsPacked g battle.old (S.tells events.old) p
+        → ShowsPacked g battle.new (S.tells events.new) (send_out side place p) }
+    ensures room { AddsAtMost S.room 1 events.old events.new }
+{
+    tell_coming_out(battle, side, place, events);
+    put_out(battle, side, place);
+}
+
+// The event for a member that comes out depends only on what is known before.
+fn tell_coming_out<S: EventSink>(battle: &Packed, side: Side, place: Place, events: &mut S)
+    requires space { HasRoom S.room 1 events.old }
+    ensures told { (g : Setting) (f : Field) (told : List EventOf) → Packs g battle.now f
+        → InRange side place f → S.tells events.old told
+        → S.tells events.new (told ++ coming_out side place (member_at place (party side f)) ∷ []) }
+    ensures room { AddsAtMost S.room 1 events.old events.new }
+{
+    if let Some(event) = coming_out(battle, side, place) {
+        events.push(event);
+    }
+}
+
+fn coming_out(battle: &Packed, side: Side, place: Place) -> Option<Event>
+    ensures packs { (g : Setting) (f : Field) → Packs g battle.now f → InRange side place f
+        → result ≡ Some (coming_out side place (member_at place (party side f))) }
+{
+    let at = place.number();
+    let species = battle.species_from(side, at)?;
+    let level = battle.level_from(side, at)?;
+    let health = battle.health_from(side, at)?;
+    Some(Event::Switch(Who { side, species }, place, level, health))
+}
+
+// A penalty is rare. It is handled separately, so that the stats of other members are copied as eight bytes.
+fn put_out(battle: &mut Packed, side: Side, place: Place)
+    ensures stands { PutsOut Within side place battle.old battle.new }
+    ensures packs { PutsOut Packs side place battle.old battle.new }
+{
+    match battle.status_at(side, place.number()) {
+        Status::Burned | Status::Paralysed => put_out_with_penalty(battle, side, place),
+        _ => put_out_by_status(battle, side, place),
+    }
+}
+
+#[inline(always)] // docs/SPEED.md, "Hints on inlining"
+fn put_out_with_penalty(battle: &mut Packed, side: Side, place: Place)
+    ensures stands { PutsOut Within side place battle.old battle.new }
+    ensures packs { PutsOut Packs side place battle.old battle.new }
+{
+    put_out_by_status(battle, side, place);
+}
+
+#[inline(always)] // docs/SPEED.md, "Hints on inlining"
+fn put_out_by_status(battle: &mut Packed, side: Side, place: Place)
+    ensures stands { PutsOut Within side place battle.old battle.new }
+    ensures packs { PutsOut Packs side place battle.old battle.new }
+{
+    let at = place.number();
+    let status = battle.status_at(side, at);
+    let [attack, defense, speed, special] = battle.own_stats_at(side, at);
+    let stats = stats_out(status, attack, defense, speed, special);
+    if let Some(species) = battle.species_from(side, at) {
+        let [first, second] = species.types();
+        battle.put_sent_out(side, at, first, second, stats);
+    }
+}
+
+// A member's own stats with the penalty of its status. At stage 0 they are unchanged.
+fn stats_out(status: Status, attack: u16, defense: u16, speed: u16, special: u16) -> [u16; 4]
+    ensures { result ≡ stats_out status attack defense speed special }
+{
+    match status {
+        Status::Burned => [(attack / 2).max(1), defense, speed, special],
+        Status::Paralysed => [attack, defense, (speed / 4).max(1), special],
+        _ => [attack, defense, speed, special],
+    }
+}
