@@ -346,6 +346,8 @@ def take_runtime(source):
         body = source.next_at(place, "{")
         gap = source.tokens[source.code[body].place + 1]
         gap.text = " let rt = gen1_adapter::testing::HostRuntime;" + gap.text
+    for place in source.find("( _rt : HostRuntime )"):
+        source.drop(place + 1, place + 3)
     for place in source.find("( rt ;"):
         source.drop_word(place + 1, place + 2)
     for place in source.find(". expect (  rt ,") + source.find(". expect ( & rt ,"):

@@ -24,7 +24,7 @@ def counted():
     coverage = Coverage([])
     same = indented(ROOT / "tools" / "definitions" / "same_meaning.txt")
     yield "recorded battles that are lemmas", sum(
-        len(LEMMA.findall(file.read_text())) for file in (ROOT / "crates" / "test_battles" / "proofs").glob("Battles*.antt"))
+        len(LEMMA.findall(file.read_text())) for file in (ROOT / "crates" / "test_support" / "proofs").glob("Battles*.antt"))
     yield "worked examples", len(coverage.lemmas)
     yield "definitions that the step uses", len(coverage.definitions)
     yield "branches of these definitions", len(coverage.own_branches())

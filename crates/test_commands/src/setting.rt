@@ -7,7 +7,7 @@ use std::fmt::Debug;
 use std::process::Abort;
 use std::rt::Files;
 use std::test::Fail;
-use test_devices::{Broken, Failing};
+use test_support::{Broken, Failing};
 
 /// The line on standard error for an input that isn't the expected JSON.
 pub(crate) const JSON_LINE: &str = "error: json\n";

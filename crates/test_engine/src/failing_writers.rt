@@ -7,7 +7,7 @@ use gen1_events::LogBuf;
 use gen1_machine::Device;
 use std::process::Abort;
 use std::test::Fail;
-use test_devices::Failing;
+use test_support::Failing;
 
 /// The length of the log after each pair: 23, 36 and 23 more bytes.
 const ENDS: [usize; 3] = [23, 59, 82];

@@ -1,12 +1,18 @@
-//! Tests of `gen1_tables`, `gen1_rolls`, `gen1_stats` and `gen1_text`, through their public functions. They are in a
-//! crate of their own because a crate with tests is proved twice. Expected values come from docs/TABLES.md,
-//! docs/MECHANICS.md and docs/TEAM_TEXT.md.
+//! Tests of `gen1_tables`, `gen1_rolls`, `gen1_stats`, `gen1_text`, `gen1_machine`, `gen1_layout` and `gen1_states`,
+//! through their public functions. They are in a crate of their own because a crate with tests is proved twice.
+//! Expected values come from docs/TABLES.md, docs/MECHANICS.md, docs/TEAM_TEXT.md and docs/LAYOUT.md.
 //!
 //! - `tables`: rows of each table
 //! - `draws`: worked draws
 //! - `teams`: worked stats, and refusals
 //! - `export_texts`: export texts
 //! - `packed_lines`: packed lines
+//! - `values`: ranges, bytes and numbers of gen1_machine, and devices that fail
+//! - `laws`: each law of gen1_machine once
+//! - `fields`: each reader and writer of the 384 bytes
+//! - `readers`: members by their places, and several conditions
+//! - `loading`: each field at the ends of its range, and past them
+//! - `states`: plain states, and their fields at the ends of their ranges
 //! - `comparing`: what the tests compare
 #![tactic(auto)]
 
@@ -17,8 +23,20 @@ mod draws;
 #[cfg(test)]
 mod export_texts;
 #[cfg(test)]
+mod fields;
+#[cfg(test)]
+mod laws;
+#[cfg(test)]
+mod loading;
+#[cfg(test)]
 mod packed_lines;
+#[cfg(test)]
+mod readers;
+#[cfg(test)]
+mod states;
 #[cfg(test)]
 mod tables;
 #[cfg(test)]
 mod teams;
+#[cfg(test)]
+mod values;

@@ -1,0 +1,311 @@
+//! Ranges, bytes and worked numbers, and devices that fail.
+use gen1_machine::{
+    CantReason, Choice, DamageSource, Device, Event, EventList, FaultCode, Health, HitCount,
+    InputFault, Kind, Level, MoveSlot, Outcome, Place, Rules, Side, Sink, Source, StageCount,
+    TurnLimit, TurnNumber, Volatile, link, now, read_whole, send, send_all, stat_from_number,
+    stat_number,
+};
+use gen1_tables::Stat;
+use linked_list_allocator::LocalHeap;
+use std::fmt::Debug;
+use std::process::Abort;
+use std::test::Fail;
+use test_support::{Broken, Failing};
+
+// Asserts that these are the same. A test calls it, since an assertion in its own body costs the proof of the test seconds.
+fn assert_same<T: PartialEq + Debug + Drop>(rt: &impl Abort, found: T, expected: T) {
+    assert_eq!(rt; found, expected);
+}
+
+#[test]
+fn ranges_end_where_they_should(rt: HostRuntime) {
+    for (number, known) in [(0, false), (1, true), (9999, true), (10000, false)] {
+        assert_same(
+            &rt,
+            TurnLimit::new(number).map(TurnLimit::number),
+            known.then_some(number),
+        );
+        assert_same(
+            &rt,
+            TurnNumber::new(number).map(TurnNumber::number),
+            known.then_some(number),
+        );
+    }
+    assert_same(&rt, TurnLimit::default().number(), 1000);
+    for (number, slot, stages, hits, place, level) in [
+        (0, true, false, false, false, false),
+        (1, true, true, true, true, true),
+        (2, true, true, true, true, true),
+        (3, true, false, true, true, true),
+        (5, false, false, true, true, true),
+        (6, false, false, false, true, true),
+        (7, false, false, false, false, true),
+        (100, false, false, false, false, true),
+        (101, false, false, false, false, false),
+    ] {
+        assert_same(&rt, MoveSlot::new(number).is_some(), slot);
+        assert_same(&rt, StageCount::new(number).is_some(), stages);
+        assert_same(&rt, FaultCode::new(number).is_some(), stages);
+        assert_same(&rt, HitCount::new(number).is_some(), hits);
+        assert_same(
+            &rt,
+            Place::new(number).map(Place::number),
+            place.then_some(number),
+        );
+        assert_same(&rt, Level::new(number).is_some(), level);
+    }
+}
+
+#[test]
+fn what_ends_a_battle(rt: HostRuntime) {
+    for (outcome, over) in [
+        (Outcome::Ongoing, false),
+        (Outcome::WinOne, true),
+        (Outcome::WinTwo, true),
+        (Outcome::Tie, true),
+        (Outcome::Fault(1), true),
+    ] {
+        assert_same(&rt, (outcome, outcome.is_over()), (outcome, over));
+    }
+}
+
+#[test]
+fn health_is_within_its_maximum(rt: HostRuntime) {
+    for (hp, max, known) in [
+        (0, 11, true),
+        (999, 999, true),
+        (12, 11, false),
+        (9, 10, false),
+    ] {
+        let health = Health::new(hp, max, Some(Kind::Burn));
+        assert_same(&rt, health.is_some(), known);
+        if let Some(health) = health {
+            assert_same(
+                &rt,
+                (health.hp(), health.max(), health.kind()),
+                (hp, max, Some(Kind::Burn)),
+            );
+        }
+    }
+}
+
+// The rules' two bits (docs/MECHANICS.md, "Rules (sleep clause, freeze clause)").
+#[test]
+fn rules_are_two_bits(rt: HostRuntime) -> Result<(), Fail> {
+    for (bits, sleep, freeze) in [
+        (0, false, false),
+        (1, true, false),
+        (2, false, true),
+        (3, true, true),
+    ] {
+        let rules = Rules::new(bits).ok_or("at most 3")?;
+        assert_same(&rt, rules.bits(), bits);
+        assert_same(
+            &rt,
+            (rules.sleep_clause(), rules.freeze_clause()),
+            (sleep, freeze),
+        );
+    }
+    assert_same(&rt, Rules::default().bits(), 0);
+    assert_same(&rt, Rules::new(4), None);
+    Ok(())
+}
+
+// The bytes of choices (docs/MECHANICS.md, "Offered choices").
+#[test]
+fn choices_are_bytes(rt: HostRuntime) {
+    let last_slot = MoveSlot::new(4).map(Choice::Move);
+    let last_place = Place::new(6).map(Choice::Switch);
+    for (byte, choice) in [
+        (0x00, Some(Choice::default())),
+        (0x01, None),
+        (0x14, last_slot),
+        (0x15, None),
+        (0x20, None),
+        (0x26, last_place),
+        (0x27, None),
+    ] {
+        assert_same(&rt, Choice::from_byte(byte), choice);
+        assert_same(
+            &rt,
+            choice.map(Choice::byte),
+            choice.is_some().then_some(byte),
+        );
+    }
+}
+
+// The numbers of fields (docs/MECHANICS.md, "Events").
+#[test]
+fn numbers_of_log_bytes(rt: HostRuntime) {
+    assert_same(&rt, Side::from_number(2), Some(Side::One.other()));
+    assert_same(&rt, Side::Two.number(), 2);
+    assert_same(&rt, Kind::from_number(5), Some(Kind::Paralysis));
+    assert_same(&rt, Kind::Freeze.number(), 4);
+    assert_same(
+        &rt,
+        CantReason::from_number(3),
+        Some(CantReason::PartiallyTrapped),
+    );
+    assert_same(&rt, CantReason::Disabled.number(), 6);
+    assert_same(
+        &rt,
+        DamageSource::from_number(0),
+        Some(DamageSource::Direct),
+    );
+    assert_same(&rt, DamageSource::Confusion.number(), 5);
+    assert_same(&rt, Volatile::from_number(13), Some(Volatile::Splash));
+    assert_same(&rt, Volatile::Trapped.number(), 11);
+    assert_same(&rt, stat_from_number(3), Some(Stat::Speed));
+    assert_same(&rt, stat_number(Stat::Evasion), 6);
+    let mut events = EventList::new();
+    events.push(Event::default());
+    assert_same(&rt, (events.len(), events.capacity()), (1, 64));
+}
+
+// Worked draws (docs/MECHANICS.md, "Link numbers").
+#[test]
+fn link_numbers(rt: HostRuntime) {
+    let seed = [1, 2, 3, 4, 5, 6, 7, 8, 9, 10];
+    for (n, byte) in [(0, 1), (8, 9), (9, 6), (10, 11), (11, 16), (9 * 256, 1)] {
+        assert_same(&rt, link(&seed, n), byte);
+    }
+}
+
+// Worked stats (docs/MECHANICS.md, "Stages", "Penalties").
+#[test]
+fn stats_at_stages(rt: HostRuntime) {
+    for (unmodified, stage, stat, penalties, want) in [
+        (298, 0, Stat::Attack, 1, 149),
+        (298, -1, Stat::Attack, 0, 196),
+        (298, -1, Stat::Attack, 1, 98),
+        (298, -1, Stat::Attack, 2, 49),
+        (318, 0, Stat::Speed, 1, 79),
+        (3, 0, Stat::Speed, 1, 1),
+        (288, 0, Stat::Defense, 1, 288),
+        (298, 6, Stat::Attack, 0, 999),
+        (298, 127, Stat::Special, 0, 999),
+        (5, -6, Stat::Special, 0, 1),
+    ] {
+        assert_same(&rt, now(unmodified, stage, stat, penalties), want);
+    }
+}
+
+#[test]
+fn each_write_that_fails_is_told(rt: HostRuntime) -> Result<(), Fail> {
+    let text = b"|tie\n|win|p1\n".as_slice();
+    for takes_nothing in [false, true] {
+        for (most, writes) in [(1usize, 13usize), (4, 4), (100, 2)] {
+            for left in 0..=writes {
+                let mut bytes = Vec::new(rt.alloc());
+                let mut sink = Device::new(Failing {
+                    left,
+                    takes_nothing,
+                    most,
+                    bytes: &mut bytes,
+                });
+                let result = send_all(&mut sink, &[b"|tie\n", b"|win|p1\n"]);
+                assert_same(&rt, result.is_err(), left < writes);
+                assert_same(&rt, sink.failed(), left < writes);
+                let written = (left * most).min(text.len());
+                assert_same(&rt, text.starts_with(bytes.as_slice()), true);
+                assert_same(&rt, bytes.len() <= written, true);
+            }
+        }
+    }
+    Ok(())
+}
+
+#[test]
+fn each_read_that_fails_is_told(rt: HostRuntime) {
+    let input = [7u8; 20];
+    for (most, reads) in [(1usize, 21usize), (8, 4), (100, 2)] {
+        for left in 0..=reads {
+            let mut source = Device::new(Broken {
+                left,
+                most,
+                bytes: input.as_slice(),
+            });
+            let result = read_whole(rt.alloc(), &mut source, 20);
+            assert_same(&rt, source.failed(), left < reads);
+            match result {
+                Ok(bytes) => assert_same(&rt, (left, bytes.as_slice()), (reads, input.as_slice())),
+                Err(fault) => assert_same(&rt, (left < reads, fault), (true, InputFault::Device)),
+            }
+        }
+    }
+}
+
+#[test]
+fn an_input_ends_at_its_limit(rt: HostRuntime) -> Result<(), Fail> {
+    let input = vec![in rt.alloc(); 7u8; 5000]?;
+    for limit in [5000u16, 4999, 0] {
+        let limit = limit as usize;
+        let mut source = Device::new(input.as_slice());
+        match read_whole(rt.alloc(), &mut source, limit) {
+            Ok(bytes) => assert_same(&rt, (limit, bytes.as_slice()), (5000, input.as_slice())),
+            Err(fault) => {
+                assert_same(&rt, (limit < 5000, fault), (true, InputFault::TooLong));
+                assert_same(&rt, source.get_ref().len(), 4999usize.saturating_sub(limit));
+            }
+        }
+    }
+    Ok(())
+}
+
+#[test]
+fn each_growth_that_is_refused_is_told(rt: HostRuntime) -> Result<(), Fail> {
+    let input = vec![in rt.alloc(); 7u8; 20000]?;
+    let mut refused = 0u32;
+    for step in 0..40usize {
+        let heap = LocalHeap::new(rt.alloc(), 2048 * step)?;
+        match read_whole(&heap, &mut Device::new(input.as_slice()), 1 << 20) {
+            Ok(bytes) => assert_same(&rt, bytes.as_slice(), input.as_slice()),
+            Err(fault) => {
+                assert_same(&rt, fault, InputFault::Memory);
+                refused = refused.saturating_add(1);
+            }
+        }
+    }
+    assert_same(&rt, (5 < refused, refused < 40), (true, true));
+    Ok(())
+}
+
+#[test]
+fn an_input_that_is_too_long_asks_for_no_memory_past_its_limit(
+    rt: HostRuntime,
+) -> Result<(), Fail> {
+    let heap = LocalHeap::new(rt.alloc(), 0)?;
+    let input = [7u8; 20];
+    for (limit, expected) in [
+        (10usize, InputFault::TooLong),
+        (19, InputFault::TooLong),
+        (20, InputFault::Memory),
+    ] {
+        match read_whole(&heap, &mut Device::new(input.as_slice()), limit) {
+            Ok(bytes) => assert_same(&rt, bytes.len(), 21),
+            Err(fault) => assert_same(&rt, fault, expected),
+        }
+    }
+    Ok(())
+}
+
+#[test]
+fn devices_are_made_of_stds(rt: HostRuntime) -> Result<(), Fail> {
+    let mut room = [0u8; 4];
+    let mut to_slice = Device::new(room.as_mut_slice());
+    assert_same(
+        &rt,
+        (send(&mut to_slice, b"ab").is_ok(), to_slice.failed()),
+        (true, false),
+    );
+    assert_same(
+        &rt,
+        (send(&mut to_slice, b"cde").is_err(), to_slice.failed()),
+        (true, true),
+    );
+    assert_same(&rt, room, [97u8, 98, 99, 100]);
+    let mut to_list = Device::new(Vec::new(rt.alloc()));
+    assert_same(&rt, send(&mut to_list, b"xyz").is_ok(), true);
+    assert_same(&rt, to_list.into_inner().as_slice(), b"xyz".as_slice());
+    Ok(())
+}
