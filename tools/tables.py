@@ -60,12 +60,19 @@ def move_rows(document):
     return [(elements.index(kind), *map(int, more)) for kind, *more, _ in (row[1:] for row in numbered(table(document, "Moves")))]
 
 
-def row_places(elements, types):
-    """For each type of a move the places of its rows against each type; the number of all rows where there is none."""
-    places = {(attacker, defender): place for place, (attacker, defender, _) in enumerate(types)}
+def factors(elements, types):
+    """For each type of a move and each first type of a foe, the factors against all second types, in fifths."""
     for attacker in elements:
-        row = [places.get((attacker, defender), len(types)) for defender in elements]
-        yield f"{', '.join(map(str, row))}, // {attacker}"
+        for first in elements:
+            row = [factors_against(types, attacker, (first, second)) for second in elements]
+            yield f"{', '.join(row)}, // {attacker} against {first}"
+
+
+def factors_against(types, attacker, defenders):
+    """The two factors of the rows that apply, in fifths, as a number with two hexadecimal digits; 2 where there is no row."""
+    tenths = [int(number) for kind, defender, number in types if kind == attacker and defender in defenders]
+    one, two = (tenths + [10, 10])[:2]
+    return f"0x{one // 5:x}{two // 5:x}"
 
 
 def code_list(file, name, rows):
@@ -83,7 +90,7 @@ def all_lists(document):
     types = table(document, "Type rows")
     yield code_list("types.rt", "TYPE_ROWS", [f"({', '.join(row)})," for row in types])
     yield spec_list("Types.antt", "type_rows", [f"row {' '.join(row)} ∷" for row in types])
-    yield code_list("types.rt", "ROW_PLACES", list(row_places(element_names(document), types)))
+    yield code_list("types.rt", "FACTORS", list(factors(element_names(document), types)))
 
     species = numbered(table(document, "Species"))
     yield code_list("species.rt", "SPECIES_ROWS", [

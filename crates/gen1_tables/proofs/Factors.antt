@@ -1,13 +1,12 @@
 -- The factors of a foe's types, computed once for all types of a move and of a foe.
-use Rattle.std.proofs.Common.{Bool, List, [], ap, arith, eqb-true, get_or, length, map, nat_le, refl, sym, ◌&&◌, ◌*◌, ◌+◌, ◌<◌, ◌==◌, ◌∙◌, ◌∷◌, ◌≡◌, ◌≤◌, ℕ, true}
+use Rattle.std.proofs.Common.{Bool, List, [], ap, arith, eqb-true, get_or, length, nat_le, refl, ◌&&◌, ◌*◌, ◌+◌, ◌<◌, ◌==◌, ◌∙◌, ◌∷◌, ◌≡◌, ◌≤◌, ℕ, true}
 use Rattle.std.specs.List.{list_all}
 use Rattle.std.proofs.lemmas.Bool.{and_parts, leb-true}
-use Rattle.std.proofs.lemmas.List.{get_or-map, get_or_past}
 use Rattle.std.proofs.lemmas.List.Sums.{AllPass-from_list_all}
 use Rattle.gen1_tables.specs.declared.element.Element.{Element}
 use Rattle.gen1_tables.specs.declared.element.Element.TheVariants.{Normal, Fighting, Flying, Poison, Ground, Rock, Bug, Ghost, Fire, Water, Grass, Electric, Psychic, Ice, Dragon}
-use Rattle.gen1_tables.specs.declared.types.TheConstants.{ROW_PLACES, TYPE_ROWS}
-use Rattle.gen1_tables.specs.Places.{in_order, tenths_at}
+use Rattle.gen1_tables.specs.declared.types.TheConstants.{FACTORS}
+use Rattle.gen1_tables.specs.Factors.{in_tenths}
 use Rattle.gen1_tables.specs.Types.{TypeRow, number_of, rows_against, tenths_of, type_rows}
 
 abbrev elements : List Element
@@ -24,9 +23,9 @@ number-lt t = omega arith
 of_each : (p : Element → Bool) → list_all p elements ≡ true → (t : Element) → p t ≡ true
 of_each p all t = ap p (at_number t) ∙ AllPass-from_list_all p elements all (number_of t) Normal (number-lt t)
 
--- The place of a row in the code's table, by the numbers of both types. d is the default.
-abbrev pub place_at : ℕ → ℕ → ℕ → ℕ
-place_at d t u = get_or ROW_PLACES (15 * t + u) d
+-- The factors in the code's table, by the numbers of the three types. d is the default.
+abbrev pub factors_at : ℕ → ℕ → ℕ → ℕ → ℕ × ℕ
+factors_at d t u v = in_tenths (get_or FACTORS (15 * (15 * t + u) + v) d)
 
 -- The factors are those of the specification. None is lost, and none is large.
 abbrev Agrees : List TypeRow → ℕ × ℕ → Type 0
@@ -45,26 +44,14 @@ agrees-is rows two h =
     )
 
 abbrev agree_at : ℕ → Element → Element → Element → Bool
-agree_at d t u v = agrees (rows_against t u v) (in_order (place_at d (number_of t) (number_of u)) (place_at d (number_of t) (number_of v)))
+agree_at d t u v = agrees (rows_against t u v) (factors_at d (number_of t) (number_of u) (number_of v))
 
 all-agree : (d : ℕ) → list_all (λ t. list_all (λ u. list_all (λ v. agree_at d t u v) elements) elements) elements ≡ true
 unfolding type_rows
 all-agree d = refl
 
-pub agree : (d : ℕ) (t u v : Element) {i j k : ℕ} → i ≡ number_of t → j ≡ number_of u → k ≡ number_of v
-    → Agrees (rows_against t u v) (in_order (place_at d i j) (place_at d i k))
+pub agree : (d : ℕ) (t u v : Element) {i j k : ℕ} → i ≡ number_of t → j ≡ number_of u → k ≡ number_of v → Agrees (rows_against t u v) (factors_at d i j k)
 agree d t u v kind first second =
     let of_all = of_each (λ x. list_all (λ y. list_all (λ z. agree_at d x y z) elements) elements) (all-agree d) t in
     let of_kind = of_each (λ y. list_all (λ z. agree_at d t y z) elements) of_all u in
     rw (kind, first, second) (agrees-is _ _ (of_each (λ z. agree_at d t u z) of_kind v))
-
--- A row of the code has the specification's factor.
-same-tenths : map (λ r. r.2) TYPE_ROWS ≡ map (λ (row : TypeRow). row.tenths) type_rows
-unfolding type_rows
-same-tenths = refl
-
-pub tenths_at-row : (place : ℕ) (d : _) → place < 82 → (get_or TYPE_ROWS place d).2 ≡ tenths_at place
-tenths_at-row place d low = sym (get_or-map (λ r. r.2) TYPE_ROWS place d 10 low) ∙ ap (λ tenths. get_or tenths place 10) same-tenths
-
-pub tenths_at-past : (place : ℕ) → 82 ≤ place → tenths_at place ≡ 10
-tenths_at-past place past = ap (λ tenths. get_or tenths place 10) (sym same-tenths) ∙ get_or_past (map (λ r. r.2) TYPE_ROWS) place 10 past
