@@ -1,6 +1,8 @@
 -- Words for the clauses of contracts, one for each common statement, and reexports of what the clauses are about.
 use Rattle.gen1_layout.specs.Parts.{Parts}
-use Rattle.std.specs.Prelude.{◌+◌, ◌≡◌, ◌≤◌}
+use Rattle.std.specs.Prelude.{◌+◌, ◌<◌, ◌^◌, ◌≡◌, ◌≤◌}
+use Rattle.gen1_machine.specs.Layout.{condition_bits}
+use Rattle.gen1_layout.specs.Flags.{SameNumbers, any_at, set_at}
 pub use Rattle.std.specs.Prelude.{Bool, IsTrue, List, None, Option, Some, [], false, is_some, length, map, nat_le, nat_lt, not, slice_index_or, slice_set, true, zero, ℕ}
 pub use Rattle.gen1_stats.specs.Members.{IsBetween, Member, is_asleep, is_frozen, is_living, is_paralysed}
 pub use Rattle.gen1_machine.specs.declared.side.Side.{Side}
@@ -70,6 +72,26 @@ abbrev pub WritesConditionsIf : Side → Parts → Parts → (ActiveConditions �
 WritesConditionsIf s old new written fits =
     (g : Setting) (f : Field) (change : ActiveConditions → ActiveConditions) → Within g old f
     → change (conditions_in s f) ≡ written (conditions_in s f) → fits g f → Within g new (changed_conditions s change f)
+
+-- One condition of the member that is out, or several of them, as numbers of their bits. In each word, k is the place of a
+-- bit
+
+-- The value is whether this condition is on.
+abbrev pub ReadsFlag : Side → Parts → ℕ → Bool → Type 0
+ReadsFlag s parts which value =
+    (k : ℕ) → which ≡ 2 ^ k → Reads parts value λ f. slice_index_or (condition_bits (conditions_in s f)) k false
+
+-- The value is whether at least one of these conditions is on.
+abbrev pub ReadsAny : Side → Parts → ℕ → Bool → Type 0
+ReadsAny s parts which value =
+    (places : List ℕ) → which ≡ set_at places → Reads parts value λ f. any_at places (condition_bits (conditions_in s f))
+
+-- This condition, which has no number, is now on or off, and nothing else has changed.
+abbrev pub WritesFlag : Side → Parts → Parts → ℕ → Bool → Type 0
+WritesFlag s old new which on =
+    (k : ℕ) → which ≡ 2 ^ k → k < 17 → (g : Setting) (f : Field) (change : ActiveConditions → ActiveConditions) → Within g old f
+    → condition_bits (change (conditions_in s f)) ≡ slice_set (condition_bits (conditions_in s f)) k on
+    → SameNumbers (change (conditions_in s f)) (conditions_in s f) → Within g new (changed_conditions s change f)
 
 -- Events: there is room for n more, at most n were added, or none were
 

@@ -9,6 +9,11 @@ ghost use Rattle.gen1_layout.specs.SentOut.{sent_as, stats_of};
 use crate::Packed;
 use crate::codes::{byte_of_used, element_from, used_from};
 use crate::first_state::{high, low};
+use crate::offsets::{
+    ACCURACY_STAGE, ATTACK_STAGE, CONDITIONS, CURRENT_ATTACK, CURRENT_DEFENSE, CURRENT_MOVE,
+    CURRENT_SPECIAL, CURRENT_SPEED, DEFENSE_STAGE, EVASION_STAGE, FIRST_TYPE, KEPT_ACCURACY,
+    PICKED_MOVE, SECOND_TYPE, SPECIAL_STAGE, SPEED_STAGE,
+};
 use byteorder::{ByteOrder, LittleEndian};
 use gen1_machine::{Side, UsedMove};
 use gen1_tables::{Element, Stat};
@@ -18,14 +23,14 @@ impl Packed {
     pub fn first_type(&self, side: Side) -> Element
         ensures stands { Reads self.now result λ f. (active_in side f).first_type }
     {
-        element_from(self.active(side)[1])
+        element_from(self.active(side)[FIRST_TYPE])
     }
 
     /// The second type of the member that is out.
     pub fn second_type(&self, side: Side) -> Element
         ensures stands { Reads self.now result λ f. (active_in side f).second_type }
     {
-        element_from(self.active(side)[2])
+        element_from(self.active(side)[SECOND_TYPE])
     }
 
     /// A stage, 0 to 12. The middle is 6.
@@ -33,12 +38,12 @@ impl Packed {
         ensures stands { Reads self.now result λ f. stage_of stat (active_in side f).stages }
     {
         match stat {
-            Stat::Attack => self.active(side)[3],
-            Stat::Defense => self.active(side)[4],
-            Stat::Speed => self.active(side)[5],
-            Stat::Special => self.active(side)[6],
-            Stat::Accuracy => self.active(side)[7],
-            Stat::Evasion => self.active(side)[8],
+            Stat::Attack => self.active(side)[ATTACK_STAGE],
+            Stat::Defense => self.active(side)[DEFENSE_STAGE],
+            Stat::Speed => self.active(side)[SPEED_STAGE],
+            Stat::Special => self.active(side)[SPECIAL_STAGE],
+            Stat::Accuracy => self.active(side)[ACCURACY_STAGE],
+            Stat::Evasion => self.active(side)[EVASION_STAGE],
         }
     }
 
@@ -50,10 +55,10 @@ impl Packed {
         ensures without_number { has_number stat ≡ false → result ≡ 1 }
     {
         match stat {
-            Stat::Attack => word!(self.active(side), 9..11),
-            Stat::Defense => word!(self.active(side), 11..13),
-            Stat::Speed => word!(self.active(side), 13..15),
-            Stat::Special => word!(self.active(side), 15..17),
+            Stat::Attack => word!(self.active(side), CURRENT_ATTACK),
+            Stat::Defense => word!(self.active(side), CURRENT_DEFENSE),
+            Stat::Speed => word!(self.active(side), CURRENT_SPEED),
+            Stat::Special => word!(self.active(side), CURRENT_SPECIAL),
             Stat::Accuracy => 1,
             Stat::Evasion => 1,
         }
@@ -63,21 +68,21 @@ impl Packed {
     pub fn current_move(&self, side: Side) -> UsedMove
         ensures stands { Reads self.now result λ f. (active_in side f).current_move }
     {
-        used_from(self.active(side)[29])
+        used_from(self.active(side)[CURRENT_MOVE])
     }
 
     /// The move that was picked last: none, a slot 1 to 4, or Struggle.
     pub fn picked_move(&self, side: Side) -> UsedMove
         ensures stands { Reads self.now result λ f. (active_in side f).picked_move }
     {
-        used_from(self.active(side)[30])
+        used_from(self.active(side)[PICKED_MOVE])
     }
 
     /// The accuracy byte that is kept for a move that goes on, 0 to 255.
     pub fn kept_accuracy(&self, side: Side) -> u8
         ensures stands { Reads self.now result λ f. (active_in side f).kept_accuracy }
     {
-        self.active(side)[31]
+        self.active(side)[KEPT_ACCURACY]
     }
 
     /// Writes both types of the member that is out.
@@ -88,8 +93,8 @@ impl Packed {
         let first = first.number();
         let second = second.number();
         let active = self.active_mut(side);
-        active[1] = first;
-        active[2] = second;
+        active[FIRST_TYPE] = first;
+        active[SECOND_TYPE] = second;
     }
 
     /// Writes the move that was used last: none, Struggle, or a slot that holds a move.
@@ -99,7 +104,7 @@ impl Packed {
             (length (member_in side f).moves) used }
     {
         let byte = byte_of_used(used);
-        self.active_mut(side)[29] = byte;
+        self.active_mut(side)[CURRENT_MOVE] = byte;
     }
 
     /// Writes the move that was picked last: none, Struggle, or a slot that holds a move.
@@ -109,7 +114,7 @@ impl Packed {
             (length (member_in side f).moves) used }
     {
         let byte = byte_of_used(used);
-        self.active_mut(side)[30] = byte;
+        self.active_mut(side)[PICKED_MOVE] = byte;
     }
 
     /// Writes the kept accuracy byte.
@@ -117,7 +122,7 @@ impl Packed {
         ensures stands { WritesActive side self.old self.new λ a. record a
             { kept_accuracy = byte } }
     {
-        self.active_mut(side)[31] = byte;
+        self.active_mut(side)[KEPT_ACCURACY] = byte;
     }
 
     /// Writes the stage of accuracy, 0 to 12. It has no number.
@@ -125,7 +130,7 @@ impl Packed {
         ensures stands { WritesActiveIf side self.old self.new
             (λ a. record a { stages = record a.stages { accuracy = stage } }) λ g f. stage ≤ 12 }
     {
-        self.active_mut(side)[7] = stage;
+        self.active_mut(side)[ACCURACY_STAGE] = stage;
     }
 
     /// Writes the stage of evasion, 0 to 12. It has no number.
@@ -133,7 +138,7 @@ impl Packed {
         ensures stands { WritesActiveIf side self.old self.new
             (λ a. record a { stages = record a.stages { evasion = stage } }) λ g f. stage ≤ 12 }
     {
-        self.active_mut(side)[8] = stage;
+        self.active_mut(side)[EVASION_STAGE] = stage;
     }
 
     /// Writes the stage of Attack, 0 to 12, and the Attack at it, after any number of halvings.
@@ -149,8 +154,8 @@ impl Packed {
             → Within g self.new (changed_active side change f) }
     {
         let active = self.active_mut(side);
-        active[3] = stage;
-        put_word!(active, 9..11, value);
+        active[ATTACK_STAGE] = stage;
+        put_word!(active, CURRENT_ATTACK, value);
     }
 
     /// Writes the stage of Speed, 0 to 12, and the Speed at it, after any number of quarterings.
@@ -166,8 +171,8 @@ impl Packed {
             → Within g self.new (changed_active side change f) }
     {
         let active = self.active_mut(side);
-        active[5] = stage;
-        put_word!(active, 13..15, value);
+        active[SPEED_STAGE] = stage;
+        put_word!(active, CURRENT_SPEED, value);
     }
 
     /// Writes the stage of Defense, 0 to 12, and the Defense at it.
@@ -179,8 +184,8 @@ impl Packed {
             → Within g self.new (changed_active side change f) }
     {
         let active = self.active_mut(side);
-        active[4] = stage;
-        put_word!(active, 11..13, value);
+        active[DEFENSE_STAGE] = stage;
+        put_word!(active, CURRENT_DEFENSE, value);
     }
 
     /// Writes the stage of Special, 0 to 12, and the Special at it.
@@ -192,8 +197,8 @@ impl Packed {
             → Within g self.new (changed_active side change f) }
     {
         let active = self.active_mut(side);
-        active[6] = stage;
-        put_word!(active, 15..17, value);
+        active[SPECIAL_STAGE] = stage;
+        put_word!(active, CURRENT_SPECIAL, value);
     }
 
     /// Sends out the member at a place, 1 to 6, with these types and these current stats.
@@ -234,7 +239,7 @@ fn sent_block(place: u8, first: Element, second: Element, stats: [u16; 4]) -> [u
 {
     // After place, types, stages and stats all bytes are 0: no condition, no count, no move.
     let mut block = [0; 36];
-    block[..17].copy_from_slice(&[
+    block[..CONDITIONS].copy_from_slice(&[
         place,
         first.number(),
         second.number(),

@@ -1,15 +1,18 @@
 //! The conditions of a member that is out (docs/MECHANICS.md, "Conditions"), with their numbers (docs/LAYOUT.md, "Active block",
 //! "Condition bits").
-ghost use Rattle.gen1_layout.specs.Words.{ActiveConditions, Changes, Field, List, None, Reads, Setting, Some, Within, WritesConditions, WritesConditionsIf, active_in, changed_conditions, conditions_in, false, length, member_in, slice_index_or, slice_set, underway_in, ℕ};
+ghost use Rattle.gen1_layout.specs.Words.{ActiveConditions, Changes, Field, List, None, Reads, ReadsAny, ReadsFlag, Setting, Some, Within, WritesConditions, WritesConditionsIf, WritesFlag, active_in, changed_conditions, conditions_in, false, length, member_in, slice_index_or, slice_set, underway_in, ℕ};
 ghost use Rattle.std.specs.Prelude.{if◌then◌else◌, slice_index, ◌-◌, ◌<◌, ◌^◌, ◌≡◌, ◌≤◌};
 ghost use Rattle.gen1_machine.specs.Conditions.{after_haze, broken_off};
 ghost use Rattle.gen1_machine.specs.Layout.{active_block, condition_bits, conditions_number, energy_of, turns_byte};
 ghost use Rattle.gen1_machine.specs.Valid.{IsCount};
 ghost use Rattle.gen1_layout.specs.Decoding.{turns_stored};
-ghost use Rattle.gen1_layout.specs.Flags.{SameNumbers, any_at, count_bytes, set_at};
+ghost use Rattle.gen1_layout.specs.Flags.{count_bytes};
 ghost use Rattle.gen1_layout.specs.Storable.{IsStorableConditions, IsStorableDisabled};
 
 use crate::codes::{byte_of_count, byte_of_disabled_slot, byte_of_disabled_turns};
+use crate::offsets::{
+    BAD_POISON, CONDITIONS, CONFUSED, DISABLED_SLOT, DISABLED_TURNS, ENERGY, SUBSTITUTE, TURNS,
+};
 use crate::{Conditions, Packed};
 use bitflags::Flags;
 use byteorder::{ByteOrder, LittleEndian};
@@ -20,14 +23,12 @@ impl Packed {
     pub fn conditions(&self, side: Side) -> Conditions
         ensures stands { Reads self.now result.0 λ f. conditions_number (conditions_in side f) }
     {
-        Conditions::from_bits_retain(long!(self.active(side), 17..21))
+        Conditions::from_bits_retain(long!(self.active(side), CONDITIONS))
     }
 
     /// Whether the member that is out has a condition.
     pub fn is_on(&self, side: Side, which: Conditions) -> bool
-        ensures stands { (k : ℕ) → which.0 ≡ 2 ^ k
-            → Reads self.now result λ f. slice_index_or (condition_bits (conditions_in side f)) k
-            false }
+        ensures stands { ReadsFlag side self.now which.0 result }
     {
         self.conditions(side).has(which)
     }
@@ -36,8 +37,7 @@ impl Packed {
     ///
     /// For two conditions it is `has_any(side, Conditions::MIST.union(Conditions::RAGE))`.
     pub fn has_any(&self, side: Side, which: Conditions) -> bool
-        ensures stands { (places : List ℕ) → which.0 ≡ set_at places
-            → Reads self.now result λ f. any_at places (condition_bits (conditions_in side f)) }
+        ensures stands { ReadsAny side self.now which.0 result }
     {
         self.conditions(side).has_any(which)
     }
@@ -61,21 +61,21 @@ impl Packed {
     pub fn substitute(&self, side: Side) -> Option<u8>
         ensures stands { Reads self.now result λ f. (conditions_in side f).substitute }
     {
-        self.count_of(side, Conditions::SUBSTITUTE, 21)
+        self.count_of(side, Conditions::SUBSTITUTE, SUBSTITUTE)
     }
 
     /// The number of turns of confusion that are left, at most 5, or `None` without confusion.
     pub fn confused(&self, side: Side) -> Option<u8>
         ensures stands { Reads self.now result λ f. (conditions_in side f).confused }
     {
-        self.count_of(side, Conditions::CONFUSED, 22)
+        self.count_of(side, Conditions::CONFUSED, CONFUSED)
     }
 
     /// The counter of bad poison, 0 to 64, or `None` without bad poison.
     pub fn bad_poison(&self, side: Side) -> Option<u8>
         ensures stands { Reads self.now result λ f. (conditions_in side f).bad_poison }
     {
-        self.count_of(side, Conditions::BAD_POISON, 25)
+        self.count_of(side, Conditions::BAD_POISON, BAD_POISON)
     }
 
     /// The slot that Disable bars, 1 to 4, and the turns that are left, at most 8. `None` if no slot is barred.
@@ -85,8 +85,8 @@ impl Packed {
         if self.is_on(side, Conditions::DISABLED) {
             let active = self.active(side);
             Some(DisabledSlot {
-                slot: active[23],
-                turns: active[24],
+                slot: active[DISABLED_SLOT],
+                turns: active[DISABLED_TURNS],
             })
         } else {
             None
@@ -97,28 +97,28 @@ impl Packed {
     pub fn bide(&self, side: Side) -> Option<u8>
         ensures stands { Reads self.now result λ f. turns_stored (underway_in side f).bide }
     {
-        self.count_of(side, Conditions::BIDE, 26)
+        self.count_of(side, Conditions::BIDE, TURNS)
     }
 
     /// The number of turns of thrashing that are left, at most 3, or `None` without thrashing.
     pub fn thrash(&self, side: Side) -> Option<u8>
         ensures stands { Reads self.now result λ f. (underway_in side f).thrash }
     {
-        self.count_of(side, Conditions::THRASH, 26)
+        self.count_of(side, Conditions::THRASH, TURNS)
     }
 
     /// The number of turns of trapping the foe that are left, at most 4, or `None` without trapping.
     pub fn trapping(&self, side: Side) -> Option<u8>
         ensures stands { Reads self.now result λ f. (underway_in side f).trapping }
     {
-        self.count_of(side, Conditions::TRAPPING, 26)
+        self.count_of(side, Conditions::TRAPPING, TURNS)
     }
 
     /// The energy that Bide has stored, in HP of damage, 0 to 65,535. It is 0 without Bide.
     pub fn energy(&self, side: Side) -> u16
         ensures stands { Reads self.now result λ f. energy_of (underway_in side f).bide }
     {
-        word!(self.active(side), 27..29)
+        word!(self.active(side), ENERGY)
     }
 
     // The byte of turns after one of Bide, thrashing and trapping is off.
@@ -133,22 +133,16 @@ impl Packed {
         if self.is_on(side, which) {
             0
         } else {
-            self.active(side)[26]
+            self.active(side)[TURNS]
         }
     }
 
-    /// Sets or clears a condition that has no number. In the contract, k is the place of its bit.
+    /// Sets or clears a condition that has no number.
     pub fn put_flag(&mut self, side: Side, which: Conditions, on: bool)
-        ensures stands { (k : ℕ) → which.0 ≡ 2 ^ k → k < 17
-            → (g : Setting) (f : Field) (change : ActiveConditions → ActiveConditions)
-            → Within g self.old f
-            → condition_bits (change (conditions_in side f)) ≡ slice_set
-            (condition_bits (conditions_in side f)) k on
-            → SameNumbers (change (conditions_in side f)) (conditions_in side f)
-            → Within g self.new (changed_conditions side change f) }
+        ensures stands { WritesFlag side self.old self.new which.0 on }
     {
         let now = self.conditions(side).with(which, on);
-        put_long!(self.active_mut(side), 17..21, now.bits());
+        put_long!(self.active_mut(side), CONDITIONS, now.bits());
     }
 
     // Sets or clears a condition, and writes its byte of the active block. In the contract, k is the place of its
@@ -167,7 +161,7 @@ impl Packed {
     {
         let set = self.conditions(side).with(which, on);
         let active = self.active_mut(side);
-        put_long!(active, 17..21, set.bits());
+        put_long!(active, CONDITIONS, set.bits());
         active[at] = byte;
     }
 
@@ -177,7 +171,7 @@ impl Packed {
             (λ c. record c { substitute = hp }) λ g f. IsCount 0 249 hp }
     {
         let byte = byte_of_count(hp);
-        self.put_count(side, Conditions::SUBSTITUTE, hp.is_some(), 21, byte);
+        self.put_count(side, Conditions::SUBSTITUTE, hp.is_some(), SUBSTITUTE, byte);
     }
 
     /// Writes the number of turns of confusion that are left, at most 5, or clears the confusion.
@@ -186,7 +180,7 @@ impl Packed {
             (λ c. record c { confused = turns }) λ g f. IsCount 0 5 turns }
     {
         let byte = byte_of_count(turns);
-        self.put_count(side, Conditions::CONFUSED, turns.is_some(), 22, byte);
+        self.put_count(side, Conditions::CONFUSED, turns.is_some(), CONFUSED, byte);
     }
 
     /// Writes the counter of bad poison, at most 64, or clears the bad poison.
@@ -195,7 +189,13 @@ impl Packed {
             (λ c. record c { bad_poison = count }) λ g f. IsCount 0 64 count }
     {
         let byte = byte_of_count(count);
-        self.put_count(side, Conditions::BAD_POISON, count.is_some(), 25, byte);
+        self.put_count(
+            side,
+            Conditions::BAD_POISON,
+            count.is_some(),
+            BAD_POISON,
+            byte,
+        );
     }
 
     /// Writes what Disable bars, or clears it: a slot that holds a move, for at most 8 more turns.
@@ -209,9 +209,9 @@ impl Packed {
         let turns = byte_of_disabled_turns(disabled);
         let now = self.conditions(side).with(Conditions::DISABLED, on);
         let active = self.active_mut(side);
-        put_long!(active, 17..21, now.bits());
-        active[23] = slot;
-        active[24] = turns;
+        put_long!(active, CONDITIONS, now.bits());
+        active[DISABLED_SLOT] = slot;
+        active[DISABLED_TURNS] = turns;
     }
 
     /// Sets Bide, with at most 3 turns left and this much energy. Thrashing and trapping must be off.
@@ -227,9 +227,9 @@ impl Packed {
     {
         let now = self.conditions(side).with(Conditions::BIDE, true);
         let active = self.active_mut(side);
-        put_long!(active, 17..21, now.bits());
-        active[26] = turns;
-        put_word!(active, 27..29, energy);
+        put_long!(active, CONDITIONS, now.bits());
+        active[TURNS] = turns;
+        put_word!(active, ENERGY, energy);
     }
 
     /// Clears Bide.
@@ -240,9 +240,9 @@ impl Packed {
         let turns = self.turns_without(side, Conditions::BIDE);
         let now = self.conditions(side).with(Conditions::BIDE, false);
         let active = self.active_mut(side);
-        put_long!(active, 17..21, now.bits());
-        active[26] = turns;
-        put_word!(active, 27..29, 0);
+        put_long!(active, CONDITIONS, now.bits());
+        active[TURNS] = turns;
+        put_word!(active, ENERGY, 0);
     }
 
     /// Sets thrashing, with at most 3 turns left. Bide and trapping must be off.
@@ -254,7 +254,7 @@ impl Packed {
             → turns ≤ 3 → (underway_in side f).bide ≡ None → (underway_in side f).trapping ≡ None
             → Within g self.new (changed_conditions side change f) }
     {
-        self.put_count(side, Conditions::THRASH, true, 26, turns);
+        self.put_count(side, Conditions::THRASH, true, TURNS, turns);
     }
 
     /// Clears thrashing.
@@ -263,7 +263,7 @@ impl Packed {
             { underway = record c.underway { thrash = None } } }
     {
         let turns = self.turns_without(side, Conditions::THRASH);
-        self.put_count(side, Conditions::THRASH, false, 26, turns);
+        self.put_count(side, Conditions::THRASH, false, TURNS, turns);
     }
 
     /// Sets trapping, with at most 4 turns left. Bide and thrashing must be off.
@@ -275,7 +275,7 @@ impl Packed {
             → turns ≤ 4 → (underway_in side f).bide ≡ None → (underway_in side f).thrash ≡ None
             → Within g self.new (changed_conditions side change f) }
     {
-        self.put_count(side, Conditions::TRAPPING, true, 26, turns);
+        self.put_count(side, Conditions::TRAPPING, true, TURNS, turns);
     }
 
     /// Clears trapping.
@@ -285,7 +285,7 @@ impl Packed {
     {
         if self.is_on(side, Conditions::TRAPPING) {
             let turns = self.turns_without(side, Conditions::TRAPPING);
-            self.put_count(side, Conditions::TRAPPING, false, 26, turns);
+            self.put_count(side, Conditions::TRAPPING, false, TURNS, turns);
         }
     }
 
@@ -300,9 +300,9 @@ impl Packed {
             .with(Conditions::TRAPPING, false)
             .with(Conditions::CHARGING, false);
         let active = self.active_mut(side);
-        put_long!(active, 17..21, now.bits());
-        active[26] = 0;
-        put_word!(active, 27..29, 0);
+        put_long!(active, CONDITIONS, now.bits());
+        active[TURNS] = 0;
+        put_word!(active, ENERGY, 0);
     }
 
     /// Clears what Haze clears: confusion, Mist, Focus Energy, the seed, bad poison, both screens and Disable.
@@ -320,10 +320,10 @@ impl Packed {
             .with(Conditions::REFLECT, false)
             .with(Conditions::DISABLED, false);
         let active = self.active_mut(side);
-        put_long!(active, 17..21, now.bits());
-        active[22] = 0;
-        active[23] = 0;
-        active[24] = 0;
-        active[25] = 0;
+        put_long!(active, CONDITIONS, now.bits());
+        active[CONFUSED] = 0;
+        active[DISABLED_SLOT] = 0;
+        active[DISABLED_TURNS] = 0;
+        active[BAD_POISON] = 0;
     }
 }

@@ -59,11 +59,23 @@ impl Flags for Conditions {
 impl Conditions {
     /// The conditions that keep a member at its current move (docs/MECHANICS.md, "Picks"): recharging, rage,
     /// thrashing, charging, Bide and trapping.
-    pub const CONTINUES: Conditions = Conditions(1024 | 2048 | 2 | 16 | 1 | 4);
+    pub const CONTINUES: Conditions = Conditions(
+        Conditions::RECHARGE.0
+            | Conditions::RAGE.0
+            | Conditions::THRASH.0
+            | Conditions::CHARGING.0
+            | Conditions::BIDE.0
+            | Conditions::TRAPPING.0,
+    );
 
     /// The member's own conditions that the gate tests (docs/MECHANICS.md, "Gate"): flinching, confusion, recharging
     /// and Disable.
-    pub const GATED: Conditions = Conditions(8 | 64 | 1024 | 65536);
+    pub const GATED: Conditions = Conditions(
+        Conditions::FLINCH.0
+            | Conditions::CONFUSED.0
+            | Conditions::RECHARGE.0
+            | Conditions::DISABLED.0,
+    );
 
     /// These conditions with one of them set or cleared.
     pub fn with(self, which: Conditions, on: bool) -> Conditions

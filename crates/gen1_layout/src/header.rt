@@ -6,6 +6,9 @@ ghost use Rattle.gen1_machine.specs.Valid.{IsOutcome};
 
 use crate::Packed;
 use crate::codes::{byte_of_outcome, byte_of_request, outcome_from, request_from};
+use crate::offsets::{
+    INDEX, LAST_DAMAGE, LIMIT, NUMBERS, OUTCOME, REQUEST_ONE, REQUEST_TWO, RULES, TURN,
+};
 use byteorder::{ByteOrder, LittleEndian};
 use gen1_machine::{Outcome, Request, Rules, Side};
 use gen1_rolls::LinkRandom;
@@ -16,7 +19,7 @@ impl Packed {
         ensures stands { Reads self.now result λ f. f.turn }
         ensures packs { ReadsPacked self.now result λ f. f.turn }
     {
-        word!(self.header(), 1..3)
+        word!(self.header(), TURN)
     }
 
     /// The last damage, in HP, 0 to 65,535. Both sides share it.
@@ -24,7 +27,7 @@ impl Packed {
         ensures stands { Reads self.now result λ f. f.last_damage }
         ensures packs { ReadsPacked self.now result λ f. f.last_damage }
     {
-        word!(self.header(), 3..5)
+        word!(self.header(), LAST_DAMAGE)
     }
 
     /// The outcome: the battle goes on, side 1 or side 2 has won, it is a tie, or it ended by fault 1 or 2.
@@ -32,7 +35,7 @@ impl Packed {
         ensures stands { Reads self.now result λ f. f.outcome }
         ensures packs { ReadsPacked self.now result λ f. f.outcome }
     {
-        outcome_from(self.header()[16])
+        outcome_from(self.header()[OUTCOME])
     }
 
     /// What a side is asked for: nothing, a move, or a switch.
@@ -41,8 +44,8 @@ impl Packed {
         ensures packs { ReadsPacked self.now result (request_of side) }
     {
         match side {
-            Side::One => request_from(self.header()[17]),
-            Side::Two => request_from(self.header()[18]),
+            Side::One => request_from(self.header()[REQUEST_ONE]),
+            Side::Two => request_from(self.header()[REQUEST_TWO]),
         }
     }
 
@@ -51,7 +54,7 @@ impl Packed {
         ensures stands { ReadsSetting self.now result λ g. g.terms.limit }
         ensures packs { ReadsPackedSetting self.now result λ g. g.terms.limit }
     {
-        word!(self.header(), 20..22)
+        word!(self.header(), LIMIT)
     }
 
     /// The clauses of the battle.
@@ -59,7 +62,7 @@ impl Packed {
         ensures stands { ReadsSetting self.now result λ g. g.terms.rules }
         ensures packs { ReadsPackedSetting self.now result λ g. g.terms.rules }
     {
-        match Rules::new(self.header()[19]) {
+        match Rules::new(self.header()[RULES]) {
             Some(rules) => rules,
             None => Rules::default(),
         }
@@ -71,7 +74,7 @@ impl Packed {
         ensures stands { ReadsSetting self.now result λ g. g.terms.rules.sleep_clause }
         ensures packs { ReadsPackedSetting self.now result λ g. g.terms.rules.sleep_clause }
     {
-        self.header()[19] % 2 == 1
+        self.header()[RULES] % 2 == 1
     }
 
     /// Whether the freeze clause holds: a freeze does nothing while a living member of the foe's side is frozen.
@@ -79,7 +82,7 @@ impl Packed {
         ensures stands { ReadsSetting self.now result λ g. g.terms.rules.freeze_clause }
         ensures packs { ReadsPackedSetting self.now result λ g. g.terms.rules.freeze_clause }
     {
-        self.header()[19] / 2 == 1
+        self.header()[RULES] / 2 == 1
     }
 
     /// Writes the last damage, in HP.
@@ -87,7 +90,7 @@ impl Packed {
         ensures stands { Changes self.old self.new (with_last_damage damage) }
         ensures packs { ChangesPacked self.old self.new (with_last_damage damage) }
     {
-        put_word!(self.header_mut(), 3..5, damage);
+        put_word!(self.header_mut(), LAST_DAMAGE, damage);
     }
 
     /// Writes the outcome.
@@ -98,7 +101,7 @@ impl Packed {
             → Packs g self.new (with_outcome outcome f) }
     {
         let byte = byte_of_outcome(outcome);
-        self.header_mut()[16] = byte;
+        self.header_mut()[OUTCOME] = byte;
     }
 
     /// Writes what both sides are asked for.
@@ -109,8 +112,8 @@ impl Packed {
         let one = byte_of_request(one);
         let two = byte_of_request(two);
         let header = self.header_mut();
-        header[17] = one;
-        header[18] = two;
+        header[REQUEST_ONE] = one;
+        header[REQUEST_TWO] = two;
     }
 
     /// Advances to the next turn, which must be at most the limit.
@@ -121,7 +124,7 @@ impl Packed {
             → Packs g self.new (with_next_turn f) }
     {
         let next = self.turn().wrapping_add(1);
-        put_word!(self.header_mut(), 1..3, next);
+        put_word!(self.header_mut(), TURN, next);
     }
 
     /// The generator of the bytes, with its index 0 to 8. It is never `None` when the bytes represent a battle.
@@ -131,7 +134,7 @@ impl Packed {
     {
         let header = self.header();
         LinkRandom::from_parts(
-            header[5],
+            header[INDEX],
             [
                 header[6], header[7], header[8], header[9], header[10], header[11], header[12],
                 header[13], header[14], header[15],
@@ -151,7 +154,7 @@ impl Packed {
         let index = generator.index();
         let numbers = generator.numbers();
         let header = self.header_mut();
-        header[5] = index;
-        header[6..16].copy_from_slice(&numbers);
+        header[INDEX] = index;
+        header[NUMBERS..OUTCOME].copy_from_slice(&numbers);
     }
 }

@@ -1,5 +1,6 @@
 //! The 384 bytes of a battle (docs/LAYOUT.md), changed in place.
 //!
+//! - `offsets`: where the fields are in their parts
 //! - `packed`: [`Packed`], the bytes, and the parts that can be borrowed from it
 //! - `header`: the fields of the header
 //! - `member`: the fields of a member
@@ -12,28 +13,28 @@
 //! - `loading`: reading a battle from bytes
 #![tactic(auto)]
 
-// Numbers of 16 bits and of 32 bits in a part.
+// Numbers of 16 bits and of 32 bits in a part, by their offsets.
 macro_rules! word {
     ($part:expr, $at:expr) => {
-        LittleEndian::read_u16(&$part[$at])
+        LittleEndian::read_u16(&$part[$at..$at + 2])
     };
 }
 
 macro_rules! put_word {
     ($part:expr, $at:expr, $number:expr) => {
-        LittleEndian::write_u16(&mut $part[$at], $number)
+        LittleEndian::write_u16(&mut $part[$at..$at + 2], $number)
     };
 }
 
 macro_rules! long {
     ($part:expr, $at:expr) => {
-        LittleEndian::read_u32(&$part[$at])
+        LittleEndian::read_u32(&$part[$at..$at + 4])
     };
 }
 
 macro_rules! put_long {
     ($part:expr, $at:expr, $number:expr) => {
-        LittleEndian::write_u32(&mut $part[$at], $number)
+        LittleEndian::write_u32(&mut $part[$at..$at + 4], $number)
     };
 }
 
@@ -46,6 +47,7 @@ mod first_state;
 mod header;
 mod loading;
 mod member;
+pub mod offsets;
 mod packed;
 
 pub use codes::{byte_of_outcome, byte_of_request};

@@ -12,6 +12,7 @@ mod requests;
 mod stats;
 
 use crate::Packed;
+use crate::offsets::VERSION;
 use thiserror::Error;
 
 /// Why bytes don't represent a battle (docs/LAYOUT.md, "Loading"): the first of the seven tests that fails.
@@ -89,7 +90,7 @@ fn tested(bytes: &[u8]) -> Result<[u8; 384], LoadFault>
     if bytes.len() != 384 {
         return Err(LoadFault::Length);
     }
-    if !header::has_version(bytes[0]) {
+    if !header::has_version(bytes[VERSION]) {
         return Err(LoadFault::Version);
     }
     let form = header::version_three(bytes);

@@ -10,6 +10,10 @@ ghost use Rattle.gen1_layout.specs.SentOut.{own_stats_of};
 
 use crate::Packed;
 use crate::codes::{byte_of_status, mark_of_status, status_from};
+use crate::offsets::{
+    ATTACK, BEFORE_MOVES, BEFORE_PP, DEFENSE, HP, LEVEL, MARK, MAX_HP, PLACE, SPECIAL, SPECIES,
+    SPEED, STATUS,
+};
 use byteorder::{ByteOrder, LittleEndian};
 use gen1_machine::Side;
 use gen1_stats::Status;
@@ -22,28 +26,28 @@ impl Packed {
         ensures high { result ≤ 6 }
         ensures stands { Reads self.now result λ f. (active_in side f).place }
     {
-        self.active(side)[0].max(1).min(6)
+        self.active(side)[PLACE].max(1).min(6)
     }
 
     /// The level of the member that is out, 1 to 100.
     pub fn level(&self, side: Side) -> u8
         ensures stands { Reads self.now result λ f. (member_in side f).level }
     {
-        self.member_out(side)[1]
+        self.member_out(side)[LEVEL]
     }
 
     /// The maximum HP of the member that is out, 11 to 999.
     pub fn max_hp(&self, side: Side) -> u16
         ensures stands { Reads self.now result λ f. (member_in side f).max }
     {
-        word!(self.member_out(side), 2..4)
+        word!(self.member_out(side), MAX_HP)
     }
 
     /// The HP of the member that is out, 0 to its maximum HP.
     pub fn hp(&self, side: Side) -> u16
         ensures stands { Reads self.now result λ f. (member_in side f).hp }
     {
-        word!(self.member_out(side), 4..6)
+        word!(self.member_out(side), HP)
     }
 
     /// Whether the member that is out has no HP left.
@@ -59,10 +63,10 @@ impl Packed {
         ensures stands { Reads self.now result λ f. unmodified stat (member_in side f) }
     {
         match stat {
-            Stat::Attack => word!(self.member_out(side), 6..8),
-            Stat::Defense => word!(self.member_out(side), 8..10),
-            Stat::Speed => word!(self.member_out(side), 10..12),
-            Stat::Special => word!(self.member_out(side), 12..14),
+            Stat::Attack => word!(self.member_out(side), ATTACK),
+            Stat::Defense => word!(self.member_out(side), DEFENSE),
+            Stat::Speed => word!(self.member_out(side), SPEED),
+            Stat::Special => word!(self.member_out(side), SPECIAL),
             Stat::Accuracy => 0,
             Stat::Evasion => 0,
         }
@@ -74,7 +78,7 @@ impl Packed {
         ensures stands { Reads self.now result λ f. (member_in side f).status }
     {
         let out = self.member_out(side);
-        status_from(out[14], out[23])
+        status_from(out[STATUS], out[MARK])
     }
 
     /// The number of the move in a slot, 1 to 4, of the member that is out. The number is 1 to 164, or 0 for an empty
@@ -84,7 +88,7 @@ impl Packed {
         requires high { slot ≤ 4 }
         ensures stands { Reads self.now result λ f. (known_in slot (member_in side f).moves).id }
     {
-        self.member_out(side)[slot as usize + 14]
+        self.member_out(side)[slot as usize + BEFORE_MOVES]
     }
 
     /// The PP of the move in a slot, 1 to 4, of the member that is out: 0 to 63, and 0 for an empty slot.
@@ -93,7 +97,7 @@ impl Packed {
         requires high { slot ≤ 4 }
         ensures stands { Reads self.now result λ f. (known_in slot (member_in side f).moves).pp }
     {
-        self.member_out(side)[slot as usize + 18]
+        self.member_out(side)[slot as usize + BEFORE_PP]
     }
 
     /// The number of the species of the member at a place, 1 to 6. The number is 1 to 151, or 0 for an empty place.
@@ -103,7 +107,7 @@ impl Packed {
         ensures stands { Reads self.now result λ f. (member_at place (party side f)).species }
         ensures packs { ReadsPacked self.now result λ f. (member_at place (party side f)).species }
     {
-        self.member(side, place)[0]
+        self.member(side, place)[SPECIES]
     }
 
     /// The HP of the member at a place, 1 to 6: 0 to its maximum HP, and 0 for an empty place.
@@ -113,7 +117,7 @@ impl Packed {
         ensures stands { Reads self.now result λ f. (member_at place (party side f)).hp }
         ensures packs { ReadsPacked self.now result λ f. (member_at place (party side f)).hp }
     {
-        word!(self.member(side, place), 4..6)
+        word!(self.member(side, place), HP)
     }
 
     /// The status of the member at a place, 1 to 6. A sleep has 1 to 7 turns left. An empty place is healthy.
@@ -124,7 +128,7 @@ impl Packed {
         ensures packs { ReadsPacked self.now result λ f. (member_at place (party side f)).status }
     {
         let member = self.member(side, place);
-        status_from(member[14], member[23])
+        status_from(member[STATUS], member[MARK])
     }
 
     /// The level of the member at a place, 1 to 6: 1 to 100, or 0 for an empty place.
@@ -133,7 +137,7 @@ impl Packed {
         requires high { place ≤ 6 }
         ensures packs { ReadsPacked self.now result λ f. (member_at place (party side f)).level }
     {
-        self.member(side, place)[1]
+        self.member(side, place)[LEVEL]
     }
 
     /// The maximum HP of the member at a place, 1 to 6: 11 to 999, or 0 for an empty place.
@@ -142,7 +146,7 @@ impl Packed {
         requires high { place ≤ 6 }
         ensures packs { ReadsPacked self.now result λ f. (member_at place (party side f)).max }
     {
-        word!(self.member(side, place), 2..4)
+        word!(self.member(side, place), MAX_HP)
     }
 
     /// The own Attack, Defense, Speed and Special of the member at a place, 1 to 6: each 5 to 999, or 0 for an empty
@@ -155,10 +159,10 @@ impl Packed {
     {
         let member = self.member(side, place);
         [
-            word!(member, 6..8),
-            word!(member, 8..10),
-            word!(member, 10..12),
-            word!(member, 12..14),
+            word!(member, ATTACK),
+            word!(member, DEFENSE),
+            word!(member, SPEED),
+            word!(member, SPECIAL),
         ]
     }
 
@@ -172,7 +176,7 @@ impl Packed {
         ensures packs { ReadsPacked self.now result λ f.
             (known_in slot (member_at place (party side f)).moves).id }
     {
-        self.member(side, place)[slot as usize + 14]
+        self.member(side, place)[slot as usize + BEFORE_MOVES]
     }
 
     /// The PP of that move, 0 to 63, or 0 for an empty slot or place.
@@ -184,7 +188,7 @@ impl Packed {
         ensures packs { ReadsPacked self.now result λ f.
             (known_in slot (member_at place (party side f)).moves).pp }
     {
-        self.member(side, place)[slot as usize + 18]
+        self.member(side, place)[slot as usize + BEFORE_PP]
     }
 
     /// Whether the member at a place, 1 to 6, sleeps by the foe's move, and the sleep clause counts it.
@@ -194,7 +198,7 @@ impl Packed {
         ensures packs { ReadsPacked self.now result λ f. is_marked
             (member_at place (party side f)).status }
     {
-        self.member(side, place)[23] == 1
+        self.member(side, place)[MARK] == 1
     }
 
     /// Whether a member of the side has HP left.
@@ -207,6 +211,7 @@ impl Packed {
         let four = self.lives_at(side, 4);
         let five = self.lives_at(side, 5);
         let six = self.lives_at(side, 6);
+        // All six are read, so that no branch depends on who lives.
         one | (two | (three | (four | (five | six))))
     }
 
@@ -224,7 +229,7 @@ impl Packed {
         ensures stands { WritesMemberIf side self.old self.new (λ m. record m { hp = hp }) λ g f. hp
             ≤ (member_in side f).max }
     {
-        put_word!(self.member_out_mut(side), 4..6, hp);
+        put_word!(self.member_out_mut(side), HP, hp);
     }
 
     /// Writes the status of the member that is out.
@@ -235,8 +240,8 @@ impl Packed {
         let byte = byte_of_status(status);
         let mark = mark_of_status(status);
         let member = self.member_out_mut(side);
-        member[14] = byte;
-        member[23] = mark;
+        member[STATUS] = byte;
+        member[MARK] = mark;
     }
 
     /// Makes the member that is out fall: its HP become 0, and it loses its status.
@@ -245,10 +250,10 @@ impl Packed {
             { hp = 0; status = Healthy } }
     {
         let member = self.member_out_mut(side);
-        member[4] = 0;
-        member[5] = 0;
-        member[14] = 0;
-        member[23] = 0;
+        member[HP] = 0;
+        member[HP + 1] = 0;
+        member[STATUS] = 0;
+        member[MARK] = 0;
     }
 
     /// Writes the PP of the move in a slot, 1 to 4. They are at most 63.
@@ -263,6 +268,6 @@ impl Packed {
             → slot ≤ length (member_in side f).moves → pp ≤ 63
             → Within g self.new (changed_member side change f) }
     {
-        self.member_out_mut(side)[slot as usize + 18] = pp;
+        self.member_out_mut(side)[slot as usize + BEFORE_PP] = pp;
     }
 }

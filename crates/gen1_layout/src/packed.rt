@@ -8,6 +8,7 @@ ghost use Rattle.gen1_layout.specs.Within.{blocks_of, state_in};
 ghost use Rattle.gen1_layout.specs.Parts.{active_of, bytes_of_side, bytes_of_sides, in_order, joined, member_at as member_starts, member_of, out_at, part, parts_of, side_at, side_of};
 ghost use Rattle.gen1_layout.specs.Lending.{LendsActive, LendsBothSides, LendsHeader, LendsInTwo, LendsMember, LendsOut, LendsPart, LendsSide, LendsSides};
 
+use crate::offsets::PLACE;
 use gen1_machine::Side;
 use std::alloc::AllocError;
 use std::marker::Model;
@@ -191,7 +192,7 @@ impl Packed {
         ensures at { result ≡ out_at side self.now }
         ensures within { result + 24 ≤ 384 }
     {
-        let place = (self.active(side)[0] % 8) as usize;
+        let place = (self.active(side)[PLACE] % 8) as usize;
         start_of_side(side) + 24 * place - 24
     }
 

@@ -6,6 +6,12 @@ ghost use Rattle.gen1_layout.specs.Loading.{PassesOfActives};
 ghost use Rattle.gen1_layout.specs.LoadingActive.{effect_in, has, CountFits, DisabledFits, HoldsMove, PassesActive, PassesActiveAt, PassesCounts, PassesFixed, PassesOut, PassesProgress, PassesStages, PassesUnderway, TurnsFit, UsedFits};
 
 use crate::loading::bytes::{active_bytes, are_zero, long, member_bytes, word};
+use crate::offsets;
+use crate::offsets::{
+    ACCURACY_STAGE, ATTACK_STAGE, BEFORE_MOVES, CONDITIONS, CURRENT_MOVE, DEFENSE_STAGE,
+    DISABLED_SLOT, DISABLED_TURNS, ENERGY, EVASION_STAGE, FIRST_TYPE, KEPT_ACCURACY, PICKED_MOVE,
+    SECOND_TYPE, SPECIAL_STAGE, SPECIES, SPEED_STAGE, TURN, TURNS,
+};
 use gen1_tables::{Effect, MoveId};
 
 // The places of the condition bits that have a number or belong to the current move.
@@ -34,7 +40,7 @@ pub(crate) fn pass(form: &[u8]) -> bool
     requires { length form.now ≡ 384 }
     ensures { IsTrue result ↔ PassesOfActives form.now }
 {
-    let turn = word(form, 1);
+    let turn = word(form, TURN);
     is_active_at(&form[24..204], turn) && is_active_at(&form[204..384], turn)
 }
 
@@ -59,7 +65,7 @@ fn is_active(side: &[u8]) -> bool
         return false;
     }
     let member = member_bytes(side, place);
-    member[0] != 0 && is_out(member, active_bytes(side))
+    member[SPECIES] != 0 && is_out(member, active_bytes(side))
 }
 
 fn is_out(member: &[u8], active: &[u8]) -> bool
@@ -70,9 +76,9 @@ fn is_out(member: &[u8], active: &[u8]) -> bool
     has_fixed(active)
         && has_counts(member, active)
         && has_progress(active)
-        && is_used(member, active[29])
-        && is_used(member, active[30])
-        && is_underway(effect_in(member, active[29]), active)
+        && is_used(member, active[CURRENT_MOVE])
+        && is_used(member, active[PICKED_MOVE])
+        && is_underway(effect_in(member, active[CURRENT_MOVE]), active)
 }
 
 // Whether the fields that depend on no other part are in their ranges.
@@ -80,23 +86,23 @@ fn has_fixed(active: &[u8]) -> bool
     requires { length active.now ≡ 36 }
     ensures { IsTrue result ↔ PassesFixed active.now }
 {
-    active[1] <= 14
-        && active[2] <= 14
+    active[FIRST_TYPE] <= 14
+        && active[SECOND_TYPE] <= 14
         && are_stages(active)
-        && long(active, 17) < 1 << 17
-        && long(active, 32) == 0
+        && long(active, CONDITIONS) < 1 << 17
+        && long(active, KEPT_ACCURACY + 1) == 0
 }
 
 fn are_stages(active: &[u8]) -> bool
     requires { length active.now ≡ 36 }
     ensures { IsTrue result ↔ PassesStages active.now }
 {
-    active[3] <= 12
-        && active[4] <= 12
-        && active[5] <= 12
-        && active[6] <= 12
-        && active[7] <= 12
-        && active[8] <= 12
+    active[ATTACK_STAGE] <= 12
+        && active[DEFENSE_STAGE] <= 12
+        && active[SPEED_STAGE] <= 12
+        && active[SPECIAL_STAGE] <= 12
+        && active[ACCURACY_STAGE] <= 12
+        && active[EVASION_STAGE] <= 12
 }
 
 // Whether a condition is on, by the place of its bit.
@@ -105,7 +111,7 @@ fn has(active: &[u8], bit: u32) -> bool
     requires bit { bit < 32 }
     ensures value { result ≡ has bit active.now }
 {
-    (long(active, 17) >> bit) % 2 == 1
+    (long(active, CONDITIONS) >> bit) % 2 == 1
 }
 
 // Whether the conditions with counts have their numbers.
@@ -114,10 +120,15 @@ fn has_counts(member: &[u8], active: &[u8]) -> bool
     requires active { length active.now ≡ 36 }
     ensures passes { IsTrue result ↔ PassesCounts member.now active.now }
 {
-    is_count(has(active, SUBSTITUTE), 0, 249, active[21])
-        && is_count(has(active, CONFUSED), 1, 5, active[22])
-        && is_disabled(has(active, DISABLED), member, active[23], active[24])
-        && is_count(has(active, BAD_POISON), 0, 64, active[25])
+    is_count(has(active, SUBSTITUTE), 0, 249, active[offsets::SUBSTITUTE])
+        && is_count(has(active, CONFUSED), 1, 5, active[offsets::CONFUSED])
+        && is_disabled(
+            has(active, DISABLED),
+            member,
+            active[DISABLED_SLOT],
+            active[DISABLED_TURNS],
+        )
+        && is_count(has(active, BAD_POISON), 0, 64, active[offsets::BAD_POISON])
 }
 
 // Whether what is underway has its numbers.
@@ -126,9 +137,14 @@ fn has_progress(active: &[u8]) -> bool
     ensures { IsTrue result ↔ PassesProgress active.now }
 {
     let (bide, thrash) = (has(active, BIDE), has(active, THRASH));
-    are_turns(either(bide, thrash), has(active, TRAPPING), active[26])
-        && is_energy(bide, word(active, 27))
-        && is_count(either(has(active, RAGE), thrash), 1, 255, active[31])
+    are_turns(either(bide, thrash), has(active, TRAPPING), active[TURNS])
+        && is_energy(bide, word(active, ENERGY))
+        && is_count(
+            either(has(active, RAGE), thrash),
+            1,
+            255,
+            active[KEPT_ACCURACY],
+        )
 }
 
 fn either(one: bool, other: bool) -> bool
@@ -180,7 +196,7 @@ fn holds_move(member: &[u8], slot: u8) -> bool
     requires { length member.now ≡ 24 }
     ensures { IsTrue result ↔ HoldsMove member.now slot }
 {
-    (1..=4).contains(&slot) && member[14 + slot as usize] != 0
+    (1..=4).contains(&slot) && member[BEFORE_MOVES + slot as usize] != 0
 }
 
 // Whether a byte is 0 for no move, 5 for Struggle, or a slot that holds a move.
@@ -216,7 +232,7 @@ fn effect_in(member: &[u8], slot: u8) -> Effect
     ensures { result ≡ effect_in member.now slot }
 {
     let id = if (1..=4).contains(&slot) {
-        member[14 + slot as usize]
+        member[BEFORE_MOVES + slot as usize]
     } else {
         0
     };

@@ -5,6 +5,7 @@ ghost use Rattle.gen1_layout.specs.LoadingBytes.{header_of};
 ghost use Rattle.gen1_layout.specs.LoadingHeader.{version_three, PassesHeader, PassesVersion};
 
 use crate::loading::bytes::word;
+use crate::offsets::{INDEX, LIMIT, OUTCOME, REQUEST_ONE, REQUEST_TWO, RULES, TURN, VERSION};
 
 // Whether the version exists.
 pub(crate) fn has_version(version: u8) -> bool
@@ -27,9 +28,9 @@ fn keeps_version(bytes: &[u8]) -> bool
     requires { length bytes.now ≡ 384 }
     ensures { IsTrue result ↔ PassesVersion bytes.now }
 {
-    match bytes[0] {
-        1 => bytes[19] == 0 && word(bytes, 20) == 0,
-        0 | 2 => word(bytes, 20) == 0,
+    match bytes[VERSION] {
+        1 => bytes[RULES] == 0 && word(bytes, LIMIT) == 0,
+        0 | 2 => word(bytes, LIMIT) == 0,
         _ => true,
     }
 }
@@ -41,11 +42,11 @@ pub(crate) fn version_three(bytes: &[u8]) -> [u8; 384]
 {
     let mut form = [0; 384];
     form.copy_from_slice(bytes);
-    if form[0] != 3 {
-        form[0] = 3;
+    if form[VERSION] != 3 {
+        form[VERSION] = 3;
         let [low, high] = 1000u16.to_le_bytes();
-        form[20] = low;
-        form[21] = high;
+        form[LIMIT] = low;
+        form[LIMIT + 1] = high;
     }
     form
 }
@@ -55,13 +56,13 @@ fn is_header(header: &[u8]) -> bool
     requires { length header.now ≡ 24 }
     ensures { IsTrue result ↔ PassesHeader header.now }
 {
-    let limit = word(header, 20);
+    let limit = word(header, LIMIT);
     (1..=9999).contains(&limit)
-        && word(header, 1) <= limit
-        && header[5] <= 8
-        && header[16] <= 5
-        && header[17] <= 2
-        && header[18] <= 2
-        && header[19] <= 3
-        && word(header, 22) == 0
+        && word(header, TURN) <= limit
+        && header[INDEX] <= 8
+        && header[OUTCOME] <= 5
+        && header[REQUEST_ONE] <= 2
+        && header[REQUEST_TWO] <= 2
+        && header[RULES] <= 3
+        && word(header, LIMIT + 2) == 0
 }

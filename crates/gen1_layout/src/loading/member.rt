@@ -6,6 +6,10 @@ ghost use Rattle.gen1_layout.specs.Loading.{PassesOfMembers};
 ghost use Rattle.gen1_layout.specs.LoadingMember.{may_be_known, status_fits, PassesMember, PassesMembers, PassesMoves, PassesNumbers, PassesOwnStats, PassesPlace, PassesSlot, PassesStatus};
 
 use crate::loading::bytes::{are_zero, member_bytes, word};
+use crate::offsets::{
+    ATTACK, BEFORE_MOVES, BEFORE_PP, DEFENSE, HP, LEVEL, MARK, MAX_HP, MOVES, RULES, SPECIAL,
+    SPECIES, SPEED, STATUS,
+};
 use gen1_tables::{Effect, MoveId};
 
 // Whether both sides have valid members.
@@ -13,7 +17,7 @@ pub(crate) fn pass(form: &[u8]) -> bool
     requires { length form.now ≡ 384 }
     ensures { IsTrue result ↔ PassesOfMembers form.now }
 {
-    are_members(&form[24..204], form[19]) && are_members(&form[204..384], form[19])
+    are_members(&form[24..204], form[RULES]) && are_members(&form[204..384], form[RULES])
 }
 
 // Whether the six places hold members first, and zeros after the last one.
@@ -42,7 +46,7 @@ fn is_place(before: &[u8], block: &[u8], rules: u8) -> bool
     requires block { length block.now ≡ 24 }
     ensures passes { IsTrue result ↔ PassesPlace rules before.now block.now }
 {
-    are_zero(block) || before[0] != 0 && is_member(block, rules)
+    are_zero(block) || before[SPECIES] != 0 && is_member(block, rules)
 }
 
 fn is_member(block: &[u8], rules: u8) -> bool
@@ -56,21 +60,21 @@ fn has_numbers(block: &[u8]) -> bool
     requires { length block.now ≡ 24 }
     ensures { IsTrue result ↔ PassesNumbers block.now }
 {
-    let max = word(block, 2);
-    (1..=151).contains(&block[0])
-        && (1..=100).contains(&block[1])
+    let max = word(block, MAX_HP);
+    (1..=151).contains(&block[SPECIES])
+        && (1..=100).contains(&block[LEVEL])
         && (11..=999).contains(&max)
-        && word(block, 4) <= max
+        && word(block, HP) <= max
 }
 
 fn has_stats(block: &[u8]) -> bool
     requires { length block.now ≡ 24 }
     ensures { IsTrue result ↔ PassesOwnStats block.now }
 {
-    is_stat(word(block, 6))
-        && is_stat(word(block, 8))
-        && is_stat(word(block, 10))
-        && is_stat(word(block, 12))
+    is_stat(word(block, ATTACK))
+        && is_stat(word(block, DEFENSE))
+        && is_stat(word(block, SPEED))
+        && is_stat(word(block, SPECIAL))
 }
 
 fn is_stat(number: u16) -> bool
@@ -83,11 +87,11 @@ fn has_status(block: &[u8], rules: u8) -> bool
     requires { length block.now ≡ 24 }
     ensures { IsTrue result ↔ PassesStatus rules block.now }
 {
-    let status = block[14];
+    let status = block[STATUS];
     let may_be_marked = rules % 2 == 1 && (1..=7).contains(&status);
     is_status(status)
-        && (word(block, 4) > 0 || status == 0)
-        && (block[23] == 0 || block[23] == 1 && may_be_marked)
+        && (word(block, HP) > 0 || status == 0)
+        && (block[MARK] == 0 || block[MARK] == 1 && may_be_marked)
 }
 
 fn is_status(byte: u8) -> bool
@@ -100,7 +104,7 @@ fn has_moves(block: &[u8]) -> bool
     requires { length block.now ≡ 24 }
     ensures { IsTrue result ↔ PassesMoves block.now }
 {
-    block[15] != 0
+    block[MOVES] != 0
         && is_slot(block, 1)
         && is_slot(block, 2)
         && is_slot(block, 3)
@@ -115,11 +119,11 @@ fn is_slot(block: &[u8], slot: u8) -> bool
     ensures passes { IsTrue result ↔ PassesSlot slot block.now }
 {
     let slot = slot as usize;
-    let (id, pp) = (block[14 + slot], block[18 + slot]);
+    let (id, pp) = (block[BEFORE_MOVES + slot], block[BEFORE_PP + slot]);
     if id == 0 {
         return pp == 0;
     }
-    may_be_known(id) && pp <= 63 && come_before(&block[15..14 + slot], id)
+    may_be_known(id) && pp <= 63 && come_before(&block[MOVES..BEFORE_MOVES + slot], id)
 }
 
 // Whether all slots before hold a move, and none of them this one.

@@ -7,6 +7,7 @@ ghost use Rattle.gen1_layout.specs.LoadingActive.{out_bytes};
 ghost use Rattle.gen1_layout.specs.LoadingRequests.{any_lives, lives, Asks, PassesAsked, PassesLater, PassesStart, PassesTie};
 
 use crate::loading::bytes::{member_bytes, word};
+use crate::offsets::{HP, LIMIT, OUTCOME, REQUEST_ONE, REQUEST_TWO, TURN};
 
 // Whether a battle asks for what fits its turn, its outcome and its living members.
 pub(crate) fn pass(form: &[u8]) -> bool
@@ -17,7 +18,7 @@ pub(crate) fn pass(form: &[u8]) -> bool
     let header = &form[..24];
     let one = &form[24..204];
     let two = &form[204..384];
-    if word(header, 1) == 0 {
+    if word(header, TURN) == 0 {
         is_start(header, one, two)
     } else {
         is_later(header, one, two)
@@ -31,7 +32,7 @@ fn is_start(header: &[u8], one: &[u8], two: &[u8]) -> bool
     requires two { length two.now ≡ 180 }
     ensures passes { IsTrue result ↔ PassesStart header.now one.now two.now }
 {
-    header[16] == 0
+    header[OUTCOME] == 0
         && asks(header, 0, 0)
         && lives(member_bytes(one, 1))
         && lives(member_bytes(two, 1))
@@ -46,7 +47,7 @@ fn is_later(header: &[u8], one: &[u8], two: &[u8]) -> bool
     ensures passes { IsTrue result ↔ PassesLater header.now one.now two.now }
 {
     let (any_one, any_two) = (any_lives(one), any_lives(two));
-    match header[16] {
+    match header[OUTCOME] {
         0 => any_one && any_two && is_asked(out_lives(one), out_lives(two), header),
         1 => asks(header, 0, 0) && any_one && !any_two,
         2 => asks(header, 0, 0) && !any_one && any_two,
@@ -60,7 +61,7 @@ fn is_asked(one: bool, two: bool, header: &[u8]) -> bool
     requires { length header.now ≡ 24 }
     ensures { IsTrue result ↔ PassesAsked one two header.now }
 {
-    let may_replace = word(header, 1) < word(header, 20);
+    let may_replace = word(header, TURN) < word(header, LIMIT);
     match (one, two) {
         (true, true) => asks(header, 1, 1),
         (false, true) => asks(header, 2, 0) && may_replace,
@@ -73,7 +74,7 @@ fn is_tie(one: bool, two: bool, header: &[u8]) -> bool
     requires { length header.now ≡ 24 }
     ensures { IsTrue result ↔ PassesTie one two header.now }
 {
-    !one && !two || word(header, 1) == word(header, 20) && one && two
+    !one && !two || word(header, TURN) == word(header, LIMIT) && one && two
 }
 
 // Whether the two requests are these.
@@ -81,14 +82,14 @@ fn asks(header: &[u8], one: u8, two: u8) -> bool
     requires { length header.now ≡ 24 }
     ensures { IsTrue result ↔ Asks header.now one two }
 {
-    header[17] == one && header[18] == two
+    header[REQUEST_ONE] == one && header[REQUEST_TWO] == two
 }
 
 fn lives(member: &[u8]) -> bool
     requires { length member.now ≡ 24 }
     ensures { result ≡ lives member.now }
 {
-    word(member, 4) > 0
+    word(member, HP) > 0
 }
 
 fn any_lives(side: &[u8]) -> bool

@@ -7,6 +7,10 @@ ghost use Rattle.gen1_layout.specs.LoadingActive.{PassesActiveAt, PassesStages};
 ghost use Rattle.gen1_layout.specs.LoadingStats.{ComesFrom, PassesStats, PassesStatsAt};
 
 use crate::loading::bytes::{active_bytes, member_bytes, word};
+use crate::offsets::{
+    ATTACK, ATTACK_STAGE, CURRENT_ATTACK, CURRENT_DEFENSE, CURRENT_SPECIAL, CURRENT_SPEED, DEFENSE,
+    DEFENSE_STAGE, SPECIAL, SPECIAL_STAGE, SPEED, SPEED_STAGE, TURN,
+};
 use gen1_machine::now;
 use gen1_tables::Stat;
 
@@ -21,7 +25,7 @@ pub(crate) fn pass(form: &[u8]) -> bool
     requires active { PassesOfActives form.now }
     ensures passes { IsTrue result ↔ PassesOfStats form.now }
 {
-    let turn = word(form, 1);
+    let turn = word(form, TURN);
     are_stats_at(&form[24..204], turn) && are_stats_at(&form[204..384], turn)
 }
 
@@ -41,32 +45,32 @@ fn are_stats(member: &[u8], active: &[u8]) -> bool
     ensures passes { IsTrue result ↔ PassesStats member.now active.now }
 {
     let attack = comes_from(
-        word(member, 6),
-        active[3],
+        word(member, ATTACK),
+        active[ATTACK_STAGE],
         Stat::Attack,
         HALVINGS,
-        word(active, 9),
+        word(active, CURRENT_ATTACK),
     );
     let defense = comes_from(
-        word(member, 8),
-        active[4],
+        word(member, DEFENSE),
+        active[DEFENSE_STAGE],
         Stat::Defense,
         0,
-        word(active, 11),
+        word(active, CURRENT_DEFENSE),
     );
     let speed = comes_from(
-        word(member, 10),
-        active[5],
+        word(member, SPEED),
+        active[SPEED_STAGE],
         Stat::Speed,
         QUARTERINGS,
-        word(active, 13),
+        word(active, CURRENT_SPEED),
     );
     let special = comes_from(
-        word(member, 12),
-        active[6],
+        word(member, SPECIAL),
+        active[SPECIAL_STAGE],
         Stat::Special,
         0,
-        word(active, 15),
+        word(active, CURRENT_SPECIAL),
     );
     attack && defense && speed && special
 }
