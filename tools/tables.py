@@ -101,7 +101,7 @@ def all_lists(document):
 
     moves = numbered(table(document, "Moves"))
     yield code_list("moves.rt", "MOVE_ROWS", [
-        f"({', '.join(row)}), // {name}" for name, *row in moves])
+        f"({', '.join(row)}, {int(row[2]) * 255 // 100}), // {name}" for name, *row in moves])
     yield spec_list("Moves.antt", "move_rows", [
         f"row {' '.join(row)} {applied(effect)} ∷  -- {name}" for name, *row, effect in moves])
 

@@ -1,5 +1,5 @@
 -- The code's rows are those of the specification. Each table is computed once.
-use Rattle.std.proofs.Common.{◌≡◌, ◌<◌, ◌≤◌, ℕ, ◌-◌, nat_le, true, List, [], ◌∷◌, refl, sym, ap, ◌∙◌, map, get_or, length, arith}
+use Rattle.std.proofs.Common.{◌≡◌, ◌<◌, ◌≤◌, ℕ, ◌-◌, ◌*◌, ◌/◌, nat_le, true, List, [], ◌∷◌, refl, sym, ap, ◌∙◌, map, get_or, length, arith}
 use Rattle.std.proofs.lemmas.List.{get_or-map}
 use Rattle.std.proofs.lemmas.Bool.{leb-true}
 use Rattle.gen1_tables.specs.Species.{species_rows, species_row, types_of, base_of}
@@ -25,10 +25,10 @@ pub base_of-at : (n : ℕ) (d : _) → 1 ≤ n → n ≤ 151 → (get_or SPECIES
 unfolding species_row species_rows
 base_of-at n d low high = agree_at (λ r. r.2) base_of SPECIES_ROWS species_rows d _ refl (n - 1) (omega arith) (omega arith)
 
--- An accuracy is at most 100 percent.
-pub percent-le : (n : ℕ) (d : _) → 1 ≤ n → n ≤ 165 → (get_or MOVE_ROWS (n - 1) d).2 ≤ 100
-percent-le n d low high =
-    leb-true _ 100 (agree_at (λ r. nat_le r.2 100) (λ r. true) MOVE_ROWS MOVE_ROWS d d refl (n - 1) (omega arith) (omega arith))
+-- An accuracy in 255ths is that in percent, rounded down.
+pub accuracy-at : (n : ℕ) (d : _) → 1 ≤ n → n ≤ 165 → (get_or MOVE_ROWS (n - 1) d).5 ≡ (move_row n).accuracy * 255 / 100
+unfolding move_row move_rows
+accuracy-at n d low high = agree_at (λ r. r.5) (λ r. r.accuracy * 255 / 100) MOVE_ROWS move_rows d _ refl (n - 1) (omega arith) (omega arith)
 
 -- A move has at most 40 PP without PP ups.
 pub pp-le : (n : ℕ) (d : _) → 1 ≤ n → n ≤ 165 → (get_or MOVE_ROWS (n - 1) d).3 ≤ 40

@@ -17,8 +17,8 @@ pub record MoveRow : Type 0 where
 abbrev row : Element → ℕ → ℕ → ℕ → Effect → MoveRow
 row t p a n e = record { kind = t; power = p; accuracy = a; pp = n; effect = e }
 
--- The row that the code's values represent.
-abbrev pub row_of : Element × ℕ × ℕ × ℕ × Effect → MoveRow
+-- The row that the code's values represent. The last one is the accuracy once more, in 255ths.
+abbrev pub row_of : Element × ℕ × ℕ × ℕ × Effect × ℕ → MoveRow
 row_of r = row r.0 r.1 r.2 r.3 r.4
 
 unfoldable pub move_rows : List MoveRow
