@@ -6,8 +6,8 @@ use Rattle.std.proofs.Math.Seq.{drop-cons}
 use Rattle.gen1_machine.specs.declared.side.Side.{Side}
 use Rattle.gen1_machine.specs.declared.event.Event.{Event}
 use Rattle.gen1_machine.specs.Room.{Course, Reply, after as follows, reply_to}
-use Rattle.gen1_machine.specs.Output.{AppendsFront}
-use Rattle.gen1_machine.proofs.OutputLemmas.{appends_front_after}
+use Rattle.gen1_devices.specs.Output.{AppendsFront}
+use Rattle.gen1_devices.proofs.OutputLemmas.{appends_front_after}
 use Rattle.gen1_room.specs.Rooms.{Holds, submission_at}
 use Rattle.gen1_room.specs.declared.held.Held.{Held}
 use Rattle.battle_commands.specs.Answers.{Answers}

@@ -6,10 +6,10 @@ use Rattle.std.proofs.KnownBytes.{Appends-nil, Appends-trans}
 use Rattle.std.proofs.Math.Seq.{drop-cons}
 use Rattle.gen1_machine.specs.declared.event.Event.{Event}
 use Rattle.gen1_machine.specs.LogBytes.{codes_of}
-use Rattle.gen1_machine.specs.Output.{AppendsFront}
+use Rattle.gen1_devices.specs.Output.{AppendsFront}
 use Rattle.gen1_machine.specs.State.{State}
 use Rattle.gen1_machine.specs.Step.{Accepted, Answer, Refused, Refusal}
-use Rattle.gen1_machine.proofs.OutputLemmas.{appends_front_after}
+use Rattle.gen1_devices.proofs.OutputLemmas.{appends_front_after}
 use Rattle.gen1_layout.specs.Parts.{Parts}
 use Rattle.gen1_layout.specs.Within.{Stands}
 use Rattle.gen1_engine.specs.Replay.{step_by_bytes}

@@ -2,8 +2,8 @@
 use Rattle.std.specs.Prelude.{◌≡◌, ◌<◌, ℕ, List, length, Bool, true, false, Option, Some, None, IfSome, Result, Ok, Err}
 use Rattle.std.specs.Io.KnownBytes.{Appends}
 use Rattle.gen1_rolls.specs.Draws.{Ref}
-use Rattle.gen1_machine.specs.Output.{AppendsFront, Sends}
-use Rattle.gen1_machine.specs.declared.io.DeviceFault.{DeviceFault}
+use Rattle.gen1_devices.specs.Output.{AppendsFront, Sends}
+use Rattle.gen1_devices.specs.declared.io.DeviceFault.{DeviceFault}
 use Rattle.battle_commands.specs.Asked.{input_limit}
 use Rattle.battle_commands.specs.Due.{Due}
 use Rattle.battle_commands.specs.declared.fault.ToolFault.{ToolFault}

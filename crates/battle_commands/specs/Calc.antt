@@ -4,7 +4,7 @@ use Rattle.std.specs.Io.KnownBytes.{Appends}
 use Rattle.gen1_stats.specs.Teams.{member_of as begun_of, team_refusal}
 use Rattle.gen1_machine.specs.Damage.{numbers_in}
 use Rattle.gen1_machine.specs.Moves.{move_at}
-use Rattle.gen1_machine.specs.Output.{AppendsFront}
+use Rattle.gen1_devices.specs.Output.{AppendsFront}
 use Rattle.gen1_machine.specs.declared.side.Side.TheVariants.{One}
 use Rattle.gen1_hits.specs.Factors.{damages}
 use Rattle.gen1_hits.specs.UsualDamage.{has_usual_damage}

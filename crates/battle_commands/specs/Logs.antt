@@ -2,7 +2,7 @@
 use Rattle.std.specs.Prelude.{◌≡◌, ℕ, ◌<◌, ◌≤◌, List, [], length, Option, Result, Ok, Err}
 use Rattle.std.specs.Io.KnownBytes.{Appends}
 use Rattle.gen1_machine.specs.Lines.{lines}
-use Rattle.gen1_machine.specs.Output.{AppendsFront}
+use Rattle.gen1_devices.specs.Output.{AppendsFront}
 use Rattle.gen1_machine.specs.declared.event.Event.{Event}
 use Rattle.gen1_events.specs.Faults.{number_of}
 use Rattle.gen1_events.specs.Splits.{IsReading}

@@ -3,8 +3,8 @@ use Rattle.std.specs.Prelude.{Err, List, Ok, Result, [], false, length, ℕ, ⊤
 use Rattle.clap.specs.Words.{IsAmong, Kinds}
 use Rattle.clap.specs.declared.error.kind.ErrorKind.{ErrorKind}
 use Rattle.clap.specs.declared.error.kind.ErrorKind.TheVariants.{DisplayHelp, DisplayVersion}
-use Rattle.gen1_machine.specs.Output.{Sends}
-use Rattle.gen1_machine.specs.declared.io.DeviceFault.{DeviceFault}
+use Rattle.gen1_devices.specs.Output.{Sends}
+use Rattle.gen1_devices.specs.declared.io.DeviceFault.{DeviceFault}
 use Rattle.battle_commands.specs.Answers.{IsQuiet, Sent, Tells}
 use Rattle.battle_commands.specs.Served.{IsUnheld, TellsEnd, status_after}
 use Rattle.battle_commands.specs.declared.fault.ToolFault.{ToolFault}

@@ -1,6 +1,6 @@
 //! Battles that are played pair by pair, and the lines of each (docs/PROGRAM.md, "run", "Output").
 ghost use Rattle.std.specs.Prelude.{◌+◌, ◌≡◌, ◌||◌, IfOk, IfSome, false};
-ghost use Rattle.gen1_machine.specs.Input.{TakesAtMost};
+ghost use Rattle.gen1_devices.specs.Input.{TakesAtMost};
 ghost use Rattle.gen1_machine.specs.Lines.{lines};
 ghost use Rattle.gen1_machine.specs.LogBytes.{codes_of};
 ghost use Rattle.gen1_machine.specs.State.{State};

@@ -1,6 +1,6 @@
 //! The damage numbers that an input asks for (docs/PROGRAM.md, "calc").
 ghost use Rattle.std.specs.Prelude.{◌+◌, ◌≡◌, ◌≤◌, ◌||◌, length, IfSome};
-ghost use Rattle.gen1_machine.specs.Input.{TakesAtMost};
+ghost use Rattle.gen1_devices.specs.Input.{TakesAtMost};
 ghost use Rattle.battle_commands.specs.Answers.{is_read_fault, is_write_fault};
 ghost use Rattle.battle_input.specs.Sheets.{input_of};
 ghost use Rattle.battle_commands.specs.Calc.{PrintsDamages, damages_due};

@@ -1,6 +1,6 @@
 //! The command line (docs/PROGRAM.md, "The program battle_tool").
 ghost use Rattle.std.specs.Prelude.{◌<◌, ◌≡◌, ◌≢◌, ◌≤◌, ◌||◌, IfOk, IfSome, IsOk, List, [], codes, false, is_some, length, map, true, ℕ};
-ghost use Rattle.gen1_machine.specs.Output.{Sends};
+ghost use Rattle.gen1_devices.specs.Output.{Sends};
 ghost use Rattle.clap.specs.Matches.{first_value, found_of};
 ghost use Rattle.clap.specs.Values.{kind_of};
 ghost use Rattle.clap.specs.Words.{Row, app_of};

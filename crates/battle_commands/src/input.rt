@@ -1,6 +1,6 @@
 //! The input of a subcommand (docs/PROGRAM.md, "What is tested, in this order").
 ghost use Rattle.std.specs.Prelude.{◌+◌, ◌≡◌, ◌≤◌, ◌||◌, IfErr, IfOk, IfSome, vec_len};
-ghost use Rattle.gen1_machine.specs.Input.{TakesAtMost};
+ghost use Rattle.gen1_devices.specs.Input.{TakesAtMost};
 ghost use Rattle.battle_commands.specs.Answers.{IsInputFault, is_read_fault};
 
 use crate::fault::ToolFault;

@@ -1,6 +1,6 @@
 //! The lines of a log (docs/PROGRAM.md, "print").
 ghost use Rattle.std.specs.Prelude.{◌+◌, ◌≡◌, ◌||◌, IfSome};
-ghost use Rattle.gen1_machine.specs.Input.{TakesAtMost};
+ghost use Rattle.gen1_devices.specs.Input.{TakesAtMost};
 ghost use Rattle.battle_commands.specs.Answers.{is_read_fault, is_write_fault};
 ghost use Rattle.battle_commands.specs.Logs.{PrintsLog};
 

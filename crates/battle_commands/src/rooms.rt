@@ -1,6 +1,6 @@
 //! Two players' submissions to a room, and the reply to each (docs/PROGRAM.md, "room").
 ghost use Rattle.std.specs.Prelude.{◌+◌, List, [], ◌++◌, ◌∷◌, ◌≡◌, ◌||◌, IfSome, codes, false};
-ghost use Rattle.gen1_machine.specs.Input.{TakesAtMost};
+ghost use Rattle.gen1_devices.specs.Input.{TakesAtMost};
 ghost use Rattle.gen1_machine.specs.Lines.{joined, lines};
 ghost use Rattle.gen1_machine.specs.Room.{Course, after as follows, reply_to};
 ghost use Rattle.gen1_machine.specs.declared.event.Event.{Event as Told};

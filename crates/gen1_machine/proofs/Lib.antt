@@ -1,5 +1,4 @@
 -- The laws of the battle machine, from draws up to valid states, and worked examples.
-pub mod OutputLemmas
 mod Rows
 -- The laws of steps, runs and draws.
 pub mod Draws

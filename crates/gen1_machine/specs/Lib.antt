@@ -9,11 +9,6 @@ pub mod LogBytes
 pub mod Lines
 -- A stat at its stage.
 pub mod Stages
--- Sinks, sources and devices.
-pub mod Devices
-pub mod DeviceViews
-pub mod Output
-pub mod Input
 -- A battle, from its parts up to the whole. To start with the whole, read the list from its end, at `Step`.
 
 -- The state of a battle.

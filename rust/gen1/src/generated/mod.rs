@@ -3,6 +3,7 @@
 #![allow(missing_docs, missing_debug_implementations, unused_imports, unused_variables, dead_code, unreachable_pub)]
 #![allow(rustdoc::all, clippy::all)]
 
+pub mod devices;
 pub mod effects;
 pub mod engine;
 pub mod events;

@@ -1,6 +1,6 @@
 use Rattle.std.proofs.Common.{rules, arith}
-use Rattle.gen1_machine.proofs.OutputLemmas.{sends_stopped}
-use Rattle.gen1_machine.proofs.output.send_all.Goals as goal
+use Rattle.gen1_devices.proofs.OutputLemmas.{sends_stopped}
+use Rattle.gen1_devices.proofs.output.send_all.Goals as goal
 
 pub returns-in-Err : goal.returns-in-Err
 returns-in-Err g c = record {

@@ -1,6 +1,6 @@
 //! Reading a whole input, up to a limit (docs/PROGRAM.md, "What is tested, in this order").
 ghost use Rattle.std.specs.Prelude.{◌≡◌, ◌||◌, ◌+◌, ◌<◌, ◌≤◌, ◌^◌, IfOk, IfSome, IsErrOf, length, vec_len};
-ghost use Rattle.gen1_machine.specs.Input.{device_refused, TakesAtMost, TakesSome};
+ghost use Rattle.gen1_devices.specs.Input.{device_refused, TakesAtMost, TakesSome};
 
 use crate::{DeviceFault, Source};
 use std::alloc::Allocator;

@@ -6,7 +6,7 @@ use Rattle.std.proofs.KnownBytes.{Appends-trans}
 use Rattle.std.proofs.Math.Seq.{drop-cons}
 use Rattle.std.proofs.Common.{take-append-drop}
 use Rattle.std.proofs.lemmas.Grind.{flat_map-append}
-use Rattle.gen1_machine.specs.Output.{AppendsFront}
+use Rattle.gen1_devices.specs.Output.{AppendsFront}
 
 -- A text and then a prefix of the next text are a prefix of both together.
 pub appends_front_after : {b c : Option (List ℕ)} {text : List ℕ} (a : Option (List ℕ)) (done more : List ℕ) → Appends a b done → AppendsFront b c text → AppendsFront a c (done ++ (text ++ more))

@@ -1,7 +1,7 @@
 -- The bytes that are gone from `rest` were appended, and no write has failed.
 use Rattle.std.proofs.Common.{◌≡◌, List, ℕ, ◌++◌, length}
 use Rattle.std.specs.Io.KnownBytes.{Appends}
-use Rattle.gen1_machine.proofs.output.send.Given as goal
+use Rattle.gen1_devices.proofs.output.send.Given as goal
 
 abbrev pub invariant-loop-rest : goal.invariant-loop-rest
 invariant-loop-rest g l =

@@ -1,7 +1,7 @@
 use Rattle.std.proofs.Common.{◌++◌, take, arith}
 use Rattle.std.proofs.KnownBytes.{Consumes-trans}
 use Rattle.std.proofs.lemmas.Grind.{common_steps}
-use Rattle.gen1_machine.proofs.input.read_whole.Goals as goal
+use Rattle.gen1_devices.proofs.input.read_whole.Goals as goal
 
 pub returns-then-room-count-clause-taken : goal.returns-then-room-count-clause-taken
 returns-then-room-count-clause-taken g c = record {

@@ -1,6 +1,6 @@
 //! Writing all of some bytes, in as many writes as a sink needs (docs/PROGRAM.md, "Faults and statuses").
 ghost use Rattle.std.specs.List.{flat_map};
-ghost use Rattle.gen1_machine.specs.Output.{Sends};
+ghost use Rattle.gen1_devices.specs.Output.{Sends};
 
 use crate::{DeviceFault, Sink};
 

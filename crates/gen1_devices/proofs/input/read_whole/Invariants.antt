@@ -1,7 +1,7 @@
 -- The bytes that were read so far are gone from the source and fit the limit, and no read has failed.
 use Rattle.std.proofs.Common.{◌≡◌, ◌-◌, ◌≤◌, vec_len}
 use Rattle.std.specs.Io.KnownBytes.{Consumes}
-use Rattle.gen1_machine.proofs.input.read_whole.Given as goal
+use Rattle.gen1_devices.proofs.input.read_whole.Given as goal
 
 abbrev pub invariant-parts : goal.invariant-parts
 invariant-parts g l =

@@ -1,0 +1,2 @@
+-- Sending one text after another.
+pub mod OutputLemmas
