@@ -1,14 +1,14 @@
 -- An early effect is the effect of its way.
 use Rattle.std.proofs.Common.{◌≡◌}
-use Rattle.gen1_layout.proofs.Words.{Phase, Side, ap, true}
+use Rattle.gen1_layout.proofs.Words.{Phase, Side, ap}
 use Rattle.gen1_tables.specs.declared.effect.Effect.{Effect}
 use Rattle.gen1_tables.specs.declared.effect.Effect.TheVariants as effects
 use Rattle.gen1_machine.specs.Moves.{Move}
-use Rattle.gen1_machine.specs.EarlyEffects.{confuse_foe, convert, early_effect, haze, heal, paralyse_foe, poison_foe, seed_foe, set_focus_energy, set_mist, set_screen, splash}
+use Rattle.gen1_machine.specs.EarlyEffects.{confuse_foe, convert, early_effect, haze, heal, make_substitute, paralyse_foe, poison_foe, seed_foe, set_focus_energy, set_mist, set_screen, splash}
 use Rattle.gen1_machine.specs.Progress.{fail}
 use Rattle.gen1_effects.specs.declared.early_effects.dispatch.Way.{Way}
 use Rattle.gen1_effects.specs.declared.early_effects.dispatch.Way.TheVariants as ways
-use Rattle.gen1_effects.specs.EarlyEffects.{is_early_but_substitute, way_of}
+use Rattle.gen1_effects.specs.EarlyEffects.{way_of}
 
 abbrev pub early_by : Side → Move → Way → Phase
 early_by s move ways.Fails = fail s
@@ -22,20 +22,21 @@ early_by s move ways.Heal = heal s move
 early_by s move ways.Poison = poison_foe s move
 early_by s move ways.Paralysis = paralyse_foe s move
 early_by s move ways.LeechSeed = seed_foe s move
+early_by s move ways.Substitute = make_substitute s
 early_by s move ways.Splash = splash s
 
-pub early-by : (s : Side) (move : Move) (e : Effect) (way : Way) → is_early_but_substitute e ≡ true → way_of e ≡ way → early_effect s move e ≡ early_by s move way
+pub early-by : (s : Side) (move : Move) (e : Effect) (way : Way) → way_of e ≡ way → early_effect s move e ≡ early_by s move way
 unfolding early_effect
-early-by s move effects.Conversion way h is = ap (early_by s move) is
-early-by s move effects.Mist way h is = ap (early_by s move) is
-early-by s move effects.FocusEnergy way h is = ap (early_by s move) is
-early-by s move effects.Screen way h is = ap (early_by s move) is
-early-by s move effects.Haze way h is = ap (early_by s move) is
-early-by s move effects.InflictConfusion way h is = ap (early_by s move) is
-early-by s move effects.Heal way h is = ap (early_by s move) is
-early-by s move effects.InflictPoison way h is = ap (early_by s move) is
-early-by s move effects.InflictParalysis way h is = ap (early_by s move) is
-early-by s move effects.LeechSeed way h is = ap (early_by s move) is
-early-by s move effects.Splash way h is = ap (early_by s move) is
-early-by s move effects.Substitute way h is = cc
-early-by s move _ way h is = ap (early_by s move) is
+early-by s move effects.Conversion way is = ap (early_by s move) is
+early-by s move effects.Mist way is = ap (early_by s move) is
+early-by s move effects.FocusEnergy way is = ap (early_by s move) is
+early-by s move effects.Screen way is = ap (early_by s move) is
+early-by s move effects.Haze way is = ap (early_by s move) is
+early-by s move effects.InflictConfusion way is = ap (early_by s move) is
+early-by s move effects.Heal way is = ap (early_by s move) is
+early-by s move effects.InflictPoison way is = ap (early_by s move) is
+early-by s move effects.InflictParalysis way is = ap (early_by s move) is
+early-by s move effects.LeechSeed way is = ap (early_by s move) is
+early-by s move effects.Splash way is = ap (early_by s move) is
+early-by s move effects.Substitute way is = ap (early_by s move) is
+early-by s move _ way is = ap (early_by s move) is

@@ -5,13 +5,12 @@ use Rattle.std.proofs.lemmas.Bool.{false≢true}
 use Rattle.gen1_tables.specs.declared.effect.Effect.{Effect}
 use Rattle.gen1_tables.specs.declared.effect.Effect.TheVariants as effects
 use Rattle.gen1_tables.specs.declared.effect.Stat.{Stat}
-use Rattle.gen1_machine.specs.LateEffects.{late_effect, lower_foes_stat, put_to_sleep}
+use Rattle.gen1_machine.specs.LateEffects.{is_late, late_effect, lower_foes_stat, put_to_sleep, start_bide}
 use Rattle.gen1_machine.specs.Moves.{Move}
 use Rattle.gen1_machine.specs.Progress.{fail}
 use Rattle.gen1_machine.specs.Ruling.{fall_asleep, sleep_freely, sleep_only_one, sleeps_under, Ruling}
 use Rattle.gen1_machine.specs.Sides.{other}
 use Rattle.gen1_machine.specs.StageShift.{raise_stage}
-use Rattle.gen1_effects.specs.LateEffects.{is_late_but_bide}
 
 module _ (r : Ruling) (s : Side) (move : Move) (e : Effect) (p : Progress) where
   -- The action ends with the result of the effect.
@@ -30,13 +29,18 @@ module _ (r : Ruling) (s : Side) (move : Move) (e : Effect) (p : Progress) where
   unfolding late_effect
   sleeps is = ends_with (put_to_sleep r s move) (ap (late_effect r s move) is)
 
+  pub begins_bide : e ≡ effects.Bide → (late_effect r s move e ▸ stop) p ≡ (start_bide s ▸ stop) p
+  unfolding late_effect
+  begins_bide is = ends_with (start_bide s) (ap (late_effect r s move) is)
+
 -- These are all the late effects.
-pub no_other : (e : Effect) → is_late_but_bide e ≡ true → ((stat : Stat) (by : ℕ) → e ≡ effects.StatUp stat by → ⊥)
-    → ((stat : Stat) (by : ℕ) → e ≡ effects.StatDown stat by → ⊥) → (e ≡ effects.InflictSleep → ⊥) → ⊥
-no_other (effects.StatUp stat by) tie up down sleep = up stat by refl
-no_other (effects.StatDown stat by) tie up down sleep = down stat by refl
-no_other effects.InflictSleep tie up down sleep = sleep refl
-no_other _ tie up down sleep = false≢true tie
+pub no_other : (e : Effect) → is_late e ≡ true → ((stat : Stat) (by : ℕ) → e ≡ effects.StatUp stat by → ⊥)
+    → ((stat : Stat) (by : ℕ) → e ≡ effects.StatDown stat by → ⊥) → (e ≡ effects.InflictSleep → ⊥) → (e ≡ effects.Bide → ⊥) → ⊥
+no_other (effects.StatUp stat by) tie up down sleep bide = up stat by refl
+no_other (effects.StatDown stat by) tie up down sleep bide = down stat by refl
+no_other effects.InflictSleep tie up down sleep bide = sleep refl
+no_other effects.Bide tie up down sleep bide = bide refl
+no_other _ tie up down sleep bide = false≢true tie
 
 -- Sleep by the rules of the battle
 

@@ -1,17 +1,9 @@
--- The early effects that one function handles: all but Substitute, which costs HP (docs/MECHANICS.md, "Early
--- effects").
-use Rattle.std.specs.Prelude.{Bool, false}
+-- The ways of early effects (docs/MECHANICS.md, "Early effects").
 use Rattle.gen1_tables.specs.declared.effect.Effect.{Effect}
 use Rattle.gen1_tables.specs.declared.effect.Effect.TheVariants as effects
-use Rattle.gen1_machine.specs.EarlyEffects.{is_early}
 use Rattle.gen1_effects.specs.declared.early_effects.dispatch.Way.{Way}
 use Rattle.gen1_effects.specs.declared.early_effects.dispatch.Way.TheVariants as ways
 
-abbrev pub is_early_but_substitute : Effect → Bool
-is_early_but_substitute effects.Substitute = false
-is_early_but_substitute effect = is_early effect
-
--- The way of such an effect.
 abbrev pub way_of : Effect → Way
 way_of effects.Conversion = ways.Conversion
 way_of effects.Mist = ways.Mist
@@ -23,5 +15,6 @@ way_of effects.Heal = ways.Heal
 way_of effects.InflictPoison = ways.Poison
 way_of effects.InflictParalysis = ways.Paralysis
 way_of effects.LeechSeed = ways.LeechSeed
+way_of effects.Substitute = ways.Substitute
 way_of effects.Splash = ways.Splash
 way_of _ = ways.Fails

@@ -1,6 +1,4 @@
--- Which effects are late.
-pub mod LateEffects
--- Which effects are early.
+-- The ways of early effects.
 pub mod EarlyEffects
 -- What a move may do in addition to its damage.
 pub mod SideEffects

@@ -11,4 +11,4 @@ mod recovery;
 mod splash;
 mod stage_reset;
 
-pub use dispatch::{group_one, group_one_knowing, is_early_but_substitute};
+pub use dispatch::{group_one, group_one_knowing, is_early};

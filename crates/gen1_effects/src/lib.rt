@@ -12,6 +12,6 @@ mod late_effects;
 mod side_effects;
 mod targets;
 
-pub use early_effects::{group_one, group_one_knowing, is_early_but_substitute};
-pub use late_effects::{group_two, group_two_knowing, is_late_but_bide};
+pub use early_effects::{group_one, group_one_knowing, is_early};
+pub use late_effects::{group_two, group_two_knowing, is_late};
 pub use side_effects::{side_effect, side_effect_knowing};

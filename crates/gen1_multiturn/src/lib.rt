@@ -1,7 +1,7 @@
-//! Moves that last several turns, substitutes, the hits of a move, and what follows a miss, over the bytes of a
-//! battle (docs/MECHANICS.md, "Going on", "Charging", "Early effects", "Many hits", "Recoil, drain and explosion").
+//! Moves that last several turns, the hits of a move, and what follows a miss, over the bytes of a battle
+//! (docs/MECHANICS.md, "Going on", "Charging", "Many hits", "Recoil, drain and explosion").
 //!
-//! - `moves`: the moves: Bide, charging, Counter, fixed damage, one-hit moves, Rage, Substitute, Thrash and trapping
+//! - `moves`: the moves: Bide, charging, Counter, fixed damage, one-hit moves, Rage, Thrash and trapping
 //! - `many_hits`: the hits of a move, one after another
 //! - `counts`: how many times a move hits or holds, by a draw
 //! - `hit_counts`: how many hits a move makes
@@ -18,14 +18,14 @@ mod many_hits;
 mod miss;
 mod moves;
 
+pub use gen1_status::substitute;
 pub use many_hits::hits;
 pub use miss::missed_move;
-pub use moves::bide::{bide, bide_knowing, start_bide};
+pub use moves::bide::{bide, bide_knowing};
 pub use moves::charging::{charge, charge_knowing, make_current};
 pub use moves::counter::{counter, counter_knowing};
 pub use moves::fixed_damage::{fixed, fixed_knowing};
 pub use moves::one_hit_moves::knock_out;
 pub use moves::rage::rage;
-pub use moves::substitute::{make_substitute, substitute};
 pub use moves::thrash::{thrash, thrash_knowing};
 pub use moves::trapping::{trap, trap_knowing};

@@ -7,6 +7,5 @@ pub mod fixed_damage;
 mod going_on;
 pub mod one_hit_moves;
 pub mod rage;
-pub mod substitute;
 pub mod thrash;
 pub mod trapping;

@@ -50,12 +50,6 @@ pub(crate) fn is_recharging(battle: &Packed, side: Side) -> bool
     battle.is_on(side, Conditions::RECHARGE)
 }
 
-pub(crate) fn is_raging(battle: &Packed, side: Side) -> bool
-    ensures stands { Reads battle.now result λ f. (underway_in side f).rage }
-{
-    battle.is_on(side, Conditions::RAGE)
-}
-
 pub(crate) fn is_charging(battle: &Packed, side: Side) -> bool
     ensures stands { Reads battle.now result λ f. (underway_in side f).charging }
 {

@@ -1,14 +1,14 @@
 //! The kinds of use of a move, and whether it goes on (docs/MECHANICS.md, "Going on", "Kept accuracy").
 ghost use Rattle.std.specs.Prelude.{◌≡◌};
-ghost use Rattle.gen1_layout.specs.Words.{Reads, active_in, member_in, move_at, underway_in};
-ghost use Rattle.gen1_machine.specs.Action.{keeps_going};
+ghost use Rattle.gen1_layout.specs.Words.{Reads, active_in, member_in, move_at};
 ghost use Rattle.gen1_machine.specs.Picks.{number_in};
 ghost use Rattle.gen1_odds.specs.Trials.{base_in, charges_first, goes_on_in, traps_on_in, trial_of};
 
-use crate::sights::{is_charging, is_raging};
+use crate::sights::is_charging;
 use gen1_layout::Packed;
-use gen1_machine::{Side, UsedMove};
-use gen1_tables::{Effect, MoveId, STRUGGLE, Stat};
+use gen1_machine::Side;
+use gen1_status::{keeps_going, number_of};
+use gen1_tables::{Effect, MoveId, Stat};
 
 /// What decides whether a use of a move hits.
 #[derive(Clone, Copy)]
@@ -70,26 +70,12 @@ pub(crate) fn trial_of(effect: Effect) -> Trial
     }
 }
 
-// Whether the member must go on with its move: by thrashing, trapping or rage.
-fn keeps_going(battle: &Packed, side: Side) -> bool
-    ensures stands { Reads battle.now result λ f. keeps_going (underway_in side f) }
-{
-    let thrashes = battle.thrash(side).is_some();
-    let traps = battle.trapping(side).is_some();
-    let rages = is_raging(battle, side);
-    thrashes | (traps | rages)
-}
-
 // The number of the move that was used last, or 0 for none.
 fn current_number(battle: &Packed, side: Side) -> u8
     ensures stands { Reads battle.now result λ f.
         number_in (active_in side f).current_move (member_in side f).moves }
 {
-    match battle.current_move(side) {
-        UsedMove::Nothing => 0,
-        UsedMove::Slot(slot) => battle.move_in(side, slot.max(1).min(4)),
-        UsedMove::Struggle => STRUGGLE,
-    }
+    number_of(battle, side, battle.current_move(side))
 }
 
 fn goes_on(battle: &Packed, side: Side, id: MoveId) -> bool

@@ -9,3 +9,5 @@ pub mod ResidualDamage
 pub mod StageShift
 -- What the clauses count.
 pub mod Clauses
+-- What Bide finds as it begins.
+pub mod Bide

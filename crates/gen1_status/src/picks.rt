@@ -1,10 +1,14 @@
-//! What a side's choice becomes as the turn begins (docs/MECHANICS.md, "Picks").
-ghost use Rattle.std.specs.Prelude.{◌≡◌};
-ghost use Rattle.gen1_layout.specs.Words.{Reads, active_in, underway_in, zero, ℕ};
-ghost use Rattle.gen1_machine.specs.Picks.{must_continue, pick_in, used_by};
+//! What a side's choice becomes as the turn begins, the number of its move, and whether a move goes on
+//! (docs/MECHANICS.md, "Picks", "Going on").
+ghost use Rattle.std.specs.Prelude.{◌≡◌, ◌≤◌};
+ghost use Rattle.gen1_layout.specs.Words.{Field, IsBetween, Reads, Setting, Within, active_in, length, member_in, underway_in, zero, ℕ};
+ghost use Rattle.gen1_machine.specs.Action.{keeps_going};
+ghost use Rattle.gen1_machine.specs.Picks.{must_continue, number_in, pick_in, used_by};
+ghost use Rattle.gen1_machine.specs.Valid.{IsUsedMove};
 
 use gen1_layout::{Conditions, Packed};
 use gen1_machine::{Choice, Pick, Side, UsedMove};
+use gen1_tables::STRUGGLE;
 
 /// What a choice of a move becomes (docs/MECHANICS.md, "Picks").
 ///
@@ -62,4 +66,43 @@ fn must_continue(battle: &Packed, side: Side) -> bool
     ensures stands { Reads battle.now result λ f. must_continue (underway_in side f) }
 {
     battle.has_any(side, Conditions::CONTINUES)
+}
+
+/// Whether the member of `side` that is out goes on with its move: by thrashing, trapping or Rage (docs/MECHANICS.md,
+/// "Going on").
+#[inline(always)] // docs/SPEED.md, "Hints on inlining"
+pub fn keeps_going(battle: &Packed, side: Side) -> bool
+    ensures stands { Reads battle.now result λ f. keeps_going (underway_in side f) }
+{
+    if battle.is_on(side, Conditions::THRASH) {
+        return true;
+    }
+    if battle.is_on(side, Conditions::TRAPPING) {
+        return true;
+    }
+    battle.is_on(side, Conditions::RAGE)
+}
+
+/// The number of a move of `side`, by where it comes from, 1 to 165, or 0 for none (docs/MECHANICS.md, "Picks").
+///
+/// A slot is one of the member that is out.
+pub fn number_of(battle: &Packed, side: Side, used: UsedMove) -> u8
+    ensures stands { (g : Setting) (f : Field) → Within g battle.now f
+        → IsUsedMove (length (member_in side f).moves) used
+        → result ≡ number_in used (member_in side f).moves }
+{
+    match used {
+        UsedMove::Nothing => 0,
+        UsedMove::Slot(slot) => battle.move_in(side, among_slots(slot)),
+        UsedMove::Struggle => STRUGGLE,
+    }
+}
+
+/// Returns a slot from 1 to 4 as it is, and one of these for any other byte.
+pub fn among_slots(slot: u8) -> u8
+    ensures low { 1 ≤ result }
+    ensures high { result ≤ 4 }
+    ensures same { IsBetween 1 4 slot → result ≡ slot }
+{
+    slot.wrapping_sub(1) % 4 + 1
 }

@@ -13,12 +13,12 @@ ghost use Rattle.gen1_turn.specs.ActionSteps.{late_part, damage_and_strike};
 use crate::action_damage::damage_of;
 use crate::lead_up::lead_up;
 use crate::strike::strike;
-use gen1_effects::{group_two_knowing, is_late_but_bide};
+use gen1_effects::{group_two_knowing, is_late};
 use gen1_events::EventSink;
 use gen1_hits::Known;
 use gen1_layout::Packed;
 use gen1_machine::{Pick, Side};
-use gen1_multiturn::{bide_knowing, start_bide};
+use gen1_multiturn::bide_knowing;
 use gen1_rolls::Rolls;
 use gen1_tables::{Effect, MoveId};
 
@@ -158,12 +158,8 @@ fn late_effect<R: Rolls, S: EventSink>(
     ensures room { AddsAtMost S.room 2 events.old events.new }
     ensures quiet { result ≡ false → AddsNone S.room events.old events.new }
 {
-    if is_late_but_bide(id.effect()) {
+    if is_late(id.effect()) {
         group_two_knowing(battle, side, id, known, random, events);
-        return true;
-    }
-    if id.effect().bides() {
-        start_bide(battle, side, random, events);
         return true;
     }
     false

@@ -9,17 +9,16 @@ ghost use Rattle.gen1_machine.specs.Progress.{only};
 ghost use Rattle.gen1_hits.specs.Knowing.{aware, aware_of};
 ghost use Rattle.gen1_hits.specs.Planned.{taking, using};
 ghost use Rattle.gen1_turn.specs.ActionSteps.{begin_move};
-ghost use Rattle.gen1_turn.specs.ByEffect.{makes_substitute};
 
 use crate::used_move::use_move;
-use gen1_effects::{group_one_knowing, is_early_but_substitute};
+use gen1_effects::{group_one_knowing, is_early};
 use gen1_events::EventSink;
 use gen1_hits::Known;
 use gen1_layout::Packed;
 use gen1_machine::{Pick, Side};
-use gen1_multiturn::{charge_knowing, make_substitute, thrash_knowing, trap_knowing};
+use gen1_multiturn::{charge_knowing, thrash_knowing, trap_knowing};
 use gen1_rolls::Rolls;
-use gen1_tables::{Effect, MoveId};
+use gen1_tables::MoveId;
 
 pub(crate) fn lead_up<R: Rolls, S: EventSink>(
     battle: &mut Packed,
@@ -85,12 +84,8 @@ fn early_effect<R: Rolls, S: EventSink>(
     ensures room { AddsAtMost S.room 2 events.old events.new }
     ensures quiet { result ≡ false → AddsNone S.room events.old events.new }
 {
-    if is_early_but_substitute(id.effect()) {
+    if is_early(id.effect()) {
         group_one_knowing(battle, side, id, known, random, events);
-        return true;
-    }
-    if makes_substitute(id.effect()) {
-        make_substitute(battle, side, events);
         return true;
     }
     false
@@ -117,10 +112,4 @@ fn prelude<R: Rolls, S: EventSink>(
     if id.effect().thrashes() {
         thrash_knowing(battle, side, id, known, random, events);
     }
-}
-
-fn makes_substitute(effect: Effect) -> bool
-    ensures { result ≡ makes_substitute effect }
-{
-    matches!(effect, Effect::Substitute)
 }

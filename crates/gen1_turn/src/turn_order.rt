@@ -4,10 +4,10 @@ ghost use Rattle.gen1_layout.specs.Words.{Reads};
 ghost use Rattle.gen1_machine.specs.TurnOrder.{in_order, in_order_of_speed, rank, rank_in};
 ghost use Rattle.gen1_turn.specs.TurnParts.{Orders};
 
-use crate::taken_move::number_of;
 use gen1_layout::Packed;
 use gen1_machine::Side;
 use gen1_rolls::{Look, Rolls};
+use gen1_status::number_of;
 use gen1_tables::{COUNTER, Stat};
 
 const QUICK_ATTACK: u8 = 98;

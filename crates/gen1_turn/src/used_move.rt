@@ -10,12 +10,12 @@ ghost use Rattle.gen1_machine.specs.State.{with_pp_spent};
 ghost use Rattle.gen1_hits.specs.Knowing.{aware_of};
 ghost use Rattle.gen1_multiturn.specs.Charging.{PicksMove};
 
-use crate::taken_move::among_slots;
 use gen1_events::EventSink;
 use gen1_hits::Known;
 use gen1_layout::Packed;
 use gen1_machine::{Event, Pick, Side, UsedMove};
 use gen1_multiturn::make_current;
+use gen1_status::among_slots;
 use gen1_tables::MoveId;
 
 // The user uses its move. A move of Bide's effect writes no event.

@@ -3,7 +3,7 @@
 //! 348.
 use crate::battles::{FOE, USER, assert_same, chansey, named, tauros};
 use crate::draws::{BOTH, Operation, apply_from};
-use gen1_effects::{group_one, is_early_but_substitute};
+use gen1_effects::{group_one, is_early};
 use gen1_layout::Packed;
 use gen1_machine::{Event, EventList};
 use gen1_rolls::Rolls;
@@ -19,7 +19,7 @@ struct EarlyEffects;
 impl Operation for EarlyEffects {
     fn apply<R: Rolls>(battle: &mut Packed, name: &str, random: &mut R) -> Result<EventList, Fail> {
         let id = named(name)?;
-        if !is_early_but_substitute(id.effect()) {
+        if !is_early(id.effect()) {
             return Err("no early effect")?;
         }
         let mut events = EventList::new();

@@ -2,7 +2,7 @@
 //! (sleep clause, freeze clause)". The last damage was 75.
 use crate::battles::{self, FOE, USER, assert_same, electrode, named, send_out};
 use crate::draws::{BOTH, Operation, apply_from};
-use gen1_effects::{group_two, is_late_but_bide};
+use gen1_effects::{group_two, is_late};
 use gen1_layout::{Conditions, Packed};
 use gen1_machine::{Event, EventList, Kind, Side, StageCount};
 use gen1_rolls::{LinkRandom, Rolls, Sweep};
@@ -30,7 +30,7 @@ struct LateEffects;
 impl Operation for LateEffects {
     fn apply<R: Rolls>(battle: &mut Packed, name: &str, random: &mut R) -> Result<EventList, Fail> {
         let id = named(name)?;
-        if !is_late_but_bide(id.effect()) {
+        if !is_late(id.effect()) {
             return Err("another effect")?;
         }
         let mut events = EventList::new();

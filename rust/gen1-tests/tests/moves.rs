@@ -424,7 +424,7 @@ mod early_effects {
     //! 348.
     use crate::battles::{FOE, USER, assert_same, chansey, named, tauros};
     use crate::draws::{BOTH, Operation, apply_from};
-    use gen1::generated::effects::{group_one, is_early_but_substitute};
+    use gen1::generated::effects::{group_one, is_early};
     use gen1::generated::layout::Packed;
     use gen1::generated::machine::{Event, EventList};
     use gen1::generated::rolls::Rolls;
@@ -565,7 +565,7 @@ mod early_effects {
         //! Haze, which acts on both sides ([docs/MECHANICS.md, "Early effects"](https://hibsuloy.example/gen1/blob/main/docs/MECHANICS.md#early-effects)).
         use super::{BOTH, EarlyEffects, FOE, USER, apply_from, bytes_with, named, tauros};
         use crate::battles::assert_same;
-        use gen1::generated::effects::{group_one_knowing, is_early_but_substitute};
+        use gen1::generated::effects::{group_one_knowing, is_early};
         use gen1::generated::hits::Known;
         use gen1::generated::layout::{Conditions, Packed};
         use gen1::generated::machine::{DisabledSlot, Event, EventList, Kind};
@@ -617,7 +617,7 @@ mod early_effects {
             let mut events = EventList::new();
             let mut known = Known::new().begun(USER);
             let id = named("Haze")?;
-            if !is_early_but_substitute(id.effect()) {
+            if !is_early(id.effect()) {
                 return Err(Fail::from("no early effect"));
             }
             let mut random = Sweep::new(0);
@@ -801,7 +801,7 @@ mod early_effects {
     impl Operation for EarlyEffects {
         fn apply<R: Rolls>(battle: &mut Packed, name: &str, random: &mut R) -> Result<EventList, Fail> {
             let id = named(name)?;
-            if !is_early_but_substitute(id.effect()) {
+            if !is_early(id.effect()) {
                 return Err("no early effect")?;
             }
             let mut events = EventList::new();
@@ -1662,7 +1662,7 @@ mod late_effects {
     //! (sleep clause, freeze clause)". The last damage was 75.
     use crate::battles::{self, FOE, USER, assert_same, electrode, named, send_out};
     use crate::draws::{BOTH, Operation, apply_from};
-    use gen1::generated::effects::{group_two, is_late_but_bide};
+    use gen1::generated::effects::{group_two, is_late};
     use gen1::generated::layout::{Conditions, Packed};
     use gen1::generated::machine::{Event, EventList, Kind, Side, StageCount};
     use gen1::generated::rolls::{LinkRandom, Rolls, Sweep};
@@ -2095,7 +2095,7 @@ mod late_effects {
     impl Operation for LateEffects {
         fn apply<R: Rolls>(battle: &mut Packed, name: &str, random: &mut R) -> Result<EventList, Fail> {
             let id = named(name)?;
-            if !is_late_but_bide(id.effect()) {
+            if !is_late(id.effect()) {
                 return Err("another effect")?;
             }
             let mut events = EventList::new();

@@ -2759,7 +2759,7 @@ mod worked_draws {
         use super::{USER, two_tauros};
         use crate::Countdown;
         use crate::worked_draws::assert_same;
-        use gen1::generated::effects::{group_one, group_two, is_early_but_substitute, is_late_but_bide, side_effect};
+        use gen1::generated::effects::{group_one, group_two, is_early, is_late, side_effect};
         use gen1::generated::machine::{DisabledSlot, Event, EventList, Kind, Side, Volatile};
         use gen1::generated::stats::Status;
         use gen1::generated::tables::MoveId;
@@ -2778,7 +2778,7 @@ mod worked_draws {
             let mut events = EventList::new();
             let mut random = Countdown::new(254);
             let id = named("Thunder Wave")?;
-            if is_early_but_substitute(id.effect()) {
+            if is_early(id.effect()) {
                 group_one(&mut battle, USER, id, &mut random, &mut events);
             }
             assert_same(
@@ -2799,7 +2799,7 @@ mod worked_draws {
             let mut events = EventList::new();
             let mut random = Countdown::new(153);
             let id = named("Sleep Powder")?;
-            if is_late_but_bide(id.effect()) {
+            if is_late(id.effect()) {
                 group_two(&mut battle, USER, id, &mut random, &mut events);
             }
             let asleep = Status::Asleep {

@@ -2,10 +2,10 @@
 ghost use Rattle.std.specs.Prelude.{◌≡◌};
 ghost use Rattle.gen1_layout.specs.Operations.{Draws, anything, scene};
 ghost use Rattle.gen1_layout.specs.Words.{AddsAtMost, HasRoom, move_at, stop, true, ◌▸◌};
-ghost use Rattle.gen1_machine.specs.EarlyEffects.{early_effect};
+ghost use Rattle.gen1_machine.specs.EarlyEffects.{early_effect, is_early};
 ghost use Rattle.gen1_hits.specs.Knowing.{IsUncounted, aware};
 ghost use Rattle.gen1_hits.specs.Alone.{Leaves, beginning};
-ghost use Rattle.gen1_effects.specs.EarlyEffects.{is_early_but_substitute, way_of};
+ghost use Rattle.gen1_effects.specs.EarlyEffects.{way_of};
 
 use super::confusion_moves::confuse_foe;
 use super::conversion::convert;
@@ -21,13 +21,12 @@ use gen1_hits::Known;
 use gen1_layout::Packed;
 use gen1_machine::Side;
 use gen1_rolls::Rolls;
-use gen1_status::fail;
+use gen1_status::{fail, make_substitute};
 use gen1_tables::{Effect, MoveId};
 
-/// Whether an effect is one that [`group_one`] handles: an early effect other than Substitute (docs/MECHANICS.md,
-/// "Early effects").
-pub fn is_early_but_substitute(effect: Effect) -> bool
-    ensures { result ≡ is_early_but_substitute effect }
+/// Whether an effect is early, so that [`group_one`] handles it (docs/MECHANICS.md, "Early effects").
+pub fn is_early(effect: Effect) -> bool
+    ensures { result ≡ is_early effect }
 {
     matches!(
         effect,
@@ -42,14 +41,15 @@ pub fn is_early_but_substitute(effect: Effect) -> bool
             | Effect::InflictPoison
             | Effect::InflictParalysis
             | Effect::LeechSeed
+            | Effect::Substitute
             | Effect::Splash
     )
 }
 
-/// Plays a move of `side` whose effect is early and isn't Substitute (docs/MECHANICS.md, "Early effects").
+/// Plays a move of `side` whose effect is early (docs/MECHANICS.md, "Early effects").
 ///
 /// These are moves that always fail, Conversion, Mist, Focus Energy, screens, Haze, confusion, healing, poison,
-/// paralysis, Leech Seed and Splash.
+/// paralysis, Leech Seed, Substitute and Splash.
 ///
 /// The action has just begun. It takes at most two draws and writes at most two events, and needs two free places in
 /// `events`. A move that fails or misses reports that by an event, and changes nothing but what a miss changes.
@@ -61,7 +61,7 @@ pub fn group_one<R: Rolls, S: EventSink>(
     events: &mut S,
 )
     requires room { HasRoom S.room 2 events.old }
-    requires early { is_early_but_substitute (move_at id).effect ≡ true }
+    requires early { is_early (move_at id).effect ≡ true }
     ensures shown { Leaves R.drawing random anything (beginning side (scene S.tells battle events))
         (λ rules. early_effect side (move_at id) (move_at id).effect ▸ stop) }
     ensures room { AddsAtMost S.room 2 events.old events.new }
@@ -82,7 +82,7 @@ pub fn group_one_knowing<R: Rolls, S: EventSink>(
     events: &mut S,
 )
     requires room { HasRoom S.room 2 events.old }
-    requires early { is_early_but_substitute (move_at id).effect ≡ true }
+    requires early { is_early (move_at id).effect ≡ true }
     ensures shown { Draws R.drawing random (aware known (scene S.tells battle events)) true
         (early_effect side (move_at id) (move_at id).effect ▸ stop) }
     ensures counts { IsUncounted known.old → IsUncounted known.new }
@@ -100,6 +100,9 @@ pub fn group_one_knowing<R: Rolls, S: EventSink>(
         Way::Poison => poison_foe(battle, side, id, known, random, events),
         Way::Paralysis => paralyse_foe(battle, side, id, known, random, events),
         Way::LeechSeed => seed_foe(battle, side, id, known, random, events),
+        Way::Substitute => {
+            make_substitute(battle, side, events);
+        }
         Way::Splash => splash(battle, side, events),
     }
 }
@@ -118,6 +121,7 @@ enum Way {
     Poison,
     Paralysis,
     LeechSeed,
+    Substitute,
     Splash,
 }
 
@@ -135,6 +139,7 @@ fn way_of(effect: Effect) -> Way
         Effect::InflictPoison => Way::Poison,
         Effect::InflictParalysis => Way::Paralysis,
         Effect::LeechSeed => Way::LeechSeed,
+        Effect::Substitute => Way::Substitute,
         Effect::Splash => Way::Splash,
         _ => Way::Fails,
     }

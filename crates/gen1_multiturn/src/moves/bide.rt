@@ -1,24 +1,23 @@
-//! Bide, which begins, stores the last damage, and lets out twice the sum (docs/MECHANICS.md, "Going on").
+//! Bide, which stores the last damage, and lets out twice the sum (docs/MECHANICS.md, "Going on"). Its beginning is in
+//! gen1_status.
 ghost use Rattle.std.specs.Prelude.{◌-◌, ◌≡◌};
-ghost use Rattle.gen1_layout.specs.Operations.{Does, DoesWhere, DrawsWhere, holding, scene};
-ghost use Rattle.gen1_layout.specs.Words.{AddsAtMost, HasRoom, None, Reads, Some, false, true, underway_in, ℕ};
-ghost use Rattle.gen1_tables.specs.declared.effect.Effect.{Effect};
+ghost use Rattle.gen1_layout.specs.Operations.{Does, DoesWhere, holding, scene};
+ghost use Rattle.gen1_layout.specs.Words.{AddsAtMost, HasRoom, Reads, Some, false, true, underway_in, ℕ};
 ghost use Rattle.gen1_tables.specs.declared.effect.Effect.TheVariants.{Bide};
 ghost use Rattle.gen1_machine.specs.Conditions.{Storing, energy_with};
 ghost use Rattle.gen1_machine.specs.GoingOn.{bide_goes_on, let_energy_go, let_out, store_energy};
-ghost use Rattle.gen1_machine.specs.LateEffects.{bide_for, start_bide};
-ghost use Rattle.gen1_tables.specs.Effects.{bides};
 ghost use Rattle.gen1_machine.specs.Progress.{underway};
-ghost use Rattle.gen1_hits.specs.Knowing.{IsUncounted, aware, aware_of};
+ghost use Rattle.gen1_hits.specs.Knowing.{IsUncounted, aware};
 ghost use Rattle.gen1_hits.specs.Alone.{Leaves, beginning};
 ghost use Rattle.gen1_hits.specs.Planned.{using};
 ghost use Rattle.gen1_multiturn.specs.Bide.{energy_let_out, use_bide};
 
 use gen1_events::EventSink;
 use gen1_hits::Known;
-use gen1_layout::{Conditions, Packed};
+use gen1_layout::Packed;
 use gen1_machine::{Event, Side, Volatile};
-use gen1_rolls::{Look, Rolls};
+use gen1_rolls::Rolls;
+use gen1_status::start_bide;
 
 /// Uses Bide (docs/MECHANICS.md, "Going on").
 ///
@@ -76,38 +75,6 @@ pub fn bide_knowing<S: EventSink>(
     }
     store_energy(battle, side, turns.saturating_sub(1), energy, events);
     true
-}
-
-/// Begins the Bide of `side`, for two or three turns, by one draw, without energy yet (docs/MECHANICS.md, "Going
-/// on").
-///
-/// It writes `Start`, for which it needs one free place in `events`. Nothing else changes.
-pub fn start_bide<R: Rolls, S: EventSink>(
-    battle: &mut Packed,
-    side: Side,
-    random: &mut R,
-    events: &mut S,
-)
-    requires room { HasRoom S.room 1 events.old }
-    ensures shown { (known : Known) (effect : Effect) → bides effect ≡ true → DrawsWhere R.drawing
-        random (using side effect) (aware_of known (scene S.tells battle events)) false
-        (λ r. start_bide side) }
-    ensures room { AddsAtMost S.room 1 events.old events.new }
-{
-    let byte = random.draw_as(Look::Remainder(2));
-    bide_for(battle, side, byte, events);
-}
-
-// Thrashing and trapping are off.
-fn bide_for<S: EventSink>(battle: &mut Packed, side: Side, byte: u8, events: &mut S)
-    requires room { HasRoom S.room 1 events.old }
-    ensures shown { DoesWhere (λ g p Then. (underway side p).thrash ≡ None →
-        (underway side p).trapping ≡ None → Then) (scene S.tells battle events) false
-        (λ r. bide_for side byte) }
-    ensures room { AddsAtMost S.room 1 events.old events.new }
-{
-    battle.put_bide(side, byte % 2 + 2, 0);
-    events.push(Event::Start(battle.who(side), Volatile::Bide));
 }
 
 // The energy that is let out this turn, if it is the last turn.

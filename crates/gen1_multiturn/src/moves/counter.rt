@@ -3,15 +3,15 @@ ghost use Rattle.std.specs.Prelude.{◌≡◌, ◌≤◌};
 ghost use Rattle.gen1_layout.specs.Operations.{Draws, quiet};
 ghost use Rattle.gen1_layout.specs.Words.{Event, List, Reads, false, move_at};
 ghost use Rattle.gen1_machine.specs.Counter.{can_be_countered, counter};
-ghost use Rattle.gen1_machine.specs.Picks.{picked_move_in};
 ghost use Rattle.gen1_hits.specs.Knowing.{IsUncounted, aware};
 ghost use Rattle.gen1_multiturn.specs.Counter.{can_counter_in, countered};
 
 use gen1_hits::{Known, critical, hit_or_miss};
 use gen1_layout::Packed;
-use gen1_machine::{Side, UsedMove};
+use gen1_machine::Side;
 use gen1_rolls::Rolls;
-use gen1_tables::{COUNTER, Element, MoveId, STRUGGLE};
+use gen1_status::number_of;
+use gen1_tables::{COUNTER, Element, MoveId};
 
 /// The damage of a Counter of `side` if it hits: twice the last damage, 2 to 65,535 (docs/MECHANICS.md, "Counter").
 ///
@@ -55,20 +55,10 @@ pub fn counter_knowing<R: Rolls>(
 fn can_counter(battle: &Packed, side: Side) -> bool
     ensures stands { Reads battle.now result (can_counter_in side) }
 {
-    let picked = picked_number(battle, side.other());
+    let foe = side.other();
+    let picked = number_of(battle, foe, battle.picked_move(foe));
     let hurt = 0 < battle.last_damage();
     can_be_countered(picked) & hurt
-}
-
-// The number of the move that was picked last, or 0 for none.
-fn picked_number(battle: &Packed, side: Side) -> u8
-    ensures stands { Reads battle.now result (picked_move_in side) }
-{
-    match battle.picked_move(side) {
-        UsedMove::Nothing => 0,
-        UsedMove::Slot(slot) => battle.move_in(side, slot.max(1).min(4)),
-        UsedMove::Struggle => STRUGGLE,
-    }
 }
 
 // By the number of a move, or 0 for none.

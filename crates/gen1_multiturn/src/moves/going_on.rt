@@ -1,14 +1,15 @@
 //! Whether the move of a side goes on, by its conditions (docs/MECHANICS.md, "Going on").
 ghost use Rattle.gen1_layout.specs.Operations.{Does, learns, unchanged};
-ghost use Rattle.gen1_layout.specs.Words.{Event, List, Reads, false, underway_in};
+ghost use Rattle.gen1_layout.specs.Words.{Event, List, false};
 ghost use Rattle.gen1_machine.specs.declared.picks.Pick.TheVariants.{Continue};
-ghost use Rattle.gen1_machine.specs.Action.{keeps_going, see_if_going_on};
+ghost use Rattle.gen1_machine.specs.Action.{see_if_going_on};
 ghost use Rattle.gen1_hits.specs.Alone.{beginning};
 ghost use Rattle.gen1_hits.specs.Knowing.{knowing};
 
 use gen1_hits::Known;
-use gen1_layout::{Conditions, Packed};
+use gen1_layout::Packed;
 use gen1_machine::Side;
+use gen1_status::keeps_going;
 
 // What is known of an action of `side` that has just begun, if the bytes alone say whether it goes on.
 pub(crate) fn seen_going_on(battle: &Packed, side: Side) -> Known
@@ -20,16 +21,4 @@ pub(crate) fn seen_going_on(battle: &Packed, side: Side) -> Known
         going_on: keeps_going(battle, side),
         ..Known::new().begun(side)
     }
-}
-
-fn keeps_going(battle: &Packed, side: Side) -> bool
-    ensures { Reads battle.now result λ f. keeps_going (underway_in side f) }
-{
-    if battle.is_on(side, Conditions::THRASH) {
-        return true;
-    }
-    if battle.is_on(side, Conditions::TRAPPING) {
-        return true;
-    }
-    battle.is_on(side, Conditions::RAGE)
 }

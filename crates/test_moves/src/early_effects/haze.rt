@@ -1,7 +1,7 @@
 //! Haze, which acts on both sides (docs/MECHANICS.md, "Early effects").
 use super::{BOTH, EarlyEffects, FOE, USER, apply_from, bytes_with, named, tauros};
 use crate::battles::assert_same;
-use gen1_effects::{group_one_knowing, is_early_but_substitute};
+use gen1_effects::{group_one_knowing, is_early};
 use gen1_hits::Known;
 use gen1_layout::{Conditions, Packed};
 use gen1_machine::{DisabledSlot, Event, EventList, Kind};
@@ -53,7 +53,7 @@ fn skips(status: Status) -> Result<bool, Fail> {
     let mut events = EventList::new();
     let mut known = Known::new().begun(USER);
     let id = named("Haze")?;
-    if !is_early_but_substitute(id.effect()) {
+    if !is_early(id.effect()) {
         return Err(Fail::from("no early effect"));
     }
     let mut random = Sweep::new(0);

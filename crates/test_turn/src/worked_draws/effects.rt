@@ -2,7 +2,7 @@
 use super::{USER, two_tauros};
 use crate::Countdown;
 use crate::worked_draws::assert_same;
-use gen1_effects::{group_one, group_two, is_early_but_substitute, is_late_but_bide, side_effect};
+use gen1_effects::{group_one, group_two, is_early, is_late, side_effect};
 use gen1_machine::{DisabledSlot, Event, EventList, Kind, Side, Volatile};
 use gen1_stats::Status;
 use gen1_tables::MoveId;
@@ -21,7 +21,7 @@ fn an_early_effect(rt: HostRuntime) -> Result<(), Fail> {
     let mut events = EventList::new();
     let mut random = Countdown::new(254);
     let id = named("Thunder Wave")?;
-    if is_early_but_substitute(id.effect()) {
+    if is_early(id.effect()) {
         group_one(&mut battle, USER, id, &mut random, &mut events);
     }
     assert_same(
@@ -42,7 +42,7 @@ fn a_late_effect(rt: HostRuntime) -> Result<(), Fail> {
     let mut events = EventList::new();
     let mut random = Countdown::new(153);
     let id = named("Sleep Powder")?;
-    if is_late_but_bide(id.effect()) {
+    if is_late(id.effect()) {
         group_two(&mut battle, USER, id, &mut random, &mut events);
     }
     let asleep = Status::Asleep {

@@ -83,12 +83,11 @@ mod early_effects {
         use crate::generated::layout::Packed;
         use crate::generated::machine::Side;
         use crate::generated::rolls::Rolls;
-        use crate::generated::status::fail;
+        use crate::generated::status::{fail, make_substitute};
         use crate::generated::tables::{Effect, MoveId};
 
-        /// Whether an effect is one that [`group_one`] handles: an early effect other than Substitute ([docs/MECHANICS.md](https://hibsuloy.example/gen1/blob/main/docs/MECHANICS.md),
-        /// "Early effects").
-        pub fn is_early_but_substitute(effect: Effect) -> bool {
+        /// Whether an effect is early, so that [`group_one`] handles it ([docs/MECHANICS.md, "Early effects"](https://hibsuloy.example/gen1/blob/main/docs/MECHANICS.md#early-effects)).
+        pub fn is_early(effect: Effect) -> bool {
             matches!(
                 effect,
                 Effect::AlwaysFails
@@ -102,14 +101,15 @@ mod early_effects {
                     | Effect::InflictPoison
                     | Effect::InflictParalysis
                     | Effect::LeechSeed
+                    | Effect::Substitute
                     | Effect::Splash
             )
         }
 
-        /// Plays a move of `side` whose effect is early and isn't Substitute ([docs/MECHANICS.md, "Early effects"](https://hibsuloy.example/gen1/blob/main/docs/MECHANICS.md#early-effects)).
+        /// Plays a move of `side` whose effect is early ([docs/MECHANICS.md, "Early effects"](https://hibsuloy.example/gen1/blob/main/docs/MECHANICS.md#early-effects)).
         ///
         /// These are moves that always fail, Conversion, Mist, Focus Energy, screens, Haze, confusion, healing, poison,
-        /// paralysis, Leech Seed and Splash.
+        /// paralysis, Leech Seed, Substitute and Splash.
         ///
         /// The action has just begun. It takes at most two draws and writes at most two events, and needs two free places in
         /// `events`. A move that fails or misses reports that by an event, and changes nothing but what a miss changes.
@@ -147,6 +147,9 @@ mod early_effects {
                 Way::Poison => poison_foe(battle, side, id, known, random, events),
                 Way::Paralysis => paralyse_foe(battle, side, id, known, random, events),
                 Way::LeechSeed => seed_foe(battle, side, id, known, random, events),
+                Way::Substitute => {
+                    make_substitute(battle, side, events);
+                }
                 Way::Splash => splash(battle, side, events),
             }
         }
@@ -165,6 +168,7 @@ mod early_effects {
             Poison,
             Paralysis,
             LeechSeed,
+            Substitute,
             Splash,
         }
 
@@ -180,6 +184,7 @@ mod early_effects {
                 Effect::InflictPoison => Way::Poison,
                 Effect::InflictParalysis => Way::Paralysis,
                 Effect::LeechSeed => Way::LeechSeed,
+                Effect::Substitute => Way::Substitute,
                 Effect::Splash => Way::Splash,
                 _ => Way::Fails,
             }
@@ -503,18 +508,19 @@ mod early_effects {
     }
 
 
-    pub use dispatch::{group_one, group_one_knowing, is_early_but_substitute};
+    pub use dispatch::{group_one, group_one_knowing, is_early};
 }
 
 mod late_effects {
-    //! Moves that act after the damage step: they raise and lower stages, and put the foe to sleep
-    //! ([docs/MECHANICS.md, "Late effects"](https://hibsuloy.example/gen1/blob/main/docs/MECHANICS.md#late-effects)). Bide, which lasts, isn't one of these.
+    //! Moves that act after the damage step: they raise and lower stages, put the foe to sleep, and begin Bide
+    //! ([docs/MECHANICS.md, "Late effects"](https://hibsuloy.example/gen1/blob/main/docs/MECHANICS.md#late-effects)).
 
     use crate::generated::events::EventSink;
     use crate::generated::hits::Known;
     use crate::generated::layout::Packed;
     use crate::generated::machine::Side;
     use crate::generated::rolls::Rolls;
+    use crate::generated::status::start_bide;
     use crate::generated::tables::{Effect, MoveId};
 
     mod sleep_moves {
@@ -691,20 +697,21 @@ mod late_effects {
     use sleep_moves::put_to_sleep;
     use stat_moves::{lower_foes_stat, raise_own_stat};
 
-    /// Whether an effect raises a stat of the user, lowers a stat of the foe, or puts the foe to sleep
-    /// ([docs/MECHANICS.md, "Late effects"](https://hibsuloy.example/gen1/blob/main/docs/MECHANICS.md#late-effects)).
-    pub fn is_late_but_bide(effect: Effect) -> bool {
+    /// Whether an effect is late, so that [`group_two`] handles it: it raises a stat of the user, lowers a stat of the foe,
+    /// puts the foe to sleep, or begins Bide ([docs/MECHANICS.md, "Late effects"](https://hibsuloy.example/gen1/blob/main/docs/MECHANICS.md#late-effects)).
+    pub fn is_late(effect: Effect) -> bool {
         matches!(
             effect,
-            Effect::StatUp(..) | Effect::StatDown(..) | Effect::InflictSleep
+            Effect::StatUp(..) | Effect::StatDown(..) | Effect::InflictSleep | Effect::Bide
         )
     }
 
-    /// Plays a move of `side` that raises a stat of the user, lowers a stat of the foe, or puts the foe to sleep
-    /// ([docs/MECHANICS.md, "Late effects"](https://hibsuloy.example/gen1/blob/main/docs/MECHANICS.md#late-effects)).
+    /// Plays a move of `side` that raises a stat of the user, lowers a stat of the foe, puts the foe to sleep, or begins
+    /// Bide ([docs/MECHANICS.md, "Late effects"](https://hibsuloy.example/gen1/blob/main/docs/MECHANICS.md#late-effects)).
     ///
-    /// The action has just begun. The hit test, if there is one, and a count of sleep are drawn. It needs two free places
-    /// in `events`. What the effect doesn't change stays as it is.
+    /// The action has just begun. The hit test, if there is one, and a count of sleep or of Bide's turns are drawn. It needs
+    /// two free places in `events`. What the effect doesn't change stays as it is. Where Bide begins, neither thrashing nor
+    /// trapping of `side` may be underway.
     pub fn group_two<R: Rolls, S: EventSink>(
         battle: &mut Packed,
         side: Side,
@@ -736,6 +743,7 @@ mod late_effects {
             Effect::InflictSleep => {
                 put_to_sleep(battle, side, id, known, random, events);
             }
+            Effect::Bide => start_bide(battle, side, random, events),
             _ => {}
         }
     }
@@ -1223,6 +1231,6 @@ mod targets {
 }
 
 
-pub use early_effects::{group_one, group_one_knowing, is_early_but_substitute};
-pub use late_effects::{group_two, group_two_knowing, is_late_but_bide};
+pub use early_effects::{group_one, group_one_knowing, is_early};
+pub use late_effects::{group_two, group_two_knowing, is_late};
 pub use side_effects::{side_effect, side_effect_knowing};

@@ -1161,10 +1161,6 @@ mod sights {
         battle.is_on(side, Conditions::RECHARGE)
     }
 
-    pub(crate) fn is_raging(battle: &Packed, side: Side) -> bool {
-        battle.is_on(side, Conditions::RAGE)
-    }
-
     pub(crate) fn is_charging(battle: &Packed, side: Side) -> bool {
         battle.is_on(side, Conditions::CHARGING)
     }
@@ -1269,10 +1265,11 @@ mod status_reasons {
 mod trials {
     //! The kinds of use of a move, and whether it goes on ([docs/MECHANICS.md, "Going on"](https://hibsuloy.example/gen1/blob/main/docs/MECHANICS.md#going-on), "Kept accuracy").
 
-    use crate::generated::odds::sights::{is_charging, is_raging};
+    use crate::generated::odds::sights::is_charging;
     use crate::generated::layout::Packed;
-    use crate::generated::machine::{Side, UsedMove};
-    use crate::generated::tables::{Effect, MoveId, STRUGGLE, Stat};
+    use crate::generated::machine::Side;
+    use crate::generated::status::{keeps_going, number_of};
+    use crate::generated::tables::{Effect, MoveId, Stat};
 
     /// What decides whether a use of a move hits.
     #[derive(Clone, Copy)]
@@ -1332,21 +1329,9 @@ mod trials {
         }
     }
 
-    // Whether the member must go on with its move: by thrashing, trapping or rage.
-    fn keeps_going(battle: &Packed, side: Side) -> bool {
-        let thrashes = battle.thrash(side).is_some();
-        let traps = battle.trapping(side).is_some();
-        let rages = is_raging(battle, side);
-        thrashes | (traps | rages)
-    }
-
     // The number of the move that was used last, or 0 for none.
     fn current_number(battle: &Packed, side: Side) -> u8 {
-        match battle.current_move(side) {
-            UsedMove::Nothing => 0,
-            UsedMove::Slot(slot) => battle.move_in(side, slot.max(1).min(4)),
-            UsedMove::Struggle => STRUGGLE,
-        }
+        number_of(battle, side, battle.current_move(side))
     }
 
     fn goes_on(battle: &Packed, side: Side, id: MoveId) -> bool {

@@ -3,18 +3,48 @@
 //! ([docs/MECHANICS.md, "Penalties"](https://hibsuloy.example/gen1/blob/main/docs/MECHANICS.md#penalties), "Stage shift", "Picks" to "Hit on itself", "Residual damage"). The effects of moves
 //! and the moves that last build on this.
 //!
-//! - `picks`: what a side's choice becomes
+//! - `picks`: what a side's choice becomes, the move that it names, and whether a move goes on
 //! - `gate_tests`: what keeps a member from acting
 //! - `gate_answer`: the result of the gate
 //! - `hit_on_itself`: the hit of a confused member on itself
 //! - `infliction`: a status that begins
 //! - `clauses`: what the sleep clause and the freeze clause count
 //! - `confusion`: confusion that begins
+//! - `bide`: Bide, as it begins
+//! - `substitutes`: making a substitute
 //! - `failure`: a move that fails
 //! - `penalties`: the effect of paralysis and a burn on a stat
 //! - `stages`: the stat at a stage
 //! - `stage_shift`: stages that rise and fall
 //! - `residual_damage`: the damage of poison, a burn and Leech Seed
+
+mod bide {
+    //! Bide, as it begins ([docs/MECHANICS.md, "Late effects"](https://hibsuloy.example/gen1/blob/main/docs/MECHANICS.md#late-effects)). What it stores and lets out is in gen1_multiturn.
+
+    use crate::generated::events::EventSink;
+    use crate::generated::layout::Packed;
+    use crate::generated::machine::{Event, Side, Volatile};
+    use crate::generated::rolls::{Look, Rolls};
+
+    /// Begins the Bide of `side`, for two or three turns, by one draw, without energy yet ([docs/MECHANICS.md](https://hibsuloy.example/gen1/blob/main/docs/MECHANICS.md), "Going
+    /// on").
+    ///
+    /// It writes `Start`, for which it needs one free place in `events`. Nothing else changes.
+    pub fn start_bide<R: Rolls, S: EventSink>(
+        battle: &mut Packed,
+        side: Side,
+        random: &mut R,
+        events: &mut S,
+    ) {
+        let byte = random.draw_as(Look::Remainder(2));
+        bide_for(battle, side, byte, events);
+    }
+
+    fn bide_for<S: EventSink>(battle: &mut Packed, side: Side, byte: u8, events: &mut S) {
+        battle.put_bide(side, byte % 2 + 2, 0);
+        events.push(Event::Start(battle.who(side), Volatile::Bide));
+    }
+}
 
 mod clauses {
     //! What the clauses count: living members of a side that sleep by the foe's moves, or that are frozen
@@ -643,10 +673,12 @@ mod penalties {
 }
 
 mod picks {
-    //! What a side's choice becomes as the turn begins ([docs/MECHANICS.md, "Picks"](https://hibsuloy.example/gen1/blob/main/docs/MECHANICS.md#picks)).
+    //! What a side's choice becomes as the turn begins, the number of its move, and whether a move goes on
+    //! ([docs/MECHANICS.md, "Picks"](https://hibsuloy.example/gen1/blob/main/docs/MECHANICS.md#picks), "Going on").
 
     use crate::generated::layout::{Conditions, Packed};
     use crate::generated::machine::{Choice, Pick, Side, UsedMove};
+    use crate::generated::tables::STRUGGLE;
 
     /// What a choice of a move becomes ([docs/MECHANICS.md, "Picks"](https://hibsuloy.example/gen1/blob/main/docs/MECHANICS.md#picks)).
     ///
@@ -693,6 +725,35 @@ mod picks {
     // Whether something keeps the member at its current move.
     fn must_continue(battle: &Packed, side: Side) -> bool {
         battle.has_any(side, Conditions::CONTINUES)
+    }
+
+    /// Whether the member of `side` that is out goes on with its move: by thrashing, trapping or Rage ([docs/MECHANICS.md](https://hibsuloy.example/gen1/blob/main/docs/MECHANICS.md),
+    /// "Going on").
+    #[inline(always)] // docs/SPEED.md, "Hints on inlining"
+    pub fn keeps_going(battle: &Packed, side: Side) -> bool {
+        if battle.is_on(side, Conditions::THRASH) {
+            return true;
+        }
+        if battle.is_on(side, Conditions::TRAPPING) {
+            return true;
+        }
+        battle.is_on(side, Conditions::RAGE)
+    }
+
+    /// The number of a move of `side`, by where it comes from, 1 to 165, or 0 for none ([docs/MECHANICS.md, "Picks"](https://hibsuloy.example/gen1/blob/main/docs/MECHANICS.md#picks)).
+    ///
+    /// A slot is one of the member that is out.
+    pub fn number_of(battle: &Packed, side: Side, used: UsedMove) -> u8 {
+        match used {
+            UsedMove::Nothing => 0,
+            UsedMove::Slot(slot) => battle.move_in(side, among_slots(slot)),
+            UsedMove::Struggle => STRUGGLE,
+        }
+    }
+
+    /// Returns a slot from 1 to 4 as it is, and one of these for any other byte.
+    pub fn among_slots(slot: u8) -> u8 {
+        slot.wrapping_sub(1) % 4 + 1
     }
 }
 
@@ -975,7 +1036,54 @@ mod stages {
     }
 }
 
+mod substitutes {
+    //! Making a substitute ([docs/MECHANICS.md, "Early effects"](https://hibsuloy.example/gen1/blob/main/docs/MECHANICS.md#early-effects)).
 
+    use crate::generated::status::failure::fail;
+    use crate::generated::events::EventSink;
+    use crate::generated::hits::lose_hp;
+    use crate::generated::layout::{Conditions, Packed};
+    use crate::generated::machine::{DamageSource, Event, Side, Volatile};
+
+    /// Makes a Substitute for the member of `side` that is out ([docs/MECHANICS.md, "Early effects"](https://hibsuloy.example/gen1/blob/main/docs/MECHANICS.md#early-effects)).
+    ///
+    /// It costs a quarter of the maximum HP, and has as many HP. It fails if one is up, or if the member has fewer HP
+    /// than that. With exactly a quarter it is made, and the member falls. It writes `Fail`, or `Start` and `Damage`, and
+    /// needs two free places in `events`. Nothing else changes.
+    pub fn substitute<S: EventSink>(battle: &mut Packed, side: Side, events: &mut S) {
+        make_substitute(battle, side, events);
+    }
+
+    /// The same, as a part of an action. Returns whether it fails, which ends the action ([docs/MECHANICS.md](https://hibsuloy.example/gen1/blob/main/docs/MECHANICS.md), "Early
+    /// effects").
+    pub fn make_substitute<S: EventSink>(battle: &mut Packed, side: Side, events: &mut S) -> bool {
+        if battle.is_on(side, Conditions::SUBSTITUTE) {
+            fail(battle, side, events);
+            return true;
+        }
+        let cost = quarter(battle, side);
+        if battle.hp(side) < u16::from(cost) {
+            fail(battle, side, events);
+            return true;
+        }
+        pay_for_substitute(battle, side, cost, events);
+        false
+    }
+
+    // A quarter of the maximum HP, which is at most 999.
+    fn quarter(battle: &Packed, side: Side) -> u8 {
+        (battle.max_hp(side) / 4).min(249) as u8
+    }
+
+    fn pay_for_substitute<S: EventSink>(battle: &mut Packed, side: Side, cost: u8, events: &mut S) {
+        battle.put_substitute(side, Some(cost));
+        events.push(Event::Start(battle.who(side), Volatile::Substitute));
+        lose_hp(battle, side, DamageSource::Direct, cost as u16, events);
+    }
+}
+
+
+pub use bide::start_bide;
 pub use clauses::{has_frozen_member, has_marked_sleeper};
 pub use confusion::confuse;
 pub use failure::fail;
@@ -983,6 +1091,7 @@ pub use gate_answer::Gate;
 pub use gate_tests::gate;
 pub use infliction::{inflict, inflict_status};
 pub use penalties::take_penalty;
-pub use picks::{pick, used_by};
+pub use picks::{among_slots, keeps_going, number_of, pick, used_by};
 pub use residual_damage::{residual, suffers};
 pub use stage_shift::{lower_stage, raise_stage, shift_stage};
+pub use substitutes::{make_substitute, substitute};

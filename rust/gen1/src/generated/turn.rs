@@ -192,12 +192,12 @@ mod action_steps {
     use crate::generated::turn::action_damage::damage_of;
     use crate::generated::turn::lead_up::lead_up;
     use crate::generated::turn::strike::strike;
-    use crate::generated::effects::{group_two_knowing, is_late_but_bide};
+    use crate::generated::effects::{group_two_knowing, is_late};
     use crate::generated::events::EventSink;
     use crate::generated::hits::Known;
     use crate::generated::layout::Packed;
     use crate::generated::machine::{Pick, Side};
-    use crate::generated::multiturn::{bide_knowing, start_bide};
+    use crate::generated::multiturn::bide_knowing;
     use crate::generated::rolls::Rolls;
     use crate::generated::tables::{Effect, MoveId};
 
@@ -294,12 +294,8 @@ mod action_steps {
         random: &mut R,
         events: &mut S,
     ) -> bool {
-        if is_late_but_bide(id.effect()) {
+        if is_late(id.effect()) {
             group_two_knowing(battle, side, id, known, random, events);
-            return true;
-        }
-        if id.effect().bides() {
-            start_bide(battle, side, random, events);
             return true;
         }
         false
@@ -341,14 +337,14 @@ mod lead_up {
     //! first ([docs/MECHANICS.md, "Action"](https://hibsuloy.example/gen1/blob/main/docs/MECHANICS.md#action), steps 3 to 6).
 
     use crate::generated::turn::used_move::use_move;
-    use crate::generated::effects::{group_one_knowing, is_early_but_substitute};
+    use crate::generated::effects::{group_one_knowing, is_early};
     use crate::generated::events::EventSink;
     use crate::generated::hits::Known;
     use crate::generated::layout::Packed;
     use crate::generated::machine::{Pick, Side};
-    use crate::generated::multiturn::{charge_knowing, make_substitute, thrash_knowing, trap_knowing};
+    use crate::generated::multiturn::{charge_knowing, thrash_knowing, trap_knowing};
     use crate::generated::rolls::Rolls;
-    use crate::generated::tables::{Effect, MoveId};
+    use crate::generated::tables::MoveId;
 
     pub(crate) fn lead_up<R: Rolls, S: EventSink>(
         battle: &mut Packed,
@@ -391,12 +387,8 @@ mod lead_up {
         random: &mut R,
         events: &mut S,
     ) -> bool {
-        if is_early_but_substitute(id.effect()) {
+        if is_early(id.effect()) {
             group_one_knowing(battle, side, id, known, random, events);
-            return true;
-        }
-        if makes_substitute(id.effect()) {
-            make_substitute(battle, side, events);
             return true;
         }
         false
@@ -418,10 +410,6 @@ mod lead_up {
         if id.effect().thrashes() {
             thrash_knowing(battle, side, id, known, random, events);
         }
-    }
-
-    fn makes_substitute(effect: Effect) -> bool {
-        matches!(effect, Effect::Substitute)
     }
 }
 
@@ -478,10 +466,10 @@ mod taken_move {
     //! The move that an action takes, and whether it goes on ([docs/MECHANICS.md, "Picks"](https://hibsuloy.example/gen1/blob/main/docs/MECHANICS.md#picks), "Going on").
 
     use crate::generated::hits::Known;
-    use crate::generated::layout::{Conditions, Packed};
-    use crate::generated::machine::{Pick, Side, UsedMove};
-    use crate::generated::status::used_by;
-    use crate::generated::tables::{MoveId, STRUGGLE};
+    use crate::generated::layout::Packed;
+    use crate::generated::machine::{Pick, Side};
+    use crate::generated::status::{keeps_going, number_of, used_by};
+    use crate::generated::tables::MoveId;
 
     // A move that goes on costs no PP. If its condition has ended meanwhile, the move is used as a new one.
     pub(crate) fn see_if_going_on(battle: &Packed, side: Side, pick: Pick, known: &mut Known) {
@@ -499,16 +487,6 @@ mod taken_move {
         matches!(pick, Pick::Use(_))
     }
 
-    fn keeps_going(battle: &Packed, side: Side) -> bool {
-        if battle.is_on(side, Conditions::THRASH) {
-            return true;
-        }
-        if battle.is_on(side, Conditions::TRAPPING) {
-            return true;
-        }
-        battle.is_on(side, Conditions::RAGE)
-    }
-
     // The move that a pick uses. An action that comes this far always has one.
     #[inline(always)] pub(crate) fn move_taken(battle: &Packed, side: Side, pick: Pick) -> MoveId {
         let used = used_by(battle, side, pick);
@@ -516,20 +494,6 @@ mod taken_move {
             Some(id) => id,
             None => MoveId::default(),
         }
-    }
-
-    // The number of a move, by where it comes from, or 0 for none.
-    pub(crate) fn number_of(battle: &Packed, side: Side, used: UsedMove) -> u8 {
-        match used {
-            UsedMove::Nothing => 0,
-            UsedMove::Slot(slot) => battle.move_in(side, among_slots(slot)),
-            UsedMove::Struggle => STRUGGLE,
-        }
-    }
-
-    // Returns a slot from 1 to 4 as it is, and one of these for any other byte.
-    pub(crate) fn among_slots(slot: u8) -> u8 {
-        slot.wrapping_sub(1) % 4 + 1
     }
 }
 
@@ -688,10 +652,10 @@ mod turn_choices {
 mod turn_order {
     //! Who acts first in a turn ([docs/MECHANICS.md, "Order of a turn"](https://hibsuloy.example/gen1/blob/main/docs/MECHANICS.md#order-of-a-turn)).
 
-    use crate::generated::turn::taken_move::number_of;
     use crate::generated::layout::Packed;
     use crate::generated::machine::Side;
     use crate::generated::rolls::{Look, Rolls};
+    use crate::generated::status::number_of;
     use crate::generated::tables::{COUNTER, Stat};
 
     const QUICK_ATTACK: u8 = 98;
@@ -906,12 +870,12 @@ mod turn_update {
 mod used_move {
     //! The use of a move: it becomes the current one, and costs PP ([docs/MECHANICS.md, "Action"](https://hibsuloy.example/gen1/blob/main/docs/MECHANICS.md#action), step 4).
 
-    use crate::generated::turn::taken_move::among_slots;
     use crate::generated::events::EventSink;
     use crate::generated::hits::Known;
     use crate::generated::layout::Packed;
     use crate::generated::machine::{Event, Pick, Side, UsedMove};
     use crate::generated::multiturn::make_current;
+    use crate::generated::status::among_slots;
     use crate::generated::tables::MoveId;
 
     // The user uses its move. A move of Bide's effect writes no event.

@@ -7,5 +7,5 @@ unfolding see_if_going_on set_going_on
 returns c = record {
   shown = λ events g p h.
       rw (c.begun.ensures, c.new.ensures)
-      (seeing _ set_going_on (c.keeps_going.ensures _ _ h.within) (acted (λ (a : Action). record a { going_on = c.keeps_going.result }) h));
+      (seeing _ set_going_on (c.keeps_going.ensures.stands _ _ h.within) (acted (λ (a : Action). record a { going_on = c.keeps_going.result }) h));
 }

@@ -1,5 +1,5 @@
 use Rattle.gen1_layout.proofs.Words.{arith, member_ok}
-use Rattle.gen1_multiturn.proofs.moves.substitute.quarter.Goals as goal
+use Rattle.gen1_status.proofs.substitutes.quarter.Goals as goal
 
 pub returns-clause-stands : goal.returns-clause-stands
 returns-clause-stands c g f h =

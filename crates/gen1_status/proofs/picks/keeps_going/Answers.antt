@@ -1,6 +1,6 @@
 use Rattle.std.proofs.Common.{◌≡◌}
 use Rattle.gen1_layout.proofs.Words.{false, is_some, refl, sym, true, underway_in, ◌∙◌}
-use Rattle.gen1_turn.proofs.taken_move.keeps_going.Goals as goal
+use Rattle.gen1_status.proofs.picks.keeps_going.Goals as goal
 
 pub returns-then-is_on : goal.returns-then-is_on
 returns-then-is_on c = record { stands = λ g f h. let one : is_some (underway_in c.args.side f).thrash ≡ true = sym (c.is_on.ensures.stands 1 refl g f h) ∙ c.if-is_on.true in rw one refl }

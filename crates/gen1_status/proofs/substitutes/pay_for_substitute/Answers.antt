@@ -4,7 +4,7 @@ use Rattle.gen1_machine.specs.declared.event.Volatile.TheVariants as volatiles
 use Rattle.gen1_machine.specs.Conditions.{with_substitute}
 use Rattle.gen1_machine.specs.EarlyEffects.{pay_for_substitute}
 use Rattle.gen1_machine.specs.Progress.{starts}
-use Rattle.gen1_multiturn.proofs.moves.substitute.pay_for_substitute.Goals as goal
+use Rattle.gen1_status.proofs.substitutes.pay_for_substitute.Goals as goal
 
 pub returns-clause-shown : goal.returns-clause-shown
 unfolding pay_for_substitute starts with_substitute

@@ -4,11 +4,11 @@ ghost use Rattle.gen1_layout.specs.Operations.{Does, DoesAnyway, anything, scene
 ghost use Rattle.gen1_layout.specs.Words.{AddsAtMost, HasRoom, Reads, false, member_in};
 ghost use Rattle.gen1_machine.specs.EarlyEffects.{make_substitute, pay_for_substitute};
 
+use crate::failure::fail;
 use gen1_events::EventSink;
 use gen1_hits::lose_hp;
 use gen1_layout::{Conditions, Packed};
 use gen1_machine::{DamageSource, Event, Side, Volatile};
-use gen1_status::fail;
 
 /// Makes a Substitute for the member of `side` that is out (docs/MECHANICS.md, "Early effects").
 ///
