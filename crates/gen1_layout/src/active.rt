@@ -18,6 +18,9 @@ use byteorder::{ByteOrder, LittleEndian};
 use gen1_machine::{Side, UsedMove};
 use gen1_tables::{Element, Stat};
 
+// A stage without changes.
+const MIDDLE: u8 = 6;
+
 impl Packed {
     /// The first type of the member that is out. It can differ from its species' type.
     pub fn first_type(&self, side: Side) -> Element
@@ -243,12 +246,12 @@ fn sent_block(place: u8, first: Element, second: Element, stats: [u16; 4]) -> [u
         place,
         first.number(),
         second.number(),
-        6,
-        6,
-        6,
-        6,
-        6,
-        6,
+        MIDDLE,
+        MIDDLE,
+        MIDDLE,
+        MIDDLE,
+        MIDDLE,
+        MIDDLE,
         low(stats[0]),
         high(stats[0]),
         low(stats[1]),

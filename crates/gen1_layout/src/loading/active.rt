@@ -10,7 +10,7 @@ use crate::offsets;
 use crate::offsets::{
     ACCURACY_STAGE, ATTACK_STAGE, BEFORE_MOVES, CONDITIONS, CURRENT_MOVE, DEFENSE_STAGE,
     DISABLED_SLOT, DISABLED_TURNS, ENERGY, EVASION_STAGE, FIRST_TYPE, KEPT_ACCURACY, PICKED_MOVE,
-    SECOND_TYPE, SPECIAL_STAGE, SPECIES, SPEED_STAGE, TURN, TURNS,
+    PLACE_IN_SIDE, SECOND_TYPE, SPECIAL_STAGE, SPECIES, SPEED_STAGE, TURN, TURNS,
 };
 use gen1_tables::{Effect, MoveId};
 
@@ -60,7 +60,7 @@ fn is_active(side: &[u8]) -> bool
     requires { length side.now ≡ 180 }
     ensures { IsTrue result ↔ PassesActive side.now }
 {
-    let place = side[144];
+    let place = side[PLACE_IN_SIDE];
     if !(1..=6).contains(&place) {
         return false;
     }

@@ -7,7 +7,7 @@ ghost use Rattle.gen1_layout.specs.LoadingActive.{out_bytes};
 ghost use Rattle.gen1_layout.specs.LoadingRequests.{any_lives, lives, Asks, PassesAsked, PassesLater, PassesStart, PassesTie};
 
 use crate::loading::bytes::{member_bytes, word};
-use crate::offsets::{HP, LIMIT, OUTCOME, REQUEST_ONE, REQUEST_TWO, TURN};
+use crate::offsets::{HP, LIMIT, OUTCOME, PLACE_IN_SIDE, REQUEST_ONE, REQUEST_TWO, TURN};
 
 // Whether a battle asks for what fits its turn, its outcome and its living members.
 pub(crate) fn pass(form: &[u8]) -> bool
@@ -110,5 +110,5 @@ fn out_lives(side: &[u8]) -> bool
     requires place { IsBetween 1 6 (slice_index side.now 144) }
     ensures value { result ≡ lives (out_bytes side.now) }
 {
-    lives(member_bytes(side, side[144]))
+    lives(member_bytes(side, side[PLACE_IN_SIDE]))
 }

@@ -9,7 +9,7 @@ ghost use Rattle.gen1_layout.specs.LoadingStats.{ComesFrom, PassesStats, PassesS
 use crate::loading::bytes::{active_bytes, member_bytes, word};
 use crate::offsets::{
     ATTACK, ATTACK_STAGE, CURRENT_ATTACK, CURRENT_DEFENSE, CURRENT_SPECIAL, CURRENT_SPEED, DEFENSE,
-    DEFENSE_STAGE, SPECIAL, SPECIAL_STAGE, SPEED, SPEED_STAGE, TURN,
+    DEFENSE_STAGE, PLACE_IN_SIDE, SPECIAL, SPECIAL_STAGE, SPEED, SPEED_STAGE, TURN,
 };
 use gen1_machine::now;
 use gen1_tables::Stat;
@@ -35,7 +35,7 @@ fn are_stats_at(side: &[u8], turn: u16) -> bool
     requires active { PassesActiveAt turn side.now }
     ensures passes { IsTrue result ↔ PassesStatsAt turn side.now }
 {
-    turn == 0 || are_stats(member_bytes(side, side[144]), active_bytes(side))
+    turn == 0 || are_stats(member_bytes(side, side[PLACE_IN_SIDE]), active_bytes(side))
 }
 
 fn are_stats(member: &[u8], active: &[u8]) -> bool
