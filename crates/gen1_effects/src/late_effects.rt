@@ -88,6 +88,7 @@ pub fn group_two_knowing<R: Rolls, S: EventSink>(
             put_to_sleep(battle, side, id, known, random, events);
         }
         Effect::Bide => start_bide(battle, side, random, events),
-        _ => {}
+        // `tie` leaves no other effect.
+        _ => unreachable!(),
     }
 }

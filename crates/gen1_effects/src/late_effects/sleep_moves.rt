@@ -116,7 +116,8 @@ fn fall_asleep<R: Rolls, S: EventSink>(
     ensures room { AddsAtMost S.room 1 events.old events.new }
 {
     let Some(byte) = random.until_as(|byte| byte % 8 != 0, Look::Remainder(8)) else {
-        return;
+        // Each byte from 0 to 255 is drawn, and most of them give a count.
+        unreachable!();
     };
     sleep_for(battle, side, marked, byte, events);
 }

@@ -611,7 +611,8 @@ mod late_effects {
             events: &mut S,
         ) {
             let Some(byte) = random.until_as(|byte| byte % 8 != 0, Look::Remainder(8)) else {
-                return;
+                // Each byte from 0 to 255 is drawn, and most of them give a count.
+                unreachable!();
             };
             sleep_for(battle, side, marked, byte, events);
         }
@@ -744,7 +745,8 @@ mod late_effects {
                 put_to_sleep(battle, side, id, known, random, events);
             }
             Effect::Bide => start_bide(battle, side, random, events),
-            _ => {}
+            // `tie` leaves no other effect.
+            _ => unreachable!(),
         }
     }
 }
@@ -889,6 +891,7 @@ mod side_effects {
             let two = battle.pp(side, 2) > 0;
             let three = battle.pp(side, 3) > 0;
             let four = battle.pp(side, 4) > 0;
+            // All four are read, so that no branch depends on which has PP.
             one | (two | (three | four))
         }
     }

@@ -41,6 +41,6 @@ returns-in-Bide-clause-shown t c origin g p untied h =
     rw (begins_bide (ruling_of g.setting.terms) s (move_at c.args.id) _ p is)
     (ended _ _ (start_bide s) (c.start_bide.ensures.shown origin (knowing c.args.known.now g) p (untied (ap bides is)) h))
 
-pub returns-in_default-clause-shown : goal.returns-in_default-clause-shown
-returns-in_default-clause-shown t c origin g p untied h =
-    absurd (no_other _ c.requires.tie (λ stat by is. c.in_default.not-StatUp stat by (c.effect.ensures ∙ is)) (λ stat by is. c.in_default.not-StatDown stat by (c.effect.ensures ∙ is)) (λ is. c.in_default.not-InflictSleep (c.effect.ensures ∙ is)) (λ is. c.in_default.not-Bide (c.effect.ensures ∙ is)))
+pub unreachable-requires : goal.unreachable-requires
+unreachable-requires t c =
+    no_other _ c.requires.tie (λ stat by is. c.in_default.not-StatUp stat by (c.effect.ensures ∙ is)) (λ stat by is. c.in_default.not-StatDown stat by (c.effect.ensures ∙ is)) (λ is. c.in_default.not-InflictSleep (c.effect.ensures ∙ is)) (λ is. c.in_default.not-Bide (c.effect.ensures ∙ is))

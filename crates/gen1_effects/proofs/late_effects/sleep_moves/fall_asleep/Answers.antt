@@ -1,13 +1,13 @@
-use Rattle.gen1_layout.proofs.Words.{ap, arith, nat_tests, refl, still, ◌∙◌}
+use Rattle.std.proofs.Common.{◌≡◌}
+use Rattle.gen1_layout.proofs.Words.{ap, arith, false, lit<, nat_tests, refl, still, true, ◌∙◌}
 use Rattle.gen1_machine.specs.Ruling.{fall_asleep, is_sleep_count, sleep_for}
-use Rattle.gen1_effects.proofs.Searching.{drawn_none, drawn_until}
+use Rattle.gen1_effects.proofs.Searching.{drawn_until}
 use Rattle.gen1_effects.proofs.late_effects.sleep_moves.fall_asleep.Goals as goal
 
-pub returns-in_default-clause-shown : goal.returns-in_default-clause-shown
-unfolding fall_asleep
-returns-in_default-clause-shown t c origin g p clause h =
-    drawn_none is_sleep_count (sleep_for c.args.marked c.args.side) h
-    (c.in_default.ensures.none is_sleep_count (λ x answer lt post. grind (post, arith, nat_tests)))
+-- 1 gives a count, and each byte is drawn.
+pub unreachable-requires : goal.unreachable-requires
+unreachable-requires t c =
+    let none : true ≡ false = (c.in_default.ensures.none is_sleep_count (λ x answer lt post. grind (post, arith, nat_tests))).none_meets 1 (lit< tt) in cc
 
 pub returns-clause-shown : goal.returns-clause-shown
 unfolding fall_asleep
