@@ -1,5 +1,5 @@
 -- What a side may choose, as a number of twelve binary digits (docs/MECHANICS.md, "Offered choices").
-use Rattle.std.specs.Prelude.{Bool, List, [], if◌then◌else◌, map, nat_lt, not, ℕ, ◌%◌, ◌&&◌, ◌++◌, ◌+◌, ◌/◌, ◌==◌, ◌∷◌}
+use Rattle.std.specs.Prelude.{Bool, List, [], if◌then◌else◌, map, nat_lt, not, ℕ, ◌%◌, ◌&&◌, ◌++◌, ◌+◌, ◌/◌, ◌==◌, ◌≡◌, ◌≤◌, ◌∷◌}
 use Rattle.gen1_machine.specs.declared.choice.Choice.{Choice}
 use Rattle.gen1_machine.specs.declared.choice.Choice.TheVariants.{Move, Pass, Switch}
 use Rattle.gen1_machine.specs.declared.side.Side.{Side}
@@ -54,6 +54,11 @@ is_usable s f slot = nat_lt 0 (known_in slot (member_in s f).moves).pp && not (b
 -- For each slot, whether it has PP and isn't disabled.
 abbrev pub usable_of : Side → Field → List Bool
 usable_of s f = is_usable s f 1 ∷ is_usable s f 2 ∷ is_usable s f 3 ∷ is_usable s f 4 ∷ []
+
+-- Four bytes of at most 63, as binary digits: whether each is above 0.
+abbrev pub AreDigitsOf : ℕ → ℕ → ℕ → ℕ → ℕ → Type 0
+AreDigitsOf a b c d digits =
+    a ≤ 63 → b ≤ 63 → c ≤ 63 → d ≤ 63 → digits ≡ number_of_bits (nat_lt 0 a ∷ nat_lt 0 b ∷ nat_lt 0 c ∷ nat_lt 0 d ∷ [])
 
 -- Tests by rising numbers from one number on, with that of one number set to false.
 abbrev pub passing : ℕ → ℕ → List Bool → List Bool

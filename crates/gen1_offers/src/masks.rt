@@ -1,6 +1,6 @@
 //! What a side may choose, as a number of twelve binary digits, read straight from the bytes (docs/MECHANICS.md,
 //! "Offered choices"). Digits are gathered from the highest down, and each is one comparison with memory.
-ghost use Rattle.std.specs.Prelude.{Bool, List, [], false, length, nat_lt, ◌*◌, ◌++◌, ◌+◌, ◌<◌, ◌≡◌, ◌≤◌, ◌∷◌};
+ghost use Rattle.std.specs.Prelude.{Bool, List, false, length, ◌*◌, ◌++◌, ◌+◌, ◌<◌, ◌≡◌, ◌≤◌, ◌∷◌};
 ghost use Rattle.gen1_layout.specs.Words.{Field, Packs, Reads, Setting, Within, is_living, member_at, member_in, party, request_of, status_in};
 ghost use Rattle.gen1_layout.specs.Within.{Stands};
 ghost use Rattle.gen1_machine.specs.Layout.{member_block, number_of_bits, request_byte, status_byte};
@@ -8,7 +8,7 @@ ghost use Rattle.gen1_machine.specs.Rules.{bit_of};
 ghost use Rattle.gen1_machine.specs.OfferedChoices.{has_no_slot_in, moves_offered, offered_for};
 ghost use Rattle.gen1_machine.specs.State.{State};
 ghost use Rattle.gen1_machine.specs.declared.terms.Request.TheVariants as requests;
-ghost use Rattle.gen1_offers.specs.OfferedMask.{digits_of, living_of, mask_of, moves_and_pass, offered_mask, passing, usable_of};
+ghost use Rattle.gen1_offers.specs.OfferedMask.{AreDigitsOf, digits_of, living_of, mask_of, moves_and_pass, offered_mask, passing, usable_of};
 
 use crate::offered_choices::is_committed;
 use bitflags::Flags;
@@ -196,8 +196,7 @@ pub(crate) fn usable(battle: &Packed, side: Side, member: &[u8]) -> u32
 // product brings the four highest bits together.
 #[inline(always)]
 fn some_of_four(a: u8, b: u8, c: u8, d: u8) -> u32
-    ensures digits { a ≤ 63 → b ≤ 63 → c ≤ 63 → d ≤ 63
-        → result ≡ number_of_bits (nat_lt 0 a ∷ nat_lt 0 b ∷ nat_lt 0 c ∷ nat_lt 0 d ∷ []) }
+    ensures digits { AreDigitsOf a b c d result }
     ensures four { result < 16 }
 {
     let four = u32::from_le_bytes([a, b, c, d]);

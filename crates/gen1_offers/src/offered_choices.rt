@@ -159,7 +159,8 @@ fn move_in_slot(slot: u8) -> Choice
 {
     match MoveSlot::new(slot) {
         Some(slot) => Choice::Move(slot),
-        None => Choice::Pass,
+        // 0 to 4 are slots.
+        None => unreachable!(),
     }
 }
 
@@ -170,7 +171,8 @@ fn switch_to(place: u8) -> Choice
 {
     match Place::new(place) {
         Some(place) => Choice::Switch(place),
-        None => Choice::Pass,
+        // 1 to 6 are places.
+        None => unreachable!(),
     }
 }
 
@@ -192,5 +194,6 @@ pub(crate) fn has_no_slot(battle: &Packed, side: Side) -> bool
     let sleeps = battle.status(side).sleeps_or_freezes();
     let bides_or_traps = battle.has_any(side, Conditions::BIDE.union(Conditions::TRAPPING));
     let is_held = battle.is_on(side.other(), Conditions::TRAPPING);
+    // All three are read, so that no branch depends on which holds.
     sleeps | bides_or_traps | is_held
 }

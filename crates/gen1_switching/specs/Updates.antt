@@ -9,10 +9,11 @@ use Rattle.gen1_machine.specs.declared.side.Side.TheVariants.{One, Two}
 use Rattle.gen1_machine.specs.declared.terms.Outcome.TheVariants.{Ongoing}
 use Rattle.gen1_machine.specs.declared.terms.Request.{Request}
 use Rattle.gen1_machine.specs.State.{State}
+use Rattle.gen1_machine.specs.Plans.{Comes}
 use Rattle.gen1_machine.specs.Progress.{new_action}
 use Rattle.gen1_machine.specs.Step.{offers, opened, step, Accepted}
 use Rattle.gen1_machine.specs.Valid.{IsUnstarted}
-use Rattle.gen1_layout.specs.Operations.{Scene}
+use Rattle.gen1_layout.specs.Operations.{Premise, Scene}
 use Rattle.gen1_layout.specs.Parts.{Parts}
 use Rattle.gen1_layout.specs.Within.{setting_of, Stands}
 
@@ -23,6 +24,10 @@ frame_of s = record { setting = setting_of s; stream = Link s.seed; drawn = s.dr
 -- The update begins on any stream, at any place in it.
 abbrev pub drawing_on : Stream → ℕ → State → Progress
 drawing_on stream drawn s = record (opened s) { stream = stream; drawn = drawn }
+
+-- Each choice brings out a member of its side, if it is a switch.
+abbrev pub both_come : Choice → Choice → Premise
+both_come one two g p Then = Comes one One p.field → Comes two Two p.field → Then
 
 -- A battle that goes on. `asked` was asked for, and each side has chosen one of its offered choices.
 pub record Plays (s : State) (asked : Request) (one two : Choice) : Type 0 where

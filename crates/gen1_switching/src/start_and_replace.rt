@@ -3,7 +3,6 @@
 ghost use Rattle.gen1_layout.specs.Operations.{DoesWhere, holding, scene};
 ghost use Rattle.gen1_layout.specs.Words.{AddsAtMost, HasRoom, Shows, [], false};
 ghost use Rattle.gen1_machine.specs.declared.choice.Choice.TheVariants.{Pass};
-ghost use Rattle.gen1_machine.specs.declared.side.Side.TheVariants as sides;
 ghost use Rattle.gen1_machine.specs.declared.terms.Request.TheVariants.{Switch};
 ghost use Rattle.gen1_machine.specs.Plans.{Comes};
 ghost use Rattle.gen1_machine.specs.Ruling.{ruling_of};
@@ -12,7 +11,7 @@ ghost use Rattle.gen1_machine.specs.Step.{close_update, opened};
 ghost use Rattle.gen1_machine.specs.SwitchingIn.{replace, send_if_chosen, start};
 ghost use Rattle.gen1_machine.specs.Valid.{IsUnstarted};
 ghost use Rattle.gen1_layout.specs.Within.{Stands, setting_of};
-ghost use Rattle.gen1_switching.specs.Updates.{Plays, Starts, Steps, Updated, frame_of};
+ghost use Rattle.gen1_switching.specs.Updates.{Plays, Starts, Steps, Updated, both_come, frame_of};
 
 use crate::switching_in::send_first;
 use crate::{close, send_out};
@@ -81,9 +80,8 @@ pub fn send_both_first<S: EventSink>(battle: &mut Packed, events: &mut S)
 #[inline(never)] // docs/SPEED.md, "Hints on inlining"
 fn send_both_chosen<S: EventSink>(battle: &mut Packed, one: Choice, two: Choice, events: &mut S)
     requires space { HasRoom S.room 2 events.old }
-    ensures shown { DoesWhere
-        (λ g p Then. Comes one sides.One p.field → Comes two sides.Two p.field → Then)
-        (scene S.tells battle events) false (λ r. replace one two) }
+    ensures shown { DoesWhere (both_come one two) (scene S.tells battle events) false
+        (λ r. replace one two) }
     ensures room { AddsAtMost S.room 2 events.old events.new }
 {
     send_if_chosen(battle, Side::One, one, events);

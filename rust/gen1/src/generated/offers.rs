@@ -437,14 +437,16 @@ mod offered_choices {
     fn move_in_slot(slot: u8) -> Choice {
         match MoveSlot::new(slot) {
             Some(slot) => Choice::Move(slot),
-            None => Choice::Pass,
+            // 0 to 4 are slots.
+            None => unreachable!(),
         }
     }
 
     fn switch_to(place: u8) -> Choice {
         match Place::new(place) {
             Some(place) => Choice::Switch(place),
-            None => Choice::Pass,
+            // 1 to 6 are places.
+            None => unreachable!(),
         }
     }
 
@@ -462,6 +464,7 @@ mod offered_choices {
         let sleeps = battle.status(side).sleeps_or_freezes();
         let bides_or_traps = battle.has_any(side, Conditions::BIDE.union(Conditions::TRAPPING));
         let is_held = battle.is_on(side.other(), Conditions::TRAPPING);
+        // All three are read, so that no branch depends on which holds.
         sleeps | bides_or_traps | is_held
     }
 }

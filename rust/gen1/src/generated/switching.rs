@@ -32,7 +32,8 @@ mod falls {
         }
     }
 
-    /// Closes an update like [`close`], if both members that are out live and the battle goes on. It tests neither again.
+    /// Closes an update like [`close`], if both members that are out live and the battle goes on. It tests neither again:
+    /// the next turn begins, or the battle is tied at its turn limit.
     ///
     /// It writes at most one event, and needs one free place in `events`.
     #[inline(always)] // docs/SPEED.md, "Hints on inlining"
