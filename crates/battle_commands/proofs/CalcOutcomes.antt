@@ -30,7 +30,7 @@ due_found input s fits sheet one two usual =
     let short : nat_lt input_limit (length input) ≡ false = search rules in
     rw (short, sheet, one, two, usual) refl
 
--- the input is no sheet
+-- no sheet can be read from the input
 pub finds_no_sheet : (fault : SheetFault) (input : List ℕ) → length input ≤ input_limit → Gives (λ (sheet : CalcSheet). sheet) (Err fault) (input_of calc_sheet_of input)
     → Finds (Err (of_sheet fault)) (damages_due input)
 unfolding damages_due

@@ -57,7 +57,7 @@ opens_no_input key meaning (Log number) told h = absurd h
 opens_no_input key meaning Calc told h = absurd h
 opens_no_input key meaning Write told h = absurd h
 
--- the input is no sheet
+-- no sheet can be read from the input
 pub opens_no_sheet : {A : Type 0} (key : Key) (meaning : Data → Result A Misfit) (fault : SheetFault) (input : List ℕ) → length input ≤ input_limit
     → Gives sheet_view (Err fault) (input_of (sheet_of key meaning) input) → Opens (Err (of_sheet fault)) (asked_of key meaning input)
 unfolding asked_of

@@ -6,7 +6,7 @@ use Rattle.battle_input.specs.declared.fault.SheetFault.TheVariants.{Json as NoS
 use Rattle.battle_commands.specs.declared.fault.ToolFault.{ToolFault}
 use Rattle.battle_commands.specs.declared.fault.ToolFault.TheVariants.{Json, TooLong, Team, Pair, Log, Calc, Read, Write, Memory}
 
--- why there is no sheet
+-- why no sheet can be read
 abbrev pub of_sheet : SheetFault → ToolFault
 of_sheet (NoSheet fault) = Json fault
 of_sheet NoMemory = Memory

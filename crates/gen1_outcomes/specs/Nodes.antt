@@ -50,7 +50,7 @@ pub record IsChance (nodes : Nodes) (c : Chance) : Type 0 where
   pub without : nodes.len ≡ 0 → (c.num ≡ 1) × (c.whole ≡ 1)
   pub last : (past : Node) → 0 < nodes.len → IsThen (slice_index_or nodes.list (nodes.len - 1) past) c
 
--- A draw is added behind the others: its byte, how many it may have, and the probability of those before it.
+-- A draw is added after the others: its byte, how many it may have, and the probability of those before it.
 pub record Adds (drawn : ℕ) (seen : Look) (may : ByteSet) (old new : Nodes) : Type 0 where
   pub length : new.len ≡ old.len + 1
   pub classes : new.damage_classes ≡ old.damage_classes
