@@ -1,4 +1,5 @@
-"""Hints on inlining for the plain build alone (docs/SPEED.md, "Hints on inlining"). In the proved build the same ones cost instructions."""
+"""Hints on inlining for the plain build alone (docs/SPEED.md, "Hints on inlining"). Those that were counted
+in the proved build cost instructions there."""
 import re
 
 # What reads or writes a field: all functions of these modules of gen1_layout.
@@ -6,10 +7,11 @@ FIELDS = {"active", "codes", "condition_fields", "conditions", "event_fields", "
 NOT_FIELDS = {"clone", "flags", "of_bytes"}
 INLINED = {
     "gen1_engine": {"result"},
-    "gen1_hits": {"current_stats", "hit_or_miss", "own_stats", "type_steps", "types"},
-    "gen1_multiturn": {"hit_effect", "land_hit", "note_first_hit"},
+    "gen1_events": {"write_damage", "write_heal", "write_move", "write_switch"},
+    "gen1_hits": {"current_stats", "hit_or_miss", "land", "own_stats", "type_steps", "types"},
+    "gen1_multiturn": {"bide_knowing", "hit_effect", "land_hit", "note_effectiveness", "note_first_hit"},
     "gen1_switching": {"coming_out", "faint_and_settle", "put_out", "tell_coming_out"},
-    "gen1_turn": {"damage_unless_landing", "is_cut", "move_taken"},
+    "gen1_turn": {"carry_out", "damage_unless_landing", "is_cut", "move_taken"},
 }
 COLD = {"gen1_switching": {"put_out_with_penalty"}}
 FUNCTION = re.compile(r"( *)((?:pub(?:\([a-z]+\))? )?(?:const )?fn (\w+)\b.*)")

@@ -695,7 +695,7 @@ mod landing {
     ///
     /// On HP the last damage becomes at most the HP that were there. Damage of 0 changes nothing. At most one event is
     /// written, and it needs one free place in `events`.
-    pub fn land<S: EventSink>(battle: &mut Packed, user: Side, damage: u16, events: &mut S) -> Landed {
+    #[inline(always)] pub fn land<S: EventSink>(battle: &mut Packed, user: Side, damage: u16, events: &mut S) -> Landed {
         if damage == 0 {
             return Landed::Hp;
         }

@@ -58,7 +58,7 @@ mod first_hit {
         }
     }
 
-    fn note_effectiveness<S: EventSink>(battle: &Packed, side: Side, id: MoveId, events: &mut S) {
+    #[inline(always)] fn note_effectiveness<S: EventSink>(battle: &Packed, side: Side, id: MoveId, events: &mut S) {
         let foe = side.other();
         let factors = effectiveness(id.kind(), battle.first_type(foe), battle.second_type(foe));
         let doubling = how_many(20, factors);
@@ -469,7 +469,7 @@ mod moves {
         ///
         /// If it stores, the action ends, and `true` is returned. If it lets out its energy, `known` holds that, and whether
         /// it is a miss. It needs one free place in `events`. Nothing else changes.
-        pub fn bide_knowing<S: EventSink>(
+        #[inline(always)] pub fn bide_knowing<S: EventSink>(
             battle: &mut Packed,
             side: Side,
             known: &mut Known,

@@ -202,7 +202,7 @@ mod action_steps {
     use crate::generated::tables::{Effect, MoveId};
 
     // The energy of Bide skips the steps before the strike. Returns whether the rest of the action was skipped.
-    pub(crate) fn carry_out<R: Rolls, S: EventSink>(
+    #[inline(always)] pub(crate) fn carry_out<R: Rolls, S: EventSink>(
         battle: &mut Packed,
         side: Side,
         pick: Pick,
