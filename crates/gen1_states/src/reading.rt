@@ -10,6 +10,12 @@ ghost use Rattle.gen1_states.specs.Reading.{active_now, active_state, member_sta
 use crate::plain::{ActiveState, BattleState, MemberState, SideState};
 use bitflags::Flags;
 use gen1_layout::Packed;
+use gen1_layout::offsets::{
+    ACCURACY_STAGE, ATTACK_STAGE, BAD_POISON, CONFUSED, CURRENT_MOVE, DEFENSE_STAGE, DISABLED_SLOT,
+    DISABLED_TURNS, EVASION_STAGE, FIRST_TYPE, INDEX, KEPT_ACCURACY, LEVEL, MARK, MOVES, OUTCOME,
+    PICKED_MOVE, PLACE, PP, REQUEST_ONE, REQUEST_TWO, RULES, SECOND_TYPE, SPECIAL_STAGE, SPECIES,
+    SPEED_STAGE, SUBSTITUTE, TURNS,
+};
 use gen1_machine::Side;
 use gen1_stats::Status;
 use gen1_tables::Stat;
@@ -24,10 +30,10 @@ pub fn state_of(battle: &Packed) -> BattleState
         turn: battle.turn(),
         limit: battle.limit(),
         last_damage: battle.last_damage(),
-        rules: header[19],
-        outcome: header[16],
-        requests: [header[17], header[18]],
-        index: header[5],
+        rules: header[RULES],
+        outcome: header[OUTCOME],
+        requests: [header[REQUEST_ONE], header[REQUEST_TWO]],
+        index: header[INDEX],
         numbers: [
             header[6], header[7], header[8], header[9], header[10], header[11], header[12],
             header[13], header[14], header[15],
@@ -59,13 +65,18 @@ fn member_state(battle: &Packed, side: Side, place: u8) -> MemberState
     let block = battle.member(side, place);
     let status = battle.status_at(side, place);
     MemberState {
-        species: block[0],
-        level: block[1],
+        species: block[SPECIES],
+        level: block[LEVEL],
         status: kind_of(status),
         sleep: sleep_of(status),
-        marked: block[23],
-        moves: [block[15], block[16], block[17], block[18]],
-        pp: [block[19], block[20], block[21], block[22]],
+        marked: block[MARK],
+        moves: [
+            block[MOVES],
+            block[MOVES + 1],
+            block[MOVES + 2],
+            block[MOVES + 3],
+        ],
+        pp: [block[PP], block[PP + 1], block[PP + 2], block[PP + 3]],
         hp: battle.hp_at(side, place),
         max_hp: battle.max_hp_at(side, place),
         stats: battle.own_stats_at(side, place),
@@ -140,17 +151,24 @@ fn active_state(battle: &Packed, side: Side) -> ActiveState
             battle.current_stat(side, Stat::Special),
         ],
         energy: battle.energy(side),
-        place: block[0],
-        types: [block[1], block[2]],
-        stages: [block[3], block[4], block[5], block[6], block[7], block[8]],
-        current_move: block[29],
-        picked_move: block[30],
-        kept_accuracy: block[31],
-        substitute: block[21],
-        confusion: block[22],
-        disabled_slot: block[23],
-        disabled_turns: block[24],
-        bad_poison: block[25],
-        turns: block[26],
+        place: block[PLACE],
+        types: [block[FIRST_TYPE], block[SECOND_TYPE]],
+        stages: [
+            block[ATTACK_STAGE],
+            block[DEFENSE_STAGE],
+            block[SPEED_STAGE],
+            block[SPECIAL_STAGE],
+            block[ACCURACY_STAGE],
+            block[EVASION_STAGE],
+        ],
+        current_move: block[CURRENT_MOVE],
+        picked_move: block[PICKED_MOVE],
+        kept_accuracy: block[KEPT_ACCURACY],
+        substitute: block[SUBSTITUTE],
+        confusion: block[CONFUSED],
+        disabled_slot: block[DISABLED_SLOT],
+        disabled_turns: block[DISABLED_TURNS],
+        bad_poison: block[BAD_POISON],
+        turns: block[TURNS],
     }
 }
