@@ -12,6 +12,7 @@ ghost use Rattle.gen1_machine.specs.declared.terms.Request.TheVariants as reques
 
 use crate::masks::{SLEEPS_OR_FREEZES, asked, lives, usable};
 use crate::offered_choices::{has_no_slot, is_committed, is_disabled};
+use gen1_layout::offsets::{PLACE, STATUS};
 use gen1_layout::{Conditions, Packed};
 use gen1_machine::{Choice, Side};
 
@@ -91,7 +92,7 @@ fn may_use(battle: &Packed, side: Side, slot: u8) -> bool
         return picks_nothing(battle, side);
     }
     let place = battle.place(side);
-    if has_no_pick(battle, side, battle.member(side, place)[14]) {
+    if has_no_pick(battle, side, battle.member(side, place)[STATUS]) {
         return false;
     }
     has_use(battle, side, slot, battle.pp_at(side, place, slot))
@@ -170,5 +171,5 @@ fn may_switch(battle: &Packed, side: Side, place: u8) -> bool
 fn is_out(battle: &Packed, side: Side, place: u8) -> bool
     ensures { Reads battle.now result λ f. place == (active_in side f).place }
 {
-    place == battle.active(side)[0]
+    place == battle.active(side)[PLACE]
 }

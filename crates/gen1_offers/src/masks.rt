@@ -12,6 +12,7 @@ ghost use Rattle.gen1_offers.specs.OfferedMask.{AreDigitsOf, digits_of, living_o
 
 use crate::offered_choices::is_committed;
 use bitflags::Flags;
+use gen1_layout::offsets::{PP, REQUEST_ONE, REQUEST_TWO, STATUS};
 use gen1_layout::{Conditions, Packed};
 use gen1_machine::{Outcome, Side};
 
@@ -57,8 +58,8 @@ pub(crate) fn asked(battle: &Packed, side: Side) -> u8
         → result ≡ request_byte (request_of side f) }
 {
     match side {
-        Side::One => battle.header()[17],
-        Side::Two => battle.header()[18],
+        Side::One => battle.header()[REQUEST_ONE],
+        Side::Two => battle.header()[REQUEST_TWO],
     }
 }
 
@@ -154,7 +155,7 @@ fn moves(battle: &Packed, side: Side, member: &[u8]) -> u32
         → result ≡ number_of_bits (digits_of moves_and_pass (moves_offered side f)) }
     ensures six { result < 64 }
 {
-    if picks_none(battle, side, member[14]) {
+    if picks_none(battle, side, member[STATUS]) {
         return 2;
     }
     let usable = usable(battle, side, member);
@@ -185,7 +186,7 @@ pub(crate) fn usable(battle: &Packed, side: Side, member: &[u8]) -> u32
         → result ≡ number_of_bits (false ∷ usable_of side f) }
     ensures five { result < 32 }
 {
-    let all = 2 * some_of_four(member[19], member[20], member[21], member[22]);
+    let all = 2 * some_of_four(member[PP], member[PP + 1], member[PP + 2], member[PP + 3]);
     match battle.disabled(side) {
         Some(disabled) => all & !(1_u32 << (disabled.slot % 32) as u32),
         None => all,

@@ -13,6 +13,7 @@ mod choice_test {
 
     use crate::generated::offers::masks::{SLEEPS_OR_FREEZES, asked, lives, usable};
     use crate::generated::offers::offered_choices::{has_no_slot, is_committed, is_disabled};
+    use crate::generated::layout::offsets::{PLACE, STATUS};
     use crate::generated::layout::{Conditions, Packed};
     use crate::generated::machine::{Choice, Side};
 
@@ -74,7 +75,7 @@ mod choice_test {
             return picks_nothing(battle, side);
         }
         let place = battle.place(side);
-        if has_no_pick(battle, side, battle.member(side, place)[14]) {
+        if has_no_pick(battle, side, battle.member(side, place)[STATUS]) {
             return false;
         }
         has_use(battle, side, slot, battle.pp_at(side, place, slot))
@@ -131,7 +132,7 @@ mod choice_test {
     // Whether the member at a place is out, by the byte of the active place.
     #[inline(always)]
     fn is_out(battle: &Packed, side: Side, place: u8) -> bool {
-        place == battle.active(side)[0]
+        place == battle.active(side)[PLACE]
     }
 }
 
@@ -187,6 +188,7 @@ mod masks {
 
     use crate::generated::offers::offered_choices::is_committed;
     use crate::adapter::bitflags::Flags;
+    use crate::generated::layout::offsets::{PP, REQUEST_ONE, REQUEST_TWO, STATUS};
     use crate::generated::layout::{Conditions, Packed};
     use crate::generated::machine::{Outcome, Side};
 
@@ -223,8 +225,8 @@ mod masks {
     #[inline(always)]
     pub(crate) fn asked(battle: &Packed, side: Side) -> u8 {
         match side {
-            Side::One => battle.header()[17],
-            Side::Two => battle.header()[18],
+            Side::One => battle.header()[REQUEST_ONE],
+            Side::Two => battle.header()[REQUEST_TWO],
         }
     }
 
@@ -286,7 +288,7 @@ mod masks {
     // Whether Pass and each move is offered, below the digits of switches, by the bytes of the member that is out.
     #[inline(always)]
     fn moves(battle: &Packed, side: Side, member: &[u8]) -> u32 {
-        if picks_none(battle, side, member[14]) {
+        if picks_none(battle, side, member[STATUS]) {
             return 2;
         }
         let usable = usable(battle, side, member);
@@ -308,7 +310,7 @@ mod masks {
     // For each slot, whether it has PP and isn't disabled, above one digit that is 0.
     #[inline(always)]
     pub(crate) fn usable(battle: &Packed, side: Side, member: &[u8]) -> u32 {
-        let all = 2 * some_of_four(member[19], member[20], member[21], member[22]);
+        let all = 2 * some_of_four(member[PP], member[PP + 1], member[PP + 2], member[PP + 3]);
         match battle.disabled(side) {
             Some(disabled) => all & !(1_u32 << (disabled.slot % 32) as u32),
             None => all,
