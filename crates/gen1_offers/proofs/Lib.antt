@@ -15,3 +15,5 @@ pub mod Digits
 -- The digits of offered choices, and the choices of digits.
 pub mod MaskDigits
 pub mod MaskChoices
+-- The table of six digits: how many of them are 1, and which.
+pub mod MaskTable

@@ -1,16 +1,8 @@
--- The choices of a mask: how many there are, which is at a place, and that the mask of the offered choices gives
--- their list.
-use Rattle.std.proofs.Common.{Bool, List, Option, [], ap, arith, drop, false, get_or, inl, inr, length, min, refl, suc, sym, true, zero, ℕ, ◌%◌, ◌*◌, ◌++◌, ◌+◌, ◌-◌, ◌/◌, ◌<◌, ◌==◌, ◌^◌, ◌≡◌, ◌≢◌, ◌≤◌, ◌⊎◌, ◌∙◌, ◌∷◌}
+-- The choices of a mask. The mask of the offered choices gives their list.
+use Rattle.std.proofs.Common.{Bool, List, Option, [], ap, arith, false, inl, inr, length, refl, sym, true, ℕ, ◌%◌, ◌++◌, ◌+◌, ◌/◌, ◌<◌, ◌==◌, ◌≡◌, ◌≢◌, ◌≤◌, ◌⊎◌, ◌∙◌, ◌∷◌}
 use Rattle.std.specs.Prelude.{if◌then◌else◌}
-use Rattle.std.proofs.lemmas.Bool.{cases_eq, cases_lt}
-use Rattle.std.proofs.lemmas.List.{get_or-drop, length-append, length-drop}
-use Rattle.std.proofs.lemmas.Nat.{ones_le_self}
-use Rattle.std.proofs.lemmas.Nat.Bits.{bit_at-suc, bit_at_lowest}
-use Rattle.std.proofs.Math.Nat.{div-eq_of_lt, pow-le-pow_right}
-use Rattle.std.specs.Int.{bit_at}
-use Rattle.std.specs.Int.Bits.{and_self, and_step}
-use Rattle.std.specs.Int.Count.{ones_step}
-use Rattle.std.specs.Int.RustNames.{bit_and, count_ones}
+use Rattle.std.proofs.lemmas.Bool.{cases_eq}
+use Rattle.std.proofs.lemmas.List.{length-append}
 use Rattle.gen1_stats.specs.declared.known_move.KnownMove.{KnownMove}
 use Rattle.gen1_stats.specs.Members.{IsBetween, Member, is_living}
 use Rattle.gen1_machine.specs.declared.picks.DisabledSlot.{DisabledSlot}
@@ -45,71 +37,9 @@ chosen-odd m c cs odd = rw (equal_number (m % 2) 1 odd) refl
 pub chosen-even : (m : ℕ) (c : Choice) (cs : List Choice) → m % 2 ≡ 0 → chosen_by m (c ∷ cs) ≡ chosen_by (m / 2) cs
 chosen-even m c cs even = rw (other_number (m % 2) 1 (λ e. omega (arith, e, even))) refl
 
--- Their number
-
-abbrev pub room : List Choice → ℕ
-room [] = 1
-room (c ∷ cs) = 2 * room cs
-
-pub ones-chosen : (m : ℕ) (cs : List Choice) → m < room cs → count_ones m ≡ length (chosen_by m cs)
-ones-chosen m [] few = omega (arith, ones_le_self m)
-ones-chosen m (c ∷ cs) few = by (parity m) (ones-chosen (m / 2) cs (omega arith)) (ones_step m)
-  where
-    by : (m % 2 ≡ 1) ⊎ (m % 2 ≡ 0) → count_ones (m / 2) ≡ length (chosen_by (m / 2) cs) → count_ones m ≡ m % 2 + count_ones (m / 2)
-        → count_ones m ≡ length (chosen_by m (c ∷ cs))
-    by (inl odd) rest step = rw (chosen-odd m c cs odd) (omega (arith, odd, rest, step))
-    by (inr even) rest step = rw (chosen-even m c cs even) (omega (arith, even, rest, step))
-
--- Without the first
-
-half_of : (r m n q : ℕ) → r ≡ bit_and (m / 2) (n / 2) * 2 + q → q ≡ 0 → (r / 2 ≡ bit_and (m / 2) (n / 2)) × (r % 2 ≡ 0)
-half_of r m n q is none = (omega arith, omega arith)
-
-pub chosen-rest : (m : ℕ) (cs : List Choice) → chosen_by (bit_and m (m - 1)) cs ≡ drop 1 (chosen_by m cs)
-chosen-rest m [] = refl
-chosen-rest m (c ∷ cs) = by (parity m) (chosen-rest (m / 2) cs) (and_step m (m - 1))
-  where
-    by : (m % 2 ≡ 1) ⊎ (m % 2 ≡ 0) → chosen_by (bit_and (m / 2) (m / 2 - 1)) cs ≡ drop 1 (chosen_by (m / 2) cs)
-        → bit_and m (m - 1) ≡ bit_and (m / 2) ((m - 1) / 2) * 2 + min (m % 2) ((m - 1) % 2)
-        → chosen_by (bit_and m (m - 1)) (c ∷ cs) ≡ drop 1 (chosen_by m (c ∷ cs))
-    by (inl odd) rest step =
-        let lower : (m - 1) % 2 ≡ 0 = omega arith in
-        let none : min (m % 2) ((m - 1) % 2) ≡ 0 = omega arith in
-        let half : (m - 1) / 2 ≡ m / 2 = omega arith in
-        let parts = half_of (bit_and m (m - 1)) m (m - 1) (min (m % 2) ((m - 1) % 2)) step none in
-        let below : bit_and m (m - 1) / 2 ≡ m / 2 = parts.0 ∙ ap (bit_and (m / 2)) half ∙ and_self (m / 2) in
-        chosen-even (bit_and m (m - 1)) c cs parts.1 ∙ ap (λ (n : ℕ). chosen_by n cs) below ∙ sym (ap (drop 1) (chosen-odd m c cs odd))
-    by (inr even) rest step =
-        let none : min (m % 2) ((m - 1) % 2) ≡ 0 = omega arith in
-        let half : (m - 1) / 2 ≡ m / 2 - 1 = omega arith in
-        let parts = half_of (bit_and m (m - 1)) m (m - 1) (min (m % 2) ((m - 1) % 2)) step none in
-        let below : bit_and m (m - 1) / 2 ≡ bit_and (m / 2) (m / 2 - 1) = parts.0 ∙ ap (bit_and (m / 2)) half in
-        chosen-even (bit_and m (m - 1)) c cs parts.1 ∙ ap (λ (n : ℕ). chosen_by n cs) below ∙ rest ∙ sym (ap (drop 1) (chosen-even m c cs even))
-
 pub chosen-zero : (cs : List Choice) → chosen_by 0 cs ≡ []
 chosen-zero [] = refl
 chosen-zero (c ∷ cs) = chosen-even 0 c cs refl ∙ chosen-zero cs
-
--- The first
-
-pub chosen-first : (t m : ℕ) (cs : List Choice) (d : Choice) → bit_at m t ≡ 1 → ((i : ℕ) → i < t → bit_at m i ≡ 0) → t < length cs
-    → get_or (chosen_by m cs) 0 d ≡ get_or cs t d
-chosen-first t m [] d one none inside = absurd (omega arith)
-chosen-first zero m (c ∷ cs) d one none inside = ap (λ (l : List Choice). get_or l 0 d) (chosen-odd m c cs (sym (bit_at_lowest m) ∙ one))
-chosen-first (suc t) m (c ∷ cs) d one none inside =
-    ap (λ (l : List Choice). get_or l 0 d) (chosen-even m c cs (sym (bit_at_lowest m) ∙ none 0 (omega arith)))
-    ∙ chosen-first t (m / 2) cs d (sym (bit_at-suc m t) ∙ one) (λ i below. sym (bit_at-suc m i) ∙ none (suc i) (omega (arith, below))) (omega arith)
-
--- A digit of a number below 4096 is one of twelve.
-pub digit-below : (m t : ℕ) → m < 4096 → bit_at m t ≡ 1 → t < 12
-digit-below m t few one = by (cases_lt t 12)
-  where
-    by : (t < 12) ⊎ (12 ≤ t) → t < 12
-    by (inl h) = h
-    by (inr h) =
-        let large : 2 ^ 12 ≤ 2 ^ t = pow-le-pow_right (omega arith) h in
-        let none : m / 2 ^ t ≡ 0 = div-eq_of_lt (omega (arith, large)) in
-        absurd (let two : m / 2 ^ t % 2 ≡ 1 = one in omega arith)
 
 -- Digits as a list of tests
 
@@ -244,31 +174,6 @@ chosen_by_over false s t valid e = rw e (asked_chosen (request_of s t.field) s t
 
 pub offered_chosen : (t : State) (s : Side) → IsState t → choices_in (offered_mask t s) ≡ offered s t.field
 offered_chosen t s valid = chosen_by_over (is_over t.field.outcome) s t valid refl
-
--- Something is left if fewer are taken away than there are.
-pub some_left : (m k : ℕ) (xs : List Choice) → chosen_by m all_choices ≡ drop k xs → k < length xs → 1 ≤ m
-some_left zero k xs is few =
-    let none : length (chosen_by 0 all_choices) ≡ 0 = ap length (chosen-zero all_choices) in
-    let long : length (chosen_by 0 all_choices) ≡ length xs - k = ap length is ∙ length-drop k xs in
-    absurd (omega arith)
-some_left (suc m) k xs is few = omega arith
-
--- One more is taken away, and the first of those left
-
-pub taken_away : (m k : ℕ) (xs : List Choice) → chosen_by m all_choices ≡ drop k xs → chosen_by (bit_and m (m - 1)) all_choices ≡ drop (k + 1) xs
-taken_away m k xs is =
-    chosen-rest m all_choices ∙ ap (drop 1) is ∙ drop_one k xs
-  where
-    drop_one : (k : ℕ) (xs : List Choice) → drop 1 (drop k xs) ≡ drop (k + 1) xs
-    drop_one zero [] = refl
-    drop_one zero (x ∷ xs) = refl
-    drop_one (suc k) [] = let e : suc k + 1 ≡ suc (k + 1) = omega arith in rw e refl
-    drop_one (suc k) (x ∷ xs) = let e : suc k + 1 ≡ suc (k + 1) = omega arith in rw e (drop_one k xs)
-
-pub left_at : (m k place : ℕ) (xs : List Choice) (d : Choice) → chosen_by m all_choices ≡ drop k xs → k ≡ place → get_or (chosen_by m all_choices) 0 d ≡ get_or xs place d
-left_at m k place xs d is at =
-    let here : k + 0 ≡ place = omega (arith, at) in
-    ap (λ (l : List Choice). get_or l 0 d) is ∙ get_or-drop k xs 0 d ∙ ap (λ (n : ℕ). get_or xs n d) here
 
 -- At most four moves and five switches
 

@@ -1,52 +1,48 @@
-use Rattle.std.proofs.Common.{ap, arith, get_or, length, refl, sym, ◌-◌, ◌<◌, ◌≡◌, ◌∙◌}
-use Rattle.std.proofs.lemmas.Nat.{and_le_l}
-use Rattle.std.proofs.lemmas.Nat.Bits.{bit_at-trailing_zeros}
-use Rattle.std.specs.Int.{w16}
-use Rattle.std.proofs.Common.{List}
+use Rattle.std.proofs.Common.{List, ap, arith, get_or, length, length-append, refl, sym, ◌%◌, ◌++◌, ◌/◌, ◌<◌, ◌∙◌, ◌≤◌}
+use Rattle.std.proofs.lemmas.List.{get_or-append_right, get_or_append_left}
 use Rattle.gen1_machine.specs.declared.choice.Choice.{Choice}
 use Rattle.gen1_machine.specs.declared.choice.Choice.TheVariants as choices
-use Rattle.gen1_offers.specs.OfferedMask.{all_choices, choices_in, chosen_by}
-use Rattle.gen1_offers.proofs.MaskChoices.{chosen-first, digit-below, left_at, offered_chosen, some_left, taken_away}
+use Rattle.gen1_offers.specs.OfferedMask.{choices_in, chosen_by, moves_and_pass, switches}
+use Rattle.gen1_offers.proofs.MaskChoices.{offered_chosen}
+use Rattle.gen1_offers.proofs.MaskTable.{halves}
 use Rattle.gen1_offers.proofs.mask_choices.choice_at.Goals as goal
 
-pub rounds-init : goal.rounds-init
-rounds-init c = (c.requires.twelve, refl)
-
-pub rounds-preserved : goal.rounds-preserved
-rounds-preserved c = (
-  omega (arith, c.rounds.invariant.0, and_le_l c.rounds.rest (c.rounds.rest - 1)),
-  taken_away c.rounds.rest c.rounds.counter (chosen_by c.args.mask all_choices) c.rounds.invariant.1,
-)
-
-pub overflow_sub-rest : goal.overflow_sub-rest
+pub digit_in-requires-else-place-count-clause-inside : goal.digit_in-requires-else-place-count-clause-inside
 unfolding choices_in
-overflow_sub-rest c =
-    let inside : c.args.place < length (chosen_by c.args.mask all_choices) = c.requires.inside in
-    some_left c.rounds.rest c.rounds.counter (chosen_by c.args.mask all_choices) c.rounds.invariant.1 (omega (arith, c.rounds-test.true, inside))
+digit_in-requires-else-place-count-clause-inside c =
+    let low = chosen_by (c.args.mask % 64) moves_and_pass in
+    let high = chosen_by (c.args.mask / 64) switches in
+    let inside : c.args.place < length (low ++ high) = rw (← halves c.args.mask) c.requires.inside in
+    let count = c.count_in-count.ensures.count moves_and_pass refl in
+    omega (arith, inside, count, length-append low high, c.if-place-count.false)
 
-pub choice_of_digit-requires : goal.choice_of_digit-requires
+pub returns-then-place-count-clause-value : goal.returns-then-place-count-clause-value
 unfolding choices_in
-choice_of_digit-requires c =
-    let inside : c.args.place < length (chosen_by c.args.mask all_choices) = c.requires.inside in
-    let at : c.rounds.counter ≡ c.args.place = omega (arith, c.rounds-test.false, c.rounds.auto.counter-end) in
-    let few : c.rounds.rest < 4096 = c.rounds.invariant.0 in
-    let some = some_left c.rounds.rest c.rounds.counter (chosen_by c.args.mask all_choices) c.rounds.invariant.1 (omega (arith, at, inside)) in
-    let lowest = bit_at-trailing_zeros w16 c.rounds.rest (omega (arith, some)) (omega (arith, few)) in
-    digit-below c.rounds.rest _ few lowest.1
+returns-then-place-count-clause-value c =
+    let low = chosen_by (c.args.mask % 64) moves_and_pass in
+    let high = chosen_by (c.args.mask / 64) switches in
+    let below : c.args.place < length low = rw (← c.count_in-count.ensures.count moves_and_pass refl) c.if-place-count.true in
+    c.move_of_digit.ensures ∙ sym (c.digit_in.ensures.at moves_and_pass refl)
+    ∙ sym (get_or_append_left low high choices.Pass c.args.place below)
+    ∙ ap (λ (l : List Choice). get_or l c.args.place choices.Pass) (sym (halves c.args.mask))
 
-pub returns : goal.returns
+pub returns-then-place-count-clause-offers : goal.returns-then-place-count-clause-offers
+returns-then-place-count-clause-offers c s side valid is =
+    returns-then-place-count-clause-value c
+    ∙ ap (λ (l : List Choice). get_or l c.args.place choices.Pass) (ap choices_in is ∙ offered_chosen s side valid)
+
+pub returns-else-place-count-clause-value : goal.returns-else-place-count-clause-value
 unfolding choices_in
-returns c =
-    let inside : c.args.place < length (chosen_by c.args.mask all_choices) = c.requires.inside in
-    let at : c.rounds.counter ≡ c.args.place = omega (arith, c.rounds-test.false, c.rounds.auto.counter-end) in
-    let few : c.rounds.rest < 4096 = c.rounds.invariant.0 in
-    let some = some_left c.rounds.rest c.rounds.counter (chosen_by c.args.mask all_choices) c.rounds.invariant.1 (omega (arith, at, inside)) in
-    let lowest = bit_at-trailing_zeros w16 c.rounds.rest (omega (arith, some)) (omega (arith, few)) in
-    let below = digit-below c.rounds.rest _ few lowest.1 in
-    let value = c.choice_of_digit.ensures
-    ∙ sym (chosen-first _ c.rounds.rest all_choices choices.Pass lowest.1 lowest.2 below)
-    ∙ left_at c.rounds.rest c.rounds.counter c.args.place (chosen_by c.args.mask all_choices) choices.Pass c.rounds.invariant.1 at in
-    record {
-      value = value;
-      offers = λ s side valid is. value ∙ ap (λ (l : List Choice). get_or l c.args.place choices.Pass) (ap choices_in is ∙ offered_chosen s side valid);
-    }
+returns-else-place-count-clause-value c =
+    let low = chosen_by (c.args.mask % 64) moves_and_pass in
+    let high = chosen_by (c.args.mask / 64) switches in
+    let count = c.count_in-count.ensures.count moves_and_pass refl in
+    let above : c.count_in-count.result ≤ c.args.place = omega (arith, c.if-place-count.false) in
+    c.switch_of_digit.ensures ∙ sym (c.digit_in-else-place-count.ensures.at switches refl)
+    ∙ sym (get_or-append_right low high c.count_in-count.result c.args.place choices.Pass (sym count) above)
+    ∙ ap (λ (l : List Choice). get_or l c.args.place choices.Pass) (sym (halves c.args.mask))
+
+pub returns-else-place-count-clause-offers : goal.returns-else-place-count-clause-offers
+returns-else-place-count-clause-offers c s side valid is =
+    returns-else-place-count-clause-value c
+    ∙ ap (λ (l : List Choice). get_or l c.args.place choices.Pass) (ap choices_in is ∙ offered_chosen s side valid)

@@ -1,13 +1,16 @@
-use Rattle.std.proofs.Common.{ap, length, ◌∙◌}
-use Rattle.gen1_offers.specs.OfferedMask.{all_choices, choices_in}
-use Rattle.gen1_offers.proofs.MaskChoices.{offered_chosen, ones-chosen}
+use Rattle.std.proofs.Common.{ap, arith, length, length-append, refl, ◌%◌, ◌/◌, ◌∙◌}
+use Rattle.gen1_offers.specs.OfferedMask.{choices_in, chosen_by, moves_and_pass, switches}
+use Rattle.gen1_offers.proofs.MaskChoices.{offered_chosen}
+use Rattle.gen1_offers.proofs.MaskTable.{halves}
 use Rattle.gen1_offers.proofs.mask_choices.count_of.Goals as goal
 
 pub returns-clause-value : goal.returns-clause-value
 unfolding choices_in
-returns-clause-value c = ones-chosen c.args.mask all_choices c.requires.twelve
+returns-clause-value c =
+    let low = c.count_in.ensures.count moves_and_pass refl in
+    let high = c.count_in-2.ensures.count switches refl in
+    let both = length-append (chosen_by (c.args.mask % 64) moves_and_pass) (chosen_by (c.args.mask / 64) switches) in
+    omega (arith, low, high, both, ap length (halves c.args.mask))
 
 pub returns-clause-offers : goal.returns-clause-offers
-unfolding choices_in
-returns-clause-offers c s side valid is =
-    ones-chosen c.args.mask all_choices c.requires.twelve ∙ ap length (ap choices_in is ∙ offered_chosen s side valid)
+returns-clause-offers c s side valid is = returns-clause-value c ∙ ap length (ap choices_in is ∙ offered_chosen s side valid)
