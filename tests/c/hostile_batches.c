@@ -26,7 +26,7 @@ static void try_offered(void)
     note();
     uint16_t got = gen1_offered(battle, side);
     uint16_t want = !is_side ? 0 : is_valid ? mask_of(&from, side) : got;
-    tell("gen1_offered", got == want && unchanged(), got, want);
+    tell("gen1_offered", got == want && got < 4096 && unchanged(), got, want);
 }
 
 /* Some battles, in the block of this number; whether all are valid. */

@@ -43,7 +43,7 @@ static void try_room_begin(void)
     room->battle = from;
     note();
     gen1_room_begin(room);
-    bool is_right = changed_only(0, sizeof *room);
+    bool is_right = changed_only(0, sizeof *room) && room->log_length <= GEN1_LOG_ROOM;
     if (is_valid) {
         gen1_state state;
         gen1_get_state(&from, &state);
@@ -82,8 +82,8 @@ static void try_room_choices(void)
     uint8_t *choices = block(1, 9);
     note();
     uint8_t got = gen1_room_choices(room, side, choices), want = is_valid || !is_side(side) ? count : got;
-    bool is_kept = got <= 9 ? changed_only(1, got) : unchanged();
-    if (is_valid && is_side(side) && got <= 9)
+    bool is_kept = got <= 9 && changed_only(1, got);
+    if (is_valid && is_side(side) && is_kept)
         is_kept &= memcmp(choices, due, got) == 0;
     tell("gen1_room_choices", got == want && is_kept, got, want);
 }
@@ -120,6 +120,7 @@ static void try_room_submit(void)
     uint8_t got = gen1_room_submit(room, side, number, choice);
     uint8_t want = is_valid || !is_side(side) ? fault_of_submission(&from, side, number, choice) : got;
     bool is_kept = got != 0 ? unchanged() : changed_only(0, sizeof *room);
+    is_kept &= room->log_length <= GEN1_LOG_ROOM || room->log_length == from.log_length;
     if (is_valid && got == 0 && want == 0)
         is_kept &= is_taken(room, from, side, choice);
     tell("gen1_room_submit", got == want && is_kept, got, want);

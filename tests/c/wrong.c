@@ -9,10 +9,12 @@
 uint32_t __real_gen1_new(gen1_battle *, const gen1_team *, const gen1_team *, const uint8_t[10], uint8_t, uint16_t);
 uint8_t __real_gen1_load(gen1_battle *, const uint8_t *, size_t);
 uint8_t __real_gen1_choices(const gen1_battle *, uint8_t, uint8_t[9]);
+uint16_t __real_gen1_offered(const gen1_battle *, uint8_t);
 uint8_t __real_gen1_update(gen1_battle *, uint8_t, uint8_t, uint8_t *, size_t, size_t *);
 uint8_t __real_gen1_next_event(const uint8_t *, size_t, size_t *, gen1_event *);
 uint8_t __real_gen1_next_line(const uint8_t *, size_t, size_t *, char *, size_t, size_t *);
 uint8_t __real_gen1_damage(const gen1_battle *, uint8_t, uint8_t, bool, uint16_t[39]);
+void __real_gen1_room_begin(gen1_room *);
 uint8_t __real_gen1_room_submit(gen1_room *, uint8_t, uint32_t, uint8_t);
 uint8_t __real_gen1_spectator_feed(gen1_spectator *, const uint8_t *, size_t);
 uint8_t __real_gen1_odds_now(const gen1_battle *, uint8_t, uint8_t, gen1_odds *);
@@ -139,4 +141,26 @@ uint8_t __wrap_gen1_outcomes(const gen1_battle *battle, uint8_t one, uint8_t two
     if (WRONG == 21 && answer != 0)
         list->count = 0;
     return answer;
+}
+
+static bool is_battle(const gen1_battle *battle)
+{
+    gen1_battle copy;
+    return __real_gen1_load(&copy, battle->bytes, sizeof battle->bytes) == 0;
+}
+
+/* 22: a mask of bytes that are no battle has a thirteenth bit. */
+uint16_t __wrap_gen1_offered(const gen1_battle *battle, uint8_t side)
+{
+    uint16_t mask = __real_gen1_offered(battle, side);
+    return (uint16_t)(WRONG == 22 && mask != 0 && !is_battle(battle) ? mask | 4096 : mask);
+}
+
+/* 23: a room of bytes that are no battle has a log that is longer than its buffer. */
+void __wrap_gen1_room_begin(gen1_room *room)
+{
+    bool is_one = is_battle(&room->battle);
+    __real_gen1_room_begin(room);
+    if (WRONG == 23 && !is_one)
+        room->log_length = 65535;
 }

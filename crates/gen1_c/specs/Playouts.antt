@@ -1,4 +1,4 @@
--- How playouts end, as C is told (include/gen1.h, "many battles").
+-- How playouts end, as numbers that C reads (include/gen1.h, "many battles").
 use Rattle.std.specs.Prelude.{Err, List, None, Ok, Option, Result, Some, if◌then◌else◌, ℕ, ◌==◌, ◌≡◌}
 use Rattle.gen1_machine.specs.State.{State}
 use Rattle.gen1_layout.specs.Loading.{IsLoadedAs}

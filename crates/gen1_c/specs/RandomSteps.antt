@@ -13,10 +13,10 @@ use Rattle.gen1_playouts.specs.Playouts.{Playout, begun, choice_by, next_state, 
 use Rattle.gen1_c.specs.Update.{result_byte}
 use Rattle.gen1_c.specs.declared.batches.BatchUpdate.{BatchUpdate}
 
--- a battle that is over begins anew from its start, if it has one, as a round of a playout does
-abbrev pub begun_anew : Option State → Playout → Playout
-begun_anew None p = p
-begun_anew (Some start) p = if is_over p.battle.field.outcome then begun start p.random else p
+-- a battle that is over starts again from its start, if it has one, as a round of a playout does
+abbrev pub started_again : Option State → Playout → Playout
+started_again None p = p
+started_again (Some start) p = if is_over p.battle.field.outcome then begun start p.random else p
 
 -- what is written of a step: the choices that both sides draw, side 1 first, and the result of the battle that they lead to
 abbrev pub update_of : Playout → BatchUpdate
@@ -55,7 +55,7 @@ IsStart starts i (Some start) = (i < length starts) × ((d : Parts) → Stands (
 abbrev pub AreStepped : ℕ → List Parts → Batch → Batch → List BatchUpdate → Type 0
 AreStepped count starts old new updates = (i : ℕ) (d : Parts) (u : BatchUpdate) (s : State) (start : Option State) → i < count
     → Stands (slice_index_or old.battles i d) s → IsStart starts i start
-    → IsStepped (begun_anew start (record { battle = s; random = slice_index_or old.generators i 0 }))
+    → IsStepped (started_again start (record { battle = s; random = slice_index_or old.generators i 0 }))
     (slice_index_or new.battles i d) (slice_index_or new.generators i 0) (slice_index_or updates i u)
 
 -- how many battles are over

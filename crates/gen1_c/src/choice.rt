@@ -1,5 +1,5 @@
 //! Choices as bytes, taken apart and in words (include/gen1.h, "looking"; docs/MECHANICS.md, "Offered choices").
-ghost use Rattle.std.specs.Prelude.{Ok, length, ◌++◌, ◌+◌, ◌≡◌, ◌≢◌, ◌≤◌};
+ghost use Rattle.std.specs.Prelude.{Ok, length, ◌++◌, ◌+◌, ◌<◌, ◌≡◌, ◌≢◌, ◌≤◌};
 ghost use Rattle.gen1_machine.specs.Choices.{choice_at};
 ghost use Rattle.gen1_machine.specs.Numbers.{side_number};
 ghost use Rattle.gen1_machine.specs.State.{State};
@@ -76,6 +76,7 @@ pub extern "C" fn gen1_choice_words(
     ensures no_side { IsNoSide side → result ≡ 40 }
     // For any bytes, valid or not.
     ensures kept { result ≢ 0 → (text.new ≡ text.old) × (written.new ≡ written.old) }
+    ensures within { result ≡ 0 → written.new < length text.old }
 {
     let Some(side) = Side::from_number(side) else {
         return SIDE;
@@ -97,6 +98,7 @@ fn write_move(battle: &Packed, side: Side, slot: u8, text: &mut [u8], written: &
         (record { bytes = text.old; count = written.old })
         (record { bytes = text.new; count = written.new }) result }
     ensures kept { result ≢ 0 → (text.new ≡ text.old) × (written.new ≡ written.old) }
+    ensures within { result ≡ 0 → written.new < length text.old }
 {
     if slot == 0 {
         return write_text(b"move 0", text, written);
@@ -121,6 +123,7 @@ fn write_switch(battle: &Packed, side: Side, place: u8, text: &mut [u8], written
         (record { bytes = text.old; count = written.old })
         (record { bytes = text.new; count = written.new }) result }
     ensures kept { result ≢ 0 → (text.new ≡ text.old) × (written.new ≡ written.old) }
+    ensures within { result ≡ 0 → written.new < length text.old }
 {
     match Species::new(battle.species_at(side, place)) {
         Some(species) => {
@@ -134,8 +137,9 @@ fn write_switch(battle: &Packed, side: Side, place: u8, text: &mut [u8], written
 // Writes two texts one after the other, as `write_text` writes one.
 fn write_joined(head: &[u8], name: &[u8], text: &mut [u8], written: &mut usize) -> u8
     requires { length head.now ≤ 9 }
-    ensures { Writes (Ok (head.now ++ name.now)) (record { bytes = text.old; count = written.old })
+    ensures writes { Writes (Ok (head.now ++ name.now)) (record { bytes = text.old; count = written.old })
         (record { bytes = text.new; count = written.new }) result }
+    ensures within { result ≡ 0 → written.new < length text.old }
 {
     let count = head.len() + name.len();
     if text.len() <= count {

@@ -24,8 +24,9 @@ pub(crate) fn put_text(text: &[u8], room: &mut [u8])
 // Copies a text and its final zero to the beginning of the caller's memory, and writes the text's length. If it does not fit, a code
 // is returned and nothing changes.
 pub(crate) fn write_text(text: &[u8], room: &mut [u8], written: &mut usize) -> u8
-    ensures { Writes (Ok text.now) (record { bytes = room.old; count = written.old })
+    ensures writes { Writes (Ok text.now) (record { bytes = room.old; count = written.old })
         (record { bytes = room.new; count = written.new }) result }
+    ensures within { result ≡ 0 → written.new < length room.old }
 {
     if room.len() <= text.len() {
         return SMALL_TEXT;

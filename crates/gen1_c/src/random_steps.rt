@@ -4,7 +4,7 @@ ghost use Rattle.gen1_machine.specs.Choices.{byte_of_choice};
 ghost use Rattle.gen1_machine.specs.State.{State};
 ghost use Rattle.gen1_layout.specs.Within.{Stands};
 ghost use Rattle.gen1_playouts.specs.Playouts.{begun};
-ghost use Rattle.gen1_c.specs.RandomSteps.{AreStepped, HasLengths, IsAt, IsStart, IsStepped, begun_anew, one_if_over, over_in};
+ghost use Rattle.gen1_c.specs.RandomSteps.{AreStepped, HasLengths, IsAt, IsStart, IsStepped, started_again, one_if_over, over_in};
 
 use crate::batches::BatchUpdate;
 use crate::codes::{LENGTHS, OVER};
@@ -18,7 +18,7 @@ use gen1_playouts::{ChoiceGenerator, pick};
 use gen1_rolls::LinkRandom;
 
 /// Plays a step of each of many battles without logs, by choices at random that the generator at its index draws. If there are
-/// starts, a battle that is over first begins anew from the one at its index. Writes the choices, results and codes, the states of
+/// starts, a battle that is over first starts again from the one at its index. Writes the choices, results and codes, the states of
 /// the generators, and how many battles are over afterwards. Returns 0, or a code if an array has another length than the battles
 /// (there may also be no starts at all); then nothing has changed.
 #[unsafe(no_mangle)]
@@ -70,7 +70,7 @@ fn step_each(
     for place in 0..battles.len() {
         let mut random = ChoiceGenerator::new(generators[place]);
         let battle = &mut battles[place];
-        begin_anew(battle, starts, place, &mut random);
+        start_again(battle, starts, place, &mut random);
         let update = step_at_random(battle, &mut random);
         over += one_if_over(update.result);
         updates[place] = update;
@@ -87,11 +87,11 @@ fn one_if_over(result_byte: u8) -> usize
     if result_byte % 8 == 0 { 0 } else { 1 }
 }
 
-// A battle that is over begins anew, if it has a start.
-fn begin_anew(battle: &mut Packed, starts: &[Packed], place: usize, random: &mut ChoiceGenerator)
+// A battle that is over starts again, if it has a start.
+fn start_again(battle: &mut Packed, starts: &[Packed], place: usize, random: &mut ChoiceGenerator)
     ensures { (s : State) (start : Option State) → Stands battle.old s
         → IsStart starts.now place start
-        → IsAt (begun_anew start (record { battle = s; random = random.old.state })) battle.new
+        → IsAt (started_again start (record { battle = s; random = random.old.state })) battle.new
         random.new.state }
 {
     if place < starts.len() && result(battle).outcome.is_over() {

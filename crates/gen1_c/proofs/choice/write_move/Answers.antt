@@ -19,7 +19,7 @@ returns-in-Some-clause-writes c s h =
     let id = let_through _ _ _ (sym c.new.ensures ∙ c.in-Some.is) in
     let text = c.as_bytes.ensures.value ∙ c.name.ensures ∙ ap move_name id.1 in
     written _ _ _ (move_named c.args.side c.args.slot s.field c.move_in.result c.if-slot-eq0.false out is id.0
-    ∙ ap (λ (name : List ℕ). Ok ((codes "move " ++ ((48 + c.args.slot) ∷ codes " ")) ++ name)) (sym text)) c.write_joined.ensures
+    ∙ ap (λ (name : List ℕ). Ok ((codes "move " ++ ((48 + c.args.slot) ∷ codes " ")) ++ name)) (sym text)) c.write_joined.ensures.writes
 
 pub returns-in-None-clause-writes : goal.returns-in-None-clause-writes
 returns-in-None-clause-writes c s h =

@@ -12,7 +12,7 @@ returns-in-Some-clause-writes c s h =
     let id = let_through _ _ _ (sym c.new.ensures ∙ c.in-Some.is) in
     let text = c.as_bytes.ensures.value ∙ c.name.ensures ∙ ap species_name id.1 in
     written _ _ _ (switch_named c.args.side c.args.place s.field c.species_at.result is id.0
-    ∙ ap (λ (name : List ℕ). Ok ((codes "switch " ++ ((48 + c.args.place) ∷ codes " ")) ++ name)) (sym text)) c.write_joined.ensures
+    ∙ ap (λ (name : List ℕ). Ok ((codes "switch " ++ ((48 + c.args.place) ∷ codes " ")) ++ name)) (sym text)) c.write_joined.ensures.writes
 
 pub returns-in-None-clause-writes : goal.returns-in-None-clause-writes
 returns-in-None-clause-writes c s h =

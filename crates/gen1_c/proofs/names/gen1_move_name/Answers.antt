@@ -8,7 +8,7 @@ pub returns-in-Some : goal.returns-in-Some
 returns-in-Some c =
     let id = let_through _ _ _ (sym c.new.ensures ∙ c.in-Some.is) in
     let text = c.as_bytes.ensures.value ∙ c.name.ensures ∙ ap move_name id.1 in
-    written _ _ _ (in_range 165 c.args.number (move_name c.args.number) id.0 ∙ ap Ok (sym text)) c.write_text.ensures
+    written _ _ _ (in_range 165 c.args.number (move_name c.args.number) id.0 ∙ ap Ok (sym text)) c.write_text.ensures.writes
 
 pub returns-in-None : goal.returns-in-None
 returns-in-None c =

@@ -2,7 +2,7 @@ use Rattle.std.proofs.Common.{ap, arith, length, subst, sym, take, ℕ, ◌+◌,
 use Rattle.std.specs.Prelude.{Option, slice_index_or}
 use Rattle.gen1_machine.specs.State.{State}
 use Rattle.gen1_layout.specs.Within.{Stands}
-use Rattle.gen1_c.specs.RandomSteps.{IsStart, IsStepped, begun_anew, over_in}
+use Rattle.gen1_c.specs.RandomSteps.{IsStart, IsStepped, started_again, over_in}
 use Rattle.gen1_c.proofs.OneByOne.{left_more}
 use Rattle.gen1_c.proofs.Stepping.{over-more, stepped-from, stepped-here, stepped-more}
 use Rattle.gen1_c.proofs.random_steps.step_each.Goals as goal
@@ -21,10 +21,10 @@ loop-place-preserved c =
     let after = c.step_at_random-update.new.random.state in
     let done = c.step_at_random-update.result in
     let stepped : (s : State) (start : Option State) → Stands (slice_index_or battles place old) s → IsStart c.args.starts.now place start
-    → IsStepped (begun_anew start (record { battle = s; random = slice_index_or generators place 0 })) new after done =
+    → IsStepped (started_again start (record { battle = s; random = slice_index_or generators place 0 })) new after done =
     λ s start stands first.
-    subst (λ (seed : ℕ). IsStepped (begun_anew start (record { battle = s; random = seed })) new after done) c.new-random.ensures
-    (stepped-from (c.begin_anew.ensures s start stands first) c.step_at_random-update.ensures) in
+    subst (λ (seed : ℕ). IsStepped (started_again start (record { battle = s; random = seed })) new after done) c.new-random.ensures
+    (stepped-from (c.start_again.ensures s start stands first) c.step_at_random-update.ensures) in
     let here = stepped-here c.args.starts.now c.args.battles.now battles c.args.generators.now generators place old new 0 after done one two
     c.loop-place.invariant.1 c.loop-place.invariant.2 stepped in (
       stepped-more c.args.starts.now c.args.battles.now battles c.args.generators.now generators updates place new after done one two three c.loop-place.invariant.0 here,

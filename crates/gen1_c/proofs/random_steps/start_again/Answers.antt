@@ -4,14 +4,14 @@ use Rattle.gen1_machine.specs.State.{is_over}
 use Rattle.gen1_layout.specs.Parts.{Parts}
 use Rattle.gen1_layout.specs.Within.{Stands}
 use Rattle.gen1_engine.specs.declared.result.BattleResult.{BattleResult}
-use Rattle.gen1_c.proofs.Stepping.{anew-over, anew-stays}
-use Rattle.gen1_c.proofs.random_steps.begin_anew.Goals as goal
-use Rattle.gen1_c.proofs.random_steps.begin_anew.Goals.{else-place-starts-via-then-place-starts+else-is_over, else-place-starts-via-else-place-starts}
+use Rattle.gen1_c.proofs.Stepping.{again-over, again-stays}
+use Rattle.gen1_c.proofs.random_steps.start_again.Goals as goal
+use Rattle.gen1_c.proofs.random_steps.start_again.Goals.{else-place-starts-via-then-place-starts+else-is_over, else-place-starts-via-else-place-starts}
 
 pub returns-then-is_over : goal.returns-then-is_over
 returns-then-is_over c s start h first =
     let over : is_over s.field.outcome ≡ true = ap (λ (r : BattleResult). is_over r.outcome) (sym (c.result.ensures s h)) ∙ sym c.is_over.ensures ∙ c.if-is_over.true in
-    anew-over c.args.starts.now c.args.place c.index-starts-place.result s c.args.random.now.state (omega (arith, c.if-place-starts.true)) over
+    again-over c.args.starts.now c.args.place c.index-starts-place.result s c.args.random.now.state (omega (arith, c.if-place-starts.true)) over
     (λ t at. c.restart.ensures t (subst (λ (p : Parts). Stands p t) (sym c.index-starts-place.is) at)) start first
 
 pub returns-else-place-starts : goal.returns-else-place-starts
@@ -22,4 +22,4 @@ returns-else-place-starts c s start h first =
           λ inside. ap (λ (r : BattleResult). is_over r.outcome) (sym (w.result.ensures s h)) ∙ sym w.is_over.ensures ∙ w.if-is_over.false
       | else-place-starts-via-else-place-starts w ↦ λ inside. absurd (omega (arith, inside, w.if-place-starts.false))
     ] in
-    anew-stays c.args.starts.now c.args.place c.args.random.now.state h going start first
+    again-stays c.args.starts.now c.args.place c.args.random.now.state h going start first
