@@ -81,9 +81,7 @@ pub fn bide_knowing<S: EventSink>(
 fn energy_let_out(battle: &Packed, side: Side) -> Option<u16>
     ensures { Reads battle.now result λ f. energy_let_out f.last_damage (underway_in side f).bide }
 {
-    let Some(turns) = battle.bide(side) else {
-        return None;
-    };
+    let turns = battle.bide(side)?;
     if turns <= 1 {
         let energy = battle.energy(side).wrapping_add(battle.last_damage());
         return Some(energy.wrapping_mul(2));

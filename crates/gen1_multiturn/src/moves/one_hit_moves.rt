@@ -73,7 +73,8 @@ fn deal_everything<R: Rolls>(battle: &mut Packed, random: &mut R)
         (draw_until is_factor deal_everything) }
 {
     let Some(_) = random.until_as(|byte| is_factor(byte), Look::Remainder(1)) else {
-        return;
+        // Each byte from 0 to 255 is drawn, and some of them are factors.
+        unreachable!();
     };
     battle.put_last_damage(u16::MAX);
 }

@@ -489,9 +489,7 @@ mod moves {
 
         // The energy that is let out this turn, if it is the last turn.
         fn energy_let_out(battle: &Packed, side: Side) -> Option<u16> {
-            let Some(turns) = battle.bide(side) else {
-                return None;
-            };
+            let turns = battle.bide(side)?;
             if turns <= 1 {
                 let energy = battle.energy(side).wrapping_add(battle.last_damage());
                 return Some(energy.wrapping_mul(2));
@@ -849,7 +847,8 @@ mod moves {
         // The draws of a factor, which isn't used.
         fn deal_everything<R: Rolls>(battle: &mut Packed, random: &mut R) {
             let Some(_) = random.until_as(|byte| is_factor(byte), Look::Remainder(1)) else {
-                return;
+                // Each byte from 0 to 255 is drawn, and some of them are factors.
+                unreachable!();
             };
             battle.put_last_damage(u16::MAX);
         }

@@ -1,13 +1,14 @@
-use Rattle.gen1_layout.proofs.Words.{put_damage, refl, rules, still}
+use Rattle.std.proofs.Common.{◌≡◌}
+use Rattle.gen1_layout.proofs.Words.{false, lit<, put_damage, refl, rules, still, true}
 use Rattle.gen1_machine.specs.Damage.{is_factor}
 use Rattle.gen1_machine.specs.FixedDamage.{deal_everything}
-use Rattle.gen1_hits.proofs.Searching.{drawn_none, drawn_until}
+use Rattle.gen1_hits.proofs.Searching.{drawn_until}
 use Rattle.gen1_multiturn.proofs.moves.one_hit_moves.deal_everything.Goals as goal
 
-pub returns-in_default : goal.returns-in_default
-returns-in_default t c = record {
-  shown = λ events origin g p h. drawn_none is_factor deal_everything h (c.in_default.ensures.none is_factor (λ x answer lt post. search rules));
-}
+-- 255 is a factor's byte, and each byte is drawn.
+pub unreachable-requires : goal.unreachable-requires
+unreachable-requires t c =
+    let none : true ≡ false = (c.in_default.ensures.none is_factor (λ x answer lt post. search rules)).none_meets 255 (lit< tt) in cc
 
 pub returns : goal.returns
 unfolding deal_everything
