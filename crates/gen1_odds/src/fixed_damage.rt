@@ -81,9 +81,7 @@ fn twin(damage: u16) -> (u16, u16)
 pub(crate) fn released(battle: &Packed, side: Side) -> Option<u16>
     ensures stands { Reads battle.now result (released_in side) }
 {
-    let Some(turns) = battle.bide(side) else {
-        return None;
-    };
+    let turns = battle.bide(side)?;
     if turns <= 1 {
         let energy = battle.energy(side).wrapping_add(battle.last_damage());
         return Some(energy.wrapping_mul(2));

@@ -91,6 +91,7 @@ fn has_pp(battle: &Packed, side: Side) -> bool
     let two = battle.pp(side, 2) > 0;
     let three = battle.pp(side, 3) > 0;
     let four = battle.pp(side, 4) > 0;
+    // All four are read, so that no branch depends on which has PP.
     one | (two | (three | four))
 }
 

@@ -176,9 +176,7 @@ mod fixed_damage {
 
     /// The damage that Bide lets out in this action, or `None` if it stores or only begins.
     pub(crate) fn released(battle: &Packed, side: Side) -> Option<u16> {
-        let Some(turns) = battle.bide(side) else {
-            return None;
-        };
+        let turns = battle.bide(side)?;
         if turns <= 1 {
             let energy = battle.energy(side).wrapping_add(battle.last_damage());
             return Some(energy.wrapping_mul(2));
@@ -371,6 +369,7 @@ mod foe_reasons {
         let two = battle.pp(side, 2) > 0;
         let three = battle.pp(side, 3) > 0;
         let four = battle.pp(side, 4) > 0;
+        // All four are read, so that no branch depends on which has PP.
         one | (two | (three | four))
     }
 

@@ -8,19 +8,20 @@ use Rattle.gen1_multiturn.specs.Bide.{energy_let_out}
 use Rattle.gen1_multiturn.proofs.Underways.{not-stored, stored-is}
 use Rattle.gen1_odds.proofs.fixed_damage.released.Goals as goal
 
-pub returns-in_default : goal.returns-in_default
-returns-in_default c = record {
+pub returns-in_err-turns : goal.returns-in_err-turns
+returns-in_err-turns c = record {
   stands = λ g f h.
-      let none = not-stored (underway_in c.args.side f).bide (sym (c.bide.ensures.stands g f h) ∙ c.in_default.is) in
-      sym (ap (energy_let_out f.last_damage) none);
+      let none = not-stored (underway_in c.args.side f).bide (sym (c.bide.ensures.stands g f h) ∙ c.in_err-turns.was) in
+      let gives = c.from_residual.ensures in
+      let due = sym (ap (energy_let_out f.last_damage) none) in cc;
 }
 
 pub returns-then-turns-le1 : goal.returns-then-turns-le1
 returns-then-turns-le1 c = record {
   stands = λ g f h.
       let o = (underway_in c.args.side f).bide in
-      let b : Storing = record { turns = c.in-Some.turns; energy = energy_of o } in
-      let is = stored-is o c.in-Some.turns (sym (c.bide.ensures.stands g f h) ∙ c.in-Some.is) in
+      let b : Storing = record { turns = c.in_ok-turns.turns; energy = energy_of o } in
+      let is = stored-is o c.in_ok-turns.turns (sym (c.bide.ensures.stands g f h) ∙ c.in_ok-turns.was) in
       let energy = c.energy.ensures.stands g f h in
       let last = c.last_damage.ensures.stands g f h in
       let so : (if nat_le b.turns 1 then Some (let_out (energy_with f.last_damage b)) else None) ≡ Some (let_out (energy_with f.last_damage b)) =
@@ -32,8 +33,8 @@ pub returns : goal.returns
 returns c = record {
   stands = λ g f h.
       let o = (underway_in c.args.side f).bide in
-      let b : Storing = record { turns = c.in-Some.turns; energy = energy_of o } in
-      let is = stored-is o c.in-Some.turns (sym (c.bide.ensures.stands g f h) ∙ c.in-Some.is) in
+      let b : Storing = record { turns = c.in_ok-turns.turns; energy = energy_of o } in
+      let is = stored-is o c.in_ok-turns.turns (sym (c.bide.ensures.stands g f h) ∙ c.in_ok-turns.was) in
       ap (λ (x : Bool). if x then Some (let_out (energy_with f.last_damage b)) else None) (sym (not_at_most _ 1 c.if-turns-le1.false))
       ∙ sym (ap (energy_let_out f.last_damage) is);
 }
