@@ -148,8 +148,8 @@ pub use lines::{Events, Line, Lines, events_of};
 pub use mask::OfferedMask;
 pub use odds::{Between, Chances, DamageRefusal, HpChange, Odds, ThreeChances};
 #[cfg(feature = "alloc")]
-pub use outcomes::{OutcomeList, OutcomeOptions};
-pub use outcomes::{Way, Ways};
+pub use outcomes::OutcomeList;
+pub use outcomes::{OutcomeOptions, Way, Ways};
 pub use player::{Player, Teller};
 pub use room::Room;
 pub use spectator::Spectator;

@@ -78,32 +78,57 @@ impl Battle {
     ///
     /// As for [`Battle::update`]. An item is [`OutcomesFault::Size`], and the last, if a way has too many draws. No update is known that has.
     pub fn ways<A: Chosen, B: Chosen>(&self, one: A, two: B) -> Result<Ways, Refusal> {
+        self.ways_with(one, two, &OutcomeOptions::new())
+    }
+
+    /// As [`Battle::ways`], with options.
+    ///
+    /// ```
+    /// use gen1::{Battle, Choice, OutcomeOptions, Team, member};
+    ///
+    /// # fn main() -> Result<(), Box<dyn std::error::Error>> {
+    /// let one = Team::new(&[member("Tauros", &["Body Slam"])?])?;
+    /// let two = Team::new(&[member("Slowbro", &["Splash"])?])?;
+    /// let mut battle = Battle::new(&one, &two, [0; 10]);
+    /// battle.update(Choice::Pass, Choice::Pass)?;
+    /// let options = OutcomeOptions::new().with_damage_classes(1);
+    /// // Critical or not, it misses, or it hits, or it also paralyses; a paralysed Slowbro then acts or not.
+    /// assert_eq!(battle.ways_with(Choice::MOVE_1, Choice::MOVE_1, &options)?.count(), 8);
+    /// # Ok(())
+    /// # }
+    /// ```
+    ///
+    /// # Errors
+    ///
+    /// As for [`Battle::ways`].
+    pub fn ways_with<A: Chosen, B: Chosen>(&self, one: A, two: B, options: &OutcomeOptions) -> Result<Ways, Refusal> {
         let (one, two) = self.pair(one, two)?;
         Ok(Ways {
-            ways: outcomes::Ways::new(&self.packed, one, two, 0)?,
+            ways: outcomes::Ways::new(&self.packed, one, two, options.damage_classes)?,
             start: self.clone(),
             is_over: false,
         })
     }
 
-    /// As `Battle::outcomes`, in the caller's memory: writes the outcomes to the first places of `successors`.
+    /// As `Battle::outcomes_with`, in the caller's memory: writes the outcomes to the first places of `successors`.
     ///
     /// `table` is for the call's own use. It needs as many places as there are outcomes; twice as many make the call faster. Most updates
     /// have fewer than 100 outcomes, and all that were met have fewer than 65,536.
     ///
     /// ```
     /// use core::array::from_fn;
-    /// use gen1::{Battle, Choice, OutcomesFault, Successor, Team, member};
+    /// use gen1::{Battle, Choice, OutcomeOptions, OutcomesFault, Successor, Team, member};
     ///
     /// # fn main() -> Result<(), Box<dyn std::error::Error>> {
     /// let team = Team::new(&[member("Snorlax", &["Bide"])?])?;
     /// let mut battle = Battle::new(&team, &team, [0; 10]);
     /// battle.update(Choice::Pass, Choice::Pass)?;
     /// // Each lasts two turns or three. Which of the two acts first makes no difference.
+    /// let (bide, options) = (Choice::MOVE_1, OutcomeOptions::new());
     /// let mut successors: [Successor; 4] = from_fn(|_| Successor::from(&battle));
-    /// let found = battle.outcomes_into(Choice::MOVE_1, Choice::MOVE_1, &mut successors, &mut [0; 8])?;
+    /// let found = battle.outcomes_into(bide, bide, &options, &mut successors, &mut [0; 8])?;
     /// assert_eq!((found.count, successors[0].weight() * 4), (4, found.whole));
-    /// let few = battle.outcomes_into(Choice::MOVE_1, Choice::MOVE_1, &mut successors[..3], &mut [0; 8]);
+    /// let few = battle.outcomes_into(bide, bide, &options, &mut successors[..3], &mut [0; 8]);
     /// assert_eq!(few, Err(OutcomesFault::Places));
     /// # Ok(())
     /// # }
@@ -116,10 +141,11 @@ impl Battle {
         &self,
         one: A,
         two: B,
+        options: &OutcomeOptions,
         successors: &mut [Successor],
         table: &mut [u32],
     ) -> Result<Outcomes, OutcomesFault> {
-        outcomes::list_outcomes(&self.packed, self.pair(one, two)?, 0, successors, table)
+        outcomes::list_outcomes(&self.packed, self.pair(one, two)?, options.damage_classes, successors, table)
     }
 
     /// The choices of both sides, if they are offered now.
@@ -128,16 +154,14 @@ impl Battle {
     }
 }
 
-/// How outcomes are listed: by default each damage of a roll apart.
+/// How outcomes are listed, and ways played: by default each damage of a roll apart.
 ///
-/// [`Battle::outcomes_with`] takes it.
-#[cfg(feature = "alloc")]
+/// `Battle::outcomes_with`, [`Battle::outcomes_into`] and [`Battle::ways_with`] take it.
 #[derive(Clone, Copy, Debug, Default, PartialEq, Eq, Hash)]
 pub struct OutcomeOptions {
     damage_classes: u8,
 }
 
-#[cfg(feature = "alloc")]
 impl OutcomeOptions {
     /// Each damage of a roll is listed apart.
     #[must_use]

@@ -1,6 +1,6 @@
 //! Exact outcomes: probabilities worked out from docs/MECHANICS.md, and both forms against each other.
 use gen1::{
-    Battle, CantReason, Chance, Choice, Event, Kind, OutcomesFault, Place, Refusal, Side, Successor, Team, Way, member,
+    Battle, CantReason, Chance, Choice, Event, Kind, OutcomeOptions, OutcomesFault, Place, Refusal, Side, Successor, Team, Way, member,
 };
 
 fn facing(one: (&str, &str), two: (&str, &str)) -> Battle {
@@ -48,14 +48,14 @@ fn probabilities_are_those_of_the_rules() {
     assert_eq!(told(&drill, |event| matches!(event, Event::Faint(_))), (19, 64));
 }
 
-#[test]
-fn ways_sum_to_the_outcomes() {
+/// Checks that the weight of each outcome is that of its ways, and returns how many outcomes there are.
+fn compare_ways(options: &OutcomeOptions) -> usize {
     let battle = facing(("Tauros", "Body Slam"), ("Snorlax", "Splash"));
     let mut places = vec![Successor::from(&battle); 4096];
-    let found = battle.outcomes_into(Choice::MOVE_1, Choice::MOVE_1, &mut places, &mut [0; 8192]).unwrap();
+    let found = battle.outcomes_into(Choice::MOVE_1, Choice::MOVE_1, options, &mut places, &mut [0; 8192]).unwrap();
     places.truncate(found.count);
     assert_eq!(places.iter().map(Successor::weight).sum::<u128>(), found.whole);
-    let ways: Vec<Way> = battle.ways(0x11, 0x11).unwrap().map(Result::unwrap).collect();
+    let ways: Vec<Way> = battle.ways_with(0x11, 0x11, options).unwrap().map(Result::unwrap).collect();
     assert_eq!(ways.len(), found.ways as usize);
     for place in &places {
         let of = |way: &&Way| way.battle == place.battle();
@@ -64,10 +64,20 @@ fn ways_sum_to_the_outcomes() {
     }
     #[cfg(feature = "alloc")]
     {
-        let list = battle.outcomes(Choice::MOVE_1, Choice::MOVE_1).unwrap();
+        let list = battle.outcomes_with(Choice::MOVE_1, Choice::MOVE_1, options).unwrap();
         assert_eq!((list.successors(), list.whole()), (&places[..], found.whole));
         assert!((list.iter().map(|(_, probability)| probability).sum::<f64>() - 1.0).abs() < 1e-9);
     }
+    found.count
+}
+
+#[test]
+fn ways_sum_to_the_outcomes() {
+    let all = compare_ways(&OutcomeOptions::new());
+    let few = compare_ways(&OutcomeOptions::new().with_damage_classes(3));
+    // A hit has 3 classes, critical or not, and paralyses no Normal type; and there is a miss.
+    assert_eq!(few, 2 * 3 + 1);
+    assert!(all > 5 * few);
 }
 
 /// An update with any numbers to draw leads to one of the outcomes.
@@ -75,7 +85,8 @@ fn ways_sum_to_the_outcomes() {
 fn updates_are_among_the_outcomes() {
     let battle = facing(("Tauros", "Thunder"), ("Starmie", "Confuse Ray"));
     let mut places = vec![Successor::from(&battle); 4096];
-    let found = battle.outcomes_into(Choice::MOVE_1, Choice::MOVE_1, &mut places, &mut [0; 8192]).unwrap();
+    let options = OutcomeOptions::new();
+    let found = battle.outcomes_into(Choice::MOVE_1, Choice::MOVE_1, &options, &mut places, &mut [0; 8192]).unwrap();
     for number in 0..=255 {
         let mut next = battle.clone();
         next.reseed([number; 10].map(|it: u8| it.wrapping_mul(91)));
@@ -91,7 +102,7 @@ fn bad_choices_and_few_places() {
     assert_eq!(battle.ways(Choice::MOVE_1, Choice::Pass).unwrap_err(), refusal);
     let mut places = vec![Successor::from(&battle); 4];
     let ask = |choice: u8, places: &mut [Successor], table: usize| {
-        battle.outcomes_into(choice, 0x11, places, &mut vec![0; table]).map(|found| found.count)
+        battle.outcomes_into(choice, 0x11, &OutcomeOptions::new(), places, &mut vec![0; table]).map(|found| found.count)
     };
     assert_eq!(ask(0x11, &mut places, 4), Ok(4));
     assert_eq!(ask(0x11, &mut places[..3], 4), Err(OutcomesFault::Places));
