@@ -11,7 +11,7 @@ from conftest import LIB, random_team
 
 np = pytest.importorskip("numpy")
 
-from gen1 import BadArgument, BadType, Battle, BattleArray, Conditions, Error, Refusal  # noqa: E402
+from gen1 import BadArgument, BadType, Battle, BattleArray, Conditions, Error, Member, Refusal  # noqa: E402
 from gen1.arrays import ACTIONS, CHOICES, bits  # noqa: E402
 from gen1.layout import ACTIVE, BATTLE, MEMBER  # noqa: E402
 from gen1.observations import COLUMNS  # noqa: E402
@@ -379,3 +379,52 @@ def test_it_is_quick(battle):
         spent, steps = spent + time.process_time() - begun, steps + int((array.codes == 0).sum())
         array.reset(array.over, dice.integers(0, 256, (4096, 10), np.uint8))
     assert steps / spent > 300_000
+
+
+@pytest.mark.parametrize("threads", (1, 3))
+def test_outcomes_of_many(threads):
+    """They are those of each battle alone, and a refused pair has none."""
+    battles = random_battles(40, 21) * 15
+    array, dice = BattleArray.of(battles, threads=threads), np.random.default_rng(22)
+    for _ in range(3):
+        array.random_step(dice)
+    ones, twos = array.copy().random_step(dice)
+    ones[::7], twos[3::7] = 255, 255
+    before = array.copy()
+    found = array.outcomes_many(ones, twos, damage_classes=2)
+    assert array == before and len(found) == len(array) and repr(found).startswith("<OutcomeArray of 600, ")
+    for at, (battle, one, two, each) in enumerate(zip(array, ones, twos, found)):
+        first, past = found.offsets[at : at + 2]
+        if battle.result.is_over or 255 in (one, two):
+            over = Refusal.OVER if battle.result.is_over else Refusal.NOT_OFFERED_ONE if one == 255 else Refusal.NOT_OFFERED_TWO
+            assert (found.codes[at], len(each), first, found.wholes[at]) == (over, 0, past, 0)
+            continue
+        alone = battle.outcomes(int(one), int(two), damage_classes=2)
+        assert (found.codes[at], each.battles, each.weights, each.whole) == (0, alone.battles, alone.weights, alone.whole)
+        assert found.weights[first:past] == alone.weights and found.wholes[at] == alone.whole
+        assert np.array_equal(found.states[first:past], alone.states)
+        assert np.allclose(found.probabilities[first:past], alone.probabilities, rtol=1e-14, atol=0)
+    with pytest.raises(IndexError):
+        found[600]
+
+
+def test_many_outcomes_of_one_battle():
+    """More outcomes than there is space for at first."""
+    several = Battle([Member("Cloyster", ["Spike Cannon"])], [Member("Fearow", ["Fury Attack"])], bytes(10))
+    several.update_silent(0, 0)
+    array = BattleArray.of([several, several])
+    found, alone = array.outcomes_many([0x11, 0x11], [0x11, 0x11]), several.outcomes(0x11, 0x11)
+    assert len(alone) > 256 and found.offsets.tolist() == [0, len(alone), 2 * len(alone)]
+    assert found[1].weights == alone.weights and np.array_equal(found[0].states, alone.states)
+
+
+def test_bad_choices_of_many_outcomes(battle):
+    array = BattleArray(3, battle)
+    with pytest.raises(BadArgument, match="ones must be"):
+        array.outcomes_many([0, 0], [0, 0, 0])
+    with pytest.raises(BadArgument, match=r"twos\[1\] must be 0 to 255"):
+        array.outcomes_many([0, 0, 0], [0, 256, 0])
+    with pytest.raises(BadType, match="ones must be whole numbers"):
+        array.outcomes_many([0.5, 0, 0], [0, 0, 0])
+    with pytest.raises(BadArgument, match="damage_classes must be 0 to 39"):
+        array.outcomes_many([0, 0, 0], [0, 0, 0], damage_classes=40)

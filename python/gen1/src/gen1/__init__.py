@@ -137,6 +137,7 @@ _WITH_NUMPY = {
     "BattleArray": "gen1.arrays",
     "BattleEnv": "gen1.environments",
     "Encoding": "gen1.encodings",
+    "OutcomeArray": "gen1.outcome_arrays",
     "PlayerArray": "gen1.player_arrays",
     "TwoPlayerEnv": "gen1.environments",
     "TwoPlayerVectorEnv": "gen1.vectors",
@@ -147,6 +148,7 @@ if TYPE_CHECKING:
     from gen1.arrays import BattleArray
     from gen1.encodings import Encoding
     from gen1.environments import BattleEnv, TwoPlayerEnv
+    from gen1.outcome_arrays import OutcomeArray
     from gen1.player_arrays import PlayerArray
     from gen1.vectors import TwoPlayerVectorEnv, VectorEnv
 else:
@@ -224,6 +226,7 @@ __all__ = [
     "OfOne",
     "OneHitEvent",
     "Outcome",
+    "OutcomeArray",
     "Outcomes",
     "OwnMember",
     "OwnSide",

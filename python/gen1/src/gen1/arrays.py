@@ -17,6 +17,7 @@ from gen1.choices import Choice, a_side
 from gen1.errors import BadArgument, BadPlace, BadType
 from gen1.layout import BATTLE
 from gen1.observations import observe
+from gen1.outcome_arrays import OutcomeArray, outcomes_of_array
 
 Bytes: TypeAlias = NDArray[np.uint8]
 Masks: TypeAlias = NDArray[np.uint16]
@@ -186,6 +187,20 @@ class BattleArray:
         pair = self._choices(ones, "ones"), self._choices(twos, "twos")
         self._update(*pair)
         return self._results.copy()
+
+    def outcomes_many(self, ones: ArrayLike, twos: ArrayLike, *, damage_classes: int = 0) -> OutcomeArray:
+        """All battles that an update of each battle by a choice of each side
+        can lead to, as `Battle.outcomes` lists them for one; the choices
+        are as for `step`.
+
+        No battle is changed. One that refuses its pair has no outcomes,
+        and `codes` of the result says why. An update can have thousands of
+        outcomes, of 400 bytes each; `damage_classes` makes them fewer.
+        Raises `BadArgument` or `BadType` for choices of another length,
+        range or type, and for another `damage_classes`.
+        """
+        pair = self._choices(ones, "ones"), self._choices(twos, "twos")
+        return outcomes_of_array(self._bytes, *pair, within(damage_classes, "damage_classes", 0, 39), self._threads)
 
     def random_step(self, dice: np.random.Generator, *, reset: bool = False) -> tuple[Bytes, Bytes]:
         """Makes a step with a random choice of each side, all equally
