@@ -1,7 +1,8 @@
 -- A pair that is accepted was offered.
-use Rattle.std.proofs.Common.{◌≡◌, Bool, true, false, Err, Ok, Result, Some, refl, subst}
+use Rattle.std.proofs.Common.{◌≡◌, Bool, true, false, Err, Ok, Option, Result, Some, ap, refl, subst, sym, ◌∙◌, ℕ}
 use Rattle.gen1_machine.specs.declared.choice.Choice.{Choice}
 use Rattle.gen1_machine.specs.declared.side.Side.TheVariants.{One, Two}
+use Rattle.gen1_machine.specs.Choices.{choice_at}
 use Rattle.gen1_machine.specs.Ruling.{ruling_of}
 use Rattle.gen1_machine.specs.State.{State, is_over}
 use Rattle.gen1_machine.specs.Step.{NotOffered, Over, answered, offers, opened, step, step_by, update}
@@ -10,6 +11,7 @@ use Rattle.gen1_engine.specs.declared.result.BattleResult.{BattleResult}
 use Rattle.gen1_engine.specs.declared.result.Refusal.{Refusal}
 use Rattle.gen1_engine.specs.declared.result.Refusal.TheVariants as refusals
 use Rattle.gen1_layout.specs.Shows.{Telling}
+use Rattle.gen1_engine.specs.Replay.{both, choices_at}
 use Rattle.gen1_engine.specs.Update.{Answers, AnswersAs, AreOffered, Tests}
 use Rattle.gen1_outcomes.specs.Following.{CanFollow}
 
@@ -57,3 +59,15 @@ pub follows_as : (s : State) (a b one two : Choice) (parts : Parts) (events : Te
 follows_as s a b one two parts events e f h =
     subst (λ (x : Choice). AreOffered s x two → CanFollow s x two parts events) e
     (subst (λ (y : Choice). AreOffered s a y → CanFollow s a y parts events) f h)
+
+some_same : (a b : Choice × Choice) → Some a ≡ Some b → a ≡ b
+some_same a b e = cc
+
+-- The same for the choices of two bytes.
+pub follows_pair : (s : State) (bytes : ℕ × ℕ) (one two : Choice) (pair : Choice × Choice) (parts : Parts) (events : Telling) → Some one ≡ choice_at bytes.0
+    → Some two ≡ choice_at bytes.1 → choices_at bytes ≡ Some pair → (AreOffered s one two → CanFollow s one two parts events) → AreOffered s pair.0 pair.1
+    → CanFollow s pair.0 pair.1 parts events
+follows_pair s bytes one two pair parts events first second is =
+    let read : both (choice_at bytes.0) (choice_at bytes.1) ≡ Some (one, two) = rw (sym first, sym second) refl in
+    let same : (one, two) ≡ pair = some_same (one, two) pair (sym read ∙ is) in
+    follows_as s one two pair.0 pair.1 parts events (ap (λ (x : Choice × Choice). x.0) same) (ap (λ (x : Choice × Choice). x.1) same)

@@ -6,4 +6,5 @@ pub mod Script
 pub mod Following
 pub mod Listing
 pub mod Merging
+pub mod Plain
 pub mod Faults

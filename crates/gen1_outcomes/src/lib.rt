@@ -9,6 +9,7 @@
 //! - `explorer`: a generator that takes an update through all its ways, one after the other
 //! - `playing`: an update whose draws come from any generator
 //! - `ways`: [`Ways`], each way of an update apart
+//! - `plain`: the same as a plain struct that its caller keeps
 //! - `successor`: [`Successor`], a battle with its weight
 //! - `merging`: battles that are equal become one
 //! - `outcomes`: [`list_outcomes`], all battles that an update can lead to
@@ -23,6 +24,7 @@ mod fault;
 mod merging;
 mod nodes;
 mod outcomes;
+pub mod plain;
 mod playing;
 mod script;
 mod successor;

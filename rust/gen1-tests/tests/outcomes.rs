@@ -7,7 +7,7 @@ use gen1::generated::events::{LogBuf, Silent};
 use gen1::generated::layout::Packed;
 use gen1::generated::machine::{Choice, Request, Side, UsedMove};
 use gen1::generated::odds::odds_of;
-use gen1::generated::outcomes::{Outcomes, OutcomesFault, Successor, Ways, list_outcomes, play};
+use gen1::generated::outcomes::{Outcomes, OutcomesFault, Successor, Ways, list_outcomes, plain, play};
 use gen1::generated::offers::offered;
 use gen1::generated::switching::start;
 use gen1::generated::rolls::{Look, Rolls};
@@ -583,6 +583,27 @@ fn ways_sum_to_the_outcomes() {
         assert_eq!(sums.len(), weights.len());
         for (bytes, sum) in sums {
             assert_eq!(sum, weights[&bytes[..]]);
+        }
+    }
+}
+
+/// A walk in a plain struct has the same ways: battles, probabilities and logs.
+#[test]
+fn plain_walks_have_the_same_ways() {
+    for it in positions(20, &mut Bytes::new(8)) {
+        for classes in [0, 3] {
+            let mut ways = Ways::new(&it.battle, it.one, it.two, classes).unwrap();
+            let mut walk = plain::first(&it.battle, it.one.byte(), it.two.byte(), classes);
+            let (mut next, mut other) = (it.battle.clone(), it.battle.clone());
+            loop {
+                let (mut log, mut told) = (LogBuf::new(), LogBuf::new());
+                let chance = ways.next(&mut next, &mut log).unwrap();
+                assert_eq!(plain::next(&mut walk, &mut other, &mut told).unwrap(), chance);
+                if chance.is_none() {
+                    break;
+                }
+                assert_eq!((next.as_bytes(), log), (other.as_bytes(), told));
+            }
         }
     }
 }

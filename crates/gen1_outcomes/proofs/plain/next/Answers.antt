@@ -1,0 +1,11 @@
+use Rattle.std.proofs.Common.{Some, subst, sym, ◌≡◌}
+use Rattle.gen1_layout.specs.Parts.{Parts}
+use Rattle.gen1_layout.specs.Within.{Stands}
+use Rattle.gen1_outcomes.proofs.Offered.{follows_pair}
+use Rattle.gen1_outcomes.proofs.plain.next.Goals as goal
+
+pub returns-in-Some-chance-clause-follows : goal.returns-in-Some-chance-clause-follows
+returns-in-Some-chance-clause-follows g c s h pair is offered =
+    follows_pair s (c.args.walk.now.one, c.args.walk.now.two) c.in-Some.one c.in-Some-from_byte.two pair c.play_way.new.battle (g.S.EventSink.tells c.play_way.new.events)
+    c.in-Some.ensures.value c.in-Some-from_byte.ensures.value is
+    (c.play_way.ensures.follows s (subst (λ (p : Parts). Stands p s) (sym c.copy_of.ensures) h)) offered
