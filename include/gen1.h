@@ -281,6 +281,9 @@ enum {
     GEN1_ERROR_LOG_CUT = 34,        /* the bytes end within an event */
     GEN1_ERROR_LOG_END = 35,        /* the index is at the end of the log, or past it */
 
+    /* Walks. */
+    GEN1_ERROR_WALK_END = 36,       /* no way is left */
+
     /* Arguments. */
     GEN1_ERROR_SIDE = 40,           /* the side is neither 1 nor 2 */
     GEN1_ERROR_SMALL_TEXT = 41,     /* the text and its NUL do not fit */
@@ -826,6 +829,75 @@ static inline double GEN1_PROBABILITY(const gen1_successor *successor, const gen
 {
     const double high = 18446744073709551616.0; /* 2 to the power of 64 */
     return ((double)successor->high * high + (double)successor->low) / ((double)list->high * high + (double)list->low);
+}
+
+/* A draw of a way. Only the library reads and writes it. */
+typedef struct gen1_draw {
+    uint64_t num[2];   /* the numerator of the probability of the draws before it, the low 64 bits first */
+    uint64_t whole[2]; /* the denominator */
+    uint64_t rest[4];  /* the bytes that are still to be tried: a bit for each of 256 */
+    uint16_t total;    /* how many bytes it may have */
+    uint16_t count;    /* how many of them are alike to `byte` */
+    uint16_t look[2];  /* what is looked at of the byte, as numbers */
+    uint8_t kind;      /* what is looked at, 0 to 3 */
+    uint8_t byte;      /* the byte that it has on the next way */
+    uint8_t unused[6]; /* 0 */
+} gen1_draw;
+
+/*
+ * A walk through the ways of an update, which gen1_walk_begin makes and gen1_walk_next changes. The caller owns it, and may copy
+ * it: a copy goes on from the same way.
+ */
+typedef struct gen1_walk {
+    gen1_battle battle;     /* the battle before the update */
+    gen1_draw draws[24];    /* the draws of the next way, as far as they are known, in the first places */
+    uint8_t count;          /* how many there are, 0 to 24 */
+    uint8_t one;            /* the choice of side 1 */
+    uint8_t two;            /* side 2's */
+    uint8_t damage_classes; /* as it was given to gen1_walk_begin */
+    uint8_t over;           /* 1 after the last way, else 0 */
+    uint8_t unused[3];      /* 0 */
+} gen1_walk;
+
+#define GEN1_WALK_SIZE 2312 /* the size of a gen1_walk, for other languages; its alignment is at most 8 */
+
+/* A way of an update: a battle that it can lead to, its exact probability, and what happens. */
+typedef struct gen1_way {
+    gen1_battle battle;         /* after the update; bytes 5 to 15, the numbers to draw, are those from before */
+    uint64_t low;               /* the low 64 bits of the numerator of the probability */
+    uint64_t high;              /* the high 64 bits */
+    uint64_t whole_low;         /* the low 64 bits of the denominator */
+    uint64_t whole_high;        /* the high 64 bits */
+    uint64_t log_length;        /* 0 to 512: how many bytes of `log` belong to the update */
+    uint8_t log[GEN1_LOG_ROOM]; /* the log of the update, and after it zeros */
+} gen1_way;
+
+#define GEN1_WAY_SIZE 936 /* the size of a gen1_way, for other languages; its alignment is at most 8 */
+
+/*
+ * Begins a walk through all ways of an update by a choice of each side: what gen1_outcomes lists, one by one, each with its log,
+ * before equal battles are merged. Two ways may lead to equal battles by other events, such as a critical hit and a usual one
+ * that both knock out. A walk needs no arrays, and can be left at any way. `damage_classes` is that of gen1_outcomes.
+ *
+ * Returns 0, or the first of these codes that applies, and then nothing has changed: GEN1_ERROR_OVER,
+ * GEN1_ERROR_NOT_OFFERED_ONE, GEN1_ERROR_NOT_OFFERED_TWO.
+ */
+uint8_t gen1_walk_begin(const gen1_battle *battle, uint8_t one, uint8_t two, uint8_t damage_classes, gen1_walk *walk);
+
+/*
+ * Plays the next way of a walk, and writes it to `*way`. Ways exclude each other, and their probabilities sum to 1. They are
+ * exact for draws that are independent uniform bytes, as are those of gen1_outcomes. An update has at least one way.
+ *
+ * Returns 0, or a code, and then nothing has changed: GEN1_ERROR_WALK_END after the last way, or GEN1_ERROR_DRAWS. With bytes
+ * that are no walk it returns one of these three, and a way means nothing.
+ */
+uint8_t gen1_walk_next(gen1_walk *walk, gen1_way *way);
+
+/* Returns the probability of a way, as a double near it. */
+static inline double GEN1_WAY_PROBABILITY(const gen1_way *way)
+{
+    const double high = 18446744073709551616.0; /* 2 to the power of 64 */
+    return ((double)way->high * high + (double)way->low) / ((double)way->whole_high * high + (double)way->whole_low);
 }
 
 /* ---- teams out of text ---- */

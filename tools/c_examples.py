@@ -104,10 +104,10 @@ def of_known(_gate):
 
 
 def of_many(_gate):
-    """It has no input, and compares by itself; all battles end. Body Slam misses with one byte of 256."""
+    """It has no input, and compares by itself; all battles end. Body Slam misses with one byte of 256, and Tauros is critical with 55."""
     playouts, outcomes = rb"\d+ wins of side 1, \d+ of side 2, \d+ ties\n", rb"\d+ outcomes, a miss with probability 0\.00390625\n"
-    steps = rb"\d+ random steps to the end of all battles\n"
-    yield Case("status", (), b"", re.compile(playouts + outcomes + steps + rb"100 battles have ended\n"), b"")
+    ways, steps = rb"a critical hit with probability 0\.214005\n", rb"\d+ random steps to the end of all battles\n"
+    yield Case("status", (), b"", re.compile(playouts + outcomes + ways + steps + rb"100 battles have ended\n"), b"")
 
 
 def of_look(_gate):

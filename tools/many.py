@@ -15,6 +15,8 @@ from tables import numbered, table
 
 SUCCESSOR = Struct("<384sQQ")
 PLACES = 65536
+WALK, WALK_END = 2312, 36
+WALKED = 300  # the ways of every seventh update with at most so many outcomes are compared
 KEPT = 7  # fills arrays and structs that a call must not change
 
 
@@ -30,6 +32,11 @@ class OutcomeList(Structure):
     _fields_ = [("low", c_uint64), ("high", c_uint64), ("count", c_uint64)]
 
 
+class Way(Structure):
+    _fields_ = [("battle", c_uint8 * 384), *((name, c_uint64) for name in ("low", "high", "whole_low", "whole_high", "log_length")),
+                ("log", c_uint8 * 512)]
+
+
 def declare(calls):
     """Declares the types of the calls of this file."""
     battle, size = POINTER(gen1.BattleBytes), c_size_t
@@ -42,6 +49,8 @@ def declare(calls):
         ("gen1_playout", c_uint8, [battle, POINTER(PlayoutOptionsStruct), POINTER(PlayoutsStruct)]),
         ("gen1_outcomes", c_uint8,
          [battle, c_uint8, c_uint8, c_uint8, ctypes.c_char_p, size, POINTER(c_uint32), size, POINTER(OutcomeList)]),
+        ("gen1_walk_begin", c_uint8, [battle, c_uint8, c_uint8, c_uint8, ctypes.c_char_p]),
+        ("gen1_walk_next", c_uint8, [ctypes.c_char_p, POINTER(Way)]),
         ("gen1_team_from_text", c_uint8, [ctypes.c_char_p, size, POINTER(gen1.Team), POINTER(TextFault)]),
         ("gen1_team_from_packed", c_uint8, [ctypes.c_char_p, size, POINTER(gen1.Team), POINTER(TextFault)]),
     ):
@@ -214,7 +223,7 @@ def compare_playouts(library, steps, folder, count):
 
 
 def compare_outcomes(library, steps, count):
-    """Checks that each recorded update leads to one of its outcomes, whose weights sum to the whole, or is refused."""
+    """Checks that each recorded update leads to one of its outcomes, whose weights sum to the whole, or is refused; and that ways sum to outcomes."""
     found, table = ctypes.create_string_buffer(PLACES * SUCCESSOR.size), (c_uint32 * (2 * PLACES))()
     for at, (before, update) in enumerate(steps):
         of = OutcomeList(KEPT, KEPT, KEPT)
@@ -227,8 +236,27 @@ def compare_outcomes(library, steps, count):
         after = after[:5] + before[5:16] + after[16:]
         rows = SUCCESSOR.iter_unpack(ctypes.string_at(found, of.count * SUCCESSOR.size))
         weights = {battle: high << 64 | low for battle, low, high in rows}
+        whole = of.high << 64 | of.low
         got = code, len(weights), sum(weights.values()), weights.get(after, 0) > 0
-        count.tell(f"outcomes of update {at}", got, (0, of.count, of.high << 64 | of.low, True))
+        count.tell(f"outcomes of update {at}", got, (0, of.count, whole, True))
+        if at % 7 == 0 and of.count <= WALKED:
+            got = walked(library, before, update["pair"], after)
+            want = {battle: Fraction(weight, whole) for battle, weight in weights.items()}
+            count.tell(f"ways of update {at}", got[0], want)
+            count.tell(f"logs of update {at}", bytes.fromhex(update["log"]) in got[1], True)
+
+
+def walked(library, before, pair, after):
+    """The probabilities of all battles that the ways of an update lead to, summed; and the logs of the ways to one of them."""
+    walk, way, sums, logs = ctypes.create_string_buffer(WALK), Way(), {}, []
+    code = library.calls.gen1_walk_begin(array_of([before]), *pair, 0, walk)
+    while code == 0:
+        code = library.calls.gen1_walk_next(walk, byref(way))
+        if code == 0:
+            battle, chance = bytes(way.battle), Fraction(way.high << 64 | way.low, way.whole_high << 64 | way.whole_low)
+            sums[battle] = sums.get(battle, 0) + chance
+            logs += [bytes(way.log[:way.log_length])] * (battle == after)
+    return (sums, logs) if code == WALK_END else (code, logs)
 
 
 def export_text(members):

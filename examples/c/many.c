@@ -1,6 +1,6 @@
 /*
  * Plays many battles of a team at once, with masks and batches and at random, uses playouts to see which side is ahead, and lists all
- * that an update can lead to.
+ * that an update can lead to, and its ways.
  *
  *     cc -O2 -I include examples/c/many.c crates/gen1_c/out/libgen1_c.a -o many
  *     ./many
@@ -95,6 +95,26 @@ static bool list_outcomes(gen1_battle battle)
     return true;
 }
 
+/* Prints the chance that a way of the same update has a critical hit. */
+static bool walk_ways(gen1_battle battle)
+{
+    gen1_walk walk;
+    gen1_way way;
+    double critical = 0;
+    if (gen1_update_silent(&battle, GEN1_CHOICE_PASS, GEN1_CHOICE_PASS) != 0 ||
+        gen1_walk_begin(&battle, GEN1_CHOICE_MOVE(1), GEN1_CHOICE_SWITCH(2), 0, &walk) != 0)
+        return false;
+    while (gen1_walk_next(&walk, &way) == 0) {
+        size_t at = 0;
+        gen1_event event;
+        while (gen1_next_event(way.log, way.log_length, &at, &event) == 0)
+            if (event.tag == GEN1_EVENT_CRIT)
+                critical += GEN1_WAY_PROBABILITY(&way);
+    }
+    printf("a critical hit with probability %g\n", critical);
+    return true;
+}
+
 int main(void)
 {
     gen1_battle battles[BATTLES];
@@ -105,7 +125,7 @@ int main(void)
     if (!begin(battles) || gen1_playout(&battles[0], &options, &counts) != 0)
         return 1;
     printf("%u wins of side 1, %u of side 2, %u ties\n", (unsigned)counts.wins_one, (unsigned)counts.wins_two, (unsigned)counts.ties);
-    if (!list_outcomes(battles[0]))
+    if (!list_outcomes(battles[0]) || !walk_ways(battles[0]))
         return 1;
     steps = play_at_random(battles);
     if (steps < 0 || !begin(battles))

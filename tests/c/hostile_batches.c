@@ -205,4 +205,70 @@ static void try_outcomes(void)
     tell("gen1_outcomes", is_right, got, want);
 }
 
-try_call *const tries_of_batches[] = {try_offered, try_offered_many, try_update_many, try_step_random_many, try_playout, try_outcomes, NULL};
+static void try_walk_begin(void)
+{
+    bool is_valid;
+    gen1_battle from = some_battle(&is_valid), next = from;
+    uint8_t one = one_in(8) ? any_byte() : offered(&from, GEN1_ONE), two = one_in(8) ? any_byte() : offered(&from, GEN1_TWO);
+    const gen1_battle *battle = block_of(0, &from, sizeof from);
+    gen1_walk *walk = block(1, sizeof *walk);
+    note();
+    uint8_t got = gen1_walk_begin(battle, one, two, any_byte(), walk);
+    uint8_t want = is_valid ? gen1_update_silent(&next, one, two) : got;
+    bool is_right = got == 0 ? changed_only(1, sizeof *walk) && memcmp(&walk->battle, &from, sizeof from) == 0 : unchanged();
+    tell("gen1_walk_begin", got == want && is_right, got, want);
+}
+
+/* Whether a way has a probability above 0 and up to 1, a log that ends after an event, and zeros after it. */
+static bool is_way(const gen1_way *way)
+{
+    size_t at = 0, left = sizeof way->log;
+    gen1_event event;
+    if (way->log_length > sizeof way->log || (way->low == 0 && way->high == 0))
+        return false;
+    while (gen1_next_event(way->log, way->log_length, &at, &event) == 0)
+        ;
+    while (left > way->log_length && way->log[left - 1] == 0)
+        left--;
+    double part = GEN1_WAY_PROBABILITY(way);
+    return at == way->log_length && left == way->log_length && 0 < part && part <= 1;
+}
+
+/* A walk of lawful play after some ways; or one with some other bytes. */
+static gen1_walk some_walk(bool *is_valid)
+{
+    gen1_walk walk;
+    gen1_way way;
+    gen1_battle from = some_battle(is_valid);
+    uint8_t *bytes = (uint8_t *)&walk;
+    while (gen1_walk_begin(&from, offered(&from, GEN1_ONE), offered(&from, GEN1_TWO), one_in(2) ? 0 : any_byte(), &walk) != 0)
+        from = some_battle(is_valid);
+    for (uint32_t ways = draw(40); ways > 0; ways--)
+        gen1_walk_next(&walk, &way);
+    if (one_in(2))
+        return walk;
+    *is_valid = false;
+    for (uint32_t changes = 1 + draw(4); changes > 0; changes--)
+        bytes[one_in(2) ? sizeof walk - 1 - draw(8) : draw(sizeof walk)] = any_byte();
+    return walk;
+}
+
+static void try_walk_next(void)
+{
+    bool is_valid;
+    gen1_walk from = some_walk(&is_valid), copy = from;
+    gen1_way other;
+    gen1_walk *walk = block_of(0, &from, sizeof from);
+    gen1_way *way = block(1, sizeof *way);
+    note();
+    uint8_t got = gen1_walk_next(walk, way), again = gen1_walk_next(&copy, &other);
+    bool is_right = got == 0 ? changed_only_two(0, sizeof *walk, 1, sizeof *way) : unchanged();
+    is_right &= got == 0 || got == GEN1_ERROR_WALK_END || (got == GEN1_ERROR_DRAWS && !is_valid);
+    is_right &= memcmp(&walk->battle, &from.battle, sizeof from.battle) == 0 && memcmp(walk, &copy, sizeof copy) == 0;
+    if (got == 0)
+        is_right &= memcmp(way, &other, sizeof other) == 0 && (!is_valid || is_way(way));
+    tell("gen1_walk_next", got == again && is_right, got, again);
+}
+
+try_call *const tries_of_batches[] = {try_offered, try_offered_many, try_update_many, try_step_random_many, try_playout, try_outcomes,
+                                      try_walk_begin, try_walk_next, NULL};

@@ -19,6 +19,8 @@ uint8_t __real_gen1_room_submit(gen1_room *, uint8_t, uint32_t, uint8_t);
 uint8_t __real_gen1_spectator_feed(gen1_spectator *, const uint8_t *, size_t);
 uint8_t __real_gen1_odds_now(const gen1_battle *, uint8_t, uint8_t, gen1_odds *);
 uint32_t __real_gen1_odds_between(const gen1_member *, const gen1_member *, uint8_t, gen1_odds *);
+uint8_t __real_gen1_walk_begin(const gen1_battle *, uint8_t, uint8_t, uint8_t, gen1_walk *);
+uint8_t __real_gen1_walk_next(gen1_walk *, gen1_way *);
 uint8_t __real_gen1_outcomes(const gen1_battle *, uint8_t, uint8_t, uint8_t, gen1_successor *, size_t, uint32_t *, size_t, gen1_outcome_list *);
 
 /* 1: a DV of 16 is taken as 15, so that its team is accepted. 2: a refused battle is emptied. */
@@ -163,4 +165,24 @@ void __wrap_gen1_room_begin(gen1_room *room)
     __real_gen1_room_begin(room);
     if (WRONG == 23 && !is_one)
         room->log_length = 65535;
+}
+
+/* 24: a walk is of the battle after the update. */
+uint8_t __wrap_gen1_walk_begin(const gen1_battle *battle, uint8_t one, uint8_t two, uint8_t damage_classes, gen1_walk *walk)
+{
+    uint8_t answer = __real_gen1_walk_begin(battle, one, two, damage_classes, walk);
+    if (WRONG == 24 && answer == 0)
+        gen1_update_silent(&walk->battle, one, two);
+    return answer;
+}
+
+/* 25: a byte is written after the log. 26: a way is written after the last. */
+uint8_t __wrap_gen1_walk_next(gen1_walk *walk, gen1_way *way)
+{
+    uint8_t answer = __real_gen1_walk_next(walk, way);
+    if (WRONG == 25 && answer == 0 && way->log_length < sizeof way->log)
+        way->log[way->log_length] ^= 1;
+    if (WRONG == 26 && answer == GEN1_ERROR_WALK_END)
+        way->low = 0;
+    return answer;
 }

@@ -8,6 +8,8 @@ pub mod Hits
 pub mod Updates
 -- A list of outcomes.
 pub mod Listed
+-- The ways of an update, one after the other.
+pub mod Walked
 -- Many battles, one after the other.
 pub mod OneByOne
 -- Random steps of a battle, and of many.

@@ -20,6 +20,8 @@ pub mod Damage
 pub mod Batches
 -- The battles that an update can lead to.
 pub mod Outcomes
+-- Its ways one by one.
+pub mod Walks
 -- How playouts end.
 pub mod Playouts
 -- Random steps of many battles.

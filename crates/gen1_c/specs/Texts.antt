@@ -50,13 +50,14 @@ update_sentences =
     codes "the update has too many draws to list its outcomes" ∷
     []
 
--- logs, from 32 on
+-- logs and walks, from 32 on
 abbrev pub log_sentences : List (List ℕ)
 log_sentences =
     codes "a byte in a tag's place is no tag: these are 1 to 28" ∷
     codes "a field of an event is out of its range" ∷
     codes "the bytes end within an event" ∷
     codes "no event is left: the index is at the end of the log, or past it" ∷
+    codes "no way is left: the walk has ended" ∷
     []
 
 -- arguments, from 40 on

@@ -22,6 +22,8 @@ pub(crate) const NOT_OFFERED_TWO: u8 = 26;
 
 pub(crate) const SMALL_LOG: u8 = 27;
 
+pub(crate) const DRAWS: u8 = 31;
+
 // Logs.
 pub(crate) const LOG_TAG: u8 = 32;
 
@@ -30,6 +32,9 @@ pub(crate) const LOG_FIELD: u8 = 33;
 pub(crate) const LOG_CUT: u8 = 34;
 
 pub(crate) const LOG_END: u8 = 35;
+
+// Walks.
+pub(crate) const WALK_END: u8 = 36;
 
 // Arguments. A species and a move are also what a team can have wrong.
 pub(crate) const SPECIES: u8 = 10;
@@ -101,7 +106,7 @@ pub(crate) fn of_outcomes(why: OutcomesFault) -> u8
         OutcomesFault::Refused(why) => of_refusal(why),
         OutcomesFault::Places => 29,
         OutcomesFault::Table => 30,
-        OutcomesFault::Size => 31,
+        OutcomesFault::Size => DRAWS,
     }
 }
 

@@ -8,6 +8,7 @@
 //! - `masks`: offered choices as a mask
 //! - `batches`: many battles in one call
 //! - `outcomes`: all battles that an update can lead to
+//! - `walks`: each way of an update, one after the other
 //! - `playouts`: battles played by random choices
 //! - `random_steps`: random steps of many battles
 //! - `team_text`: teams read from text
@@ -59,6 +60,7 @@ mod teams;
 pub mod texts;
 pub mod update;
 pub mod view;
+pub mod walks;
 
 pub use batches::BatchUpdate;
 pub use events::EventFields;
@@ -70,3 +72,4 @@ pub use playouts::PlayoutForm;
 pub use team_text::TextFaultForm;
 pub use teams::{MemberForm, TeamForm};
 pub use view::StateFaultForm;
+pub use walks::WayForm;

@@ -49,11 +49,12 @@ static UPDATE_TEXTS: [&str; 8] = [
     "the update has too many draws to list its outcomes",
 ];
 
-static LOG_TEXTS: [&str; 4] = [
+static LOG_TEXTS: [&str; 5] = [
     "a byte in a tag's place is no tag: these are 1 to 28",
     "a field of an event is out of its range",
     "the bytes end within an event",
     "no event is left: the index is at the end of the log, or past it",
+    "no way is left: the walk has ended",
 ];
 
 static ARGUMENT_TEXTS: [&str; 8] = [
