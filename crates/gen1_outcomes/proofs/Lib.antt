@@ -1,6 +1,9 @@
 -- Lemmas.
+pub mod Joining
 pub mod Lists
 pub mod Offered
+pub mod Paths
 pub mod Scripts
 pub mod Sets
+pub mod Sums
 pub mod Walking

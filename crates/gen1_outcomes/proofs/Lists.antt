@@ -1,17 +1,16 @@
 -- Lists of successors: what is added, and what of it follows.
-use Rattle.std.proofs.Common.{◌≡◌, ◌≢◌, ℕ, Err, IfOk, IfSome, None, Ok, Option, Result, Some, ◌+◌, ◌<◌, List, length, get_or-set_other, get_or-set_same, set, ◌⊎◌, inl, inr, ap, subst, sym, ◌∙◌, arith}
+use Rattle.std.proofs.Common.{◌≡◌, ◌≢◌, ℕ, Err, IfOk, Ok, OnOk, Result, ◌+◌, ◌<◌, List, length, get_or-set_other, get_or-set_same, set, ◌⊎◌, inl, inr, ap, subst, sym, ◌∙◌, arith}
 use Rattle.std.proofs.lemmas.List.{get_or_default}
 use Rattle.gen1_machine.specs.declared.choice.Choice.{Choice}
 use Rattle.gen1_machine.specs.State.{State}
 use Rattle.gen1_layout.specs.Parts.{Parts}
 use Rattle.gen1_outcomes.specs.declared.fault.OutcomesFault.{OutcomesFault}
-use Rattle.gen1_outcomes.specs.declared.nodes.Chance.{Chance}
 use Rattle.gen1_outcomes.specs.declared.outcomes.Outcomes.{Outcomes}
 use Rattle.gen1_outcomes.specs.declared.successor.Successor.{Successor}
 use Rattle.gen1_layout.specs.Within.{Stands}
 use Rattle.gen1_engine.specs.Update.{AreOffered}
 use Rattle.gen1_outcomes.specs.Following.{CanFollow, Walk}
-use Rattle.gen1_outcomes.specs.Listing.{AreThose, AreThoseOr, EachFollows, battle_at, untold}
+use Rattle.gen1_outcomes.specs.Listing.{AreThose, AreThoseOr, EachFollows, StillFollow, battle_at, untold}
 
 same_or : (m n : ℕ) → (m ≡ n) ⊎ (m ≢ n)
 same_or m n = grind arith
@@ -73,10 +72,23 @@ pub follows_walk : (s : State) (one two : Choice) (battle : Parts) (w : Walk) �
 follows_walk s one two battle w is stands offered xs r all =
     subst (λ (v : Walk). Stands v.start s → AreOffered s v.one v.two → IfOk r (λ o. EachFollows s v.one v.two o.count xs)) is all stands offered
 
--- A way of a walk that was found follows, also under another name of the walk.
-pub found_follows : (s : State) (w v : Walk) (way : Option Chance) (chance : Chance) (battle : Parts) → w ≡ v → way ≡ Some chance
-    → (Stands w.start s → AreOffered s w.one w.two → IfSome way (λ _. CanFollow s w.one w.two battle untold))
-    → Stands v.start s → AreOffered s v.one v.two → CanFollow s v.one v.two battle untold
-found_follows s w v (Some found) chance battle e is f =
-    subst (λ (u : Walk). Stands u.start s → AreOffered s u.one u.two → CanFollow s u.one u.two battle untold) e f
-found_follows s w v None chance battle e is f = absurd (cc)
+-- Where a battle that follows is added, what a walk lists still follows, also under another name of the walk.
+pub still_more : (w v : Walk) (battle : Parts) (first before count now : ℕ) (start old new : List Successor) → v ≡ w → StillFollow w first start before old
+    → ((s : State) → Stands v.start s → AreOffered s v.one v.two → CanFollow s v.one v.two battle untold) → AreThoseOr battle before old count new → now ≡ count
+    → StillFollow w first start now new
+still_more w v battle first before count now start old new is still follows those e s h o each =
+    let this : CanFollow s w.one w.two battle untold =
+    subst (λ (x : Walk). Stands x.start s → AreOffered s x.one x.two → CanFollow s x.one x.two battle untold) is (follows s) h o
+    in
+    subst (λ (n : ℕ). EachFollows s w.one w.two n new) (sym e) (follows_more s w.one w.two battle before count old new (still s h o each) this those)
+
+-- The same where more is listed.
+pub still_then : (w v : Walk) (first before count : ℕ) (start old new : List Successor) → v ≡ w → StillFollow w first start before old
+    → StillFollow v before old count new → StillFollow w first start count new
+still_then w v first before count start old new is still more s h o each =
+    subst (λ (x : Walk). StillFollow x before old count new) is more s h o (still s h o each)
+
+pub on_ok_then : (w v : Walk) (first before count : ℕ) (start old new : List Successor) (r : Result (Unit {0}) OutcomesFault) → v ≡ w
+    → StillFollow w first start before old → OnOk r (StillFollow v before old count new) → OnOk r (StillFollow w first start count new)
+on_ok_then w v first before count start old new (Ok done) is still more = still_then w v first before count start old new is still more
+on_ok_then w v first before count start old new (Err fault) is still more = tt

@@ -38,7 +38,7 @@ halved n t w c e even other =
     omega (arith, e, left, right)
 
 -- Products of two fractions.
-crossed : (a b c d : ℕ) → a * b * (c * d) ≡ a * c * (b * d)
+pub crossed : (a b c d : ℕ) → a * b * (c * d) ≡ a * c * (b * d)
 crossed a b c d = mul_assoc a b (c * d) ∙ ap (λ (x : ℕ). a * x) (sym (mul_assoc b c d) ∙ ap (λ (x : ℕ). x * d) (mul_comm b c) ∙ mul_assoc c b d) ∙ sym (mul_assoc a c (b * d))
 
 pub then_is : (num whole p q t c : ℕ) → p * t ≡ q * c → num * p * (whole * t) ≡ whole * q * (num * c)

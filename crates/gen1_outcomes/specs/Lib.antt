@@ -3,6 +3,8 @@ pub mod Bytes
 pub mod Classes
 pub mod Nodes
 pub mod Script
+pub mod Chances
+pub mod Middles
 pub mod Following
 pub mod Listing
 pub mod Merging

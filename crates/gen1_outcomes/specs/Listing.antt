@@ -6,7 +6,9 @@ use Rattle.gen1_machine.specs.State.{State}
 use Rattle.gen1_layout.specs.Parts.{Parts}
 use Rattle.gen1_layout.specs.Shows.{Telling}
 use Rattle.gen1_outcomes.specs.declared.successor.Successor.{Successor}
-use Rattle.gen1_outcomes.specs.Following.{CanFollow}
+use Rattle.gen1_layout.specs.Within.{Stands}
+use Rattle.gen1_engine.specs.Update.{AreOffered}
+use Rattle.gen1_outcomes.specs.Following.{CanFollow, Walk}
 
 abbrev pub weight_of : Successor → ℕ
 weight_of x = x.low + x.high * 18446744073709551616
@@ -37,3 +39,9 @@ AreThoseOr battle before old count new =
 -- All places have the old battles.
 abbrev pub AreThose : List Successor → List Successor → Type 0
 AreThose old new = (k : ℕ) → (past : Successor) → battle_at new k past ≡ battle_at old k past
+
+-- Where each of the first battles could follow from the pair of a walk, each of those afterwards can.
+abbrev pub StillFollow : Walk → ℕ → List Successor → ℕ → List Successor → Type 0
+StillFollow w before old count new =
+    (s : State) → Stands w.start s → AreOffered s w.one w.two
+    → EachFollows s w.one w.two before old → EachFollows s w.one w.two count new

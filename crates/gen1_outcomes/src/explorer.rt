@@ -33,6 +33,29 @@ impl Notes for Borrowed<'_> {
     }
 }
 
+/// The same after a first part of the update, whose draws are not noted.
+#[derive(Drop)]
+pub(crate) struct After<'a> {
+    /// How many draws of the first part are still to come.
+    pub(crate) left: usize,
+    /// The draws after it.
+    pub(crate) nodes: &'a mut Nodes,
+}
+
+impl Notes for After<'_> {
+    fn is_new(&self) -> bool {
+        self.left == 0 && self.nodes.is_new()
+    }
+
+    fn note(&mut self, byte: u8, look: Look, may_have: &ByteSet) {
+        if self.left == 0 {
+            self.nodes.note(byte, look, may_have);
+        } else {
+            self.left -= 1;
+        }
+    }
+}
+
 /// A script that notes the draws that are taken from it.
 ///
 /// For contracts it is its script. What it notes changes no byte that it draws.

@@ -8,6 +8,9 @@
 //! - `nodes`: the draws of a way, each with the bytes that are still to be tried
 //! - `explorer`: a generator that takes an update through all its ways, one after the other
 //! - `playing`: an update whose draws come from any generator
+//! - `beginning`: a turn up to its second action
+//! - `chances`: sums and products of probabilities
+//! - `middles`: where turns stand between their two actions
 //! - `ways`: [`Ways`], each way of an update apart
 //! - `plain`: the same as a plain struct that its caller keeps
 //! - `successor`: [`Successor`], a battle with its weight
@@ -17,11 +20,14 @@
 #![tactic(auto)]
 
 mod alike;
+mod beginning;
 mod byte_set;
+mod chances;
 mod classes;
 mod explorer;
 mod fault;
 mod merging;
+mod middles;
 mod nodes;
 mod outcomes;
 pub mod plain;

@@ -17,6 +17,28 @@ pub struct Tally {
     pub count: usize,
     /// The common denominator of the weights.
     pub whole: u128,
+    /// How many ways were added.
+    pub ways: u32,
+}
+
+impl Tally {
+    /// Counts so many ways more.
+    ///
+    /// # Errors
+    ///
+    /// `Size`, if 32 bits do not hold the sum.
+    pub fn count_ways(&mut self, ways: u32) -> Result<(), OutcomesFault>
+        ensures count { self.new.count ≡ self.old.count }
+        ensures ways { OnOk result (self.new.ways ≡ self.old.ways + ways) }
+    {
+        match self.ways.checked_add(ways) {
+            Some(sum) => {
+                self.ways = sum;
+                Ok(())
+            }
+            None => Err(OutcomesFault::Size),
+        }
+    }
 }
 
 /// Where a battle is in a list, or where its number goes in the table.
@@ -126,7 +148,8 @@ fn are_equal(one: &Packed, other: &Packed) -> bool
     one.as_bytes() == other.as_bytes()
 }
 
-fn hash(battle: &Packed) -> u64 {
+/// A number that is equal for equal bytes.
+pub(crate) fn hash(battle: &Packed) -> u64 {
     let bytes = battle.as_bytes();
     let mut hash: u64 = 0;
     for word in 0..48 {
@@ -201,7 +224,8 @@ fn multiply(successors: &mut [Successor], place: usize, more: u128) -> Result<()
     }
 }
 
-fn common_divisor(one: u128, other: u128) -> u128
+/// The greatest number that divides both.
+pub(crate) fn common_divisor(one: u128, other: u128) -> u128
     requires { 0 < other }
     ensures { 0 < result }
 {

@@ -1,5 +1,5 @@
 //! The draws of a way, each with the bytes that are still to be tried (docs/MECHANICS.md, "Link numbers").
-ghost use Rattle.std.specs.Prelude.{IfSome, IsFalse, IsTrue, false, nat_le, true, ℕ, ◌*◌, ◌+◌, ◌<◌, ◌≡◌, ◌≤◌, ◌⊎◌, if◌then◌else◌};
+ghost use Rattle.std.specs.Prelude.{IfSome, IsFalse, IsTrue, false, nat_le, slice_index, slice_index_or, true, ℕ, ◌*◌, ◌+◌, ◌<◌, ◌≡◌, ◌≤◌, ◌⊎◌, if◌then◌else◌};
 ghost use Rattle.gen1_outcomes.specs.Bytes.{has, size};
 ghost use Rattle.gen1_outcomes.specs.Classes.{alike_in};
 
@@ -209,6 +209,17 @@ impl Nodes {
         }
     }
 
+    /// Forgets all draws.
+    pub fn clear(&mut self)
+        ensures classes { self.new.damage_classes ≡ self.old.damage_classes }
+        ensures empty { self.new.len ≡ 0 }
+        ensures fits { self.new.too_large ≡ false }
+    {
+        self.len = 0;
+        self.at = 0;
+        self.too_large = false;
+    }
+
     /// Whether the next draw is one that no way had before.
     pub fn is_new(&self) -> bool
         ensures { result ≡ nat_le self.now.len self.now.at }
@@ -264,9 +275,12 @@ impl Nodes {
     }
 
     /// The bytes of the way. The places after them have the byte of the middle factor of the last class of damage.
-    pub fn path(&self) -> [u8; DEPTH] {
+    pub fn path(&self) -> [u8; DEPTH]
+        ensures { (k : ℕ) → (none : Node) → k < self.now.len
+            → slice_index result k ≡ (slice_index_or self.now.list k none).byte }
+    {
         let mut path = [middle_of_last(self.damage_classes); DEPTH];
-        for place in 0..self.len {
+        'places: for place in 0..self.len {
             path[place] = self.list[place].byte;
         }
         path

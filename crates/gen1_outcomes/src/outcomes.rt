@@ -1,15 +1,16 @@
 //! All battles that an update can lead to (docs/MECHANICS.md, "Link numbers").
-ghost use Rattle.std.specs.Prelude.{IfOk, IsTrue, length, ◌≡◌, ◌≤◌};
+ghost use Rattle.std.specs.Prelude.{IfOk, IsTrue, OnOk, length, ◌<◌, ◌≡◌, ◌≤◌};
 ghost use Rattle.gen1_machine.specs.State.{State};
 ghost use Rattle.gen1_layout.specs.Within.{Stands};
 ghost use Rattle.gen1_engine.specs.Update.{AreOffered};
-ghost use Rattle.gen1_outcomes.specs.Listing.{EachFollows, sum_of};
+ghost use Rattle.gen1_outcomes.specs.Listing.{EachFollows, StillFollow, sum_of};
 
 use crate::fault::OutcomesFault;
 use crate::merging::{Tally, add};
+use crate::middles::{Middle, Middles};
+use crate::nodes::Nodes;
 use crate::successor::Successor;
 use crate::ways::{Ways, copy_of};
-use gen1_events::Silent;
 use gen1_layout::Packed;
 use gen1_machine::Choice;
 
@@ -20,7 +21,7 @@ pub struct Outcomes {
     pub count: usize,
     /// The sum of their weights.
     pub whole: u128,
-    /// How many ways were played.
+    /// How many ways the update has. Those that stand alike after the first action are played on once.
     pub ways: u32,
 }
 
@@ -53,7 +54,7 @@ pub fn list_outcomes(
         Ok(ways) => {
             clear(table);
             let mut ways = ways;
-            list_ways(battle, &mut ways, successors, table)
+            list_ways(&mut ways, successors, table)
         }
     }
 }
@@ -64,9 +65,8 @@ fn clear(table: &mut [u32]) {
     }
 }
 
-// The same for the ways of an update of the battle, with an empty table.
+// The same for the ways of an update, with an empty table.
 fn list_ways(
-    battle: &Packed,
     ways: &mut Ways,
     successors: &mut [Successor],
     table: &mut [u32],
@@ -77,19 +77,130 @@ fn list_ways(
     ensures sum { IfOk result (λ o. sum_of o.count successors.new ≡ o.whole) }
     ensures within { IfOk result (λ o. o.count ≤ length successors.new) }
 {
-    let mut tally = Tally { count: 0, whole: 1 };
-    let mut next = copy_of(battle);
-    'walk: for played in 0..u32::MAX {
-        match ways.next(&mut next, &mut Silent)? {
-            Some(chance) => add(successors, table, &mut tally, &next, chance)?,
-            None => return finished(successors, tally, played),
+    let mut tally = Tally {
+        count: 0,
+        whole: 1,
+        ways: 0,
+    };
+    add_all(ways, successors, table, &mut tally)?;
+    finished(successors, tally)
+}
+
+fn add_all(
+    ways: &mut Ways,
+    successors: &mut [Successor],
+    table: &mut [u32],
+    tally: &mut Tally,
+) -> Result<(), OutcomesFault>
+    requires within { tally.old.count ≤ length successors.old }
+    ensures within { tally.new.count ≤ length successors.new }
+    ensures follow { OnOk result (StillFollow ways.old tally.old.count successors.old
+        tally.new.count successors.new) }
+{
+    if ways.has_two_actions() {
+        return add_in_parts(ways, successors, table, tally);
+    }
+    finish(ways, &Middle::beginning(), successors, table, tally)
+}
+
+// First come the ways up to the second action. Those that lead to battles that go on alike are played on once.
+fn add_in_parts(
+    ways: &mut Ways,
+    successors: &mut [Successor],
+    table: &mut [u32],
+    tally: &mut Tally,
+) -> Result<(), OutcomesFault>
+    requires within { tally.old.count ≤ length successors.old }
+    ensures within { tally.new.count ≤ length successors.new }
+    ensures follow { OnOk result (StillFollow ways.old tally.old.count successors.old
+        tally.new.count successors.new) }
+{
+    let mut nodes = Nodes::new(ways.damage_classes());
+    let mut middles = Middles::new();
+    'walk: for _ in 0..u32::MAX {
+        let Some(middle) = ways.begin(&mut nodes) else {
+            return Err(OutcomesFault::Size);
+        };
+        make_room(ways, &mut middles, successors, table, tally)?;
+        middles.add(&middle)?;
+        if !nodes.advance() {
+            return go_on_from(ways, &middles, successors, table, tally);
+        }
+    }
+    Err(OutcomesFault::Size)
+}
+
+// Adds what each of them leads to, and drops them, if there is no place left.
+fn make_room(
+    ways: &mut Ways,
+    middles: &mut Middles,
+    successors: &mut [Successor],
+    table: &mut [u32],
+    tally: &mut Tally,
+) -> Result<(), OutcomesFault>
+    requires within { tally.old.count ≤ length successors.old }
+    ensures same { ways.new ≡ ways.old }
+    ensures room { OnOk result (middles.new.len < 16) }
+    ensures within { tally.new.count ≤ length successors.new }
+    ensures follow { OnOk result (StillFollow ways.old tally.old.count successors.old
+        tally.new.count successors.new) }
+{
+    if middles.is_full() {
+        go_on_from(ways, middles, successors, table, tally)?;
+        middles.clear();
+    }
+    Ok(())
+}
+
+// Adds what each of them leads to.
+fn go_on_from(
+    ways: &mut Ways,
+    middles: &Middles,
+    successors: &mut [Successor],
+    table: &mut [u32],
+    tally: &mut Tally,
+) -> Result<(), OutcomesFault>
+    requires within { tally.old.count ≤ length successors.old }
+    ensures same { ways.new ≡ ways.old }
+    ensures within { tally.new.count ≤ length successors.new }
+    ensures follow { OnOk result (StillFollow ways.old tally.old.count successors.old
+        tally.new.count successors.new) }
+{
+    'places: for place in 0..middles.len {
+        finish(ways, &middles.list[place], successors, table, tally)?;
+    }
+    Ok(())
+}
+
+// Adds what one of them leads to.
+fn finish(
+    ways: &mut Ways,
+    middle: &Middle,
+    successors: &mut [Successor],
+    table: &mut [u32],
+    tally: &mut Tally,
+) -> Result<(), OutcomesFault>
+    requires within { tally.old.count ≤ length successors.old }
+    ensures same { ways.new ≡ ways.old }
+    ensures within { tally.new.count ≤ length successors.new }
+    ensures follow { OnOk result (StillFollow ways.old tally.old.count successors.old
+        tally.new.count successors.new) }
+{
+    ways.restart();
+    let mut next = copy_of(ways.start());
+    'walk: for _ in 0..u32::MAX {
+        let chance = ways.go_on(middle, &mut next)?;
+        add(successors, table, tally, &next, chance)?;
+        tally.count_ways(middle.ways)?;
+        if !ways.advance() {
+            return Ok(());
         }
     }
     Err(OutcomesFault::Size)
 }
 
 // The result, if the weights sum to their denominator.
-fn finished(successors: &[Successor], tally: Tally, ways: u32) -> Result<Outcomes, OutcomesFault>
+fn finished(successors: &[Successor], tally: Tally) -> Result<Outcomes, OutcomesFault>
     requires within { tally.count ≤ length successors.now }
     ensures count { IfOk result (λ o. o.count ≡ tally.count) }
     ensures within { IfOk result (λ o. o.count ≤ length successors.now) }
@@ -99,7 +210,7 @@ fn finished(successors: &[Successor], tally: Tally, ways: u32) -> Result<Outcome
         Ok(Outcomes {
             count: tally.count,
             whole: tally.whole,
-            ways,
+            ways: tally.ways,
         })
     } else {
         Err(OutcomesFault::Size)

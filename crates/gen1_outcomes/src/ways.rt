@@ -5,14 +5,18 @@ ghost use Rattle.gen1_layout.specs.Within.{Stands};
 ghost use Rattle.gen1_layout.specs.Words.{AddsAtMost, HasRoom};
 ghost use Rattle.gen1_engine.specs.Update.{AreOffered, Tests};
 ghost use Rattle.gen1_outcomes.specs.Following.{CanFollow};
+ghost use Rattle.gen1_outcomes.specs.Listing.{untold};
+ghost use Rattle.gen1_outcomes.specs.Nodes.{IsChance};
 
-use crate::explorer::{Borrowed, Explorer};
+use crate::beginning::{begin, have_two_actions};
+use crate::explorer::{After, Borrowed, Explorer, Notes};
 use crate::fault::OutcomesFault;
+use crate::middles::Middle;
 use crate::nodes::{Chance, Nodes};
 use crate::playing::play;
 use gen1_engine::Refusal;
 use gen1_engine::packed::update_silent;
-use gen1_events::EventSink;
+use gen1_events::{EventSink, Silent};
 use gen1_layout::Packed;
 use gen1_machine::Choice;
 use std::alloc::AllocError;
@@ -114,12 +118,91 @@ impl Ways {
     }
 }
 
+impl Ways {
+    /// Plays the update up to its second action, in the way that the nodes are at. `None` if that way is too large.
+    pub(crate) fn begin(&self, nodes: &mut Nodes) -> Option<Middle>
+        ensures draws { IfSome result (λ middle. middle.draws ≡ nodes.new.len) }
+        ensures chance { IfSome result (λ middle. IsChance nodes.new middle.chance) }
+        ensures one { IfSome result (λ middle. middle.ways ≡ 1) }
+    {
+        let mut battle = copy_of(&self.start);
+        let path = nodes.path();
+        let mut explorer = Explorer::new(path, Borrowed(&mut *nodes));
+        let one = copied(&self.one);
+        let two = copied(&self.two);
+        let rest = begin(&mut battle, one, two, &mut explorer);
+        match nodes.chance() {
+            Some(chance) => Some(Middle::new(&battle, rest, nodes, chance)),
+            None => None,
+        }
+    }
+
+    /// Begins with the first of the ways that lead there and go on.
+    pub(crate) fn restart(&mut self)
+        ensures same { self.new ≡ self.old }
+    {
+        self.nodes.clear();
+    }
+
+    /// Plays the update in a way that leads there and then goes on, and returns its probability.
+    ///
+    /// # Errors
+    ///
+    /// `Size`, if the way has too many draws, or if 128 bits do not hold the probability.
+    pub(crate) fn go_on(
+        &mut self,
+        middle: &Middle,
+        battle: &mut Packed,
+    ) -> Result<Chance, OutcomesFault>
+        ensures follows { (s : State) → Stands self.old.start s
+            → AreOffered s self.old.one self.old.two
+            → CanFollow s self.old.one self.old.two battle.new untold }
+        ensures same { self.new ≡ self.old }
+    {
+        *battle = copy_of(&self.start);
+        let path = middle.path_to(&self.nodes.path());
+        let notes = After {
+            left: middle.draws,
+            nodes: &mut self.nodes,
+        };
+        let explorer = Explorer::new(path, notes);
+        let one = copied(&self.one);
+        let two = copied(&self.two);
+        play_way(battle, one, two, explorer, &mut Silent);
+        middle.chance_with(&self.nodes)
+    }
+
+    /// Goes to the next of these ways. Returns whether there is one.
+    pub(crate) fn advance(&mut self) -> bool
+        ensures same { self.new ≡ self.old }
+    {
+        self.nodes.advance()
+    }
+
+    /// Whether both sides use a move, so that the update has two actions.
+    pub(crate) fn has_two_actions(&self) -> bool {
+        have_two_actions(&self.start, &self.one, &self.two)
+    }
+
+    /// The battle before the update.
+    pub(crate) fn start(&self) -> &Packed
+        ensures { result.now ≡ self.now.start }
+    {
+        &self.start
+    }
+
+    /// How many classes of damage are told apart. 0: each damage.
+    pub(crate) fn damage_classes(&self) -> u8 {
+        self.nodes.damage_classes
+    }
+}
+
 /// Plays an update by two offered choices in the way that the explorer is at.
-pub(crate) fn play_way<S: EventSink>(
+pub(crate) fn play_way<N: Notes + Drop, S: EventSink>(
     battle: &mut Packed,
     one: Choice,
     two: Choice,
-    explorer: Explorer<Borrowed<'_>>,
+    explorer: Explorer<N>,
     events: &mut S,
 )
     requires empty { S.tells events.old [] }

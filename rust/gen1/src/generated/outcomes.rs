@@ -9,6 +9,9 @@
 //! - `nodes`: the draws of a way, each with the bytes that are still to be tried
 //! - `explorer`: a generator that takes an update through all its ways, one after the other
 //! - `playing`: an update whose draws come from any generator
+//! - `beginning`: a turn up to its second action
+//! - `chances`: sums and products of probabilities
+//! - `middles`: where turns stand between their two actions
 //! - `ways`: [`Ways`], each way of an update apart
 //! - `plain`: the same as a plain struct that its caller keeps
 //! - `successor`: [`Successor`], a battle with its weight
@@ -67,6 +70,79 @@ mod alike {
             word
         } else {
             word & !(1 << place)
+        }
+    }
+}
+
+mod beginning {
+    //! A turn up to its second action ([docs/MECHANICS.md, "Order of a turn"](https://hibsuloy.example/gen1/blob/main/docs/MECHANICS.md#order-of-a-turn)).
+
+    use crate::generated::events::Silent;
+    use crate::generated::hits::Known;
+    use crate::generated::layout::Packed;
+    use crate::generated::machine::{Choice, Request, Side};
+    use crate::generated::rolls::Rolls;
+    use crate::generated::status::pick;
+    use crate::generated::turn::{act_and_suffer_as, end_flinch, first_side, set_picked};
+
+    /// What the rest of an update depends on besides the bytes of the battle, its choices, and its draws.
+    #[derive(Clone, Copy, PartialEq, Eq, Debug)]
+    pub struct Rest {
+        /// The side that acts second.
+        pub second: Side,
+        /// Its action is skipped, since Haze met it asleep or frozen.
+        pub skips: bool,
+        /// The turn ends before its action.
+        pub is_cut: bool,
+    }
+
+    /// Whether both sides use a move, so that the update has two actions.
+    pub(crate) fn have_two_actions(battle: &Packed, one: &Choice, two: &Choice) -> bool {
+        battle.request(Side::One) == Request::Move && is_move(one) && is_move(two)
+    }
+
+    fn is_move(choice: &Choice) -> bool {
+        match choice {
+            Choice::Move(_) => true,
+            _ => false,
+        }
+    }
+
+    impl Rest {
+        /// That of an update of which nothing was played.
+        pub(crate) fn all() -> Rest {
+            Rest {
+                second: Side::One,
+                skips: false,
+                is_cut: false,
+            }
+        }
+    }
+
+    /// Plays a turn in which both sides use a move, up to the second action.
+    pub(crate) fn begin<R: Rolls>(
+        battle: &mut Packed,
+        one: Choice,
+        two: Choice,
+        random: &mut R,
+    ) -> Rest {
+        end_flinch(battle, Side::One);
+        end_flinch(battle, Side::Two);
+        let mine = pick(battle, Side::One, one);
+        let others = pick(battle, Side::Two, two);
+        set_picked(battle, Side::One, mine);
+        set_picked(battle, Side::Two, others);
+        let mut known = Known::new();
+        let first = first_side(battle, random);
+        let picked = match first {
+            Side::One => mine,
+            Side::Two => others,
+        };
+        let is_cut = act_and_suffer_as(battle, first, picked, &mut known, random, &mut Silent);
+        Rest {
+            second: first.other(),
+            skips: known.skips,
+            is_cut,
         }
     }
 }
@@ -216,6 +292,38 @@ mod byte_set {
     }
 }
 
+mod chances {
+    //! Sums and products of probabilities ([docs/MECHANICS.md, "Link numbers"](https://hibsuloy.example/gen1/blob/main/docs/MECHANICS.md#link-numbers)).
+
+    use crate::generated::outcomes::merging::common_divisor;
+    use crate::generated::outcomes::nodes::Chance;
+
+    /// The probability that one or the other happens, of two that exclude each other. `None` if 128 bits do not hold it.
+    pub fn plus(one: Chance, other: Chance) -> Option<Chance> {
+        let divisor = common_divisor(one.whole, other.whole);
+        let more = other.whole / divisor;
+        let others = one.whole / divisor;
+        let whole = one.whole.checked_mul(more)?;
+        // It is a multiple of both.
+        if whole == 0 || other.whole.checked_mul(others)? != whole {
+            return None;
+        }
+        let num = one
+            .num
+            .checked_mul(more)?
+            .checked_add(other.num.checked_mul(others)?)?;
+        Some(Chance { num, whole })
+    }
+
+    /// The probability that both happen, of two that are independent. `None` if 128 bits do not hold it.
+    pub fn times(one: Chance, other: Chance) -> Option<Chance> {
+        Some(Chance {
+            num: one.num.checked_mul(other.num)?,
+            whole: one.whole.checked_mul(other.whole)?,
+        })
+    }
+}
+
 mod classes {
     //! Classes of damage ([docs/MECHANICS.md, "Link numbers"](https://hibsuloy.example/gen1/blob/main/docs/MECHANICS.md#link-numbers)).
 
@@ -280,6 +388,29 @@ mod explorer {
 
         fn note(&mut self, byte: u8, look: Look, may_have: &ByteSet) {
             self.0.note(byte, look, may_have);
+        }
+    }
+
+    /// The same after a first part of the update, whose draws are not noted.
+
+    pub(crate) struct After<'a> {
+        /// How many draws of the first part are still to come.
+        pub(crate) left: usize,
+        /// The draws after it.
+        pub(crate) nodes: &'a mut Nodes,
+    }
+
+    impl Notes for After<'_> {
+        fn is_new(&self) -> bool {
+            self.left == 0 && self.nodes.is_new()
+        }
+
+        fn note(&mut self, byte: u8, look: Look, may_have: &ByteSet) {
+            if self.left == 0 {
+                self.nodes.note(byte, look, may_have);
+            } else {
+                self.left -= 1;
+            }
         }
     }
 
@@ -411,6 +542,25 @@ mod merging {
         pub count: usize,
         /// The common denominator of the weights.
         pub whole: u128,
+        /// How many ways were added.
+        pub ways: u32,
+    }
+
+    impl Tally {
+        /// Counts so many ways more.
+        ///
+        /// # Errors
+        ///
+        /// `Size`, if 32 bits do not hold the sum.
+        pub fn count_ways(&mut self, ways: u32) -> Result<(), OutcomesFault> {
+            match self.ways.checked_add(ways) {
+                Some(sum) => {
+                    self.ways = sum;
+                    Ok(())
+                }
+                None => Err(OutcomesFault::Size),
+            }
+        }
     }
 
     /// Where a battle is in a list, or where its number goes in the table.
@@ -502,7 +652,8 @@ mod merging {
         one.as_bytes() == other.as_bytes()
     }
 
-    fn hash(battle: &Packed) -> u64 {
+    /// A number that is equal for equal bytes.
+    pub(crate) fn hash(battle: &Packed) -> u64 {
         let bytes = battle.as_bytes();
         let mut hash: u64 = 0;
         for word in 0..48 {
@@ -564,7 +715,8 @@ mod merging {
         }
     }
 
-    fn common_divisor(one: u128, other: u128) -> u128 {
+    /// The greatest number that divides both.
+    pub(crate) fn common_divisor(one: u128, other: u128) -> u128 {
         let mut left = one;
         let mut right = other;
         while right != 0 {
@@ -573,6 +725,193 @@ mod merging {
             right = rest;
         }
         left
+    }
+}
+
+mod middles {
+    //! Where turns stand between their two actions; those that go on alike become one ([docs/MECHANICS.md, "Link numbers"](https://hibsuloy.example/gen1/blob/main/docs/MECHANICS.md#link-numbers)).
+
+    use crate::generated::outcomes::beginning::Rest;
+    use crate::generated::outcomes::chances::{plus, times};
+    use crate::generated::outcomes::fault::OutcomesFault;
+    use crate::generated::outcomes::merging::hash;
+    use crate::generated::outcomes::nodes::{Chance, Nodes};
+    use crate::generated::outcomes::script::DEPTH;
+    use crate::generated::layout::Packed;
+
+    /// How many of them are kept at once.
+    pub const MIDDLES: usize = 16;
+
+    /// Where a turn stands between its two actions.
+    #[derive(Clone, Copy, PartialEq, Eq, Debug)]
+    pub struct Middle {
+        /// The bytes of the battle.
+        pub bytes: [u8; 384],
+        /// What else the rest of the turn depends on.
+        pub rest: Rest,
+        /// A number that is equal for equal bytes.
+        pub hash: u64,
+        /// The bytes of the draws of a way that leads there, in the first places.
+        pub path: [u8; DEPTH],
+        /// How many draws that way has.
+        pub draws: usize,
+        /// The probability of all ways that lead there.
+        pub chance: Chance,
+        /// How many ways lead there.
+        pub ways: u32,
+    }
+
+    impl Middle {
+        /// Where one way leads, which has these draws.
+        pub fn new(battle: &Packed, rest: Rest, nodes: &Nodes, chance: Chance) -> Self {
+            let mut bytes = [0; 384];
+            bytes.copy_from_slice(battle.as_bytes());
+            Middle {
+                bytes,
+                rest,
+                hash: hash(battle),
+                path: nodes.path(),
+                draws: nodes.len,
+                chance,
+                ways: 1,
+            }
+        }
+
+        /// The beginning of an update.
+        pub fn beginning() -> Self {
+            Middle {
+                bytes: [0; 384],
+                rest: Rest::all(),
+                hash: 0,
+                path: [0; DEPTH],
+                draws: 0,
+                chance: Chance { num: 1, whole: 1 },
+                ways: 1,
+            }
+        }
+
+        /// The bytes of the way that leads there, and then these.
+        pub fn path_to(&self, further: &[u8; DEPTH]) -> [u8; DEPTH] {
+            let mut path = self.path;
+            for place in self.draws..DEPTH {
+                path[place] = further[place - self.draws];
+            }
+            path
+        }
+
+        /// The probability of the ways that lead there and then have these draws.
+        ///
+        /// # Errors
+        ///
+        /// `Size`, if a way has too many draws, or if 128 bits do not hold it.
+        pub fn chance_with(&self, nodes: &Nodes) -> Result<Chance, OutcomesFault> {
+            if self.draws + nodes.len > DEPTH {
+                return Err(OutcomesFault::Size);
+            }
+            match nodes.chance() {
+                Some(chance) => self.chance_times(chance),
+                None => Err(OutcomesFault::Size),
+            }
+        }
+
+        fn chance_times(&self, further: Chance) -> Result<Chance, OutcomesFault> {
+            match times(self.chance, further) {
+                Some(chance) => Ok(chance),
+                None => Err(OutcomesFault::Size),
+            }
+        }
+
+        // Whether the turn goes on alike from both.
+        fn goes_on_as(&self, other: &Middle) -> bool {
+            self.hash == other.hash
+                && self.rest.is_cut == other.rest.is_cut
+                && self.rest.skips == other.rest.skips
+                && self.rest.second == other.rest.second
+                && self.bytes[..] == other.bytes[..]
+        }
+
+        // Gets the ways of another.
+        fn get(&mut self, other: &Middle) -> Result<(), OutcomesFault> {
+            match plus(self.chance, other.chance) {
+                Some(chance) => match self.ways.checked_add(other.ways) {
+                    Some(ways) => {
+                        self.chance = chance;
+                        self.ways = ways;
+                        Ok(())
+                    }
+                    None => Err(OutcomesFault::Size),
+                },
+                None => Err(OutcomesFault::Size),
+            }
+        }
+    }
+
+    /// A list of them.
+    #[derive(Clone, Copy, PartialEq, Eq, Debug)]
+    pub struct Middles {
+        /// They are in the first places.
+        pub list: [Middle; MIDDLES],
+        /// How many there are.
+        pub len: usize,
+    }
+
+    impl Middles {
+        /// None yet.
+        pub fn new() -> Self {
+            Middles {
+                list: [Middle::beginning(); MIDDLES],
+                len: 0,
+            }
+        }
+
+        /// Whether there is no place left.
+        pub fn is_full(&self) -> bool {
+            self.len >= MIDDLES
+        }
+
+        /// Drops all.
+        pub fn clear(&mut self) {
+            self.len = 0;
+        }
+
+        /// Adds one: to another that goes on alike, or else in the next place.
+        ///
+        /// # Errors
+        ///
+        /// `Size`, if 128 bits do not hold a sum of two probabilities, or 32 bits a number of ways.
+        pub fn add(&mut self, middle: &Middle) -> Result<(), OutcomesFault> {
+            match self.find(middle) {
+                Some(place) => self.join(place, middle),
+                None => {
+                    self.put(middle);
+                    Ok(())
+                }
+            }
+        }
+
+        // Adds one to that in a place.
+        fn join(&mut self, place: usize, middle: &Middle) -> Result<(), OutcomesFault> {
+            let mut joined = self.list[place];
+            joined.get(middle)?;
+            self.list[place] = joined;
+            Ok(())
+        }
+
+        // Puts one into the next place.
+        fn put(&mut self, middle: &Middle) {
+            self.list[self.len] = *middle;
+            self.len += 1;
+        }
+
+        // The place of one that goes on alike.
+        fn find(&self, middle: &Middle) -> Option<usize> {
+            for place in 0..self.len {
+                if self.list[place].goes_on_as(middle) {
+                    return Some(place);
+                }
+            }
+            None
+        }
     }
 }
 
@@ -747,6 +1086,13 @@ mod nodes {
             }
         }
 
+        /// Forgets all draws.
+        pub fn clear(&mut self) {
+            self.len = 0;
+            self.at = 0;
+            self.too_large = false;
+        }
+
         /// Whether the next draw is one that no way had before.
         pub fn is_new(&self) -> bool {
             self.at >= self.len
@@ -829,9 +1175,10 @@ mod outcomes {
 
     use crate::generated::outcomes::fault::OutcomesFault;
     use crate::generated::outcomes::merging::{Tally, add};
+    use crate::generated::outcomes::middles::{Middle, Middles};
+    use crate::generated::outcomes::nodes::Nodes;
     use crate::generated::outcomes::successor::Successor;
     use crate::generated::outcomes::ways::{Ways, copy_of};
-    use crate::generated::events::Silent;
     use crate::generated::layout::Packed;
     use crate::generated::machine::Choice;
 
@@ -842,7 +1189,7 @@ mod outcomes {
         pub count: usize,
         /// The sum of their weights.
         pub whole: u128,
-        /// How many ways were played.
+        /// How many ways the update has. Those that stand alike after the first action are played on once.
         pub ways: u32,
     }
 
@@ -870,7 +1217,7 @@ mod outcomes {
             Ok(ways) => {
                 clear(table);
                 let mut ways = ways;
-                list_ways(battle, &mut ways, successors, table)
+                list_ways(&mut ways, successors, table)
             }
         }
     }
@@ -881,31 +1228,112 @@ mod outcomes {
         }
     }
 
-    // The same for the ways of an update of the battle, with an empty table.
+    // The same for the ways of an update, with an empty table.
     fn list_ways(
-        battle: &Packed,
         ways: &mut Ways,
         successors: &mut [Successor],
         table: &mut [u32],
     ) -> Result<Outcomes, OutcomesFault> {
-        let mut tally = Tally { count: 0, whole: 1 };
-        let mut next = copy_of(battle);
-        for played in 0..u32::MAX {
-            match ways.next(&mut next, &mut Silent)? {
-                Some(chance) => add(successors, table, &mut tally, &next, chance)?,
-                None => return finished(successors, tally, played),
+        let mut tally = Tally {
+            count: 0,
+            whole: 1,
+            ways: 0,
+        };
+        add_all(ways, successors, table, &mut tally)?;
+        finished(successors, tally)
+    }
+
+    fn add_all(
+        ways: &mut Ways,
+        successors: &mut [Successor],
+        table: &mut [u32],
+        tally: &mut Tally,
+    ) -> Result<(), OutcomesFault> {
+        if ways.has_two_actions() {
+            return add_in_parts(ways, successors, table, tally);
+        }
+        finish(ways, &Middle::beginning(), successors, table, tally)
+    }
+
+    // First come the ways up to the second action. Those that lead to battles that go on alike are played on once.
+    fn add_in_parts(
+        ways: &mut Ways,
+        successors: &mut [Successor],
+        table: &mut [u32],
+        tally: &mut Tally,
+    ) -> Result<(), OutcomesFault> {
+        let mut nodes = Nodes::new(ways.damage_classes());
+        let mut middles = Middles::new();
+        for _ in 0..u32::MAX {
+            let Some(middle) = ways.begin(&mut nodes) else {
+                return Err(OutcomesFault::Size);
+            };
+            make_room(ways, &mut middles, successors, table, tally)?;
+            middles.add(&middle)?;
+            if !nodes.advance() {
+                return go_on_from(ways, &middles, successors, table, tally);
+            }
+        }
+        Err(OutcomesFault::Size)
+    }
+
+    // Adds what each of them leads to, and drops them, if there is no place left.
+    fn make_room(
+        ways: &mut Ways,
+        middles: &mut Middles,
+        successors: &mut [Successor],
+        table: &mut [u32],
+        tally: &mut Tally,
+    ) -> Result<(), OutcomesFault> {
+        if middles.is_full() {
+            go_on_from(ways, middles, successors, table, tally)?;
+            middles.clear();
+        }
+        Ok(())
+    }
+
+    // Adds what each of them leads to.
+    fn go_on_from(
+        ways: &mut Ways,
+        middles: &Middles,
+        successors: &mut [Successor],
+        table: &mut [u32],
+        tally: &mut Tally,
+    ) -> Result<(), OutcomesFault> {
+        for place in 0..middles.len {
+            finish(ways, &middles.list[place], successors, table, tally)?;
+        }
+        Ok(())
+    }
+
+    // Adds what one of them leads to.
+    fn finish(
+        ways: &mut Ways,
+        middle: &Middle,
+        successors: &mut [Successor],
+        table: &mut [u32],
+        tally: &mut Tally,
+    ) -> Result<(), OutcomesFault> {
+        ways.restart();
+        let mut next = copy_of(ways.start());
+        for _ in 0..u32::MAX {
+            let chance = ways.go_on(middle, &mut next)?;
+            add(successors, table, tally, &next, chance)?;
+            tally.count_ways(middle.ways)?;
+            if !ways.advance() {
+                return Ok(());
             }
         }
         Err(OutcomesFault::Size)
     }
 
     // The result, if the weights sum to their denominator.
-    fn finished(successors: &[Successor], tally: Tally, ways: u32) -> Result<Outcomes, OutcomesFault> {
+    fn finished(successors: &[Successor], tally: Tally) -> Result<Outcomes, OutcomesFault> {
         if sums_to(&successors[..tally.count], tally.whole) {
             Ok(Outcomes {
                 count: tally.count,
                 whole: tally.whole,
-                ways,
+                ways: tally.ways,
             })
         } else {
             Err(OutcomesFault::Size)
@@ -1299,13 +1727,15 @@ mod successor {
 mod ways {
     //! Each way of an update apart ([docs/MECHANICS.md, "Link numbers"](https://hibsuloy.example/gen1/blob/main/docs/MECHANICS.md#link-numbers)).
 
-    use crate::generated::outcomes::explorer::{Borrowed, Explorer};
+    use crate::generated::outcomes::beginning::{begin, have_two_actions};
+    use crate::generated::outcomes::explorer::{After, Borrowed, Explorer, Notes};
     use crate::generated::outcomes::fault::OutcomesFault;
+    use crate::generated::outcomes::middles::Middle;
     use crate::generated::outcomes::nodes::{Chance, Nodes};
     use crate::generated::outcomes::playing::play;
     use crate::generated::engine::Refusal;
     use crate::generated::engine::packed::update_silent;
-    use crate::generated::events::EventSink;
+    use crate::generated::events::{EventSink, Silent};
     use crate::generated::layout::Packed;
     use crate::generated::machine::Choice;
     use crate::adapter::alloc::AllocError;
@@ -1385,12 +1815,76 @@ mod ways {
         }
     }
 
+    impl Ways {
+        /// Plays the update up to its second action, in the way that the nodes are at. `None` if that way is too large.
+        pub(crate) fn begin(&self, nodes: &mut Nodes) -> Option<Middle> {
+            let mut battle = copy_of(&self.start);
+            let path = nodes.path();
+            let mut explorer = Explorer::new(path, Borrowed(&mut *nodes));
+            let one = copied(&self.one);
+            let two = copied(&self.two);
+            let rest = begin(&mut battle, one, two, &mut explorer);
+            match nodes.chance() {
+                Some(chance) => Some(Middle::new(&battle, rest, nodes, chance)),
+                None => None,
+            }
+        }
+
+        /// Begins with the first of the ways that lead there and go on.
+        pub(crate) fn restart(&mut self) {
+            self.nodes.clear();
+        }
+
+        /// Plays the update in a way that leads there and then goes on, and returns its probability.
+        ///
+        /// # Errors
+        ///
+        /// `Size`, if the way has too many draws, or if 128 bits do not hold the probability.
+        pub(crate) fn go_on(
+            &mut self,
+            middle: &Middle,
+            battle: &mut Packed,
+        ) -> Result<Chance, OutcomesFault> {
+            *battle = copy_of(&self.start);
+            let path = middle.path_to(&self.nodes.path());
+            let notes = After {
+                left: middle.draws,
+                nodes: &mut self.nodes,
+            };
+            let explorer = Explorer::new(path, notes);
+            let one = copied(&self.one);
+            let two = copied(&self.two);
+            play_way(battle, one, two, explorer, &mut Silent);
+            middle.chance_with(&self.nodes)
+        }
+
+        /// Goes to the next of these ways. Returns whether there is one.
+        pub(crate) fn advance(&mut self) -> bool {
+            self.nodes.advance()
+        }
+
+        /// Whether both sides use a move, so that the update has two actions.
+        pub(crate) fn has_two_actions(&self) -> bool {
+            have_two_actions(&self.start, &self.one, &self.two)
+        }
+
+        /// The battle before the update.
+        pub(crate) fn start(&self) -> &Packed {
+            &self.start
+        }
+
+        /// How many classes of damage are told apart. 0: each damage.
+        pub(crate) fn damage_classes(&self) -> u8 {
+            self.nodes.damage_classes
+        }
+    }
+
     /// Plays an update by two offered choices in the way that the explorer is at.
-    pub(crate) fn play_way<S: EventSink>(
+    pub(crate) fn play_way<N: Notes , S: EventSink>(
         battle: &mut Packed,
         one: Choice,
         two: Choice,
-        explorer: Explorer<Borrowed<'_>>,
+        explorer: Explorer<N>,
         events: &mut S,
     ) {
         explorer.draws_a_stream();

@@ -1,0 +1,11 @@
+use Rattle.std.proofs.Common.{length, ◌≡◌, ◌≤◌}
+use Rattle.gen1_outcomes.specs.Listing.{StillFollow}
+use Rattle.gen1_outcomes.proofs.outcomes.finish.Given as goal
+
+abbrev pub invariant-walk : goal.invariant-walk
+invariant-walk l =
+    record {
+      same : l.ways ≡ l.fn.ways;
+      within : l.tally.count ≤ length l.successors;
+      follow : StillFollow l.fn.ways l.fn.tally.count l.fn.successors l.tally.count l.successors;
+    }

@@ -1,0 +1,236 @@
+//! Where turns stand between their two actions; those that go on alike become one (docs/MECHANICS.md, "Link numbers").
+ghost use Rattle.std.specs.Prelude.{IfOk, IfSome, IsFalse, IsTrue, OnOk, slice_index, slice_index_or, ℕ, ◌+◌, ◌-◌, ◌<◌, ◌≡◌, ◌≤◌};
+ghost use Rattle.gen1_layout.specs.Parts.{joined};
+
+use crate::beginning::Rest;
+use crate::chances::{plus, times};
+use crate::fault::OutcomesFault;
+use crate::merging::hash;
+use crate::nodes::{Chance, Nodes};
+use crate::script::DEPTH;
+use gen1_layout::Packed;
+
+/// How many of them are kept at once.
+pub const MIDDLES: usize = 16;
+
+/// Where a turn stands between its two actions.
+#[derive(Clone, Copy, PartialEq, Eq, Debug, Drop)]
+pub struct Middle {
+    /// The bytes of the battle.
+    pub bytes: [u8; 384],
+    /// What else the rest of the turn depends on.
+    pub rest: Rest,
+    /// A number that is equal for equal bytes.
+    pub hash: u64,
+    /// The bytes of the draws of a way that leads there, in the first places.
+    pub path: [u8; DEPTH],
+    /// How many draws that way has.
+    pub draws: usize,
+    /// The probability of all ways that lead there.
+    pub chance: Chance,
+    /// How many ways lead there.
+    pub ways: u32,
+    ghost few: { draws ≤ 24 },
+}
+
+impl Middle {
+    ghost use Rattle.gen1_outcomes.specs.Chances.{IsProduct};
+    ghost use Rattle.gen1_outcomes.specs.Middles.{Gets, GoOnAlike};
+
+    /// Where one way leads, which has these draws.
+    pub fn new(battle: &Packed, rest: Rest, nodes: &Nodes, chance: Chance) -> Self
+        ensures bytes { result.bytes ≡ joined battle.now }
+        ensures rest { result.rest ≡ rest }
+        ensures draws { result.draws ≡ nodes.now.len }
+        ensures chance { result.chance ≡ chance }
+        ensures one { result.ways ≡ 1 }
+    {
+        let mut bytes = [0; 384];
+        bytes.copy_from_slice(battle.as_bytes());
+        Middle {
+            bytes,
+            rest,
+            hash: hash(battle),
+            path: nodes.path(),
+            draws: nodes.len,
+            chance,
+            ways: 1,
+        }
+    }
+
+    /// The beginning of an update.
+    pub fn beginning() -> Self
+        ensures draws { result.draws ≡ 0 }
+        ensures one { result.ways ≡ 1 }
+    {
+        Middle {
+            bytes: [0; 384],
+            rest: Rest::all(),
+            hash: 0,
+            path: [0; DEPTH],
+            draws: 0,
+            chance: Chance { num: 1, whole: 1 },
+            ways: 1,
+        }
+    }
+
+    /// The bytes of the way that leads there, and then these.
+    pub fn path_to(&self, further: &[u8; DEPTH]) -> [u8; DEPTH]
+        ensures first { (k : ℕ) → k < self.now.draws
+            → slice_index result k ≡ slice_index self.now.path k }
+        ensures further { (k : ℕ) → self.now.draws ≤ k → k < 24
+            → slice_index result k ≡ slice_index further.now (k - self.now.draws) }
+    {
+        let mut path = self.path;
+        'places: for place in self.draws..DEPTH {
+            path[place] = further[place - self.draws];
+        }
+        path
+    }
+
+    /// The probability of the ways that lead there and then have these draws.
+    ///
+    /// # Errors
+    ///
+    /// `Size`, if a way has too many draws, or if 128 bits do not hold it.
+    pub fn chance_with(&self, nodes: &Nodes) -> Result<Chance, OutcomesFault>
+        ensures few { IfOk result (λ _. self.now.draws + nodes.now.len ≤ 24) }
+    {
+        if self.draws + nodes.len > DEPTH {
+            return Err(OutcomesFault::Size);
+        }
+        match nodes.chance() {
+            Some(chance) => self.chance_times(chance),
+            None => Err(OutcomesFault::Size),
+        }
+    }
+
+    fn chance_times(&self, further: Chance) -> Result<Chance, OutcomesFault>
+        ensures { IfOk result (λ c. IsProduct self.now.chance further c) }
+    {
+        match times(self.chance, further) {
+            Some(chance) => Ok(chance),
+            None => Err(OutcomesFault::Size),
+        }
+    }
+
+    // Whether the turn goes on alike from both.
+    fn goes_on_as(&self, other: &Middle) -> bool
+        ensures { IsTrue result → GoOnAlike self.now other.now }
+    {
+        self.hash == other.hash
+            && self.rest.is_cut == other.rest.is_cut
+            && self.rest.skips == other.rest.skips
+            && self.rest.second == other.rest.second
+            && self.bytes[..] == other.bytes[..]
+    }
+
+    // Gets the ways of another.
+    fn get(&mut self, other: &Middle) -> Result<(), OutcomesFault>
+        ensures { OnOk result (Gets other.now self.old self.new) }
+    {
+        match plus(self.chance, other.chance) {
+            Some(chance) => match self.ways.checked_add(other.ways) {
+                Some(ways) => {
+                    self.chance = chance;
+                    self.ways = ways;
+                    Ok(())
+                }
+                None => Err(OutcomesFault::Size),
+            },
+            None => Err(OutcomesFault::Size),
+        }
+    }
+}
+
+/// A list of them.
+#[derive(Clone, Copy, PartialEq, Eq, Debug, Drop)]
+pub struct Middles {
+    /// They are in the first places.
+    pub list: [Middle; MIDDLES],
+    /// How many there are.
+    pub len: usize,
+    ghost few: { len ≤ 16 },
+}
+
+impl Middles {
+    ghost use Rattle.gen1_outcomes.specs.Middles.{GoOnAlike, IsAdded, IsPut, Joins};
+
+    /// None yet.
+    pub fn new() -> Self
+        ensures { result.len ≡ 0 }
+    {
+        Middles {
+            list: [Middle::beginning(); MIDDLES],
+            len: 0,
+        }
+    }
+
+    /// Whether there is no place left.
+    pub fn is_full(&self) -> bool
+        ensures { IsFalse result → self.now.len < 16 }
+    {
+        self.len >= MIDDLES
+    }
+
+    /// Drops all.
+    pub fn clear(&mut self)
+        ensures { self.new.len ≡ 0 }
+    {
+        self.len = 0;
+    }
+
+    /// Adds one: to another that goes on alike, or else in the next place.
+    ///
+    /// # Errors
+    ///
+    /// `Size`, if 128 bits do not hold a sum of two probabilities, or 32 bits a number of ways.
+    pub fn add(&mut self, middle: &Middle) -> Result<(), OutcomesFault>
+        requires room { self.old.len < 16 }
+        ensures added { OnOk result (IsAdded middle.now self.old self.new) }
+    {
+        match self.find(middle) {
+            Some(place) => self.join(place, middle),
+            None => {
+                self.put(middle);
+                Ok(())
+            }
+        }
+    }
+
+    // Adds one to that in a place.
+    fn join(&mut self, place: usize, middle: &Middle) -> Result<(), OutcomesFault>
+        requires within { place < self.old.len }
+        requires alike { (past : Middle)
+            → GoOnAlike (slice_index_or self.old.list place past) middle.now }
+        ensures joined { OnOk result (Joins middle.now self.old self.new) }
+    {
+        let mut joined = self.list[place];
+        joined.get(middle)?;
+        self.list[place] = joined;
+        Ok(())
+    }
+
+    // Puts one into the next place.
+    fn put(&mut self, middle: &Middle)
+        requires { self.old.len < 16 }
+        ensures { IsPut middle.now self.old self.new }
+    {
+        self.list[self.len] = *middle;
+        self.len += 1;
+    }
+
+    // The place of one that goes on alike.
+    fn find(&self, middle: &Middle) -> Option<usize>
+        ensures within { IfSome result (λ place. place < self.now.len) }
+        ensures alike { IfSome result (λ place. (past : Middle)
+            → GoOnAlike (slice_index_or self.now.list place past) middle.now) }
+    {
+        'places: for place in 0..self.len {
+            if self.list[place].goes_on_as(middle) {
+                return Some(place);
+            }
+        }
+        None
+    }
+}
