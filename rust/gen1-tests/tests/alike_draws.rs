@@ -3,7 +3,7 @@
 //! Random turns are played, part by part. Then each draw of a turn is given every byte in turn, while the other draws keep theirs. Each
 //! place of the engine that draws has to come up, and has to be given bytes that differ, but for the factor of a one-hit move, which is
 //! not used.
-use gen1::generated::action::Known;
+use gen1::generated::hits::Known;
 use gen1::generated::engine::packed::update_events;
 use gen1::generated::layout::Packed;
 use gen1::generated::machine::{Choice, EventList, Rules, Side};

@@ -5,7 +5,7 @@
 //! and in each action, the damage, and what it gives back or costs. A frequency has to be within six standard deviations.
 //!
 //! `SAMPLES=20000 cargo test --release -p gen1-tests --test sampled_odds` plays more than the usual number.
-use gen1::generated::action::Known;
+use gen1::generated::hits::Known;
 use gen1::generated::engine::packed::update_events;
 use gen1::generated::layout::{Conditions, Packed};
 use gen1::generated::machine::{
