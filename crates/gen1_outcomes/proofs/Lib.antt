@@ -3,6 +3,7 @@ pub mod Joining
 pub mod Lists
 pub mod Offered
 pub mod Paths
+pub mod Repeated
 pub mod Scripts
 pub mod Sets
 pub mod Sums

@@ -1,5 +1,5 @@
 //! The bytes that a look sees alike, or that are in a class of damage (docs/MECHANICS.md, "Link numbers").
-ghost use Rattle.std.specs.Prelude.{ℕ, min, ◌+◌, ◌-◌, ◌<◌, ◌≡◌, ◌≢◌, ◌≤◌, if◌then◌else◌};
+ghost use Rattle.std.specs.Prelude.{ℕ, min, ◌%◌, ◌+◌, ◌-◌, ◌<◌, ◌==◌, ◌≡◌, ◌≢◌, ◌≤◌, if◌then◌else◌};
 ghost use Rattle.std.specs.Int.{bit_at};
 ghost use Rattle.gen1_outcomes.specs.Bytes.{has};
 ghost use Rattle.gen1_outcomes.specs.Classes.{alike_in};
@@ -17,6 +17,9 @@ pub fn alike_to(damage_classes: u8, look: Look, byte: u8, among: &ByteSet) -> By
     match look {
         Look::Below(bound) => on_one_side(among, &ByteSet::below(bound), seen),
         Look::RotatedBelow(bound) => on_one_side(among, &ByteSet::rotated_below(bound), seen),
+        Look::Remainder(2) => among.both(&ByteSet::repeated(every_second(byte % 2))),
+        Look::Remainder(4) => among.both(&ByteSet::repeated(every_fourth(byte % 4))),
+        Look::Remainder(8) => among.both(&ByteSet::repeated(every_eighth(byte % 8))),
         _ => ByteSet {
             words: [
                 alike_in_word(damage_classes, look, byte, 0, among.words[0]),
@@ -38,6 +41,30 @@ fn on_one_side(among: &ByteSet, other: &ByteSet, inside: bool) -> ByteSet
     } else {
         among.without(other)
     }
+}
+
+// The bits of a word whose places leave this remainder when they are divided by 2.
+fn every_second(remainder: u8) -> u64
+    requires { remainder < 2 }
+    ensures { (i : ℕ) → i < 64 → bit_at result i ≡ (if remainder == i % 2 then 1 else 0) }
+{
+    0x5555_5555_5555_5555 << remainder
+}
+
+// The same by 4.
+fn every_fourth(remainder: u8) -> u64
+    requires { remainder < 4 }
+    ensures { (i : ℕ) → i < 64 → bit_at result i ≡ (if remainder == i % 4 then 1 else 0) }
+{
+    0x1111_1111_1111_1111 << remainder
+}
+
+// The same by 8.
+fn every_eighth(remainder: u8) -> u64
+    requires { remainder < 8 }
+    ensures { (i : ℕ) → i < 64 → bit_at result i ≡ (if remainder == i % 8 then 1 else 0) }
+{
+    0x0101_0101_0101_0101 << remainder
 }
 
 // The bytes of a word that are alike to the byte. The first of the word is `base`.

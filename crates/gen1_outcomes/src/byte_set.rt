@@ -1,5 +1,5 @@
 //! Sets of bytes (docs/MECHANICS.md, "Link numbers").
-ghost use Rattle.std.specs.Prelude.{Bool, IfNone, IfSome, IsTrue, ℕ, min, nat_lt, ◌*◌, ◌+◌, ◌-◌, ◌^◌, ◌<◌, ◌≡◌, ◌≤◌, ◌≢◌, if◌then◌else◌};
+ghost use Rattle.std.specs.Prelude.{Bool, IfNone, IfSome, IsTrue, ℕ, min, nat_lt, ◌%◌, ◌*◌, ◌+◌, ◌-◌, ◌^◌, ◌<◌, ◌≡◌, ◌≤◌, ◌≢◌, if◌then◌else◌};
 ghost use Rattle.std.specs.Int.{bit_at};
 ghost use Rattle.gen1_rolls.specs.Draws.{Settles};
 ghost use Rattle.gen1_rolls.specs.Looks.{rotated_left_3};
@@ -27,6 +27,13 @@ impl ByteSet {
         ByteSet {
             words: [u64::MAX; 4],
         }
+    }
+
+    /// The bytes whose place among 64 neighbours is set in the word.
+    pub fn repeated(word: u64) -> Self
+        ensures { (b : ℕ) → b < 256 → has result b ≡ bit_at word (b % 64) }
+    {
+        ByteSet { words: [word; 4] }
     }
 
     /// The bytes that pass a test.

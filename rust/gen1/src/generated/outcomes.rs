@@ -32,6 +32,9 @@ mod alike {
         match look {
             Look::Below(bound) => on_one_side(among, &ByteSet::below(bound), seen),
             Look::RotatedBelow(bound) => on_one_side(among, &ByteSet::rotated_below(bound), seen),
+            Look::Remainder(2) => among.both(&ByteSet::repeated(every_second(byte % 2))),
+            Look::Remainder(4) => among.both(&ByteSet::repeated(every_fourth(byte % 4))),
+            Look::Remainder(8) => among.both(&ByteSet::repeated(every_eighth(byte % 8))),
             _ => ByteSet {
                 words: [
                     alike_in_word(damage_classes, look, byte, 0, among.words[0]),
@@ -50,6 +53,21 @@ mod alike {
         } else {
             among.without(other)
         }
+    }
+
+    // The bits of a word whose places leave this remainder when they are divided by 2.
+    fn every_second(remainder: u8) -> u64 {
+        0x5555_5555_5555_5555 << remainder
+    }
+
+    // The same by 4.
+    fn every_fourth(remainder: u8) -> u64 {
+        0x1111_1111_1111_1111 << remainder
+    }
+
+    // The same by 8.
+    fn every_eighth(remainder: u8) -> u64 {
+        0x0101_0101_0101_0101 << remainder
     }
 
     // The bytes of a word that are alike to the byte. The first of the word is `base`.
@@ -168,6 +186,11 @@ mod byte_set {
             ByteSet {
                 words: [u64::MAX; 4],
             }
+        }
+
+        /// The bytes whose place among 64 neighbours is set in the word.
+        pub fn repeated(word: u64) -> Self {
+            ByteSet { words: [word; 4] }
         }
 
         /// The bytes that pass a test.
