@@ -67,17 +67,22 @@ def plain_build(profile):
     return target / profile
 
 
-def plain_library(folder):
+def plain_archive():
+    """The archive of cargo's release build."""
+    return plain_build("release") / "libgen1_c.a"
+
+
+def plain_library(folder, archive_of=plain_archive):
     """Builds the library of the sources as plain Rust in a folder (docs/PLAIN.md), and returns its path.
 
-    Only the library's own object is taken; those of rustc's core are not needed.
+    Only the library's own object is taken; those of rustc's core are not needed. `archive_of` builds the archive with both.
     """
     folder = folder.resolve()
     folder.mkdir(parents=True, exist_ok=True)
     subprocess.run([ROOT / "tools" / "setup", "plain"], stdout=sys.stderr)
     if not shutil.which("cargo"):
         raise Missing("there is no cargo, which `tools/setup plain` installs")
-    built, objects = plain_build("release") / "libgen1_c.a", folder / "objects"
+    built, objects = archive_of(), folder / "objects"
     shutil.rmtree(objects, ignore_errors=True)
     objects.mkdir()
     own = [name for name in ran("ar", "t", built).split() if name.startswith("gen1_c.")]
@@ -144,10 +149,10 @@ def origin(archive, proved=PROVED):
     return f"proved, logic {logic}, sources sha256 {sources}"
 
 
-def plain_origin():
+def plain_origin(how=""):
     """The text of gen1_build for a library that cargo builds here."""
     found = re.match(r"rustc (\S+)", said(os.environ.get("RUSTC", "rustc"), "--version") or "")
-    return f"plain, rustc {found[1] if found else 'unknown'}, sources sha256 {sum_of_sources()}"
+    return f"plain, rustc {found[1] if found else 'unknown'}{how}, sources sha256 {sum_of_sources()}"
 
 
 def has_build(archive):
