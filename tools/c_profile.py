@@ -1,4 +1,4 @@
-"""A build of the plain C library by a profile: rustc puts the branches that battles take most often where they cost least.
+"""Builds the plain C library with a profile: rustc puts the branches that battles take most often where they cost least.
 
 The profile counts the branches of battles of bench/bench.c, so it is the same on each machine. An instrumented build plays them, and
 llvm-profdata of the same LLVM as rustc's merges the counts.
@@ -14,7 +14,7 @@ from repository import ROOT
 
 # The battles of the profile, and the seed from which they are drawn. bench/run counts those of seed 1.
 BATTLES, SEED = 300, 7
-# What of bench/bench.c is played, with the percentages of moves where a side may move or switch (0: each choice alike).
+# The modes of bench/bench.c that are played, with the percentages of moves where a side may move or switch (0: each choice equally).
 MODES = {"quiet": (0, 85), "log": (0, 85), "trusted": (0, 85), "playout": (0,), "masked": (0,)}
 
 
@@ -33,20 +33,20 @@ def host():
 
 
 def profiler():
-    """The llvm-profdata that reads what rustc writes: of rustup's llvm-tools, or of Debian's package; None where there is neither."""
+    """The llvm-profdata that reads what rustc writes, from rustup's llvm-tools or Debian's package. None where there is neither."""
     own = Path(rustc("--print", "sysroot").strip()) / "lib" / "rustlib" / host() / "bin" / "llvm-profdata"
     return own if own.is_file() else shutil.which(f"llvm-profdata-{llvm()}")
 
 
 def build(target, flag, how=""):
-    """The archive that cargo builds with a flag of rustc, which build scripts don't get."""
+    """Returns the archive that cargo builds with a flag for rustc. Build scripts don't get the flag."""
     env = {**os.environ, "GEN1_BUILD": plain_origin(how), "RUSTFLAGS": flag}
     ran("cargo", "build", "-q", "--release", "-p", "gen1-ffi", *PLAIN_FEATURES, "--target", host(), "--target-dir", target, env=env)
     return target / host() / "release" / "libgen1_c.a"
 
 
 def profile_of(archive, folder):
-    """Plays the battles by an archive that counts, and returns the file of their profile."""
+    """Plays the battles with an archive that counts branches, and returns the file of their profile."""
     counts, program, profile = folder / "counts", folder / "counted", folder / "battles.profdata"
     ran(*os.environ.get("CC", "cc").split(), "-std=c11", "-O2", "-pthread", "-DUNTESTED=gen1_update_offered_silent", f"-I{ROOT / 'include'}",
         ROOT / "bench" / "bench.c", archive, "-Wl,-u,__llvm_profile_runtime", "-o", program)
@@ -58,7 +58,7 @@ def profile_of(archive, folder):
 
 
 def profiled_archive():
-    """The archive of the plain sources that is built by the profile."""
+    """Returns the archive of the plain sources that is built with the profile."""
     if not profiler():
         raise Missing(f"there is no llvm-profdata of LLVM {llvm()}, which `tools/setup profile` installs")
     folder = ROOT / "target" / "c_profiled"

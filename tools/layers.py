@@ -33,7 +33,7 @@ LAYERS = (
         "gen1_switching", "gen1_offers", "gen1_multiturn", "gen1_effects", "gen1_status", "gen1_odds", "gen1_hits")),
     ("Representations", "a state as 384 bytes and as plain structs; events as bytes, as lines, as a view", (
         "gen1_states", "gen1_layout", "gen1_spectator", "gen1_printer", "gen1_events")),
-    ("Machine", "what a battle is: definitions and laws; its code is types; what bytes are read from and written to", (
+    ("Machine", "what a battle is, as definitions and laws; the public types; sinks and sources of bytes", (
         "gen1_machine", "gen1_devices")),
     ("Numbers", "teams, also from text, and stats; species, moves and types; draws", (
         "gen1_text", "gen1_stats", "gen1_tables", "gen1_rolls")),

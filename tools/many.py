@@ -16,7 +16,7 @@ from tables import numbered, table
 SUCCESSOR = Struct("<384sQQ")
 PLACES = 65536
 WALK, WALK_END = 2312, 36
-WALKED = 300  # the ways of every seventh update with at most so many outcomes are compared
+WALKED = 300  # the ways of every seventh update are compared if it has at most this many outcomes
 KEPT = 7  # fills arrays and structs that a call must not change
 
 
@@ -223,7 +223,7 @@ def compare_playouts(library, steps, folder, count):
 
 
 def compare_outcomes(library, steps, count):
-    """Checks that each recorded update leads to one of its outcomes, whose weights sum to the whole, or is refused; and that ways sum to outcomes."""
+    """Checks that each recorded update is refused or leads to one of its outcomes, and that the sums of weights and ways are right."""
     found, table = ctypes.create_string_buffer(PLACES * SUCCESSOR.size), (c_uint32 * (2 * PLACES))()
     for at, (before, update) in enumerate(steps):
         of = OutcomeList(KEPT, KEPT, KEPT)
@@ -247,7 +247,7 @@ def compare_outcomes(library, steps, count):
 
 
 def walked(library, before, pair, after):
-    """The probabilities of all battles that the ways of an update lead to, summed; and the logs of the ways to one of them."""
+    """Sums the probabilities of the ways to each battle. Returns the sums, and the logs of the ways to the recorded battle."""
     walk, way, sums, logs = ctypes.create_string_buffer(WALK), Way(), {}, []
     code = library.calls.gen1_walk_begin(array_of([before]), *pair, 0, walk)
     while code == 0:

@@ -1,5 +1,5 @@
-"""Hints on inlining for the plain build alone (docs/SPEED.md, "Hints on inlining"). Those that were counted
-in the proved build cost instructions there."""
+"""Hints on inlining for the plain build alone (docs/SPEED.md, "Hints on inlining"). Those that were tried in the
+proved build cost instructions there."""
 import re
 
 # What reads or writes a field: all functions of these modules of gen1_layout.

@@ -69,7 +69,7 @@ def factors(elements, types):
 
 
 def factors_against(types, attacker, defenders):
-    """The two factors of the rows that apply, in fifths, as a number with two hexadecimal digits; 2 where there is no row."""
+    """The two factors of the rows that apply, in fifths, as a number of two hexadecimal digits. A missing row has the factor 2."""
     tenths = [int(number) for kind, defender, number in types if kind == attacker and defender in defenders]
     one, two = (tenths + [10, 10])[:2]
     return f"0x{one // 5:x}{two // 5:x}"

@@ -1,6 +1,6 @@
 /*
- * Plays many battles of a team at once, with masks and batches and at random, uses playouts to see which side is ahead, and lists all
- * that an update can lead to, and its ways.
+ * Plays many battles of a team at once, with masks and batches and at random. Uses playouts to see which side is ahead. Lists all that an
+ * update can lead to, and goes through its ways.
  *
  *     cc -O2 -I include examples/c/many.c crates/gen1_c/out/libgen1_c.a -o many
  *     ./many

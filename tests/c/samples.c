@@ -1,12 +1,12 @@
 /*
- * Samples updates of random battles by independent bytes through a library, and compares them with gen1_outcomes.
+ * Samples updates of random battles with independent bytes through a library, and compares them with gen1_outcomes.
  *
  *     cc -O2 -I include -I tests/c tests/c/samples.c tests/c/lawful.c tests/c/guarded.c crates/gen1_c/out/libgen1_c.a -lm -o samples
  *     ./samples [POSITIONS [SAMPLES [SEED]]]         200 positions, 200,000 samples of each
  *
- * A walk whose draws are set by hand plays these bytes first (gen1_walk_next), so each draw gets a byte of its own. A search is given a
- * byte that passes its test, all of which are equally likely: which bytes those are is said here, by docs/MECHANICS.md. A position with
- * another search than those of damage and of sleep is left out.
+ * gen1_walk_next first plays the draws that are in the walk. This program sets them, so each draw gets a byte of its own. A search gets
+ * a byte that passes its test. All such bytes are equally likely; `passes` has them from docs/MECHANICS.md. A position is left out if it
+ * has a search other than those of damage and of sleep.
  *
  * Each sample has to be in the list. The tails of the chi-squares have to be spread evenly.
  */
@@ -25,14 +25,14 @@ static gen1_successor found[PLACES];
 static uint32_t table[2 * PLACES], seen[PLACES], slots[2 * PLACES];
 static gen1_outcome_list list;
 
-/* Whether a byte passes the test of a search that so many bytes pass. */
+/* Whether a byte passes the test of the search that this many bytes pass. */
 static bool passes(uint16_t total, uint8_t byte)
 {
     uint8_t rotated = (uint8_t)(byte >> 1 | byte << 7);
     return total == EACH || (total == OF_DAMAGE && rotated >= 217) || (total == OF_SLEEP && (byte & 7) != 0);
 }
 
-/* Plays an update by bytes that are drawn here. Returns false if it has a search that is not known here, or too many draws. */
+/* Plays an update with bytes that are drawn here. Returns false if it has another search, or too many draws. */
 static bool play(const gen1_walk *begun, gen1_way *way)
 {
     gen1_draw set[DRAWS];
@@ -68,7 +68,7 @@ static size_t hash(const gen1_battle *battle)
     return hash % (2 * PLACES);
 }
 
-/* The slot that has the number of an outcome, from 1; or a free one. */
+/* The slot that has the number of an outcome, counted from 1, or a free one. */
 static uint32_t *slot_of(const gen1_battle *battle)
 {
     size_t at = hash(battle);
@@ -84,7 +84,7 @@ static double tail(double chi, double free)
     return 0.5 * erfc(z / sqrt(2));
 }
 
-/* The tail of the samples that were seen. Outcomes that are expected fewer than eight times are one cell. -1 if there is one cell. */
+/* The tail of the samples that were seen. All outcomes that are expected fewer than eight times are one cell. -1 if there is only one. */
 static double tail_of_seen(uint32_t samples)
 {
     double chi = 0, rare = 0, rarely = 0;
@@ -104,7 +104,7 @@ static double tail_of_seen(uint32_t samples)
     return cells > 1 ? tail(chi, cells - 1) : -1;
 }
 
-/* Samples a position. Returns the tail; -1 if it has one cell, or is left out. Ends the program if a sample is not in the list. */
+/* Samples a position. Returns the tail, or -1 if it has one cell or is left out. Ends the program if a sample is not in the list. */
 static double sampled(const gen1_battle *battle, uint8_t one, uint8_t two, uint32_t samples)
 {
     gen1_walk begun;
@@ -156,7 +156,7 @@ int main(int count, char **words)
         while (under < got && tails[under] < bound)
             under++;
         printf(", under %.1f: %.3f", bound, (double)under / (double)got);
-        /* Some four standard errors. */
+        /* About four standard errors. */
         failed += fabs((double)under / (double)got - bound) >= error * sqrt(bound * (1 - bound)) + 0.01;
     }
     printf("\n%d passed, %d failed\n", 4 - failed, failed);

@@ -151,14 +151,14 @@ static bool is_battle(const gen1_battle *battle)
     return __real_gen1_load(&copy, battle->bytes, sizeof battle->bytes) == 0;
 }
 
-/* 22: a mask of bytes that are no battle has a thirteenth bit. */
+/* 22: a mask of bytes that are not a battle has a thirteenth bit. */
 uint16_t __wrap_gen1_offered(const gen1_battle *battle, uint8_t side)
 {
     uint16_t mask = __real_gen1_offered(battle, side);
     return (uint16_t)(WRONG == 22 && mask != 0 && !is_battle(battle) ? mask | 4096 : mask);
 }
 
-/* 23: a room of bytes that are no battle has a log that is longer than its buffer. */
+/* 23: a room of bytes that are not a battle has a log that is longer than its buffer. */
 void __wrap_gen1_room_begin(gen1_room *room)
 {
     bool is_one = is_battle(&room->battle);
@@ -167,7 +167,7 @@ void __wrap_gen1_room_begin(gen1_room *room)
         room->log_length = 65535;
 }
 
-/* 24: a walk is of the battle after the update. */
+/* 24: a walk has the battle after the update. */
 uint8_t __wrap_gen1_walk_begin(const gen1_battle *battle, uint8_t one, uint8_t two, uint8_t damage_classes, gen1_walk *walk)
 {
     uint8_t answer = __real_gen1_walk_begin(battle, one, two, damage_classes, walk);

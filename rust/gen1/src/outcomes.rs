@@ -154,7 +154,7 @@ impl Battle {
     }
 }
 
-/// How outcomes are listed, and ways played: by default each damage of a roll apart.
+/// Options of lists of outcomes and of ways. By default each damage of a roll is an outcome of its own.
 ///
 /// `Battle::outcomes_with`, [`Battle::outcomes_into`] and [`Battle::ways_with`] take it.
 #[derive(Clone, Copy, Debug, Default, PartialEq, Eq, Hash)]

@@ -189,15 +189,15 @@ class BattleArray:
         return self._results.copy()
 
     def outcomes_many(self, ones: ArrayLike, twos: ArrayLike, *, damage_classes: int = 0) -> OutcomeArray:
-        """All battles that an update of each battle by a choice of each side
-        can lead to, as `Battle.outcomes` lists them for one; the choices
-        are as for `step`.
+        """Lists all battles that an update of each battle by a choice of
+        each side can lead to, as `Battle.outcomes` does for one battle.
+        The choices are as for `step`.
 
-        No battle is changed. One that refuses its pair has no outcomes,
-        and `codes` of the result says why. An update can have thousands of
-        outcomes, of 400 bytes each; `damage_classes` makes them fewer.
-        Raises `BadArgument` or `BadType` for choices of another length,
-        range or type, and for another `damage_classes`.
+        No battle is changed. A battle that refuses its pair has no
+        outcomes, and `codes` of the result says why. An update can have
+        thousands of outcomes, of 400 bytes each. `damage_classes` makes
+        them fewer. Raises `BadArgument` or `BadType` for choices of another
+        length, range or type, and for another `damage_classes`.
         """
         pair = self._choices(ones, "ones"), self._choices(twos, "twos")
         return outcomes_of_array(self._bytes, *pair, within(damage_classes, "damage_classes", 0, 39), self._threads)

@@ -20,7 +20,7 @@ from gen1._threads import in_parts
 from gen1.errors import Error
 
 Bytes: TypeAlias = NDArray[np.uint8]
-# The outcomes of some battles in a row: their rows; and of each battle how many it has, the sum of their weights, and the code.
+# The outcomes of consecutive battles: all rows, and for each battle the number of outcomes, the sum of their weights, and the code.
 _Part: TypeAlias = tuple[Bytes, list[int], list[int], list[int]]
 
 _list = _library.bind(
@@ -34,22 +34,22 @@ class OutcomeArray:
     its exact probability. `BattleArray.outcomes_many` makes it.
 
     The outcomes of the battle at a place are those from `offsets[place]`
-    to `offsets[place + 1] - 1`; `array[place]` and a loop over the array
-    give them as `Outcomes`, which says of what draws the probabilities are
-    exact.
+    to `offsets[place + 1] - 1`. `array[place]` and a loop over the array
+    return them as `Outcomes`, whose documentation says for which draws the
+    probabilities are exact.
     """
 
     def __init__(self, rows: Bytes, offsets: NDArray[np.int64], wholes: list[int], codes: Bytes) -> None:
         self._rows = rows
         self.offsets = offsets
-        """Where the outcomes of each battle begin, and where the last end,
-        (n + 1).
+        """Where the outcomes of each battle begin, and where those of the
+        last end, (n + 1).
         """
         self.wholes = wholes
         """The sum of all weights of each battle's outcomes, n whole numbers."""
         self.codes = codes
-        """0 for each battle, or the number of its `Refusal`, (n); a refused
-        pair has no outcomes.
+        """0, or for a refused pair the number of its `Refusal`, (n). A
+        refused pair has no outcomes.
         """
 
     def __len__(self) -> int:
@@ -83,8 +83,8 @@ class OutcomeArray:
 
     @cached_property
     def weights(self) -> list[int]:
-        """The exact weight of each outcome: its probability is that over the
-        `wholes` of its battle.
+        """The exact weight of each outcome. Its probability is the weight
+        divided by the `wholes` of its battle.
         """
         return [high << 64 | low for low, high in self._words().tolist()]
 
@@ -110,8 +110,8 @@ def outcomes_of_array(battles: Bytes, ones: Bytes, twos: Bytes, damage_classes: 
 
 
 def _listed(battles: Bytes, ones: list[int], twos: list[int], damage_classes: int) -> _Part:
-    """The outcomes of some battles in a row. They are written one after the
-    other to one array, which grows.
+    """The outcomes of consecutive battles, written one after the other to
+    one array, which grows.
     """
     held, used = _Held(PLACES * len(ones)), 0
     of, first = OutcomeListStruct(), battles.ctypes.data
@@ -123,7 +123,7 @@ def _listed(battles: Bytes, ones: list[int], twos: list[int], damage_classes: in
             into, table = held.room(used, places)
             battle = first + at * _library.BATTLE_BYTES
             code = _list(battle, one, two, damage_classes, into, places, table, 2 * places, byref(of))
-        if code == _library.TOO_MANY_DRAWS:  # no update is known that has
+        if code == _library.TOO_MANY_DRAWS:  # no known update has
             raise Error("the update has too many draws to list its outcomes")
         count = 0 if code else of.count
         counts.append(count)
