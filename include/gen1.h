@@ -888,8 +888,8 @@ uint8_t gen1_walk_begin(const gen1_battle *battle, uint8_t one, uint8_t two, uin
  * Plays the next way of a walk, and writes it to `*way`. Ways exclude each other, and their probabilities sum to 1. They are
  * exact for draws that are independent uniform bytes, as are those of gen1_outcomes. An update has at least one way.
  *
- * Returns 0, or a code, and then nothing has changed: GEN1_ERROR_WALK_END after the last way, or GEN1_ERROR_DRAWS. With bytes
- * that are no walk it returns one of these three, and a way means nothing.
+ * Returns 0, or a code, and then nothing has changed: GEN1_ERROR_WALK_END after the last way, or GEN1_ERROR_DRAWS. If the
+ * bytes are not a walk, it returns one of these three, and the way has no meaning.
  */
 uint8_t gen1_walk_next(gen1_walk *walk, gen1_way *way);
 

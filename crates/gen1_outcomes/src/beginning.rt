@@ -13,7 +13,7 @@ use gen1_turn::{act_and_suffer_as, end_flinch, first_side, set_picked};
 pub struct Rest {
     /// The side that acts second.
     pub second: Side,
-    /// Its action is skipped, since Haze met it asleep or frozen.
+    /// Its action is skipped, because it was asleep or frozen when Haze was used.
     pub skips: bool,
     /// The turn ends before its action.
     pub is_cut: bool,
@@ -32,7 +32,7 @@ fn is_move(choice: &Choice) -> bool {
 }
 
 impl Rest {
-    /// That of an update of which nothing was played.
+    /// The rest of an update of which nothing has been played.
     pub(crate) fn all() -> Rest {
         Rest {
             second: Side::One,

@@ -33,7 +33,7 @@ impl Notes for Borrowed<'_> {
     }
 }
 
-/// The same after a first part of the update, whose draws are not noted.
+/// Nodes for the draws after a first part of the update. The draws of the first part are not noted.
 #[derive(Drop)]
 pub(crate) struct After<'a> {
     /// How many draws of the first part are still to come.

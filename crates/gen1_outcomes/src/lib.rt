@@ -10,9 +10,9 @@
 //! - `playing`: an update whose draws come from any generator
 //! - `beginning`: a turn up to its second action
 //! - `chances`: sums and products of probabilities
-//! - `middles`: where turns stand between their two actions
-//! - `ways`: [`Ways`], each way of an update apart
-//! - `plain`: the same as a plain struct that its caller keeps
+//! - `middles`: positions between the two actions of a turn
+//! - `ways`: [`Ways`], the ways of an update one by one
+//! - `plain`: the same walk as a plain struct that its caller keeps
 //! - `successor`: [`Successor`], a battle with its weight
 //! - `merging`: battles that are equal become one
 //! - `outcomes`: [`list_outcomes`], all battles that an update can lead to

@@ -1,4 +1,4 @@
-//! Where turns stand between their two actions; those that go on alike become one (docs/MECHANICS.md, "Link numbers").
+//! Positions between the two actions of a turn. Positions that agree are merged (docs/MECHANICS.md, "Link numbers").
 ghost use Rattle.std.specs.Prelude.{IfOk, IfSome, IsFalse, IsTrue, OnOk, slice_index, slice_index_or, ℕ, ◌+◌, ◌-◌, ◌<◌, ◌≡◌, ◌≤◌};
 ghost use Rattle.gen1_layout.specs.Parts.{joined};
 
@@ -10,10 +10,10 @@ use crate::nodes::{Chance, Nodes};
 use crate::script::DEPTH;
 use gen1_layout::Packed;
 
-/// How many of them are kept at once.
+/// How many positions are kept at once.
 pub const MIDDLES: usize = 16;
 
-/// Where a turn stands between its two actions.
+/// A position between the two actions of a turn.
 #[derive(Clone, Copy, PartialEq, Eq, Debug, Drop)]
 pub struct Middle {
     /// The bytes of the battle.
@@ -74,7 +74,7 @@ impl Middle {
         }
     }
 
-    /// The bytes of the way that leads there, and then these.
+    /// The bytes of the way to this position, and then these.
     pub fn path_to(&self, further: &[u8; DEPTH]) -> [u8; DEPTH]
         ensures first { (k : ℕ) → k < self.now.draws
             → slice_index result k ≡ slice_index self.now.path k }
@@ -114,7 +114,7 @@ impl Middle {
         }
     }
 
-    // Whether the turn goes on alike from both.
+    // Whether both positions agree.
     fn goes_on_as(&self, other: &Middle) -> bool
         ensures { IsTrue result → GoOnAlike self.now other.now }
     {
@@ -125,7 +125,7 @@ impl Middle {
             && self.bytes[..] == other.bytes[..]
     }
 
-    // Gets the ways of another.
+    // Adds the ways of another position.
     fn get(&mut self, other: &Middle) -> Result<(), OutcomesFault>
         ensures { OnOk result (Gets other.now self.old self.new) }
     {
@@ -143,10 +143,10 @@ impl Middle {
     }
 }
 
-/// A list of them.
+/// A list of positions.
 #[derive(Clone, Copy, PartialEq, Eq, Debug, Drop)]
 pub struct Middles {
-    /// They are in the first places.
+    /// The positions, in the first places.
     pub list: [Middle; MIDDLES],
     /// How many there are.
     pub len: usize,
@@ -173,14 +173,14 @@ impl Middles {
         self.len >= MIDDLES
     }
 
-    /// Drops all.
+    /// Removes all positions.
     pub fn clear(&mut self)
         ensures { self.new.len ≡ 0 }
     {
         self.len = 0;
     }
 
-    /// Adds one: to another that goes on alike, or else in the next place.
+    /// Adds a position. It is merged with one that agrees with it, or put into the next place.
     ///
     /// # Errors
     ///
@@ -198,7 +198,7 @@ impl Middles {
         }
     }
 
-    // Adds one to that in a place.
+    // Merges a position with the one in a place.
     fn join(&mut self, place: usize, middle: &Middle) -> Result<(), OutcomesFault>
         requires within { place < self.old.len }
         requires alike { (past : Middle)
@@ -211,7 +211,7 @@ impl Middles {
         Ok(())
     }
 
-    // Puts one into the next place.
+    // Puts a position into the next place.
     fn put(&mut self, middle: &Middle)
         requires { self.old.len < 16 }
         ensures { IsPut middle.now self.old self.new }
@@ -220,7 +220,7 @@ impl Middles {
         self.len += 1;
     }
 
-    // The place of one that goes on alike.
+    // The place of a position that agrees.
     fn find(&self, middle: &Middle) -> Option<usize>
         ensures within { IfSome result (λ place. place < self.now.len) }
         ensures alike { IfSome result (λ place. (past : Middle)

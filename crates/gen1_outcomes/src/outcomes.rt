@@ -21,7 +21,7 @@ pub struct Outcomes {
     pub count: usize,
     /// The sum of their weights.
     pub whole: u128,
-    /// How many ways the update has. Those that stand alike after the first action are played on once.
+    /// How many ways the update has. Ways that agree after the first action are played on once.
     pub ways: u32,
 }
 
@@ -103,7 +103,7 @@ fn add_all(
     finish(ways, &Middle::beginning(), successors, table, tally)
 }
 
-// First come the ways up to the second action. Those that lead to battles that go on alike are played on once.
+// First, the ways up to the second action. Ways that reach the same position are played on once.
 fn add_in_parts(
     ways: &mut Ways,
     successors: &mut [Successor],
@@ -130,7 +130,7 @@ fn add_in_parts(
     Err(OutcomesFault::Size)
 }
 
-// Adds what each of them leads to, and drops them, if there is no place left.
+// If no place is left, adds what each position leads to, and removes them.
 fn make_room(
     ways: &mut Ways,
     middles: &mut Middles,
@@ -152,7 +152,7 @@ fn make_room(
     Ok(())
 }
 
-// Adds what each of them leads to.
+// Adds what each position leads to.
 fn go_on_from(
     ways: &mut Ways,
     middles: &Middles,
@@ -172,7 +172,7 @@ fn go_on_from(
     Ok(())
 }
 
-// Adds what one of them leads to.
+// Adds what one position leads to.
 fn finish(
     ways: &mut Ways,
     middle: &Middle,

@@ -59,7 +59,7 @@ pub struct PlainWalk {
     pub one: u8,
     /// Side 2's.
     pub two: u8,
-    /// How many classes of damage are told apart; 0: each damage.
+    /// The number of classes of damage. 0: each damage is a class.
     pub damage_classes: u8,
     /// 1 after the last way, else 0.
     pub over: u8,
@@ -103,12 +103,12 @@ pub fn start_of(walk: &PlainWalk) -> Packed
     copy_of(&walk.battle)
 }
 
-/// Plays the next way, and returns its probability. `None`: all were played, or the bytes are no walk. The battle that it leads
+/// Plays the next way, and returns its probability. Returns `None` if all ways were played or the bytes are not a walk. The battle that it leads
 /// to is written to `battle`, and its events to a sink that is still empty.
 ///
 /// # Errors
 ///
-/// `Size`, if the way has too many draws. No update is known that has. Then the walk is as it was.
+/// `Size`, if the way has too many draws. No known update has. Then the walk is as it was.
 pub fn next<S: EventSink>(
     walk: &mut PlainWalk,
     battle: &mut Packed,
@@ -158,7 +158,7 @@ pub fn next<S: EventSink>(
     }
 }
 
-// Reads the draws of a walk. Returns false if its bytes are none.
+// Reads the draws of a walk. Returns false if the bytes are not a walk.
 fn read_nodes(walk: &PlainWalk, nodes: &mut Nodes) -> bool {
     let count = usize::from(walk.count);
     if count > DEPTH {

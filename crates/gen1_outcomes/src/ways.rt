@@ -83,7 +83,7 @@ impl Ways {
     ///
     /// # Errors
     ///
-    /// `Size`, if the way has too many draws. No update is known that has.
+    /// `Size`, if the way has too many draws. No known update has.
     pub fn next<S: EventSink>(
         &mut self,
         battle: &mut Packed,

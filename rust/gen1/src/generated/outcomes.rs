@@ -11,9 +11,9 @@
 //! - `playing`: an update whose draws come from any generator
 //! - `beginning`: a turn up to its second action
 //! - `chances`: sums and products of probabilities
-//! - `middles`: where turns stand between their two actions
-//! - `ways`: [`Ways`], each way of an update apart
-//! - `plain`: the same as a plain struct that its caller keeps
+//! - `middles`: positions between the two actions of a turn
+//! - `ways`: [`Ways`], the ways of an update one by one
+//! - `plain`: the same walk as a plain struct that its caller keeps
 //! - `successor`: [`Successor`], a battle with its weight
 //! - `merging`: battles that are equal become one
 //! - `outcomes`: [`list_outcomes`], all battles that an update can lead to
@@ -108,7 +108,7 @@ mod beginning {
     pub struct Rest {
         /// The side that acts second.
         pub second: Side,
-        /// Its action is skipped, since Haze met it asleep or frozen.
+        /// Its action is skipped, because it was asleep or frozen when Haze was used.
         pub skips: bool,
         /// The turn ends before its action.
         pub is_cut: bool,
@@ -127,7 +127,7 @@ mod beginning {
     }
 
     impl Rest {
-        /// That of an update of which nothing was played.
+        /// The rest of an update of which nothing has been played.
         pub(crate) fn all() -> Rest {
             Rest {
                 second: Side::One,
@@ -414,7 +414,7 @@ mod explorer {
         }
     }
 
-    /// The same after a first part of the update, whose draws are not noted.
+    /// Nodes for the draws after a first part of the update. The draws of the first part are not noted.
 
     pub(crate) struct After<'a> {
         /// How many draws of the first part are still to come.
@@ -518,7 +518,7 @@ mod fault {
         Places,
         /// There are more outcomes than places in the table.
         Table,
-        /// A way has more draws than there is room for, or 128 bits do not hold the weights. No update is known that has.
+        /// A way has more draws than there is room for, or 128 bits do not hold the weights. No known update has.
         Size,
     }
 
@@ -752,7 +752,7 @@ mod merging {
 }
 
 mod middles {
-    //! Where turns stand between their two actions; those that go on alike become one ([docs/MECHANICS.md, "Link numbers"](https://hibsuloy.example/gen1/blob/main/docs/MECHANICS.md#link-numbers)).
+    //! Positions between the two actions of a turn. Positions that agree are merged ([docs/MECHANICS.md, "Link numbers"](https://hibsuloy.example/gen1/blob/main/docs/MECHANICS.md#link-numbers)).
 
     use crate::generated::outcomes::beginning::Rest;
     use crate::generated::outcomes::chances::{plus, times};
@@ -762,10 +762,10 @@ mod middles {
     use crate::generated::outcomes::script::DEPTH;
     use crate::generated::layout::Packed;
 
-    /// How many of them are kept at once.
+    /// How many positions are kept at once.
     pub const MIDDLES: usize = 16;
 
-    /// Where a turn stands between its two actions.
+    /// A position between the two actions of a turn.
     #[derive(Clone, Copy, PartialEq, Eq, Debug)]
     pub struct Middle {
         /// The bytes of the battle.
@@ -813,7 +813,7 @@ mod middles {
             }
         }
 
-        /// The bytes of the way that leads there, and then these.
+        /// The bytes of the way to this position, and then these.
         pub fn path_to(&self, further: &[u8; DEPTH]) -> [u8; DEPTH] {
             let mut path = self.path;
             for place in self.draws..DEPTH {
@@ -844,7 +844,7 @@ mod middles {
             }
         }
 
-        // Whether the turn goes on alike from both.
+        // Whether both positions agree.
         fn goes_on_as(&self, other: &Middle) -> bool {
             self.hash == other.hash
                 && self.rest.is_cut == other.rest.is_cut
@@ -853,7 +853,7 @@ mod middles {
                 && self.bytes[..] == other.bytes[..]
         }
 
-        // Gets the ways of another.
+        // Adds the ways of another position.
         fn get(&mut self, other: &Middle) -> Result<(), OutcomesFault> {
             match plus(self.chance, other.chance) {
                 Some(chance) => match self.ways.checked_add(other.ways) {
@@ -869,10 +869,10 @@ mod middles {
         }
     }
 
-    /// A list of them.
+    /// A list of positions.
     #[derive(Clone, Copy, PartialEq, Eq, Debug)]
     pub struct Middles {
-        /// They are in the first places.
+        /// The positions, in the first places.
         pub list: [Middle; MIDDLES],
         /// How many there are.
         pub len: usize,
@@ -892,12 +892,12 @@ mod middles {
             self.len >= MIDDLES
         }
 
-        /// Drops all.
+        /// Removes all positions.
         pub fn clear(&mut self) {
             self.len = 0;
         }
 
-        /// Adds one: to another that goes on alike, or else in the next place.
+        /// Adds a position. It is merged with one that agrees with it, or put into the next place.
         ///
         /// # Errors
         ///
@@ -912,7 +912,7 @@ mod middles {
             }
         }
 
-        // Adds one to that in a place.
+        // Merges a position with the one in a place.
         fn join(&mut self, place: usize, middle: &Middle) -> Result<(), OutcomesFault> {
             let mut joined = self.list[place];
             joined.get(middle)?;
@@ -920,13 +920,13 @@ mod middles {
             Ok(())
         }
 
-        // Puts one into the next place.
+        // Puts a position into the next place.
         fn put(&mut self, middle: &Middle) {
             self.list[self.len] = *middle;
             self.len += 1;
         }
 
-        // The place of one that goes on alike.
+        // The place of a position that agrees.
         fn find(&self, middle: &Middle) -> Option<usize> {
             for place in 0..self.len {
                 if self.list[place].goes_on_as(middle) {
@@ -1212,7 +1212,7 @@ mod outcomes {
         pub count: usize,
         /// The sum of their weights.
         pub whole: u128,
-        /// How many ways the update has. Those that stand alike after the first action are played on once.
+        /// How many ways the update has. Ways that agree after the first action are played on once.
         pub ways: u32,
     }
 
@@ -1278,7 +1278,7 @@ mod outcomes {
         finish(ways, &Middle::beginning(), successors, table, tally)
     }
 
-    // First come the ways up to the second action. Those that lead to battles that go on alike are played on once.
+    // First, the ways up to the second action. Ways that reach the same position are played on once.
     fn add_in_parts(
         ways: &mut Ways,
         successors: &mut [Successor],
@@ -1300,7 +1300,7 @@ mod outcomes {
         Err(OutcomesFault::Size)
     }
 
-    // Adds what each of them leads to, and drops them, if there is no place left.
+    // If no place is left, adds what each position leads to, and removes them.
     fn make_room(
         ways: &mut Ways,
         middles: &mut Middles,
@@ -1315,7 +1315,7 @@ mod outcomes {
         Ok(())
     }
 
-    // Adds what each of them leads to.
+    // Adds what each position leads to.
     fn go_on_from(
         ways: &mut Ways,
         middles: &Middles,
@@ -1329,7 +1329,7 @@ mod outcomes {
         Ok(())
     }
 
-    // Adds what one of them leads to.
+    // Adds what one position leads to.
     fn finish(
         ways: &mut Ways,
         middle: &Middle,
@@ -1428,7 +1428,7 @@ pub mod plain {
         pub one: u8,
         /// Side 2's.
         pub two: u8,
-        /// How many classes of damage are told apart; 0: each damage.
+        /// The number of classes of damage. 0: each damage is a class.
         pub damage_classes: u8,
         /// 1 after the last way, else 0.
         pub over: u8,
@@ -1468,12 +1468,12 @@ pub mod plain {
         copy_of(&walk.battle)
     }
 
-    /// Plays the next way, and returns its probability. `None`: all were played, or the bytes are no walk. The battle that it leads
+    /// Plays the next way, and returns its probability. Returns `None` if all ways were played or the bytes are not a walk. The battle that it leads
     /// to is written to `battle`, and its events to a sink that is still empty.
     ///
     /// # Errors
     ///
-    /// `Size`, if the way has too many draws. No update is known that has. Then the walk is as it was.
+    /// `Size`, if the way has too many draws. No known update has. Then the walk is as it was.
     pub fn next<S: EventSink>(
         walk: &mut PlainWalk,
         battle: &mut Packed,
@@ -1512,7 +1512,7 @@ pub mod plain {
         }
     }
 
-    // Reads the draws of a walk. Returns false if its bytes are none.
+    // Reads the draws of a walk. Returns false if the bytes are not a walk.
     fn read_nodes(walk: &PlainWalk, nodes: &mut Nodes) -> bool {
         let count = usize::from(walk.count);
         if count > DEPTH {
@@ -1810,7 +1810,7 @@ mod ways {
         ///
         /// # Errors
         ///
-        /// `Size`, if the way has too many draws. No update is known that has.
+        /// `Size`, if the way has too many draws. No known update has.
         pub fn next<S: EventSink>(
             &mut self,
             battle: &mut Packed,
