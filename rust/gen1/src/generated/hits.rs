@@ -50,7 +50,7 @@ mod action_hit_test {
     ///
     /// A miss is reported, and `true` is returned. It writes at most one event, and none on a hit. It needs one free
     /// place in `events`.
-    pub fn must_hit<R: Rolls, S: EventSink>(
+    #[inline(always)] pub fn must_hit<R: Rolls, S: EventSink>(
         battle: &mut Packed,
         side: Side,
         id: MoveId,
@@ -182,7 +182,7 @@ mod damage_formula {
     }
 
     /// The damage before types, 2 to 999 ([docs/MECHANICS.md, "Damage formula"](https://hibsuloy.example/gen1/blob/main/docs/MECHANICS.md#damage-formula)). Returns `None` if the divisor is 0.
-    pub fn damage(numbers: &Numbers) -> Option<u16> {
+    #[inline(always)] pub fn damage(numbers: &Numbers) -> Option<u16> {
         let divisor = if numbers.halved {
             (numbers.defense / 2).max(1)
         } else {

@@ -677,7 +677,7 @@ mod turn_order {
         faster_side(battle, random)
     }
 
-    fn faster_side<R: Rolls>(battle: &Packed, random: &mut R) -> Side {
+    #[inline(always)] fn faster_side<R: Rolls>(battle: &Packed, random: &mut R) -> Side {
         let one = battle.current_stat(Side::One, Stat::Speed);
         let two = battle.current_stat(Side::Two, Stat::Speed);
         if two < one {
