@@ -19,27 +19,20 @@ pub(crate) trait Notes {
     fn note(&mut self, byte: u8, look: Look, may_have: &ByteSet);
 }
 
-/// Nodes that are borrowed, so that an update moves a reference to them and not all of them.
-#[derive(Drop)]
-pub(crate) struct Borrowed<'a>(pub(crate) &'a mut Nodes);
-
-impl Notes for Borrowed<'_> {
-    fn is_new(&self) -> bool {
-        self.0.is_new()
-    }
-
-    fn note(&mut self, byte: u8, look: Look, may_have: &ByteSet) {
-        self.0.note(byte, look, may_have);
-    }
-}
-
-/// Nodes for the draws after a first part of the update. The draws of the first part are not noted.
+/// Nodes for the draws after a first part of the update, which may have no draw. The draws of the first part are not noted.
 #[derive(Drop)]
 pub(crate) struct After<'a> {
     /// How many draws of the first part are still to come.
     pub(crate) left: usize,
-    /// The draws after it.
+    /// The draws after it. They are borrowed, so that an update moves a reference to them.
     pub(crate) nodes: &'a mut Nodes,
+}
+
+impl<'a> After<'a> {
+    /// Nodes for all draws of an update.
+    pub(crate) fn of(nodes: &'a mut Nodes) -> After<'a> {
+        After { left: 0, nodes }
+    }
 }
 
 impl Notes for After<'_> {

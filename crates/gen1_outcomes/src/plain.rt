@@ -11,7 +11,7 @@ ghost use Rattle.gen1_outcomes.specs.Following.{CanFollow};
 ghost use Rattle.gen1_outcomes.specs.Plain.{KeepsUpdate, walk_before};
 
 use crate::byte_set::ByteSet;
-use crate::explorer::{Borrowed, Explorer};
+use crate::explorer::{After, Explorer};
 use crate::fault::OutcomesFault;
 use crate::nodes::{Chance, Node, Nodes};
 use crate::script::DEPTH;
@@ -144,7 +144,7 @@ pub fn next<S: EventSink>(
         battle,
         one,
         two,
-        Explorer::new(path, Borrowed(&mut nodes)),
+        Explorer::new(path, After::of(&mut nodes)),
         events,
     );
     match nodes.chance() {

@@ -9,7 +9,7 @@ ghost use Rattle.gen1_outcomes.specs.Listing.{untold};
 ghost use Rattle.gen1_outcomes.specs.Nodes.{IsChance};
 
 use crate::beginning::{begin, have_two_actions};
-use crate::explorer::{After, Borrowed, Explorer, Notes};
+use crate::explorer::{After, Explorer, Notes};
 use crate::fault::OutcomesFault;
 use crate::middles::Middle;
 use crate::nodes::{Chance, Nodes};
@@ -105,7 +105,7 @@ impl Ways {
             battle,
             copied(&self.one),
             copied(&self.two),
-            Explorer::new(path, Borrowed(&mut self.nodes)),
+            Explorer::new(path, After::of(&mut self.nodes)),
             events,
         );
         match self.nodes.chance() {
@@ -127,7 +127,7 @@ impl Ways {
     {
         let mut battle = copy_of(&self.start);
         let path = nodes.path();
-        let mut explorer = Explorer::new(path, Borrowed(&mut *nodes));
+        let mut explorer = Explorer::new(path, After::of(&mut *nodes));
         let one = copied(&self.one);
         let two = copied(&self.two);
         let rest = begin(&mut battle, one, two, &mut explorer);

@@ -400,27 +400,20 @@ mod explorer {
         fn note(&mut self, byte: u8, look: Look, may_have: &ByteSet);
     }
 
-    /// Nodes that are borrowed, so that an update moves a reference to them and not all of them.
-
-    pub(crate) struct Borrowed<'a>(pub(crate) &'a mut Nodes);
-
-    impl Notes for Borrowed<'_> {
-        fn is_new(&self) -> bool {
-            self.0.is_new()
-        }
-
-        fn note(&mut self, byte: u8, look: Look, may_have: &ByteSet) {
-            self.0.note(byte, look, may_have);
-        }
-    }
-
-    /// Nodes for the draws after a first part of the update. The draws of the first part are not noted.
+    /// Nodes for the draws after a first part of the update, which may have no draw. The draws of the first part are not noted.
 
     pub(crate) struct After<'a> {
         /// How many draws of the first part are still to come.
         pub(crate) left: usize,
-        /// The draws after it.
+        /// The draws after it. They are borrowed, so that an update moves a reference to them.
         pub(crate) nodes: &'a mut Nodes,
+    }
+
+    impl<'a> After<'a> {
+        /// Nodes for all draws of an update.
+        pub(crate) fn of(nodes: &'a mut Nodes) -> After<'a> {
+            After { left: 0, nodes }
+        }
     }
 
     impl Notes for After<'_> {
@@ -1380,7 +1373,7 @@ pub mod plain {
     //! The calls take any bytes. [`Ways`](crate::Ways) is for callers that want its type to guarantee them.
 
     use crate::generated::outcomes::byte_set::ByteSet;
-    use crate::generated::outcomes::explorer::{Borrowed, Explorer};
+    use crate::generated::outcomes::explorer::{After, Explorer};
     use crate::generated::outcomes::fault::OutcomesFault;
     use crate::generated::outcomes::nodes::{Chance, Node, Nodes};
     use crate::generated::outcomes::script::DEPTH;
@@ -1498,7 +1491,7 @@ pub mod plain {
             battle,
             one,
             two,
-            Explorer::new(path, Borrowed(&mut nodes)),
+            Explorer::new(path, After::of(&mut nodes)),
             events,
         );
         match nodes.chance() {
@@ -1751,7 +1744,7 @@ mod ways {
     //! Each way of an update apart ([docs/MECHANICS.md, "Link numbers"](https://hibsuloy.example/gen1/blob/main/docs/MECHANICS.md#link-numbers)).
 
     use crate::generated::outcomes::beginning::{begin, have_two_actions};
-    use crate::generated::outcomes::explorer::{After, Borrowed, Explorer, Notes};
+    use crate::generated::outcomes::explorer::{After, Explorer, Notes};
     use crate::generated::outcomes::fault::OutcomesFault;
     use crate::generated::outcomes::middles::Middle;
     use crate::generated::outcomes::nodes::{Chance, Nodes};
@@ -1825,7 +1818,7 @@ mod ways {
                 battle,
                 copied(&self.one),
                 copied(&self.two),
-                Explorer::new(path, Borrowed(&mut self.nodes)),
+                Explorer::new(path, After::of(&mut self.nodes)),
                 events,
             );
             match self.nodes.chance() {
@@ -1843,7 +1836,7 @@ mod ways {
         pub(crate) fn begin(&self, nodes: &mut Nodes) -> Option<Middle> {
             let mut battle = copy_of(&self.start);
             let path = nodes.path();
-            let mut explorer = Explorer::new(path, Borrowed(&mut *nodes));
+            let mut explorer = Explorer::new(path, After::of(&mut *nodes));
             let one = copied(&self.one);
             let two = copied(&self.two);
             let rest = begin(&mut battle, one, two, &mut explorer);
