@@ -5,6 +5,7 @@ import re
 # What reads or writes a field: all functions of these modules of gen1_layout.
 FIELDS = {"active", "codes", "condition_fields", "conditions", "event_fields", "header", "member", "packed"}
 NOT_FIELDS = {"clone", "flags", "of_bytes"}
+# Not in a module of WebAssembly, which is downloaded, and so built for size.
 INLINED = {
     "gen1_engine": {"result"},
     "gen1_events": {"write_damage", "write_heal", "write_move", "write_switch"},
@@ -38,5 +39,7 @@ def hint_of(name, module, function):
     """The hint of a function of a library's module, if it has one."""
     if function in COLD.get(name, ()):
         return "#[cold] #[inline(never)]"
+    if function in INLINED.get(name, ()):
+        return '#[cfg_attr(not(target_family = "wasm"), inline(always))]'
     is_field = name == "gen1_layout" and module in FIELDS and function not in NOT_FIELDS
-    return "#[inline(always)]" if is_field or function in INLINED.get(name, ()) else None
+    return "#[inline(always)]" if is_field else None

@@ -479,6 +479,10 @@ def c_parameter(source, name, kind):
     return f"{name}: {kind}", name
 
 
+# JavaScript has no walks, and these would make its module a sixth larger.
+NOT_IN_WASM = {"gen1_walk_begin", "gen1_walk_next"}
+
+
 def take_exports(source):
     """A function for C takes a slice as a pointer and a length: a second function does so and calls the unchanged one."""
     shims = []
@@ -488,8 +492,11 @@ def take_exports(source):
         body = source.next_at(closing, "{")
         passed = [c_parameter(source, *pair) for pair in parameters(source, opening + 1, closing)]
         answer = " ".join(token.text for token in source.code[closing + 1 : body])
+        export = f'unsafe(export_name = "{name}")'
+        if name in NOT_IN_WASM:
+            export = f'cfg_attr(not(target_family = "wasm"), {export})'
         shims.append(
-            f'    #[unsafe(export_name = "{name}")]\n'
+            f"    #[{export}]\n"
             f"    unsafe extern \"C\" fn {name}({', '.join(taken for taken, _ in passed)}) {answer} {{\n"
             f"        super::{name}({', '.join(given for _, given in passed)})\n    }}\n"
         )

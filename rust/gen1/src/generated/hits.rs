@@ -33,7 +33,7 @@ mod action_hit_test {
     /// It takes at most one draw. `known` then holds the byte that was tested, and whether the action has missed. An
     /// earlier miss stays. A miss sets the last damage to 0 and ends the user's Trapping. Nothing else of the battle
     /// changes.
-    #[inline(always)] pub fn hit_or_miss<R: Rolls>(
+    #[cfg_attr(not(target_family = "wasm"), inline(always))] pub fn hit_or_miss<R: Rolls>(
         battle: &mut Packed,
         side: Side,
         id: MoveId,
@@ -50,7 +50,7 @@ mod action_hit_test {
     ///
     /// A miss is reported, and `true` is returned. It writes at most one event, and none on a hit. It needs one free
     /// place in `events`.
-    #[inline(always)] pub fn must_hit<R: Rolls, S: EventSink>(
+    #[cfg_attr(not(target_family = "wasm"), inline(always))] pub fn must_hit<R: Rolls, S: EventSink>(
         battle: &mut Packed,
         side: Side,
         id: MoveId,
@@ -182,7 +182,7 @@ mod damage_formula {
     }
 
     /// The damage before types, 2 to 999 ([docs/MECHANICS.md, "Damage formula"](https://hibsuloy.example/gen1/blob/main/docs/MECHANICS.md#damage-formula)). Returns `None` if the divisor is 0.
-    #[inline(always)] pub fn damage(numbers: &Numbers) -> Option<u16> {
+    #[cfg_attr(not(target_family = "wasm"), inline(always))] pub fn damage(numbers: &Numbers) -> Option<u16> {
         let divisor = if numbers.halved {
             (numbers.defense / 2).max(1)
         } else {
@@ -254,12 +254,12 @@ mod damage_numbers {
         doubled_if(critical, u16::from(battle.level(side))).min(255) as u8
     }
 
-    #[inline(always)] fn types(battle: &Packed, side: Side) -> [Element; 2] {
+    #[cfg_attr(not(target_family = "wasm"), inline(always))] fn types(battle: &Packed, side: Side) -> [Element; 2] {
         [battle.first_type(side), battle.second_type(side)]
     }
 
     // The user's own stat and the foe's.
-    #[inline(always)] fn own_stats(battle: &Packed, side: Side, kind: Element) -> (u32, u32) {
+    #[cfg_attr(not(target_family = "wasm"), inline(always))] fn own_stats(battle: &Packed, side: Side, kind: Element) -> (u32, u32) {
         let foe = side.other();
         let attack = u32::from(battle.unmodified(side, attacking(kind)));
         let defense = u32::from(battle.unmodified(foe, defending(kind)));
@@ -267,7 +267,7 @@ mod damage_numbers {
     }
 
     // The current stats of both, with the foe's screen.
-    #[inline(always)] fn current_stats(battle: &Packed, side: Side, kind: Element) -> (u32, u32) {
+    #[cfg_attr(not(target_family = "wasm"), inline(always))] fn current_stats(battle: &Packed, side: Side, kind: Element) -> (u32, u32) {
         let foe = side.other();
         let attack = battle.current_stat(side, attacking(kind));
         let defense = battle.current_stat(foe, defending(kind));
@@ -695,7 +695,7 @@ mod landing {
     ///
     /// On HP the last damage becomes at most the HP that were there. Damage of 0 changes nothing. At most one event is
     /// written, and it needs one free place in `events`.
-    #[inline(always)] pub fn land<S: EventSink>(battle: &mut Packed, user: Side, damage: u16, events: &mut S) -> Landed {
+    #[cfg_attr(not(target_family = "wasm"), inline(always))] pub fn land<S: EventSink>(battle: &mut Packed, user: Side, damage: u16, events: &mut S) -> Landed {
         if damage == 0 {
             return Landed::Hp;
         }
@@ -782,7 +782,7 @@ mod types {
     ///
     /// A move of one of the user's types does half as much again. Then each row that applies has its effect, in the order
     /// of the table. Each step rounds down.
-    #[inline(always)] pub fn type_steps(damage: u16, numbers: &Numbers) -> u16 {
+    #[cfg_attr(not(target_family = "wasm"), inline(always))] pub fn type_steps(damage: u16, numbers: &Numbers) -> u16 {
         let [first, second] = numbers.foe;
         let (one, two) = effectiveness(numbers.kind, first, second);
         let changed = with_own_type(damage, numbers);

@@ -38,7 +38,7 @@ mod first_hit {
     use crate::generated::tables::{MoveId, effectiveness};
 
     // Writes `Crit`, and `SuperEffective` or `Resisted`, for the foe of `side`, if the damage went through the types.
-    #[inline(always)] pub(crate) fn note_first_hit<S: EventSink>(
+    #[cfg_attr(not(target_family = "wasm"), inline(always))] pub(crate) fn note_first_hit<S: EventSink>(
         battle: &Packed,
         side: Side,
         id: MoveId,
@@ -58,7 +58,7 @@ mod first_hit {
         }
     }
 
-    #[inline(always)] fn note_effectiveness<S: EventSink>(battle: &Packed, side: Side, id: MoveId, events: &mut S) {
+    #[cfg_attr(not(target_family = "wasm"), inline(always))] fn note_effectiveness<S: EventSink>(battle: &Packed, side: Side, id: MoveId, events: &mut S) {
         let foe = side.other();
         let factors = effectiveness(id.kind(), battle.first_type(foe), battle.second_type(foe));
         let doubling = how_many(20, factors);
@@ -166,7 +166,7 @@ mod hit_effects {
     }
 
     // At most one event is written.
-    #[inline(always)] pub(crate) fn hit_effect<S: EventSink>(battle: &mut Packed, side: Side, id: MoveId, events: &mut S) {
+    #[cfg_attr(not(target_family = "wasm"), inline(always))] pub(crate) fn hit_effect<S: EventSink>(battle: &mut Packed, side: Side, id: MoveId, events: &mut S) {
         match consequence_of(id.effect()) {
             Consequence::Recoil => recoil(battle, side, id, events),
             Consequence::Drain => drain(battle, side, events),
@@ -311,7 +311,7 @@ mod many_hits {
     }
 
     // The last damage lands on the foe.
-    #[inline(always)] fn land_hit<S: EventSink>(battle: &mut Packed, side: Side, known: &mut Known, events: &mut S) {
+    #[cfg_attr(not(target_family = "wasm"), inline(always))] fn land_hit<S: EventSink>(battle: &mut Packed, side: Side, known: &mut Known, events: &mut S) {
         let damage = battle.last_damage();
         let landed = land(battle, side, damage, events);
         let broke = has_broken(landed);
@@ -469,7 +469,7 @@ mod moves {
         ///
         /// If it stores, the action ends, and `true` is returned. If it lets out its energy, `known` holds that, and whether
         /// it is a miss. It needs one free place in `events`. Nothing else changes.
-        #[inline(always)] pub fn bide_knowing<S: EventSink>(
+        #[cfg_attr(not(target_family = "wasm"), inline(always))] pub fn bide_knowing<S: EventSink>(
             battle: &mut Packed,
             side: Side,
             known: &mut Known,

@@ -59,7 +59,7 @@ mod falls {
         }
     }
 
-    #[inline(always)] fn faint_and_settle<S: EventSink>(battle: &mut Packed, actor: Side, events: &mut S) {
+    #[cfg_attr(not(target_family = "wasm"), inline(always))] fn faint_and_settle<S: EventSink>(battle: &mut Packed, actor: Side, events: &mut S) {
         if nobody_has_fallen(battle) {
             go_on(battle, events);
             return;
@@ -271,13 +271,13 @@ mod switching_in {
     }
 
     // The event for a member that comes out depends only on what is known before.
-    #[inline(always)] fn tell_coming_out<S: EventSink>(battle: &Packed, side: Side, place: Place, events: &mut S) {
+    #[cfg_attr(not(target_family = "wasm"), inline(always))] fn tell_coming_out<S: EventSink>(battle: &Packed, side: Side, place: Place, events: &mut S) {
         if let Some(event) = coming_out(battle, side, place) {
             events.push(event);
         }
     }
 
-    #[inline(always)] fn coming_out(battle: &Packed, side: Side, place: Place) -> Option<Event> {
+    #[cfg_attr(not(target_family = "wasm"), inline(always))] fn coming_out(battle: &Packed, side: Side, place: Place) -> Option<Event> {
         let at = place.number();
         let species = battle.species_from(side, at)?;
         let level = battle.level_from(side, at)?;
@@ -286,7 +286,7 @@ mod switching_in {
     }
 
     // A penalty is rare. It is handled separately, so that the stats of other members are copied as eight bytes.
-    #[inline(always)] fn put_out(battle: &mut Packed, side: Side, place: Place) {
+    #[cfg_attr(not(target_family = "wasm"), inline(always))] fn put_out(battle: &mut Packed, side: Side, place: Place) {
         match battle.status_at(side, place.number()) {
             Status::Burned | Status::Paralysed => put_out_with_penalty(battle, side, place),
             _ => put_out_by_status(battle, side, place),

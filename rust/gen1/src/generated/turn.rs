@@ -202,7 +202,7 @@ mod action_steps {
     use crate::generated::tables::{Effect, MoveId};
 
     // The energy of Bide skips the steps before the strike. Returns whether the rest of the action was skipped.
-    #[inline(always)] pub(crate) fn carry_out<R: Rolls, S: EventSink>(
+    #[cfg_attr(not(target_family = "wasm"), inline(always))] pub(crate) fn carry_out<R: Rolls, S: EventSink>(
         battle: &mut Packed,
         side: Side,
         pick: Pick,
@@ -253,7 +253,7 @@ mod action_steps {
         strike(battle, side, id, known, random, events)
     }
 
-    #[inline(always)] fn damage_unless_landing<R: Rolls>(
+    #[cfg_attr(not(target_family = "wasm"), inline(always))] fn damage_unless_landing<R: Rolls>(
         battle: &mut Packed,
         side: Side,
         id: MoveId,
@@ -488,7 +488,7 @@ mod taken_move {
     }
 
     // The move that a pick uses. An action that comes this far always has one.
-    #[inline(always)] pub(crate) fn move_taken(battle: &Packed, side: Side, pick: Pick) -> MoveId {
+    #[cfg_attr(not(target_family = "wasm"), inline(always))] pub(crate) fn move_taken(battle: &Packed, side: Side, pick: Pick) -> MoveId {
         let used = used_by(battle, side, pick);
         match MoveId::new(number_of(battle, side, used)) {
             Some(id) => id,
@@ -677,7 +677,7 @@ mod turn_order {
         faster_side(battle, random)
     }
 
-    #[inline(always)] fn faster_side<R: Rolls>(battle: &Packed, random: &mut R) -> Side {
+    #[cfg_attr(not(target_family = "wasm"), inline(always))] fn faster_side<R: Rolls>(battle: &Packed, random: &mut R) -> Side {
         let one = battle.current_stat(Side::One, Stat::Speed);
         let two = battle.current_stat(Side::Two, Stat::Speed);
         if two < one {
@@ -801,7 +801,7 @@ mod turn_parts {
     }
 
     // Whether an active member has fallen, or the battle is over.
-    #[inline(always)] fn is_cut(battle: &Packed) -> bool {
+    #[cfg_attr(not(target_family = "wasm"), inline(always))] fn is_cut(battle: &Packed) -> bool {
         battle.has_fallen(Side::One) || battle.has_fallen(Side::Two) || battle.outcome().is_over()
     }
 
