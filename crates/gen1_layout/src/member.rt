@@ -29,6 +29,13 @@ impl Packed {
         self.active(side)[PLACE].max(1).min(6)
     }
 
+    /// The number of the species of the member that is out, 1 to 151.
+    pub fn species_number(&self, side: Side) -> u8
+        ensures stands { Reads self.now result λ f. (member_in side f).species }
+    {
+        self.member_out(side)[SPECIES]
+    }
+
     /// The level of the member that is out, 1 to 100.
     pub fn level(&self, side: Side) -> u8
         ensures stands { Reads self.now result λ f. (member_in side f).level }
