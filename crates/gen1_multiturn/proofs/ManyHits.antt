@@ -10,8 +10,8 @@ use Rattle.gen1_tables.specs.Effects.{hits_more, knocks_out}
 use Rattle.gen1_machine.specs.Moves.{Move}
 use Rattle.gen1_machine.specs.Progress.{unless}
 use Rattle.gen1_layout.specs.Flags.{SameNumbers}
-use Rattle.gen1_multiturn.specs.declared.hit_effects.Consequence.{Consequence}
-use Rattle.gen1_multiturn.specs.declared.hit_effects.Consequence.TheVariants as consequences
+use Rattle.gen1_multiturn.specs.declared.move_hits.hit_effects.Consequence.{Consequence}
+use Rattle.gen1_multiturn.specs.declared.move_hits.hit_effects.Consequence.TheVariants as consequences
 use Rattle.gen1_multiturn.specs.ManyHits.{consequence_of, is_multi_hit}
 
 -- By the effect

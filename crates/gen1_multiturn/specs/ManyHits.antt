@@ -4,8 +4,8 @@ use Rattle.gen1_tables.specs.declared.effect.Effect.{Effect}
 use Rattle.gen1_tables.specs.declared.effect.Effect.TheVariants as effects
 use Rattle.gen1_machine.specs.Valid.{IsCount}
 use Rattle.gen1_hits.specs.declared.known.Known.{Known}
-use Rattle.gen1_multiturn.specs.declared.hit_effects.Consequence.{Consequence}
-use Rattle.gen1_multiturn.specs.declared.hit_effects.Consequence.TheVariants.{Drain, Explosion, Nothing, Rage, Recoil}
+use Rattle.gen1_multiturn.specs.declared.move_hits.hit_effects.Consequence.{Consequence}
+use Rattle.gen1_multiturn.specs.declared.move_hits.hit_effects.Consequence.TheVariants.{Drain, Explosion, Nothing, Rage, Recoil}
 
 abbrev pub is_multi_hit : Effect → Bool
 is_multi_hit effects.MultiHit = true

@@ -2,25 +2,17 @@
 //! (docs/MECHANICS.md, "Going on", "Charging", "Many hits", "Recoil, drain and explosion").
 //!
 //! - `moves`: the moves: Bide, charging, Counter, fixed damage, one-hit moves, Rage, Thrash and trapping
-//! - `many_hits`: the hits of a move, one after another
+//! - `move_hits`: the hits of a move, what follows each, and what follows a miss
 //! - `counts`: how many times a move hits or holds, by a draw
-//! - `hit_counts`: how many hits a move makes
-//! - `first_hit`: the reports before the first hit
-//! - `hit_effects`: what follows the hit of a move that makes one
-//! - `miss`: what follows a miss
 #![tactic(auto)]
 
 mod counts;
-mod first_hit;
-mod hit_counts;
-mod hit_effects;
-mod many_hits;
-mod miss;
+mod move_hits;
 mod moves;
 
 pub use gen1_status::substitute;
-pub use many_hits::hits;
-pub use miss::missed_move;
+pub use move_hits::many_hits::hits;
+pub use move_hits::miss::missed_move;
 pub use moves::bide::{bide, bide_knowing};
 pub use moves::charging::{charge, charge_knowing, make_current};
 pub use moves::counter::{counter, counter_knowing};

@@ -3,12 +3,8 @@
 //! ([docs/MECHANICS.md, "Going on"](https://hibsuloy.example/gen1/blob/main/docs/MECHANICS.md#going-on), "Charging", "Many hits", "Recoil, drain and explosion").
 //!
 //! - `moves`: the moves: Bide, charging, Counter, fixed damage, one-hit moves, Rage, Thrash and trapping
-//! - `many_hits`: the hits of a move, one after another
+//! - `move_hits`: the hits of a move, what follows each, and what follows a miss
 //! - `counts`: how many times a move hits or holds, by a draw
-//! - `hit_counts`: how many hits a move makes
-//! - `first_hit`: the reports before the first hit
-//! - `hit_effects`: what follows the hit of a move that makes one
-//! - `miss`: what follows a miss
 
 mod counts {
     //! How many times a move hits or holds ([docs/MECHANICS.md, "Many hits"](https://hibsuloy.example/gen1/blob/main/docs/MECHANICS.md#many-hits), "Going on").
@@ -27,402 +23,406 @@ mod counts {
     }
 }
 
-mod first_hit {
-    //! The reports before the first hit: whether it is critical, and its effectiveness ([docs/MECHANICS.md](https://hibsuloy.example/gen1/blob/main/docs/MECHANICS.md), "Order of
-    //! events").
+mod move_hits {
+    //! The hits of a move, what follows each, and what follows a miss ([docs/MECHANICS.md, "Many hits"](https://hibsuloy.example/gen1/blob/main/docs/MECHANICS.md#many-hits), "Recoil, drain and
+    //! explosion").
+    mod first_hit {
+        //! The reports before the first hit: whether it is critical, and its effectiveness ([docs/MECHANICS.md](https://hibsuloy.example/gen1/blob/main/docs/MECHANICS.md), "Order of
+        //! events").
 
-    use crate::generated::events::EventSink;
-    use crate::generated::hits::Known;
-    use crate::generated::layout::Packed;
-    use crate::generated::machine::{Event, Side};
-    use crate::generated::tables::{MoveId, effectiveness};
+        use crate::generated::events::EventSink;
+        use crate::generated::hits::Known;
+        use crate::generated::layout::Packed;
+        use crate::generated::machine::{Event, Side};
+        use crate::generated::tables::{MoveId, effectiveness};
 
-    // Writes `Crit`, and `SuperEffective` or `Resisted`, for the foe of `side`, if the damage went through the types.
-    #[cfg_attr(not(target_family = "wasm"), inline(always))] pub(crate) fn note_first_hit<S: EventSink>(
-        battle: &Packed,
-        side: Side,
-        id: MoveId,
-        known: &Known,
-        events: &mut S,
-    ) {
-        if !known.through_types {
-            return;
+        // Writes `Crit`, and `SuperEffective` or `Resisted`, for the foe of `side`, if the damage went through the types.
+        #[cfg_attr(not(target_family = "wasm"), inline(always))] pub(crate) fn note_first_hit<S: EventSink>(
+            battle: &Packed,
+            side: Side,
+            id: MoveId,
+            known: &Known,
+            events: &mut S,
+        ) {
+            if !known.through_types {
+                return;
+            }
+            note_critical(battle, side.other(), known, events);
+            note_effectiveness(battle, side, id, events);
         }
-        note_critical(battle, side.other(), known, events);
-        note_effectiveness(battle, side, id, events);
-    }
 
-    fn note_critical<S: EventSink>(battle: &Packed, target: Side, known: &Known, events: &mut S) {
-        if known.critical {
-            events.push(Event::Crit(battle.who(target)));
+        fn note_critical<S: EventSink>(battle: &Packed, target: Side, known: &Known, events: &mut S) {
+            if known.critical {
+                events.push(Event::Crit(battle.who(target)));
+            }
         }
-    }
 
-    #[cfg_attr(not(target_family = "wasm"), inline(always))] fn note_effectiveness<S: EventSink>(battle: &Packed, side: Side, id: MoveId, events: &mut S) {
-        let foe = side.other();
-        let factors = effectiveness(id.kind(), battle.first_type(foe), battle.second_type(foe));
-        let doubling = how_many(20, factors);
-        let halving = how_many(5, factors);
-        if halving < doubling {
-            events.push(Event::SuperEffective(battle.who(foe)));
-            return;
+        #[cfg_attr(not(target_family = "wasm"), inline(always))] fn note_effectiveness<S: EventSink>(battle: &Packed, side: Side, id: MoveId, events: &mut S) {
+            let foe = side.other();
+            let factors = effectiveness(id.kind(), battle.first_type(foe), battle.second_type(foe));
+            let doubling = how_many(20, factors);
+            let halving = how_many(5, factors);
+            if halving < doubling {
+                events.push(Event::SuperEffective(battle.who(foe)));
+                return;
+            }
+            if doubling < halving {
+                events.push(Event::Resisted(battle.who(foe)));
+            }
         }
-        if doubling < halving {
-            events.push(Event::Resisted(battle.who(foe)));
-        }
-    }
 
-    fn how_many(tenths: u8, factors: (u8, u8)) -> u8 {
-        u8::from(factors.0 == tenths) + u8::from(factors.1 == tenths)
-    }
-}
-
-mod hit_counts {
-    //! How many hits a move makes ([docs/MECHANICS.md, "Many hits"](https://hibsuloy.example/gen1/blob/main/docs/MECHANICS.md#many-hits)).
-
-    use crate::generated::multiturn::counts::draw_count;
-    use crate::generated::events::EventSink;
-    use crate::generated::hits::Known;
-    use crate::generated::layout::Packed;
-    use crate::generated::machine::{Event, HitCount, Side};
-    use crate::generated::rolls::Rolls;
-    use crate::generated::tables::{Effect, MoveId};
-
-    // Settles the number of hits, unless the hit broke a Substitute.
-    pub(crate) fn plan_unless_broken<R: Rolls>(
-        side: Side,
-        id: MoveId,
-        known: &mut Known,
-        random: &mut R,
-    ) {
-        if known.broke {
-            return;
-        }
-        plan_more(side, id, known, random);
-    }
-
-    fn plan_more<R: Rolls>(side: Side, id: MoveId, known: &mut Known, random: &mut R) {
-        if is_multi_hit(id.effect()) {
-            plan_hits(known, random);
-            return;
-        }
-        known.hits_planned = Some(2);
-    }
-
-    fn is_multi_hit(effect: Effect) -> bool {
-        matches!(effect, Effect::MultiHit)
-    }
-
-    // Two to five hits, drawn after the first hit only.
-    fn plan_hits<R: Rolls>(known: &mut Known, random: &mut R) {
-        if known.hits_planned.is_some() {
-            return;
-        }
-        let count = draw_count(random);
-        known.hits_planned = Some(count + 2);
-    }
-
-    // The hits after the first.
-    pub(crate) fn hits_left(planned: Option<u8>) -> u8 {
-        match planned {
-            Some(hits) => hits.saturating_sub(1),
-            None => 0,
+        fn how_many(tenths: u8, factors: (u8, u8)) -> u8 {
+            u8::from(factors.0 == tenths) + u8::from(factors.1 == tenths)
         }
     }
 
-    // Reports the number of hits, if it was settled.
-    pub(crate) fn note_hit_count<S: EventSink>(
-        battle: &Packed,
-        target: Side,
-        known: &Known,
-        events: &mut S,
-    ) {
-        if !known.hits_planned.is_some() {
-            return;
+    mod hit_counts {
+        //! How many hits a move makes ([docs/MECHANICS.md, "Many hits"](https://hibsuloy.example/gen1/blob/main/docs/MECHANICS.md#many-hits)).
+
+        use crate::generated::multiturn::counts::draw_count;
+        use crate::generated::events::EventSink;
+        use crate::generated::hits::Known;
+        use crate::generated::layout::Packed;
+        use crate::generated::machine::{Event, HitCount, Side};
+        use crate::generated::rolls::Rolls;
+        use crate::generated::tables::{Effect, MoveId};
+
+        // Settles the number of hits, unless the hit broke a Substitute.
+        pub(crate) fn plan_unless_broken<R: Rolls>(
+            side: Side,
+            id: MoveId,
+            known: &mut Known,
+            random: &mut R,
+        ) {
+            if known.broke {
+                return;
+            }
+            plan_more(side, id, known, random);
         }
-        if let Some(hits) = HitCount::new(known.hits_made) {
-            events.push(Event::HitCount(battle.who(target), hits));
+
+        fn plan_more<R: Rolls>(side: Side, id: MoveId, known: &mut Known, random: &mut R) {
+            if is_multi_hit(id.effect()) {
+                plan_hits(known, random);
+                return;
+            }
+            known.hits_planned = Some(2);
+        }
+
+        fn is_multi_hit(effect: Effect) -> bool {
+            matches!(effect, Effect::MultiHit)
+        }
+
+        // Two to five hits, drawn after the first hit only.
+        fn plan_hits<R: Rolls>(known: &mut Known, random: &mut R) {
+            if known.hits_planned.is_some() {
+                return;
+            }
+            let count = draw_count(random);
+            known.hits_planned = Some(count + 2);
+        }
+
+        // The hits after the first.
+        pub(crate) fn hits_left(planned: Option<u8>) -> u8 {
+            match planned {
+                Some(hits) => hits.saturating_sub(1),
+                None => 0,
+            }
+        }
+
+        // Reports the number of hits, if it was settled.
+        pub(crate) fn note_hit_count<S: EventSink>(
+            battle: &Packed,
+            target: Side,
+            known: &Known,
+            events: &mut S,
+        ) {
+            if !known.hits_planned.is_some() {
+                return;
+            }
+            if let Some(hits) = HitCount::new(known.hits_made) {
+                events.push(Event::HitCount(battle.who(target), hits));
+            }
         }
     }
-}
 
-mod hit_effects {
-    //! What follows the hit of a move that makes one ([docs/MECHANICS.md, "Recoil, drain and explosion"](https://hibsuloy.example/gen1/blob/main/docs/MECHANICS.md#recoil-drain-and-explosion)).
+    mod hit_effects {
+        //! What follows the hit of a move that makes one ([docs/MECHANICS.md, "Recoil, drain and explosion"](https://hibsuloy.example/gen1/blob/main/docs/MECHANICS.md#recoil-drain-and-explosion)).
 
-    use crate::generated::events::EventSink;
-    use crate::generated::hits::{gain_hp, lose_hp};
-    use crate::generated::layout::{Conditions, Packed};
-    use crate::generated::machine::{DamageSource, Event, Side, Volatile};
-    use crate::generated::tables::{Effect, MoveId, STRUGGLE};
+        use crate::generated::events::EventSink;
+        use crate::generated::hits::{gain_hp, lose_hp};
+        use crate::generated::layout::{Conditions, Packed};
+        use crate::generated::machine::{DamageSource, Event, Side, Volatile};
+        use crate::generated::tables::{Effect, MoveId, STRUGGLE};
 
-    // What follows a hit.
-    #[derive(Clone, Copy)]
-    pub(crate) enum Consequence {
-        Recoil,
-        Drain,
-        Rage,
-        Explosion,
-        Nothing,
-    }
+        // What follows a hit.
+        #[derive(Clone, Copy)]
+        pub(crate) enum Consequence {
+            Recoil,
+            Drain,
+            Rage,
+            Explosion,
+            Nothing,
+        }
 
-    // At most one event is written.
-    #[cfg_attr(not(target_family = "wasm"), inline(always))] pub(crate) fn hit_effect<S: EventSink>(battle: &mut Packed, side: Side, id: MoveId, events: &mut S) {
-        match consequence_of(id.effect()) {
-            Consequence::Recoil => recoil(battle, side, id, events),
-            Consequence::Drain => drain(battle, side, events),
-            Consequence::Rage => start_rage(battle, side, events),
-            Consequence::Explosion => explode(battle, side),
-            Consequence::Nothing => {}
+        // At most one event is written.
+        #[cfg_attr(not(target_family = "wasm"), inline(always))] pub(crate) fn hit_effect<S: EventSink>(battle: &mut Packed, side: Side, id: MoveId, events: &mut S) {
+            match consequence_of(id.effect()) {
+                Consequence::Recoil => recoil(battle, side, id, events),
+                Consequence::Drain => drain(battle, side, events),
+                Consequence::Rage => start_rage(battle, side, events),
+                Consequence::Explosion => explode(battle, side),
+                Consequence::Nothing => {}
+            }
+        }
+
+        fn consequence_of(effect: Effect) -> Consequence {
+            match effect {
+                Effect::Recoil => Consequence::Recoil,
+                Effect::Drain => Consequence::Drain,
+                Effect::DreamEater => Consequence::Drain,
+                Effect::Rage => Consequence::Rage,
+                Effect::Explode => Consequence::Explosion,
+                _ => Consequence::Nothing,
+            }
+        }
+
+        // The recoil takes the user's HP even if it has a Substitute.
+        fn recoil<S: EventSink>(battle: &mut Packed, side: Side, id: MoveId, events: &mut S) {
+            let amount = recoil_of(id, battle.last_damage());
+            lose_hp(battle, side, DamageSource::Recoil, amount, events);
+        }
+
+        // A quarter of the damage, or half of it for Struggle, and at least 1.
+        fn recoil_of(id: MoveId, damage: u16) -> u16 {
+            let part = if id.number() == STRUGGLE {
+                damage / 2
+            } else {
+                damage / 4
+            };
+            part.max(1)
+        }
+
+        // The user heals by half of the damage. That half becomes the last damage.
+        fn drain<S: EventSink>(battle: &mut Packed, side: Side, events: &mut S) {
+            let half = half_of(battle.last_damage());
+            battle.put_last_damage(half);
+            gain_hp(battle, side, half, events);
+        }
+
+        fn half_of(damage: u16) -> u16 {
+            (damage / 2).max(1)
+        }
+
+        // The user's own Rage, which never ends by itself.
+        fn start_rage<S: EventSink>(battle: &mut Packed, side: Side, events: &mut S) {
+            if battle.is_on(side, Conditions::RAGE) {
+                return;
+            }
+            battle.put_flag(side, Conditions::RAGE, true);
+            events.push(Event::Start(battle.who(side), Volatile::Rage));
+        }
+
+        // The user falls. No event reports that.
+        pub(crate) fn explode(battle: &mut Packed, side: Side) {
+            battle.put_fallen(side);
+            battle.put_flag(side, Conditions::SEEDED, false);
         }
     }
 
-    fn consequence_of(effect: Effect) -> Consequence {
-        match effect {
-            Effect::Recoil => Consequence::Recoil,
-            Effect::Drain => Consequence::Drain,
-            Effect::DreamEater => Consequence::Drain,
-            Effect::Rage => Consequence::Rage,
-            Effect::Explode => Consequence::Explosion,
-            _ => Consequence::Nothing,
+    pub mod many_hits {
+        //! The hits of a move, one after another ([docs/MECHANICS.md, "Many hits"](https://hibsuloy.example/gen1/blob/main/docs/MECHANICS.md#many-hits)).
+
+        use crate::generated::multiturn::move_hits::first_hit::note_first_hit;
+        use crate::generated::multiturn::move_hits::hit_counts::{hits_left, note_hit_count, plan_unless_broken};
+        use crate::generated::multiturn::move_hits::hit_effects::hit_effect;
+        use crate::generated::multiturn::moves::rage::rage;
+        use crate::generated::events::EventSink;
+        use crate::generated::hits::{Known, Landed, land};
+        use crate::generated::layout::Packed;
+        use crate::generated::machine::{Event, Side};
+        use crate::generated::rolls::Rolls;
+        use crate::generated::tables::{Effect, MoveId};
+
+        /// Makes all hits of a move of `side` that hits ([docs/MECHANICS.md, "Many hits"](https://hibsuloy.example/gen1/blob/main/docs/MECHANICS.md#many-hits), "Recoil, drain and explosion").
+        ///
+        /// That is one hit, or as many as its effect plans after the first, until a Substitute breaks or the foe falls. Each
+        /// hit lands the last damage, which a landing on HP may reduce. Then its effect follows, unless it broke a
+        /// Substitute: recoil, drained HP, the user's own Rage or its explosion. The foe's Rage builds if the foe lives.
+        ///
+        /// Before the first hit it writes `Crit` and `SuperEffective` or `Resisted`, if the damage went through the types.
+        /// After the last hit it writes the number of hits, if one was planned. It needs thirteen free places in `events`.
+        ///
+        /// Before the call, no hit is planned or made. Afterwards `known` holds the hits planned and made, and whether a
+        /// Substitute broke. A count of two to five takes one or two draws. Other moves draw nothing.
+        pub fn hits<R: Rolls, S: EventSink>(
+            battle: &mut Packed,
+            side: Side,
+            id: MoveId,
+            known: &mut Known,
+            random: &mut R,
+            events: &mut S,
+        ) {
+            note_first_hit(battle, side, id, known, events);
+            if hits_more(id.effect()) {
+                hit_of_many(battle, side, id, known, random, events);
+                other_hits(battle, side, id, known, random, events);
+            } else {
+                hit_once(battle, side, id, known, events);
+            }
         }
-    }
 
-    // The recoil takes the user's HP even if it has a Substitute.
-    fn recoil<S: EventSink>(battle: &mut Packed, side: Side, id: MoveId, events: &mut S) {
-        let amount = recoil_of(id, battle.last_damage());
-        lose_hp(battle, side, DamageSource::Recoil, amount, events);
-    }
-
-    // A quarter of the damage, or half of it for Struggle, and at least 1.
-    fn recoil_of(id: MoveId, damage: u16) -> u16 {
-        let part = if id.number() == STRUGGLE {
-            damage / 2
-        } else {
-            damage / 4
-        };
-        part.max(1)
-    }
-
-    // The user heals by half of the damage. That half becomes the last damage.
-    fn drain<S: EventSink>(battle: &mut Packed, side: Side, events: &mut S) {
-        let half = half_of(battle.last_damage());
-        battle.put_last_damage(half);
-        gain_hp(battle, side, half, events);
-    }
-
-    fn half_of(damage: u16) -> u16 {
-        (damage / 2).max(1)
-    }
-
-    // The user's own Rage, which never ends by itself.
-    fn start_rage<S: EventSink>(battle: &mut Packed, side: Side, events: &mut S) {
-        if battle.is_on(side, Conditions::RAGE) {
-            return;
+        fn hits_more(effect: Effect) -> bool {
+            matches!(
+                effect,
+                Effect::MultiHit | Effect::DoubleHit | Effect::Twineedle
+            )
         }
-        battle.put_flag(side, Conditions::RAGE, true);
-        events.push(Event::Start(battle.who(side), Volatile::Rage));
-    }
 
-    // The user falls. No event reports that.
-    pub(crate) fn explode(battle: &mut Packed, side: Side) {
-        battle.put_fallen(side);
-        battle.put_flag(side, Conditions::SEEDED, false);
-    }
-}
+        // The hit of a move that makes one.
+        #[inline(always)] // docs/SPEED.md, "Hints on inlining"
+        fn hit_once<S: EventSink>(
+            battle: &mut Packed,
+            side: Side,
+            id: MoveId,
+            known: &mut Known,
+            events: &mut S,
+        ) {
+            land_hit(battle, side, known, events);
+            note_knock_out(id.effect(), events);
+            known.hits_made += 1;
+            effect_unless_broken(battle, side, id, known, events);
+            rage(battle, side, events);
+        }
 
-mod many_hits {
-    //! The hits of a move, one after another ([docs/MECHANICS.md, "Many hits"](https://hibsuloy.example/gen1/blob/main/docs/MECHANICS.md#many-hits)).
+        // A hit of a move that makes several. It writes at most two events, since nothing else follows it.
+        fn hit_of_many<R: Rolls, S: EventSink>(
+            battle: &mut Packed,
+            side: Side,
+            id: MoveId,
+            known: &mut Known,
+            random: &mut R,
+            events: &mut S,
+        ) {
+            land_hit(battle, side, known, events);
+            known.hits_made += 1;
+            plan_unless_broken(side, id, known, random);
+            rage(battle, side, events);
+        }
 
-    use crate::generated::multiturn::first_hit::note_first_hit;
-    use crate::generated::multiturn::hit_counts::{hits_left, note_hit_count, plan_unless_broken};
-    use crate::generated::multiturn::hit_effects::hit_effect;
-    use crate::generated::multiturn::moves::rage::rage;
-    use crate::generated::events::EventSink;
-    use crate::generated::hits::{Known, Landed, land};
-    use crate::generated::layout::Packed;
-    use crate::generated::machine::{Event, Side};
-    use crate::generated::rolls::Rolls;
-    use crate::generated::tables::{Effect, MoveId};
+        // The last damage lands on the foe.
+        #[cfg_attr(not(target_family = "wasm"), inline(always))] fn land_hit<S: EventSink>(battle: &mut Packed, side: Side, known: &mut Known, events: &mut S) {
+            let damage = battle.last_damage();
+            let landed = land(battle, side, damage, events);
+            let broke = has_broken(landed);
+            known.broke = broke | known.broke;
+        }
 
-    /// Makes all hits of a move of `side` that hits ([docs/MECHANICS.md, "Many hits"](https://hibsuloy.example/gen1/blob/main/docs/MECHANICS.md#many-hits), "Recoil, drain and explosion").
-    ///
-    /// That is one hit, or as many as its effect plans after the first, until a Substitute breaks or the foe falls. Each
-    /// hit lands the last damage, which a landing on HP may reduce. Then its effect follows, unless it broke a
-    /// Substitute: recoil, drained HP, the user's own Rage or its explosion. The foe's Rage builds if the foe lives.
-    ///
-    /// Before the first hit it writes `Crit` and `SuperEffective` or `Resisted`, if the damage went through the types.
-    /// After the last hit it writes the number of hits, if one was planned. It needs thirteen free places in `events`.
-    ///
-    /// Before the call, no hit is planned or made. Afterwards `known` holds the hits planned and made, and whether a
-    /// Substitute broke. A count of two to five takes one or two draws. Other moves draw nothing.
-    pub fn hits<R: Rolls, S: EventSink>(
-        battle: &mut Packed,
-        side: Side,
-        id: MoveId,
-        known: &mut Known,
-        random: &mut R,
-        events: &mut S,
-    ) {
-        note_first_hit(battle, side, id, known, events);
-        if hits_more(id.effect()) {
+        fn has_broken(landed: Landed) -> bool {
+            matches!(landed, Landed::Broke)
+        }
+
+        fn note_knock_out<S: EventSink>(effect: Effect, events: &mut S) {
+            if knocks_out(effect) {
+                events.push(Event::OneHitKnockOut);
+            }
+        }
+
+        fn knocks_out(effect: Effect) -> bool {
+            matches!(effect, Effect::OneHitKnockOut)
+        }
+
+        fn effect_unless_broken<S: EventSink>(
+            battle: &mut Packed,
+            side: Side,
+            id: MoveId,
+            known: &Known,
+            events: &mut S,
+        ) {
+            if !known.broke {
+                hit_effect(battle, side, id, events);
+            }
+        }
+
+        // The hits after the first, and the report of their number.
+        fn other_hits<R: Rolls, S: EventSink>(
+            battle: &mut Packed,
+            side: Side,
+            id: MoveId,
+            known: &mut Known,
+            random: &mut R,
+            events: &mut S,
+        ) {
+            let left = hits_left(known.hits_planned);
+            hit_again(battle, side, id, left, known, random, events);
+            note_hit_count(battle, side.other(), known, events);
+        }
+
+        // This many more hits, if nothing ends them.
+        fn hit_again<R: Rolls, S: EventSink>(
+            battle: &mut Packed,
+            side: Side,
+            id: MoveId,
+            left: u8,
+            known: &mut Known,
+            random: &mut R,
+            events: &mut S,
+        ) {
+            if left == 0 {
+                return;
+            }
+            if hits_end(battle, side, known) {
+                return;
+            }
             hit_of_many(battle, side, id, known, random, events);
-            other_hits(battle, side, id, known, random, events);
-        } else {
-            hit_once(battle, side, id, known, events);
+            hit_again(battle, side, id, left - 1, known, random, events);
+        }
+
+        // A broken Substitute or a fall ends the hits.
+        fn hits_end(battle: &Packed, side: Side, known: &Known) -> bool {
+            let fallen = battle.has_fallen(side.other());
+            known.broke | fallen
         }
     }
 
-    fn hits_more(effect: Effect) -> bool {
-        matches!(
-            effect,
-            Effect::MultiHit | Effect::DoubleHit | Effect::Twineedle
-        )
-    }
+    pub mod miss {
+        //! What follows a miss: a crash, or an explosion ([docs/MECHANICS.md, "Action"](https://hibsuloy.example/gen1/blob/main/docs/MECHANICS.md#action), step 9).
 
-    // The hit of a move that makes one.
-    #[inline(always)] // docs/SPEED.md, "Hints on inlining"
-    fn hit_once<S: EventSink>(
-        battle: &mut Packed,
-        side: Side,
-        id: MoveId,
-        known: &mut Known,
-        events: &mut S,
-    ) {
-        land_hit(battle, side, known, events);
-        note_knock_out(id.effect(), events);
-        known.hits_made += 1;
-        effect_unless_broken(battle, side, id, known, events);
-        rage(battle, side, events);
-    }
+        use crate::generated::multiturn::move_hits::hit_effects::explode;
+        use crate::generated::events::EventSink;
+        use crate::generated::hits::{lose_hp, note_miss};
+        use crate::generated::layout::Packed;
+        use crate::generated::machine::{DamageSource, Side};
+        use crate::generated::tables::{Effect, MoveId};
 
-    // A hit of a move that makes several. It writes at most two events, since nothing else follows it.
-    fn hit_of_many<R: Rolls, S: EventSink>(
-        battle: &mut Packed,
-        side: Side,
-        id: MoveId,
-        known: &mut Known,
-        random: &mut R,
-        events: &mut S,
-    ) {
-        land_hit(battle, side, known, events);
-        known.hits_made += 1;
-        plan_unless_broken(side, id, known, random);
-        rage(battle, side, events);
-    }
-
-    // The last damage lands on the foe.
-    #[cfg_attr(not(target_family = "wasm"), inline(always))] fn land_hit<S: EventSink>(battle: &mut Packed, side: Side, known: &mut Known, events: &mut S) {
-        let damage = battle.last_damage();
-        let landed = land(battle, side, damage, events);
-        let broke = has_broken(landed);
-        known.broke = broke | known.broke;
-    }
-
-    fn has_broken(landed: Landed) -> bool {
-        matches!(landed, Landed::Broke)
-    }
-
-    fn note_knock_out<S: EventSink>(effect: Effect, events: &mut S) {
-        if knocks_out(effect) {
-            events.push(Event::OneHitKnockOut);
+        /// Reports that a move of `side` has missed, which ends its action ([docs/MECHANICS.md, "Action"](https://hibsuloy.example/gen1/blob/main/docs/MECHANICS.md#action), step 9).
+        ///
+        /// It writes `Immune` of the foe or `Miss` of the user. After Jump Kick and High Jump Kick the user loses 1 HP, even
+        /// with a Substitute, with `Damage`, and the last damage becomes 1. After Self-Destruct and Explosion the user's HP
+        /// become 0, and its status and Seeded are cleared. It needs two free places in `events`. Nothing else changes.
+        #[inline(always)] // docs/SPEED.md, "Hints on inlining"
+        pub fn missed_move<S: EventSink>(battle: &mut Packed, side: Side, id: MoveId, events: &mut S) {
+            note_miss(battle, side, id, events);
+            crash(battle, side, id.effect(), events);
+            explode_if(battle, side, id.effect());
         }
-    }
 
-    fn knocks_out(effect: Effect) -> bool {
-        matches!(effect, Effect::OneHitKnockOut)
-    }
-
-    fn effect_unless_broken<S: EventSink>(
-        battle: &mut Packed,
-        side: Side,
-        id: MoveId,
-        known: &Known,
-        events: &mut S,
-    ) {
-        if !known.broke {
-            hit_effect(battle, side, id, events);
+        // A kick that misses costs its user 1 HP.
+        fn crash<S: EventSink>(battle: &mut Packed, side: Side, effect: Effect, events: &mut S) {
+            if !crashes(effect) {
+                return;
+            }
+            lose_hp(battle, side, DamageSource::Direct, 1, events);
+            battle.put_last_damage(1);
         }
-    }
 
-    // The hits after the first, and the report of their number.
-    fn other_hits<R: Rolls, S: EventSink>(
-        battle: &mut Packed,
-        side: Side,
-        id: MoveId,
-        known: &mut Known,
-        random: &mut R,
-        events: &mut S,
-    ) {
-        let left = hits_left(known.hits_planned);
-        hit_again(battle, side, id, left, known, random, events);
-        note_hit_count(battle, side.other(), known, events);
-    }
-
-    // This many more hits, if nothing ends them.
-    fn hit_again<R: Rolls, S: EventSink>(
-        battle: &mut Packed,
-        side: Side,
-        id: MoveId,
-        left: u8,
-        known: &mut Known,
-        random: &mut R,
-        events: &mut S,
-    ) {
-        if left == 0 {
-            return;
+        fn crashes(effect: Effect) -> bool {
+            matches!(effect, Effect::CrashOnMiss)
         }
-        if hits_end(battle, side, known) {
-            return;
-        }
-        hit_of_many(battle, side, id, known, random, events);
-        hit_again(battle, side, id, left - 1, known, random, events);
-    }
 
-    // A broken Substitute or a fall ends the hits.
-    fn hits_end(battle: &Packed, side: Side, known: &Known) -> bool {
-        let fallen = battle.has_fallen(side.other());
-        known.broke | fallen
-    }
-}
-
-mod miss {
-    //! What follows a miss: a crash, or an explosion ([docs/MECHANICS.md, "Action"](https://hibsuloy.example/gen1/blob/main/docs/MECHANICS.md#action), step 9).
-
-    use crate::generated::multiturn::hit_effects::explode;
-    use crate::generated::events::EventSink;
-    use crate::generated::hits::{lose_hp, note_miss};
-    use crate::generated::layout::Packed;
-    use crate::generated::machine::{DamageSource, Side};
-    use crate::generated::tables::{Effect, MoveId};
-
-    /// Reports that a move of `side` has missed, which ends its action ([docs/MECHANICS.md, "Action"](https://hibsuloy.example/gen1/blob/main/docs/MECHANICS.md#action), step 9).
-    ///
-    /// It writes `Immune` of the foe or `Miss` of the user. After Jump Kick and High Jump Kick the user loses 1 HP, even
-    /// with a Substitute, with `Damage`, and the last damage becomes 1. After Self-Destruct and Explosion the user's HP
-    /// become 0, and its status and Seeded are cleared. It needs two free places in `events`. Nothing else changes.
-    #[inline(always)] // docs/SPEED.md, "Hints on inlining"
-    pub fn missed_move<S: EventSink>(battle: &mut Packed, side: Side, id: MoveId, events: &mut S) {
-        note_miss(battle, side, id, events);
-        crash(battle, side, id.effect(), events);
-        explode_if(battle, side, id.effect());
-    }
-
-    // A kick that misses costs its user 1 HP.
-    fn crash<S: EventSink>(battle: &mut Packed, side: Side, effect: Effect, events: &mut S) {
-        if !crashes(effect) {
-            return;
-        }
-        lose_hp(battle, side, DamageSource::Direct, 1, events);
-        battle.put_last_damage(1);
-    }
-
-    fn crashes(effect: Effect) -> bool {
-        matches!(effect, Effect::CrashOnMiss)
-    }
-
-    fn explode_if(battle: &mut Packed, side: Side, effect: Effect) {
-        if effect.explodes() {
-            explode(battle, side);
+        fn explode_if(battle: &mut Packed, side: Side, effect: Effect) {
+            if effect.explodes() {
+                explode(battle, side);
+            }
         }
     }
 }
@@ -1019,8 +1019,8 @@ mod moves {
 
 
 pub use crate::generated::status::substitute;
-pub use many_hits::hits;
-pub use miss::missed_move;
+pub use move_hits::many_hits::hits;
+pub use move_hits::miss::missed_move;
 pub use moves::bide::{bide, bide_knowing};
 pub use moves::charging::{charge, charge_knowing, make_current};
 pub use moves::counter::{counter, counter_knowing};
