@@ -1,7 +1,7 @@
 -- How shown facts pass through draws until one passes a test, and through the end of an action.
 use Rattle.gen1_layout.proofs.Words.{Bool, Frame, Parts, Phase, Progress, ShowsDrawn, Telling, drawn_goes, drawn_stops, false, halted, refl, still, stop, true, ◌▸◌}
 use Rattle.gen1_rolls.specs.Draws.{Drawing}
-pub use Rattle.gen1_hits.proofs.Searching.{drawn_none, drawn_until}
+pub use Rattle.gen1_hits.proofs.Searching.{drawn_until}
 
 -- An action ends, whether or not it stopped before
 

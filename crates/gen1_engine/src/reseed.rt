@@ -7,6 +7,7 @@ ghost use Rattle.gen1_layout.specs.Within.{Stands};
 ghost use Rattle.gen1_engine.specs.Reseed.{reseeded};
 
 use gen1_layout::Packed;
+use gen1_layout::offsets::{INDEX, NUMBERS, OUTCOME};
 use gen1_rolls::LinkRandom;
 
 /// Replaces the numbers that a battle draws, and changes nothing else. The bytes then represent the same state, with these numbers
@@ -29,6 +30,6 @@ fn put_numbers(header: &mut [u8], index: u8, numbers: &[u8])
     ensures numbers { IsStream (Link numbers.now) }
     ensures written { header.new ≡ take 5 header.old ++ index ∷ numbers.now ++ drop 16 header.old }
 {
-    header[5] = index;
-    header[6..16].copy_from_slice(numbers);
+    header[INDEX] = index;
+    header[NUMBERS..OUTCOME].copy_from_slice(numbers);
 }

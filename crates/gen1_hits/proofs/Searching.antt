@@ -1,9 +1,9 @@
 -- How shown facts pass through draws until one passes a test.
 use Rattle.std.proofs.Common.{◌+◌, ◌≡◌}
 use Rattle.gen1_layout.proofs.Words.{Bool, Frame, None, Option, Parts, Phase, Progress, ShowsDrawn, Some, Telling, ap, false, refl, sym, ℕ, ◌∙◌}
-use Rattle.gen1_rolls.specs.Draws.{Drawing, FindsDraw, FindsNone}
+use Rattle.gen1_rolls.specs.Draws.{Drawing, FindsDraw}
 use Rattle.gen1_rolls.specs.Streams.{Stream, byte_at, first, span}
-use Rattle.gen1_rolls.proofs.Standing.{found_then, none_then, stands_there}
+use Rattle.gen1_rolls.proofs.Standing.{found_then}
 use Rattle.gen1_machine.specs.Progress.{draw_until}
 
 -- The result of a search
@@ -39,15 +39,3 @@ module _ {A : Type 0} {d : Drawing A} {origin : A} {g : Frame} {parts : Parts} {
   drawn_until test f a finds then =
       let x = found_by_drawing test f a finds in
       rw x.2 (then (record p { drawn = x.0 }) x.1)
-
-  -- No byte was found.
-  pub drawn_none : (test : ℕ → Bool) (f : ℕ → Phase) → ShowsDrawn d origin g parts events old false p → FindsNone d test old new
-      → ShowsDrawn d origin g parts events new false (draw_until test f p)
-  drawn_none test f a finds =
-      none_then a.stands finds (λ none stands.
-      let h = a.shows in
-      let here : first p.stream p.drawn test ≡ None = ap (λ (s : Stream). first s p.drawn test) h.stream ∙ none in
-      rw (searched test f p None here) (record {
-        shows = record { within = h.within; written = h.written; ends = h.ends; stream = h.stream; drawn = refl; skips = h.skips; action = h.action };
-        stands = stands_there stands (ap (λ (s : Stream). p.drawn + span s) (sym h.stream));
-      }))
