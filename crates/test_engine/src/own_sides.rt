@@ -1,26 +1,16 @@
 //! What a side is shown of itself, worked out on paper (docs/MECHANICS.md, "What a side is shown of itself").
 use crate::comparing::assert_same;
-use arrayvec::ArrayVec;
+use crate::teams::member;
 use gen1_layout::{Conditions, Packed};
 use gen1_machine::{DisabledSlot, Request, Rules, Side, TurnLimit, UsedMove};
 use gen1_player::{OwnSide, own_side};
 use gen1_stats::{MemberSpec, Status, Team};
-use gen1_tables::{MoveId, Species};
 use std::test::Fail;
 
-// A Tauros at level 100 with full DVs and experience: HP 353, Attack 298, Defense 288, Speed 318, Special 238. It knows Strength, which
-// is move 70, with three PP ups, so 24 PP, and Wrap, move 35, with 20.
+// A Tauros with HP 353, Attack 298, Defense 288, Speed 318 and Special 238. It knows Strength, which is move 70, with 15 PP and
+// three PP ups of 3, so 24, and Wrap, move 35, with 20 PP and three of 4, so 32.
 fn tauros() -> Result<MemberSpec, Fail> {
-    let mut moves = ArrayVec::new();
-    moves.push((MoveId::from_name("Strength").ok_or("no such move")?, 3));
-    moves.push((MoveId::from_name("Wrap").ok_or("no such move")?, 0));
-    Ok(MemberSpec {
-        species: Species::from_name("Tauros").ok_or("no such species")?,
-        level: 100,
-        dvs: [15; 4],
-        exp: [65535; 5],
-        moves,
-    })
+    member("Tauros", &["Strength", "Wrap"])
 }
 
 // One Tauros against two.
@@ -75,7 +65,7 @@ fn a_side_before_the_first_update(rt: HostRuntime) -> Result<(), Fail> {
         [128, 100, 0],
     );
     assert_same(&rt, member.moves, [70, 35, 0, 0]);
-    assert_same(&rt, member.pp, [24, 20, 0, 0]);
+    assert_same(&rt, member.pp, [24, 32, 0, 0]);
     assert_same(&rt, [member.hp, member.max_hp], [353; 2]);
     assert_same(&rt, member.stats, [298, 288, 318, 238]);
     let nobody = own.members[2];

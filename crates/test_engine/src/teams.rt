@@ -7,7 +7,8 @@ use std::test::Fail;
 // The seed of the battle that is stored in crates/battle_tool.
 pub(crate) const SEED: [u8; 10] = [1, 36, 255, 7, 31, 100, 179, 254, 127, 10];
 
-fn member(species: &str, moves: &[&str]) -> Result<MemberSpec, Fail> {
+/// A member at level 100, whose moves have three PP ups each.
+pub(crate) fn member(species: &str, moves: &[&str]) -> Result<MemberSpec, Fail> {
     let mut known = ArrayVec::new();
     for name in moves {
         let _ = known.try_push((MoveId::from_name(name).ok_or("no such move")?, 3));

@@ -1,12 +1,8 @@
 //! The battle that is stored in crates/battle_tool (stdin, stdout). Each side has one Tauros at level 100, with the
 //! greatest DVs and experience, which knows Strength (docs/MECHANICS.md, "Stats", "Log bytes").
-use arrayvec::ArrayVec;
+use crate::teams::{SEED, tauros};
 use gen1_engine::Battle;
-use gen1_stats::{MemberSpec, Team};
-use gen1_tables::{MoveId, Species};
 use std::test::Fail;
-
-pub(crate) const SEED: [u8; 10] = [1, 36, 255, 7, 31, 100, 179, 254, 127, 10];
 
 // Both come out, the first turn hits each, and the second makes side 2 fall.
 pub(crate) static LOG: [u8; 82] = [
@@ -15,18 +11,6 @@ pub(crate) static LOG: [u8; 82] = [
     0x05, 1, 128, 7, 1, 97, 1, 0, 0, 0x01, 2, 0, 0x03, 1, 128, 70, 2, 128, 0x07, 2, 128, 0x05, 2,
     128, 0, 0, 97, 1, 0, 0, 0x19, 2, 128, 0x1A, 1,
 ];
-
-pub(crate) fn tauros() -> Result<Team, Fail> {
-    let mut moves = ArrayVec::new();
-    moves.push((MoveId::from_name("Strength").ok_or("no such move")?, 3));
-    Ok(Team::new(&[MemberSpec {
-        species: Species::from_name("Tauros").ok_or("no such species")?,
-        level: 100,
-        dvs: [15; 4],
-        exp: [65535; 5],
-        moves,
-    }])?)
-}
 
 pub(crate) fn two_tauros() -> Result<Battle, Fail> {
     let team = tauros()?;

@@ -2,30 +2,18 @@
 ghost use Rattle.std.specs.Prelude.{◌≡◌};
 
 use crate::comparing::assert_same;
-use arrayvec::ArrayVec;
+use crate::tauros::{SEED, tauros};
 use gen1_layout::{Conditions, Packed, in_two};
 use gen1_machine::{DisabledSlot, Kind, Outcome, Request, Rules, Side, TurnLimit, UsedMove};
 use gen1_rolls::{LinkRandom, Rolls};
-use gen1_stats::{MemberSpec, Status, Team};
-use gen1_tables::{Element, MoveId, Species, Stat};
+use gen1_stats::{Status, Team};
+use gen1_tables::{Element, Stat};
 use std::test::Fail;
 
-// A Tauros at level 100 with full DVs and experience, that knows Strength with three PP ups and Wrap.
-fn tauros() -> Result<Team, Fail> {
-    let mut moves = ArrayVec::new();
-    moves.push((MoveId::from_name("Strength").ok_or("no such move")?, 3));
-    moves.push((MoveId::from_name("Wrap").ok_or("no such move")?, 0));
-    let spec = MemberSpec {
-        species: Species::from_name("Tauros").ok_or("no such species")?,
-        level: 100,
-        dvs: [15; 4],
-        exp: [65535; 5],
-        moves,
-    };
-    Ok(Team::new(&[spec])?)
+// A team of one Tauros.
+fn team() -> Result<Team, Fail> {
+    Ok(Team::new(&[tauros()?])?)
 }
-
-const SEED: [u8; 10] = [1, 2, 3, 4, 5, 6, 7, 8, 9, 10];
 
 // The bytes of that Tauros: 128, level 100, HP 353 of 353, Attack 298, Defense 288, Speed 318, Special 238, healthy,
 // moves 70 and 35 with 24 and 20 PP.
@@ -35,7 +23,7 @@ const TAUROS: [u8; 24] = [
 
 // Both Tauros are out, each at place 1.
 fn begun() -> Result<Packed, Fail> {
-    let mut packed = Packed::new(&tauros()?, &tauros()?, SEED);
+    let mut packed = Packed::new(&team()?, &team()?, SEED);
     packed.active_mut(Side::One)[0] = 1;
     packed.active_mut(Side::Two)[0] = 1;
     Ok(packed)
@@ -44,7 +32,7 @@ fn begun() -> Result<Packed, Fail> {
 // The bytes of two teams (docs/LAYOUT.md, "Header", "Member", "Turn, outcome and requests").
 #[test]
 fn a_battle_at_turn_0(rt: HostRuntime) -> Result<(), Fail> {
-    let packed = Packed::new(&tauros()?, &tauros()?, SEED);
+    let packed = Packed::new(&team()?, &team()?, SEED);
     assert_same(&rt, packed.as_bytes().len(), 384);
     let header = [
         3, 0, 0, 0, 0, 0, 1, 2, 3, 4, 5, 6, 7, 8, 9, 10, 0, 0, 0, 0, 232, 3, 0, 0,
@@ -90,9 +78,9 @@ fn take_over(packed: &mut Packed, side: Side)
 fn rules_and_limit(rt: HostRuntime) -> Result<(), Fail> {
     let rules = Rules::new(3).ok_or("no such rules")?;
     let limit = TurnLimit::new(300).ok_or("no such limit")?;
-    let plain = Packed::with_rules(&tauros()?, &tauros()?, SEED, rules);
+    let plain = Packed::with_rules(&team()?, &team()?, SEED, rules);
     assert_same(&rt, plain.limit(), 1000);
-    let packed = Packed::with_limit(&tauros()?, &tauros()?, SEED, rules, limit);
+    let packed = Packed::with_limit(&team()?, &team()?, SEED, rules, limit);
     assert_same(&rt, packed.limit(), 300);
     assert_same(
         &rt,

@@ -14,6 +14,7 @@
 //! - `loading`: each field at the ends of its range, and past them
 //! - `states`: plain states, and their fields at the ends of their ranges
 //! - `comparing`: what the tests compare
+//! - `tauros`: the member of the tests of bytes
 #![tactic(auto)]
 
 #[cfg(test)]
@@ -36,6 +37,8 @@ mod readers;
 mod states;
 #[cfg(test)]
 mod tables;
+#[cfg(test)]
+mod tauros;
 #[cfg(test)]
 mod teams;
 #[cfg(test)]

@@ -1,28 +1,11 @@
 //! Members by their places, several conditions at once, the terms, and a battle at turn 0 (docs/LAYOUT.md).
 use crate::comparing::assert_same;
-use arrayvec::ArrayVec;
+use crate::tauros::{SEED, tauros};
 use gen1_layout::{Conditions, Packed};
 use gen1_machine::{Health, Level, Outcome, Request, Rules, Side, TurnLimit};
-use gen1_stats::{MemberSpec, Status, Team};
-use gen1_tables::{MoveId, Species, Stat};
+use gen1_stats::{Status, Team};
+use gen1_tables::{Species, Stat};
 use std::test::Fail;
-
-const SEED: [u8; 10] = [1, 2, 3, 4, 5, 6, 7, 8, 9, 10];
-
-// A Tauros at level 100 with full DVs and experience: HP 353, Attack 298, Defense 288, Speed 318, Special 238. It
-// knows Strength, which is move 70, with three PP ups, so 24 PP, and Wrap, move 35, with 20.
-fn tauros() -> Result<MemberSpec, Fail> {
-    let mut moves = ArrayVec::new();
-    moves.push((MoveId::from_name("Strength").ok_or("no such move")?, 3));
-    moves.push((MoveId::from_name("Wrap").ok_or("no such move")?, 0));
-    Ok(MemberSpec {
-        species: Species::from_name("Tauros").ok_or("no such species")?,
-        level: 100,
-        dvs: [15; 4],
-        exp: [65535; 5],
-        moves,
-    })
-}
 
 // One Tauros against two, with both clauses, for at most 300 turns.
 fn at_turn_0() -> Result<Packed, Fail> {

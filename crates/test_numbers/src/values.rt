@@ -1,4 +1,5 @@
 //! Ranges, bytes and worked numbers, and devices that fail.
+use crate::comparing::assert_same;
 use gen1_machine::{
     CantReason, Choice, DamageSource, Device, Event, EventList, FaultCode, Health, HitCount,
     InputFault, Kind, Level, MoveSlot, Outcome, Place, Rules, Side, Sink, Source, StageCount,
@@ -7,15 +8,8 @@ use gen1_machine::{
 };
 use gen1_tables::Stat;
 use linked_list_allocator::LocalHeap;
-use std::fmt::Debug;
-use std::process::Abort;
 use std::test::Fail;
 use test_support::{Broken, Failing};
-
-// Asserts that these are the same. A test calls it, since an assertion in its own body costs the proof of the test seconds.
-fn assert_same<T: PartialEq + Debug + Drop>(rt: &impl Abort, found: T, expected: T) {
-    assert_eq!(rt; found, expected);
-}
 
 #[test]
 fn ranges_end_where_they_should(rt: HostRuntime) {

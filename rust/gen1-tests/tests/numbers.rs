@@ -14,6 +14,7 @@
 //! - `loading`: each field at the ends of its range, and past them
 //! - `states`: plain states, and their fields at the ends of their ranges
 //! - `comparing`: what the tests compare
+//! - `tauros`: the member of the tests of bytes
 
 #[cfg(test)]
 mod comparing {
@@ -330,30 +331,18 @@ mod fields {
     //! A battle at turn 0 ([docs/LAYOUT.md](https://hibsuloy.example/gen1/blob/main/docs/LAYOUT.md)), and each read and write function once.
 
     use crate::comparing::assert_same;
-    use arrayvec::ArrayVec;
+    use crate::tauros::{SEED, tauros};
     use gen1::generated::layout::{Conditions, Packed, in_two};
     use gen1::generated::machine::{DisabledSlot, Kind, Outcome, Request, Rules, Side, TurnLimit, UsedMove};
     use gen1::generated::rolls::{LinkRandom, Rolls};
-    use gen1::generated::stats::{MemberSpec, Status, Team};
-    use gen1::generated::tables::{Element, MoveId, Species, Stat};
+    use gen1::generated::stats::{Status, Team};
+    use gen1::generated::tables::{Element, Stat};
     use gen1_tests::testing::Fail;
 
-    // A Tauros at level 100 with full DVs and experience, that knows Strength with three PP ups and Wrap.
-    fn tauros() -> Result<Team, Fail> {
-        let mut moves = ArrayVec::new();
-        moves.push((MoveId::from_name("Strength").ok_or("no such move")?, 3));
-        moves.push((MoveId::from_name("Wrap").ok_or("no such move")?, 0));
-        let spec = MemberSpec {
-            species: Species::from_name("Tauros").ok_or("no such species")?,
-            level: 100,
-            dvs: [15; 4],
-            exp: [65535; 5],
-            moves,
-        };
-        Ok(Team::new(&[spec])?)
+    // A team of one Tauros.
+    fn team() -> Result<Team, Fail> {
+        Ok(Team::new(&[tauros()?])?)
     }
-
-    const SEED: [u8; 10] = [1, 2, 3, 4, 5, 6, 7, 8, 9, 10];
 
     // The bytes of that Tauros: 128, level 100, HP 353 of 353, Attack 298, Defense 288, Speed 318, Special 238, healthy,
     // moves 70 and 35 with 24 and 20 PP.
@@ -363,7 +352,7 @@ mod fields {
 
     // Both Tauros are out, each at place 1.
     fn begun() -> Result<Packed, Fail> {
-        let mut packed = Packed::new(&tauros()?, &tauros()?, SEED);
+        let mut packed = Packed::new(&team()?, &team()?, SEED);
         packed.active_mut(Side::One)[0] = 1;
         packed.active_mut(Side::Two)[0] = 1;
         Ok(packed)
@@ -372,7 +361,7 @@ mod fields {
     // The bytes of two teams (docs/LAYOUT.md, "Header", "Member", "Turn, outcome and requests").
     #[test]
     fn a_battle_at_turn_0() -> Result<(), Fail> { let rt = gen1_tests::testing::HostRuntime;
-        let packed = Packed::new(&tauros()?, &tauros()?, SEED);
+        let packed = Packed::new(&team()?, &team()?, SEED);
         assert_same(&rt, packed.as_bytes().len(), 384);
         let header = [
             3, 0, 0, 0, 0, 0, 1, 2, 3, 4, 5, 6, 7, 8, 9, 10, 0, 0, 0, 0, 232, 3, 0, 0,
@@ -416,9 +405,9 @@ mod fields {
     fn rules_and_limit() -> Result<(), Fail> { let rt = gen1_tests::testing::HostRuntime;
         let rules = Rules::new(3).ok_or("no such rules")?;
         let limit = TurnLimit::new(300).ok_or("no such limit")?;
-        let plain = Packed::with_rules(&tauros()?, &tauros()?, SEED, rules);
+        let plain = Packed::with_rules(&team()?, &team()?, SEED, rules);
         assert_same(&rt, plain.limit(), 1000);
-        let packed = Packed::with_limit(&tauros()?, &tauros()?, SEED, rules, limit);
+        let packed = Packed::with_limit(&team()?, &team()?, SEED, rules, limit);
         assert_same(&rt, packed.limit(), 300);
         assert_same(
             &rt,
@@ -1150,29 +1139,12 @@ mod packed_lines {
 mod readers {
     //! Members by their places, several conditions at once, the terms, and a battle at turn 0 ([docs/LAYOUT.md](https://hibsuloy.example/gen1/blob/main/docs/LAYOUT.md)).
     use crate::comparing::assert_same;
-    use arrayvec::ArrayVec;
+    use crate::tauros::{SEED, tauros};
     use gen1::generated::layout::{Conditions, Packed};
     use gen1::generated::machine::{Health, Level, Outcome, Request, Rules, Side, TurnLimit};
-    use gen1::generated::stats::{MemberSpec, Status, Team};
-    use gen1::generated::tables::{MoveId, Species, Stat};
+    use gen1::generated::stats::{Status, Team};
+    use gen1::generated::tables::{Species, Stat};
     use gen1_tests::testing::Fail;
-
-    const SEED: [u8; 10] = [1, 2, 3, 4, 5, 6, 7, 8, 9, 10];
-
-    // A Tauros at level 100 with full DVs and experience: HP 353, Attack 298, Defense 288, Speed 318, Special 238. It
-    // knows Strength, which is move 70, with three PP ups, so 24 PP, and Wrap, move 35, with 20.
-    fn tauros() -> Result<MemberSpec, Fail> {
-        let mut moves = ArrayVec::new();
-        moves.push((MoveId::from_name("Strength").ok_or("no such move")?, 3));
-        moves.push((MoveId::from_name("Wrap").ok_or("no such move")?, 0));
-        Ok(MemberSpec {
-            species: Species::from_name("Tauros").ok_or("no such species")?,
-            level: 100,
-            dvs: [15; 4],
-            exp: [65535; 5],
-            moves,
-        })
-    }
 
     // One Tauros against two, with both clauses, for at most 300 turns.
     fn at_turn_0() -> Result<Packed, Fail> {
@@ -1824,6 +1796,33 @@ mod tables {
             );
             assert_same(&rt, (number, MoveId::new(number).is_some()), (number, id));
         }
+    }
+}
+
+#[cfg(test)]
+mod tauros {
+    //! The member of the tests of bytes, and the seed of their battles.
+    use arrayvec::ArrayVec;
+    use gen1::generated::stats::MemberSpec;
+    use gen1::generated::tables::{MoveId, Species};
+    use gen1_tests::testing::Fail;
+
+    pub(crate) const SEED: [u8; 10] = [1, 2, 3, 4, 5, 6, 7, 8, 9, 10];
+
+    /// A Tauros at level 100 with full DVs and experience: HP 353, Attack 298, Defense 288, Speed 318, Special 238.
+    ///
+    /// It knows Strength, which is move 70, with three PP ups, so 24 PP, and Wrap, move 35, with 20.
+    pub(crate) fn tauros() -> Result<MemberSpec, Fail> {
+        let mut moves = ArrayVec::new();
+        moves.push((MoveId::from_name("Strength").ok_or("no such move")?, 3));
+        moves.push((MoveId::from_name("Wrap").ok_or("no such move")?, 0));
+        Ok(MemberSpec {
+            species: Species::from_name("Tauros").ok_or("no such species")?,
+            level: 100,
+            dvs: [15; 4],
+            exp: [65535; 5],
+            moves,
+        })
     }
 }
 
