@@ -13,7 +13,7 @@ mod moves;
 pub use gen1_status::substitute;
 pub use move_hits::many_hits::hits;
 pub use move_hits::miss::missed_move;
-pub use moves::bide::{bide, bide_knowing};
+pub use moves::bide::{bide, bide_knowing, energy_let_out};
 pub use moves::charging::{charge, charge_knowing, make_current};
 pub use moves::counter::{counter, counter_knowing};
 pub use moves::fixed_damage::{fixed, fixed_knowing};

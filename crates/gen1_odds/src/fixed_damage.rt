@@ -3,12 +3,11 @@ ghost use Rattle.std.specs.Prelude.{max, ◌*◌, ◌-◌, ◌/◌, ◌≡◌};
 ghost use Rattle.gen1_layout.specs.Words.{Reads, member_in, move_at};
 ghost use Rattle.gen1_machine.specs.FixedDamage.{half_hp};
 ghost use Rattle.gen1_odds.specs.Odds.{fixed_by, fixed_in, fixed_of, twin};
-ghost use Rattle.gen1_odds.specs.Trials.{released_in};
 
 use crate::trials::{Trial, traps_on, trial_of};
 use gen1_layout::Packed;
 use gen1_machine::Side;
-use gen1_multiturn::counter;
+use gen1_multiturn::{counter, energy_let_out};
 use gen1_tables::MoveId;
 
 const SONIC_BOOM: u8 = 49;
@@ -36,7 +35,7 @@ fn fixed_of(battle: &Packed, side: Side, id: MoveId, trial: Trial) -> (u16, u16)
         Trial::OneHit => (65535, 65535),
         Trial::Fixed => fixed_by(battle, side, id.number()),
         Trial::Counter => twin(counter(battle, side).unwrap_or(0)),
-        Trial::Bide => twin(released(battle, side).unwrap_or(0)),
+        Trial::Bide => twin(energy_let_out(battle, side).unwrap_or(0)),
         _ => (0, 0),
     }
 }
@@ -75,16 +74,4 @@ fn twin(damage: u16) -> (u16, u16)
     ensures { result ≡ twin damage }
 {
     (damage, damage)
-}
-
-/// The damage that Bide lets out in this action, or `None` if it stores or only begins.
-pub(crate) fn released(battle: &Packed, side: Side) -> Option<u16>
-    ensures stands { Reads battle.now result (released_in side) }
-{
-    let turns = battle.bide(side)?;
-    if turns <= 1 {
-        let energy = battle.energy(side).wrapping_add(battle.last_damage());
-        return Some(energy.wrapping_mul(2));
-    }
-    None
 }

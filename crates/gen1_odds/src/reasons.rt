@@ -6,7 +6,6 @@ ghost use Rattle.gen1_odds.specs.Reasons.{bide_by, counter_by, counter_reason, f
 ghost use Rattle.gen1_odds.specs.Trials.{ReadsUnder, is_slower_in};
 ghost use Rattle.gen1_layout.specs.Words.{conditions_in, other, status_in};
 
-use crate::fixed_damage::released;
 use crate::foe_reasons::{confusion_reason, disable_reason, lower_reason, seed_reason};
 use crate::own_reasons::{
     conversion_reason, heal_reason, if_up, raise_reason, screen_reason, substitute_reason,
@@ -17,7 +16,7 @@ use crate::trials::{Trial, traps_on, trial_of};
 use gen1_hits::{damage, is_immune, numbers, settled_hit, type_steps};
 use gen1_layout::Packed;
 use gen1_machine::Side;
-use gen1_multiturn::counter;
+use gen1_multiturn::{counter, energy_let_out};
 use gen1_stats::Status;
 use gen1_tables::{Effect, MoveId, Stat};
 
@@ -137,7 +136,7 @@ fn reason_by(battle: &Packed, side: Side, id: MoveId, trial: Trial) -> Option<Re
         Trial::OneHit => one_hit_reason(battle, side, id),
         Trial::Fixed => fixed_reason(battle, side, id),
         Trial::Counter => counter_reason(battle, side, id),
-        Trial::Bide => bide_by(released(battle, side)),
+        Trial::Bide => bide_by(energy_let_out(battle, side)),
         Trial::Sleep => sleep_reason(battle, side, id),
         Trial::Confusion => confusion_reason(battle, side, id),
         Trial::Poison => poison_reason(battle, side, id),

@@ -1,5 +1,5 @@
-//! Bide, which stores the last damage, and lets out twice the sum (docs/MECHANICS.md, "Going on"). Its beginning is in
-//! gen1_status.
+//! Bide: it stores the last damage of each turn, then deals twice the sum (docs/MECHANICS.md, "Going on"). `start_bide`
+//! of gen1_status begins it.
 ghost use Rattle.std.specs.Prelude.{◌-◌, ◌≡◌};
 ghost use Rattle.gen1_layout.specs.Operations.{Does, DoesWhere, holding, scene};
 ghost use Rattle.gen1_layout.specs.Words.{AddsAtMost, HasRoom, Reads, Some, false, true, underway_in, ℕ};
@@ -77,8 +77,9 @@ pub fn bide_knowing<S: EventSink>(
     true
 }
 
-// The energy that is let out this turn, if it is the last turn.
-fn energy_let_out(battle: &Packed, side: Side) -> Option<u16>
+/// Returns the damage that the Bide of `side` lets out in this action, 0 to 65,535, or `None` if it stores or is not on
+/// (docs/MECHANICS.md, "Going on").
+pub fn energy_let_out(battle: &Packed, side: Side) -> Option<u16>
     ensures { Reads battle.now result λ f. energy_let_out f.last_damage (underway_in side f).bide }
 {
     let turns = battle.bide(side)?;

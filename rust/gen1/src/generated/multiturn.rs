@@ -431,8 +431,8 @@ mod moves {
     //! Moves that last several turns, and moves with damage rules of their own ([docs/MECHANICS.md](https://hibsuloy.example/gen1/blob/main/docs/MECHANICS.md), "Fixed damage and
     //! one-hit moves", "Going on", "Charging", "Counter").
     pub mod bide {
-        //! Bide, which stores the last damage, and lets out twice the sum ([docs/MECHANICS.md, "Going on"](https://hibsuloy.example/gen1/blob/main/docs/MECHANICS.md#going-on)). Its beginning is in
-        //! gen1_status.
+        //! Bide: it stores the last damage of each turn, then deals twice the sum ([docs/MECHANICS.md, "Going on"](https://hibsuloy.example/gen1/blob/main/docs/MECHANICS.md#going-on)). `start_bide`
+        //! of gen1_status begins it.
 
         use crate::generated::events::EventSink;
         use crate::generated::hits::Known;
@@ -487,8 +487,9 @@ mod moves {
             true
         }
 
-        // The energy that is let out this turn, if it is the last turn.
-        fn energy_let_out(battle: &Packed, side: Side) -> Option<u16> {
+        /// Returns the damage that the Bide of `side` lets out in this action, 0 to 65,535, or `None` if it stores or is not on
+        /// ([docs/MECHANICS.md, "Going on"](https://hibsuloy.example/gen1/blob/main/docs/MECHANICS.md#going-on)).
+        pub fn energy_let_out(battle: &Packed, side: Side) -> Option<u16> {
             let turns = battle.bide(side)?;
             if turns <= 1 {
                 let energy = battle.energy(side).wrapping_add(battle.last_damage());
@@ -1021,7 +1022,7 @@ mod moves {
 pub use crate::generated::status::substitute;
 pub use move_hits::many_hits::hits;
 pub use move_hits::miss::missed_move;
-pub use moves::bide::{bide, bide_knowing};
+pub use moves::bide::{bide, bide_knowing, energy_let_out};
 pub use moves::charging::{charge, charge_knowing, make_current};
 pub use moves::counter::{counter, counter_knowing};
 pub use moves::fixed_damage::{fixed, fixed_knowing};

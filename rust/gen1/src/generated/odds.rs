@@ -117,7 +117,7 @@ mod fixed_damage {
     use crate::generated::odds::trials::{Trial, traps_on, trial_of};
     use crate::generated::layout::Packed;
     use crate::generated::machine::Side;
-    use crate::generated::multiturn::counter;
+    use crate::generated::multiturn::{counter, energy_let_out};
     use crate::generated::tables::MoveId;
 
     const SONIC_BOOM: u8 = 49;
@@ -141,7 +141,7 @@ mod fixed_damage {
             Trial::OneHit => (65535, 65535),
             Trial::Fixed => fixed_by(battle, side, id.number()),
             Trial::Counter => twin(counter(battle, side).unwrap_or(0)),
-            Trial::Bide => twin(released(battle, side).unwrap_or(0)),
+            Trial::Bide => twin(energy_let_out(battle, side).unwrap_or(0)),
             _ => (0, 0),
         }
     }
@@ -172,16 +172,6 @@ mod fixed_damage {
 
     fn twin(damage: u16) -> (u16, u16) {
         (damage, damage)
-    }
-
-    /// The damage that Bide lets out in this action, or `None` if it stores or only begins.
-    pub(crate) fn released(battle: &Packed, side: Side) -> Option<u16> {
-        let turns = battle.bide(side)?;
-        if turns <= 1 {
-            let energy = battle.energy(side).wrapping_add(battle.last_damage());
-            return Some(energy.wrapping_mul(2));
-        }
-        None
     }
 }
 
@@ -872,7 +862,6 @@ mod own_reasons {
 mod reasons {
     //! Why a use of a move can't hit ([docs/MECHANICS.md, "Hit test"](https://hibsuloy.example/gen1/blob/main/docs/MECHANICS.md#hit-test), "Damage formula", "Fixed damage and one-hit moves").
 
-    use crate::generated::odds::fixed_damage::released;
     use crate::generated::odds::foe_reasons::{confusion_reason, disable_reason, lower_reason, seed_reason};
     use crate::generated::odds::own_reasons::{
         conversion_reason, heal_reason, if_up, raise_reason, screen_reason, substitute_reason,
@@ -883,7 +872,7 @@ mod reasons {
     use crate::generated::hits::{damage, is_immune, numbers, settled_hit, type_steps};
     use crate::generated::layout::Packed;
     use crate::generated::machine::Side;
-    use crate::generated::multiturn::counter;
+    use crate::generated::multiturn::{counter, energy_let_out};
     use crate::generated::stats::Status;
     use crate::generated::tables::{Effect, MoveId, Stat};
 
@@ -995,7 +984,7 @@ mod reasons {
             Trial::OneHit => one_hit_reason(battle, side, id),
             Trial::Fixed => fixed_reason(battle, side, id),
             Trial::Counter => counter_reason(battle, side, id),
-            Trial::Bide => bide_by(released(battle, side)),
+            Trial::Bide => bide_by(energy_let_out(battle, side)),
             Trial::Sleep => sleep_reason(battle, side, id),
             Trial::Confusion => confusion_reason(battle, side, id),
             Trial::Poison => poison_reason(battle, side, id),
