@@ -11,7 +11,7 @@ BATTLES, TURNS, EXPORTS = 50, 5, 10
 OWN = ("Tauros", "Chansey", "Zapdos")
 FOES = ("Rhydon", "Lapras", "Gengar", "Jynx", "Cloyster", "Machamp", "Alakazam", "Golem", "Arcanine", "Pinsir", "Electabuzz", "Persian")
 OWN_MOVES = ("Body Slam", "Drill Peck", "Ice Beam")
-# Moves whose names are no other words of the page, such as types.
+# Moves whose names are not also other words of the page, such as types.
 FOE_MOVES = ("Rock Slide", "Surf", "Blizzard", "Clamp", "Submission", "Horn Attack", "Earthquake", "Fire Blast", "Vice Grip", "Thunder Punch", "Slash",
              "Crabhammer", "Lick", "Aurora Beam", "Stomp")
 SEEN = """

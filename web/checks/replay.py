@@ -235,7 +235,7 @@ def a_file_for_showdown_is_the_programs(browser):
         shown(browser, case["input"])
         page = browser.saved("#replay-share [data-share=showdown]", "battle_showdown.html").decode()
         log = re.search(r'class="battle-log-data">\n(.*?)</script>', page, re.S)[1].replace("\\/", "/").splitlines()
-        # Each line of the battle stands in it in its order, with the name of the member in place of its species.
+        # It has each line of the battle in its order, with the name of the member in place of its species.
         kinds = [line.split("|")[1] for line in lines_of(case)]
         assert [kind for kind in (line.split("|")[1] for line in log) if kind in set(kinds)] == kinds
         if browser.program:

@@ -10,7 +10,7 @@ from checks.cases import ROOT
 
 FILES = sorted((ROOT / "examples" / "teams").glob("*.txt"))
 FULL = {"species": "Tauros", "level": 100, "dvs": [15] * 4, "exp": [65535] * 5, "moves": [["Surf", 3]]}
-# Kept teams with something that is no name or is out of range.
+# Kept teams with something that isn't a name or is out of range.
 WRONG = [[{"name": "x", "members": [{**FULL, **more}]}] for more in ({"species": "Missingno."}, {"level": "a"}, {"dvs": [15] * 5}, {"moves": [["Body Slap", 3]]})]
 TAUROS = "Tauros\n- Body Slam\n- Hyper Beam\n- Blizzard\n- Earthquake\n"
 

@@ -5,7 +5,7 @@
  * @typedef {{ updates: GameEvent[][], recorded: import("./inputs.js").Recorded }} Told the events of each update, and what is known besides
  */
 
-// A comment's mark must not stand in the page's own script.
+// The page's own script must not contain a comment's mark.
 const BEFORE = `<!DOCTYPE html>
 <meta charset="utf-8" />
 <!== version 1 ==>

@@ -1,4 +1,4 @@
-// What a browser keeps: settings for good, and a battle as long as its tab is open.
+// What a browser keeps: settings for good, and a battle while its tab is open.
 
 /**
  * What was kept under a name; null if nothing was, or if storage is forbidden.

@@ -1,5 +1,5 @@
 //! The public types of a link battle: its events, choices, terms and outcomes. The crate also has two of the battle's
-//! numbers as plain functions, and passes on the sinks and sources of gen1_devices.
+//! numbers as plain functions, and re-exports the sinks and sources of gen1_devices.
 //!
 //! - `event`: what happens in a battle
 //! - `health`: the member that an event is about, and the HP and status that it reports

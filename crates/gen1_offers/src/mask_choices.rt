@@ -11,8 +11,8 @@ ghost use Rattle.gen1_offers.specs.OfferedMask.{choices_in, chosen_by, moves_and
 
 use gen1_machine::{Choice, MoveSlot, Place};
 
-// For each number of six digits, which of them are 1, by hexadecimal digits from the lowest one on, and in the highest
-// how many.
+// One row for each number of six binary digits. Its hexadecimal digits, from the lowest on, are the places of the digits
+// that are 1. Its highest digit is how many there are.
 static ONES: [u32; 64] = [
     0x00000000, 0x10000000, 0x10000001, 0x20000010, 0x10000002, 0x20000020, 0x20000021, 0x30000210,
     0x10000003, 0x20000030, 0x20000031, 0x30000310, 0x20000032, 0x30000320, 0x30000321, 0x40003210,

@@ -1,4 +1,4 @@
-//! Bide, as it begins (docs/MECHANICS.md, "Late effects"). What it stores and lets out is in gen1_multiturn.
+//! The beginning of Bide (docs/MECHANICS.md, "Late effects"). Its later turns are in gen1_multiturn.
 ghost use Rattle.gen1_layout.specs.Operations.{DoesWhere, DrawsWhere, holding, scene};
 ghost use Rattle.gen1_layout.specs.Words.{AddsAtMost, HasRoom, false};
 ghost use Rattle.gen1_machine.specs.LateEffects.{bide_for, start_bide};

@@ -1,6 +1,6 @@
-//! Tests of `gen1_offers`, `gen1_switching` and `gen1_turn`, through their public functions, and a third generator, with
-//! which each operation that draws says what it does with it. They are in a crate of their own because a crate with
-//! tests is proved twice.
+//! Tests of `gen1_offers`, `gen1_switching` and `gen1_turn`, through their public functions. A third generator, with its
+//! own stream, meets the clauses of each operation that draws. The tests are in a crate of their own because a crate
+//! with tests is proved twice.
 //!
 //! - `start`: the first update
 //! - `switching_in`: members that come out

@@ -330,7 +330,7 @@ fn plain_active(active: &ActiveState) -> states::ActiveState {
 fn used_byte(used: UsedMove) -> u8 {
     match used {
         UsedMove::Nothing => 0,
-        // No slot is 0, and Struggle is no slot: such a value is refused.
+        // No slot is 0, and Struggle isn't a slot: such a value is refused.
         UsedMove::Slot(slot) if matches!(slot, 1..=4) => slot,
         UsedMove::Slot(_) => 255,
         UsedMove::Struggle => 5,

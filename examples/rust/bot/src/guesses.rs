@@ -5,7 +5,7 @@ use gen1::{Battle, Guess, Player, Rules};
 
 /// A battle as it may be, for all that a player knows: the foe's members that have not appeared are drawn, and so are the numbers.
 ///
-/// The teams of these battles are drawn from a list that both players know, so the moves of a species are no secret. Elsewhere draw
+/// The teams of these battles are drawn from a list that both players know, so the moves of a species aren't secret. Elsewhere draw
 /// those that were not seen yet, too.
 ///
 /// # Panics

@@ -16,7 +16,7 @@ from gen1.teams import Team
 
 # Turns of sleep and confusion, of Disable, and of Bide, thrashing and trapping, where they are hidden.
 ASLEEP, BLOCKED, UNDERWAY = 3, 4, 2
-# Conditions that stand alone, and those that belong to a current move with one of these effects.
+# Conditions on their own, and those that belong to a current move with one of these effects.
 FREE = (
     Conditions.MIST
     | Conditions.FOCUS_ENERGY

@@ -14,7 +14,7 @@ pub const KINDS: &Words<Kind> = &[
     ("frz", Kind::Freeze),
     ("par", Kind::Paralysis),
 ];
-/// Showdown has two stats for the Special, and reports a change of it for both. So `spd` is no change.
+/// Showdown has two stats for the Special, and reports a change of it for both. So `spd` isn't a change.
 pub const STATS: &Words<Option<Stat>> = &[
     ("atk", Some(Stat::Attack)),
     ("def", Some(Stat::Defense)),

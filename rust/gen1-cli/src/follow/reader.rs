@@ -80,7 +80,7 @@ impl<'a> Fields<'a> {
         health_in(self.at(1, "HP")?, before)
     }
 
-    /// What a hit is from. A tag that is not known stands for a direct hit.
+    /// What a hit is from. An unknown tag means a direct hit.
     fn source(&self) -> DamageSource {
         let tags = self.0.iter().filter_map(|it| it.strip_prefix("[from] "));
         let known = tags.filter_map(|tag| value_of(SOURCES, tag)).next();

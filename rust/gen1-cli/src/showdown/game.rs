@@ -90,7 +90,7 @@ impl Game {
         }
     }
 
-    /// Takes a choice back, as long as the other side has not chosen.
+    /// Takes a choice back, if the other side has not chosen yet.
     pub fn undo(&mut self, side: Side) -> String {
         let seat = &mut self.seats[index(side)];
         if self.has_ended || seat.waits() || seat.chosen.take().is_none() {

@@ -19,7 +19,7 @@
 //! - `residual_damage`: the damage of poison, a burn and Leech Seed
 
 mod bide {
-    //! Bide, as it begins ([docs/MECHANICS.md, "Late effects"](https://hibsuloy.example/gen1/blob/main/docs/MECHANICS.md#late-effects)). What it stores and lets out is in gen1_multiturn.
+    //! The beginning of Bide ([docs/MECHANICS.md, "Late effects"](https://hibsuloy.example/gen1/blob/main/docs/MECHANICS.md#late-effects)). Its later turns are in gen1_multiturn.
 
     use crate::generated::events::EventSink;
     use crate::generated::layout::Packed;
