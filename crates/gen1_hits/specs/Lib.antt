@@ -13,3 +13,4 @@ pub mod Knowing
 pub mod Planned
 -- What a call by itself shows.
 pub mod Alone
+pub mod Seeing

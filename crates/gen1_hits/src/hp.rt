@@ -1,12 +1,13 @@
 //! HP that the member that is out loses and gains, with their events (docs/MECHANICS.md, "Order of events").
 ghost use Rattle.std.specs.Prelude.{◌&&◌};
 ghost use Rattle.gen1_layout.specs.Operations.{Does, scene};
-ghost use Rattle.gen1_layout.specs.Words.{AddsAtMost, Changes, HasRoom, Reads, changed_member, false, healed_by, hurt_by, is_living, member_in, nat_lt};
+ghost use Rattle.gen1_layout.specs.Words.{AddsAtMost, Changes, Field, HasRoom, Reads, Setting, Within, changed_member, false, healed_by, hurt_by, is_living, member_in, nat_lt};
 ghost use Rattle.gen1_machine.specs.Progress.{gain_hp, lose_hp};
+ghost use Rattle.gen1_hits.specs.Seeing.{Sees};
 
-use gen1_events::EventSink;
+use gen1_events::{EventSink, Seen, Untested};
 use gen1_layout::Packed;
-use gen1_machine::{DamageSource, Event, Side};
+use gen1_machine::{DamageSource, Side};
 
 /// Takes `amount` HP from the member of `side` that is out, or all HP that it has (docs/MECHANICS.md, "Landing",
 /// "Residual damage").
@@ -29,9 +30,7 @@ pub fn lose_hp<S: EventSink>(
         return;
     }
     hurt(battle, side, amount);
-    if let Some(health) = battle.health(side) {
-        events.push(Event::Damage(battle.who(side), health, source));
-    }
+    events.push_untested(Untested::Damage(seen(battle, side), source));
 }
 
 // Whether a loss of this many HP takes any.
@@ -63,9 +62,7 @@ pub fn gain_hp<S: EventSink>(battle: &mut Packed, side: Side, amount: u16, event
         return;
     }
     heal(battle, side, amount);
-    if let Some(health) = battle.health(side) {
-        events.push(Event::Heal(battle.who(side), health));
-    }
+    events.push_untested(Untested::Heal(seen(battle, side)));
 }
 
 // Whether a gain of this many HP gives any.
@@ -82,4 +79,18 @@ fn heal(battle: &mut Packed, side: Side, amount: u16)
     let healed = battle.hp(side).saturating_add(amount);
     let most = battle.max_hp(side);
     battle.put_hp(side, healed.min(most));
+}
+
+// The member that is out, as an event reports it.
+#[inline(always)] // docs/SPEED.md, "Hints on inlining"
+fn seen(battle: &Packed, side: Side) -> Seen
+    ensures stands { (g : Setting) (f : Field) → Within g battle.now f → Sees side f result }
+{
+    Seen {
+        side,
+        species: battle.species_number(side),
+        hp: battle.hp(side),
+        max: battle.max_hp(side),
+        kind: battle.kind(side),
+    }
 }

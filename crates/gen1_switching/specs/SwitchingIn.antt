@@ -1,5 +1,5 @@
 -- A member that comes out, in the terms of the function that writes it (docs/MECHANICS.md, "Switching in").
-use Rattle.std.specs.Prelude.{List, [], max, ◌/◌, ◌∷◌}
+use Rattle.std.specs.Prelude.{List, [], max, ◌/◌, ◌≡◌, ◌∷◌}
 use Rattle.gen1_layout.specs.Parts.{Parts}
 use Rattle.gen1_layout.specs.Words.{Event, Field, Member, Setting, Side, changed_active, member_at, party, ℕ}
 use Rattle.gen1_stats.specs.declared.status.Status.{Status}
@@ -8,6 +8,8 @@ use Rattle.gen1_machine.specs.declared.event.Event.TheVariants.{Switch}
 use Rattle.gen1_machine.specs.Plans.{InRange}
 use Rattle.gen1_machine.specs.State.{health_of}
 use Rattle.gen1_machine.specs.SwitchingIn.{with_sent_out}
+use Rattle.gen1_events.specs.declared.untested.Untested.{Untested}
+use Rattle.gen1_events.specs.Untested.{IsInRange, event_of}
 
 -- The penalty that a status brings: a halved Attack, or a quartered Speed
 
@@ -36,3 +38,8 @@ PutsOut StandsFor s place old new = (g : Setting) (f : Field) → StandsFor g ol
 -- The event for a member that comes out.
 abbrev pub coming_out : Side → ℕ → Member → Event
 coming_out s place m = Switch (record { side = s; species = m.species }) place m.level (health_of m)
+
+-- The numbers are those of this event, and in their ranges.
+pub record ComesOut (s : Side) (place : ℕ) (m : Member) (numbers : Untested) : Type 0 where
+  pub event : event_of numbers ≡ coming_out s place m
+  pub ranges : IsInRange numbers

@@ -5,11 +5,11 @@ ghost use Rattle.gen1_layout.specs.Words.{AddsAtMost, Event as EventOf, Field, F
 ghost use Rattle.gen1_machine.specs.Plans.{InRange};
 ghost use Rattle.gen1_machine.specs.SwitchingIn.{send_out};
 ghost use Rattle.gen1_layout.specs.Shows.{ShowsPacked};
-ghost use Rattle.gen1_switching.specs.SwitchingIn.{PutsOut, coming_out, stats_out};
+ghost use Rattle.gen1_switching.specs.SwitchingIn.{ComesOut, PutsOut, coming_out, stats_out};
 
-use gen1_events::EventSink;
+use gen1_events::{EventSink, Seen, Untested};
 use gen1_layout::Packed;
-use gen1_machine::{Event, Place, Side, Who};
+use gen1_machine::{Place, Side};
 use gen1_stats::Status;
 
 /// Sends out the member of `side` at a place of its team, and writes `Switch` (docs/MECHANICS.md, "Switching in").
@@ -55,20 +55,22 @@ fn tell_coming_out<S: EventSink>(battle: &Packed, side: Side, place: Place, even
         → S.tells events.new (told ++ coming_out side place (member_at place (party side f)) ∷ []) }
     ensures room { AddsAtMost S.room 1 events.old events.new }
 {
-    if let Some(event) = coming_out(battle, side, place) {
-        events.push(event);
-    }
+    events.push_untested(coming_out(battle, side, place));
 }
 
-fn coming_out(battle: &Packed, side: Side, place: Place) -> Option<Event>
+fn coming_out(battle: &Packed, side: Side, place: Place) -> Untested
     ensures packs { (g : Setting) (f : Field) → Packs g battle.now f → InRange side place f
-        → result ≡ Some (coming_out side place (member_at place (party side f))) }
+        → ComesOut side place (member_at place (party side f)) result }
 {
     let at = place.number();
-    let species = battle.species_from(side, at)?;
-    let level = battle.level_from(side, at)?;
-    let health = battle.health_from(side, at)?;
-    Some(Event::Switch(Who { side, species }, place, level, health))
+    let seen = Seen {
+        side,
+        species: battle.species_at(side, at),
+        hp: battle.hp_at(side, at),
+        max: battle.max_hp_at(side, at),
+        kind: battle.kind_at(side, at),
+    };
+    Untested::Switch(seen, place, battle.level_at(side, at))
 }
 
 // A penalty is rare. It is handled separately, so that the stats of other members are copied as eight bytes.

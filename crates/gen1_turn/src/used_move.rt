@@ -10,10 +10,10 @@ ghost use Rattle.gen1_machine.specs.State.{with_pp_spent};
 ghost use Rattle.gen1_hits.specs.Knowing.{aware_of};
 ghost use Rattle.gen1_multiturn.specs.Charging.{PicksMove};
 
-use gen1_events::EventSink;
+use gen1_events::{EventSink, Untested};
 use gen1_hits::Known;
 use gen1_layout::Packed;
-use gen1_machine::{Event, Pick, Side, UsedMove};
+use gen1_machine::{Pick, Side, UsedMove};
 use gen1_multiturn::make_current;
 use gen1_status::among_slots;
 use gen1_tables::MoveId;
@@ -105,5 +105,7 @@ fn note_move<S: EventSink>(battle: &Packed, side: Side, id: MoveId, events: &mut
     if id.effect().bides() {
         return;
     }
-    events.push(Event::Move(battle.who(side), id, battle.who(side.other())));
+    let species = battle.species_number(side);
+    let foe = battle.species_number(side.other());
+    events.push_untested(Untested::Move(side, species, id, foe));
 }

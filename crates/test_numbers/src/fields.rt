@@ -123,6 +123,7 @@ fn a_member(rt: HostRuntime) -> Result<(), Fail> {
     assert_same(&rt, packed.place(side), 1);
     assert_same(&rt, packed.species(side).name(), "Tauros");
     assert_same(&rt, packed.who(side).species.number(), 128);
+    assert_same(&rt, packed.species_number(side), 128);
     assert_same(&rt, packed.level(side), 100);
     assert_same(&rt, packed.unmodified(side, Stat::Speed), 318);
     assert_same(&rt, (packed.move_in(side, 1), packed.pp(side, 2)), (70, 20));

@@ -40,6 +40,7 @@ fn members_by_their_places(rt: HostRuntime) -> Result<(), Fail> {
         assert_same(&rt, packed.level_at(side, place), 100);
         assert_same(&rt, packed.level_from(side, place), Level::new(100));
         assert_same(&rt, packed.max_hp_at(side, place), 353);
+        assert_same(&rt, packed.kind_at(side, place), None);
         assert_same(&rt, packed.own_stats_at(side, place), [298, 288, 318, 238]);
         assert_same(
             &rt,

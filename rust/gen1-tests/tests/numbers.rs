@@ -450,6 +450,7 @@ mod fields {
         assert_same(&rt, packed.place(side), 1);
         assert_same(&rt, packed.species(side).name(), "Tauros");
         assert_same(&rt, packed.who(side).species.number(), 128);
+        assert_same(&rt, packed.species_number(side), 128);
         assert_same(&rt, packed.level(side), 100);
         assert_same(&rt, packed.unmodified(side, Stat::Speed), 318);
         assert_same(&rt, (packed.move_in(side, 1), packed.pp(side, 2)), (70, 20));
@@ -1179,6 +1180,7 @@ mod readers {
             assert_same(&rt, packed.level_at(side, place), 100);
             assert_same(&rt, packed.level_from(side, place), Level::new(100));
             assert_same(&rt, packed.max_hp_at(side, place), 353);
+            assert_same(&rt, packed.kind_at(side, place), None);
             assert_same(&rt, packed.own_stats_at(side, place), [298, 288, 318, 238]);
             assert_same(
                 &rt,

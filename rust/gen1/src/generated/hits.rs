@@ -532,9 +532,9 @@ mod hit_tests {
 mod hp {
     //! HP that the member that is out loses and gains, with their events ([docs/MECHANICS.md, "Order of events"](https://hibsuloy.example/gen1/blob/main/docs/MECHANICS.md#order-of-events)).
 
-    use crate::generated::events::EventSink;
+    use crate::generated::events::{EventSink, Seen, Untested};
     use crate::generated::layout::Packed;
-    use crate::generated::machine::{DamageSource, Event, Side};
+    use crate::generated::machine::{DamageSource, Side};
 
     /// Takes `amount` HP from the member of `side` that is out, or all HP that it has ([docs/MECHANICS.md, "Landing"](https://hibsuloy.example/gen1/blob/main/docs/MECHANICS.md#landing),
     /// "Residual damage").
@@ -553,9 +553,7 @@ mod hp {
             return;
         }
         hurt(battle, side, amount);
-        if let Some(health) = battle.health(side) {
-            events.push(Event::Damage(battle.who(side), health, source));
-        }
+        events.push_untested(Untested::Damage(seen(battle, side), source));
     }
 
     // Whether a loss of this many HP takes any.
@@ -578,9 +576,7 @@ mod hp {
             return;
         }
         heal(battle, side, amount);
-        if let Some(health) = battle.health(side) {
-            events.push(Event::Heal(battle.who(side), health));
-        }
+        events.push_untested(Untested::Heal(seen(battle, side)));
     }
 
     // Whether a gain of this many HP gives any.
@@ -592,6 +588,18 @@ mod hp {
         let healed = battle.hp(side).saturating_add(amount);
         let most = battle.max_hp(side);
         battle.put_hp(side, healed.min(most));
+    }
+
+    // The member that is out, as an event reports it.
+    #[inline(always)] // docs/SPEED.md, "Hints on inlining"
+    fn seen(battle: &Packed, side: Side) -> Seen {
+        Seen {
+            side,
+            species: battle.species_number(side),
+            hp: battle.hp(side),
+            max: battle.max_hp(side),
+            kind: battle.kind(side),
+        }
     }
 }
 

@@ -242,9 +242,9 @@ mod start_and_replace {
 mod switching_in {
     //! Members that come out ([docs/MECHANICS.md, "Switching in"](https://hibsuloy.example/gen1/blob/main/docs/MECHANICS.md#switching-in)).
 
-    use crate::generated::events::EventSink;
+    use crate::generated::events::{EventSink, Seen, Untested};
     use crate::generated::layout::Packed;
-    use crate::generated::machine::{Event, Place, Side, Who};
+    use crate::generated::machine::{Place, Side};
     use crate::generated::stats::Status;
 
     /// Sends out the member of `side` at a place of its team, and writes `Switch` ([docs/MECHANICS.md, "Switching in"](https://hibsuloy.example/gen1/blob/main/docs/MECHANICS.md#switching-in)).
@@ -272,17 +272,19 @@ mod switching_in {
 
     // The event for a member that comes out depends only on what is known before.
     #[cfg_attr(not(target_family = "wasm"), inline(always))] fn tell_coming_out<S: EventSink>(battle: &Packed, side: Side, place: Place, events: &mut S) {
-        if let Some(event) = coming_out(battle, side, place) {
-            events.push(event);
-        }
+        events.push_untested(coming_out(battle, side, place));
     }
 
-    #[cfg_attr(not(target_family = "wasm"), inline(always))] fn coming_out(battle: &Packed, side: Side, place: Place) -> Option<Event> {
+    #[cfg_attr(not(target_family = "wasm"), inline(always))] fn coming_out(battle: &Packed, side: Side, place: Place) -> Untested {
         let at = place.number();
-        let species = battle.species_from(side, at)?;
-        let level = battle.level_from(side, at)?;
-        let health = battle.health_from(side, at)?;
-        Some(Event::Switch(Who { side, species }, place, level, health))
+        let seen = Seen {
+            side,
+            species: battle.species_at(side, at),
+            hp: battle.hp_at(side, at),
+            max: battle.max_hp_at(side, at),
+            kind: battle.kind_at(side, at),
+        };
+        Untested::Switch(seen, place, battle.level_at(side, at))
     }
 
     // A penalty is rare. It is handled separately, so that the stats of other members are copied as eight bytes.

@@ -870,10 +870,10 @@ mod turn_update {
 mod used_move {
     //! The use of a move: it becomes the current one, and costs PP ([docs/MECHANICS.md, "Action"](https://hibsuloy.example/gen1/blob/main/docs/MECHANICS.md#action), step 4).
 
-    use crate::generated::events::EventSink;
+    use crate::generated::events::{EventSink, Untested};
     use crate::generated::hits::Known;
     use crate::generated::layout::Packed;
-    use crate::generated::machine::{Event, Pick, Side, UsedMove};
+    use crate::generated::machine::{Pick, Side, UsedMove};
     use crate::generated::multiturn::make_current;
     use crate::generated::status::among_slots;
     use crate::generated::tables::MoveId;
@@ -936,7 +936,9 @@ mod used_move {
         if id.effect().bides() {
             return;
         }
-        events.push(Event::Move(battle.who(side), id, battle.who(side.other())));
+        let species = battle.species_number(side);
+        let foe = battle.species_number(side.other());
+        events.push_untested(Untested::Move(side, species, id, foe));
     }
 }
 
