@@ -1,8 +1,8 @@
 //! One side's action (docs/MECHANICS.md, "Action").
-ghost use Rattle.std.specs.Prelude.{◌||◌, ◌≡◌};
+ghost use Rattle.std.specs.Prelude.{unwrap_or, ◌||◌, ◌≡◌};
 ghost use Rattle.gen1_layout.specs.Operations.{scene};
 ghost use Rattle.gen1_layout.specs.Words.{AddsAtMost, Bool, Event, Frame, HasRoom, List, Progress, Reads, Shows, Told, active_in, is_some, underway_in};
-ghost use Rattle.gen1_machine.specs.Action.{accuracy_after, act, action_parts, keep_accuracy};
+ghost use Rattle.gen1_machine.specs.Action.{act, action_parts, keep_accuracy};
 ghost use Rattle.gen1_machine.specs.State.{is_over};
 ghost use Rattle.gen1_hits.specs.Knowing.{IsUncounted};
 ghost use Rattle.gen1_turn.specs.Action.{Acts, DoesParts, acting, picked, ready};
@@ -69,18 +69,20 @@ fn keep_accuracy(battle: &mut Packed, side: Side, tested: Option<u8>)
         → Shows g battle.old (Told events) stopped p
         → Shows g battle.new (Told events) stopped (keep_accuracy side p) }
 {
-    let byte = accuracy_to_keep(battle, side, tested);
-    battle.put_kept_accuracy(side, byte);
+    if keeps_accuracy(battle, side) {
+        let byte = accuracy_to_keep(battle, side, tested);
+        battle.put_kept_accuracy(side, byte);
+        return;
+    }
+    battle.put_kept_accuracy(side, 0);
 }
 
-// An action without a hit test keeps the byte that was kept before (docs/MECHANICS.md, "Kept accuracy").
+// An action without a hit test keeps the byte that was kept before (docs/MECHANICS.md, "Kept accuracy"). Few actions
+// keep one.
+#[inline(never)] // docs/SPEED.md, "Hints on inlining"
 fn accuracy_to_keep(battle: &Packed, side: Side, tested: Option<u8>) -> u8
-    ensures stands { Reads battle.now result λ f. accuracy_after (underway_in side f) tested
-        (active_in side f).kept_accuracy }
+    ensures stands { Reads battle.now result λ f. unwrap_or tested (active_in side f).kept_accuracy }
 {
-    if !keeps_accuracy(battle, side) {
-        return 0;
-    }
     match tested {
         Some(byte) => byte,
         None => battle.kept_accuracy(side),

@@ -63,15 +63,18 @@ mod action {
     // When an action ends, in whatever way, the accuracy of its hit test is kept while rage or thrashing is on
     // (docs/MECHANICS.md, "Kept accuracy").
     fn keep_accuracy(battle: &mut Packed, side: Side, tested: Option<u8>) {
-        let byte = accuracy_to_keep(battle, side, tested);
-        battle.put_kept_accuracy(side, byte);
+        if keeps_accuracy(battle, side) {
+            let byte = accuracy_to_keep(battle, side, tested);
+            battle.put_kept_accuracy(side, byte);
+            return;
+        }
+        battle.put_kept_accuracy(side, 0);
     }
 
-    // An action without a hit test keeps the byte that was kept before (docs/MECHANICS.md, "Kept accuracy").
+    // An action without a hit test keeps the byte that was kept before (docs/MECHANICS.md, "Kept accuracy"). Few actions
+    // keep one.
+    #[inline(never)] // docs/SPEED.md, "Hints on inlining"
     fn accuracy_to_keep(battle: &Packed, side: Side, tested: Option<u8>) -> u8 {
-        if !keeps_accuracy(battle, side) {
-            return 0;
-        }
         match tested {
             Some(byte) => byte,
             None => battle.kept_accuracy(side),
