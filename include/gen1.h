@@ -790,18 +790,27 @@ typedef struct gen1_successor {
     uint64_t high;      /* the high 64 bits */
 } gen1_successor;
 
+/* How gen1_outcomes lists outcomes. Zeros list all, each damage apart. */
+typedef struct gen1_outcome_options {
+    uint32_t least;         /* draws are left out as soon as their probability is below least / 2^32; 0: none are */
+    uint8_t damage_classes; /* how many classes a roll of damage has at most, 1 to 39; 0: each damage is listed apart */
+    uint8_t reserved[3];    /* ignored */
+} gen1_outcome_options;
+
 /* The list that gen1_outcomes wrote. */
 typedef struct gen1_outcome_list {
-    uint64_t low;   /* the low 64 bits of the sum of all weights */
-    uint64_t high;  /* the high 64 bits */
-    uint64_t count; /* how many outcomes there are, at least 1 */
+    uint64_t low;       /* the low 64 bits of the sum of all weights and of what is left out */
+    uint64_t high;      /* the high 64 bits */
+    uint64_t left_low;  /* the low 64 bits of the weight of all that is left out; 0 if `least` is 0 */
+    uint64_t left_high; /* the high 64 bits */
+    uint64_t count;     /* how many outcomes there are: at least 1, if nothing is left out */
 } gen1_outcome_list;
 
 #define GEN1_SUCCESSOR_SIZE 400 /* the size of a gen1_successor, for other languages; its alignment is at most 8 */
 
 /*
  * Lists all battles that an update by a choice of each side can lead to, each once, with its exact probability: its weight over
- * the sum of all weights, which `*list` has. Both are whole numbers of up to 128 bits.
+ * the sum that `*list` has. Both are whole numbers of up to 128 bits.
  *
  * The probabilities are exact for draws that are independent uniform bytes. A link battle draws other numbers
  * (docs/MECHANICS.md, "Link numbers"). If its seed is unknown they are an approximation, off by about 0.01 in total variation;
@@ -817,12 +826,17 @@ typedef struct gen1_outcome_list {
  * the weight of all. All damages from the HP of the target on (or of its substitute) are one class more, so the chance that a
  * roll knocks out stays exact, and so does everything that is not a roll of damage. 0 lists each damage; above 39 is as 39.
  *
+ * With `least` above 0, draws are left out as soon as those of an update so far have a probability below `least` / 2^32 together,
+ * with all that may come after them. So a weight is that of the ways to its battle that are not left out, and the rest is in
+ * `left_low` and `left_high` of the list: the weights and what is left out sum exactly to the sum of the list. Draws whose
+ * numerator has more than 96 bits are not left out. An update without a draw has its outcome, and of others none may be left.
+ *
  * Returns 0, or the first of these codes that applies, and then nothing has changed: GEN1_ERROR_OVER,
  * GEN1_ERROR_NOT_OFFERED_ONE, GEN1_ERROR_NOT_OFFERED_TWO. Otherwise it returns GEN1_ERROR_OUTCOMES or GEN1_ERROR_TABLE if that
  * array has too few places, or GEN1_ERROR_DRAWS. Then `*list` has not changed, and both arrays may have any content.
  */
-uint8_t gen1_outcomes(const gen1_battle *battle, uint8_t one, uint8_t two, uint8_t damage_classes, gen1_successor *successors,
-                      size_t capacity, uint32_t *table, size_t table_size, gen1_outcome_list *list);
+uint8_t gen1_outcomes(const gen1_battle *battle, uint8_t one, uint8_t two, const gen1_outcome_options *options,
+                      gen1_successor *successors, size_t capacity, uint32_t *table, size_t table_size, gen1_outcome_list *list);
 
 /* Returns the probability of an outcome of a list, as a double near it. */
 static inline double GEN1_PROBABILITY(const gen1_successor *successor, const gen1_outcome_list *list)
@@ -877,7 +891,7 @@ typedef struct gen1_way {
 /*
  * Begins a walk through all ways of an update by a choice of each side: what gen1_outcomes lists, one by one, each with its log,
  * before equal battles are merged. Two ways may lead to equal battles by other events, such as a critical hit and a usual one
- * that both knock out. A walk needs no arrays, and can be left at any way. `damage_classes` is that of gen1_outcomes.
+ * that both knock out. A walk needs no arrays, and can be left at any way. `damage_classes` is that of gen1_outcome_options.
  *
  * Returns 0, or the first of these codes that applies, and then nothing has changed: GEN1_ERROR_OVER,
  * GEN1_ERROR_NOT_OFFERED_ONE, GEN1_ERROR_NOT_OFFERED_TWO.
@@ -886,7 +900,8 @@ uint8_t gen1_walk_begin(const gen1_battle *battle, uint8_t one, uint8_t two, uin
 
 /*
  * Plays the next way of a walk, and writes it to `*way`. Ways exclude each other, and their probabilities sum to 1. They are
- * exact for draws that are independent uniform bytes, as are those of gen1_outcomes. An update has at least one way.
+ * exact for draws that are independent uniform bytes, as are those of gen1_outcomes. An update has at least one way, and no way
+ * is left out.
  *
  * Returns 0, or a code, and then nothing has changed: GEN1_ERROR_WALK_END after the last way, or GEN1_ERROR_DRAWS. If the
  * bytes are not a walk, it returns one of these three, and the way has no meaning.

@@ -16,8 +16,10 @@ from tables import numbered, table
 SUCCESSOR = Struct("<384sQQ")
 PLACES = 65536
 WALK, WALK_END = 2312, 36
+LEAST = 2**22  # of 2**32: a probability of 1 of 1,024
 WALKED = 300  # the ways of every seventh update are compared if it has at most this many outcomes
 KEPT = 7  # fills arrays and structs that a call must not change
+FOUND, TABLE = ctypes.create_string_buffer(PLACES * SUCCESSOR.size), (c_uint32 * (2 * PLACES))()
 
 
 class TextFault(Structure):
@@ -28,8 +30,12 @@ class BatchUpdate(Structure):
     _fields_ = [("one", c_uint8), ("two", c_uint8), ("result", c_uint8), ("code", c_uint8)]
 
 
+class OutcomeOptions(Structure):
+    _fields_ = [("least", c_uint32), ("damage_classes", c_uint8), ("reserved", c_uint8 * 3)]
+
+
 class OutcomeList(Structure):
-    _fields_ = [("low", c_uint64), ("high", c_uint64), ("count", c_uint64)]
+    _fields_ = [(name, c_uint64) for name in ("low", "high", "left_low", "left_high", "count")]
 
 
 class Way(Structure):
@@ -48,7 +54,7 @@ def declare(calls):
          [battle, size, battle, size, POINTER(c_uint64), size, POINTER(BatchUpdate), size, POINTER(c_size_t)]),
         ("gen1_playout", c_uint8, [battle, POINTER(PlayoutOptionsStruct), POINTER(PlayoutsStruct)]),
         ("gen1_outcomes", c_uint8,
-         [battle, c_uint8, c_uint8, c_uint8, ctypes.c_char_p, size, POINTER(c_uint32), size, POINTER(OutcomeList)]),
+         [battle, c_uint8, c_uint8, POINTER(OutcomeOptions), ctypes.c_char_p, size, POINTER(c_uint32), size, POINTER(OutcomeList)]),
         ("gen1_walk_begin", c_uint8, [battle, c_uint8, c_uint8, c_uint8, ctypes.c_char_p]),
         ("gen1_walk_next", c_uint8, [ctypes.c_char_p, POINTER(Way)]),
         ("gen1_team_from_text", c_uint8, [ctypes.c_char_p, size, POINTER(gen1.Team), POINTER(TextFault)]),
@@ -224,26 +230,35 @@ def compare_playouts(library, steps, folder, count):
 
 def compare_outcomes(library, steps, count):
     """Checks that each recorded update is refused or leads to one of its outcomes, and that the sums of weights and ways are right."""
-    found, table = ctypes.create_string_buffer(PLACES * SUCCESSOR.size), (c_uint32 * (2 * PLACES))()
     for at, (before, update) in enumerate(steps):
-        of = OutcomeList(KEPT, KEPT, KEPT)
-        code = library.calls.gen1_outcomes(array_of([before]), *update["pair"], 0, found, PLACES, table, 2 * PLACES, byref(of))
+        code, of, weights = listed(library, before, update["pair"], 0)
         if update["refused"]:
-            count.tell(f"outcomes of update {at}", (code, of.low, of.high, of.count), (update["refused"] + 23, KEPT, KEPT, KEPT))
+            count.tell(f"outcomes of update {at}", (code, of.low, of.left_high, of.count), (update["refused"] + 23, KEPT, KEPT, KEPT))
             continue
         after = bytes.fromhex(update["bytes"])
         # The numbers to draw are those from before (docs/LAYOUT.md, "Header").
         after = after[:5] + before[5:16] + after[16:]
-        rows = SUCCESSOR.iter_unpack(ctypes.string_at(found, of.count * SUCCESSOR.size))
-        weights = {battle: high << 64 | low for battle, low, high in rows}
         whole = of.high << 64 | of.low
-        got = code, len(weights), sum(weights.values()), weights.get(after, 0) > 0
-        count.tell(f"outcomes of update {at}", got, (0, of.count, whole, True))
+        got = code, len(weights), sum(weights.values()), of.left_low, of.left_high, weights.get(after, 0) > 0
+        count.tell(f"outcomes of update {at}", got, (0, of.count, whole, 0, 0, True))
         if at % 7 == 0 and of.count <= WALKED:
             got = walked(library, before, update["pair"], after)
             want = {battle: Fraction(weight, whole) for battle, weight in weights.items()}
             count.tell(f"ways of update {at}", got[0], want)
             count.tell(f"logs of update {at}", bytes.fromhex(update["log"]) in got[1], True)
+            code, of, fewer = listed(library, before, update["pair"], LEAST)
+            left_out, part = of.left_high << 64 | of.left_low, of.high << 64 | of.low
+            are_parts = all(weight * whole <= weights.get(battle, 0) * part for battle, weight in fewer.items())
+            got = code, len(fewer), sum(fewer.values()) + left_out, are_parts
+            count.tell(f"likely outcomes of update {at}", got, (0, of.count, part, True))
+
+
+def listed(library, before, pair, least):
+    """Lists the outcomes that are not left out: the code, the struct of the list, and the weights of the battles."""
+    of = OutcomeList(KEPT, KEPT, KEPT, KEPT, KEPT)
+    code = library.calls.gen1_outcomes(array_of([before]), *pair, byref(OutcomeOptions(least)), FOUND, PLACES, TABLE, 2 * PLACES, byref(of))
+    rows = SUCCESSOR.iter_unpack(ctypes.string_at(FOUND, of.count * SUCCESSOR.size)) if code == 0 else ()
+    return code, of, {battle: high << 64 | low for battle, low, high in rows}
 
 
 def walked(library, before, pair, after):

@@ -80,10 +80,11 @@ static bool list_outcomes(gen1_battle battle)
 {
     static gen1_successor found[PLACES];
     static uint32_t table[2 * PLACES];
+    const gen1_outcome_options options = {0};
     gen1_outcome_list list;
     double missed = 0;
     if (gen1_update_silent(&battle, GEN1_CHOICE_PASS, GEN1_CHOICE_PASS) != 0 ||
-        gen1_outcomes(&battle, GEN1_CHOICE_MOVE(1), GEN1_CHOICE_SWITCH(2), 0, found, PLACES, table, 2 * PLACES, &list) != 0)
+        gen1_outcomes(&battle, GEN1_CHOICE_MOVE(1), GEN1_CHOICE_SWITCH(2), &options, found, PLACES, table, 2 * PLACES, &list) != 0)
         return false;
     for (uint64_t at = 0; at < list.count; at++) {
         gen1_state state;

@@ -163,13 +163,16 @@ static void try_playout(void)
     tell("gen1_playout", got == want && is_kept, got, want);
 }
 
-/* Whether the weights sum to what the list says, and without classes of damage an ordinary update leads to one of the outcomes. */
-static bool is_whole(const gen1_battle *from, uint8_t one, uint8_t two, uint8_t damage_classes, const gen1_successor *found, const gen1_outcome_list *list)
+/* Whether the weights and what is left out sum to what the list says. Without options an ordinary update leads to one of the outcomes. */
+static bool is_whole(const gen1_battle *from, const gen1_batch_update *by, const gen1_outcome_options *options, const gen1_successor *found,
+                     const gen1_outcome_list *list)
 {
-    uint64_t low = 0, high = 0;
+    uint64_t low = list->left_low, high = list->left_high;
     gen1_battle next = *from;
-    bool is_there = damage_classes != 0;
-    gen1_update_silent(&next, one, two);
+    bool is_there = options->damage_classes != 0 || options->least != 0;
+    if (options->least == 0 && (low | high) != 0)
+        return false;
+    gen1_update_silent(&next, by->one, by->two);
     memcpy(next.bytes + 5, from->bytes + 5, 11); /* the numbers to draw */
     for (uint64_t at = 0; at < list->count; at++) {
         low += found[at].low;
@@ -184,14 +187,16 @@ static void try_outcomes(void)
     bool is_valid;
     gen1_battle from = some_battle(&is_valid), next = from;
     uint8_t one = one_in(8) ? any_byte() : offered(&from, GEN1_ONE), two = one_in(8) ? any_byte() : offered(&from, GEN1_TWO);
+    gen1_batch_update by = {.one = one, .two = two};
+    gen1_outcome_options asked = {.least = one_in(2) ? 0 : (uint32_t)1 << draw(32), .damage_classes = one_in(2) ? 0 : any_byte()};
     size_t capacity = draw(GUARDED_ROOM / sizeof(gen1_successor) + 1), places = draw(2) * draw(2 * MANY) + draw(2) * 64;
     const gen1_battle *battle = block_of(0, &from, sizeof from);
     gen1_successor *found = block(1, capacity * sizeof *found);
     uint32_t *table = block(2, places * sizeof *table);
     gen1_outcome_list *list = block(3, sizeof *list);
-    uint8_t damage_classes = one_in(2) ? 0 : any_byte();
+    const gen1_outcome_options *options = block_of(4, &asked, sizeof asked);
     note();
-    uint8_t got = gen1_outcomes(battle, one, two, damage_classes, found, capacity, table, places, list);
+    uint8_t got = gen1_outcomes(battle, one, two, options, found, capacity, table, places, list);
     uint8_t want = is_valid ? gen1_update_silent(&next, one, two) : 0;
     bool is_short = got == GEN1_ERROR_OUTCOMES || got == GEN1_ERROR_TABLE;
     size_t sizes[BLOCKS] = {0, capacity * sizeof *found, places * sizeof *table, got == 0 ? sizeof *list : 0};
@@ -201,7 +206,7 @@ static void try_outcomes(void)
     if (got == 0)
         is_right &= list->count <= capacity && list->count <= places;
     if (got == 0 && is_valid)
-        is_right &= is_whole(&from, one, two, damage_classes, found, list);
+        is_right &= is_whole(&from, &by, options, found, list);
     tell("gen1_outcomes", is_right, got, want);
 }
 

@@ -109,7 +109,8 @@ static double sampled(const gen1_battle *battle, uint8_t one, uint8_t two, uint3
 {
     gen1_walk begun;
     gen1_way way;
-    if (gen1_outcomes(battle, one, two, 0, found, PLACES, table, 2 * PLACES, &list) != 0 || list.count < 2 ||
+    const gen1_outcome_options all = {0};
+    if (gen1_outcomes(battle, one, two, &all, found, PLACES, table, 2 * PLACES, &list) != 0 || list.count < 2 ||
         gen1_walk_begin(battle, one, two, 0, &begun) != 0)
         return -1;
     memset(slots, 0, sizeof slots);

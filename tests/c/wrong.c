@@ -21,7 +21,7 @@ uint8_t __real_gen1_odds_now(const gen1_battle *, uint8_t, uint8_t, gen1_odds *)
 uint32_t __real_gen1_odds_between(const gen1_member *, const gen1_member *, uint8_t, gen1_odds *);
 uint8_t __real_gen1_walk_begin(const gen1_battle *, uint8_t, uint8_t, uint8_t, gen1_walk *);
 uint8_t __real_gen1_walk_next(gen1_walk *, gen1_way *);
-uint8_t __real_gen1_outcomes(const gen1_battle *, uint8_t, uint8_t, uint8_t, gen1_successor *, size_t, uint32_t *, size_t, gen1_outcome_list *);
+uint8_t __real_gen1_outcomes(const gen1_battle *, uint8_t, uint8_t, const gen1_outcome_options *, gen1_successor *, size_t, uint32_t *, size_t, gen1_outcome_list *);
 
 /* 1: a DV of 16 is taken as 15, so that its team is accepted. 2: a refused battle is emptied. */
 uint32_t __wrap_gen1_new(gen1_battle *battle, const gen1_team *one, const gen1_team *two, const uint8_t seed[10], uint8_t rules,
@@ -133,15 +133,17 @@ uint32_t __wrap_gen1_odds_between(const gen1_member *user, const gen1_member *fo
     return WRONG == 19 && answer == 0 ? __real_gen1_odds_between(user, user, move, odds) : answer;
 }
 
-/* 20: an outcome is left out. 21: the list is written at a refusal. */
-uint8_t __wrap_gen1_outcomes(const gen1_battle *battle, uint8_t one, uint8_t two, uint8_t damage_classes,
+/* 20: an outcome is missing. 21: the list is written at a refusal. 27: what is left out has no weight. */
+uint8_t __wrap_gen1_outcomes(const gen1_battle *battle, uint8_t one, uint8_t two, const gen1_outcome_options *options,
                              gen1_successor *successors, size_t capacity, uint32_t *table, size_t table_size, gen1_outcome_list *list)
 {
-    uint8_t answer = __real_gen1_outcomes(battle, one, two, damage_classes, successors, capacity, table, table_size, list);
+    uint8_t answer = __real_gen1_outcomes(battle, one, two, options, successors, capacity, table, table_size, list);
     if (WRONG == 20 && answer == 0 && list->count > 1)
         list->count--;
     if (WRONG == 21 && answer != 0)
         list->count = 0;
+    if (WRONG == 27 && answer == 0)
+        list->left_low = list->left_high = 0;
     return answer;
 }
 

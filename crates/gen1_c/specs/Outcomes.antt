@@ -5,9 +5,11 @@ use Rattle.gen1_machine.specs.State.{State}
 use Rattle.gen1_machine.specs.Step.{Accepted, Answer, Refused}
 use Rattle.gen1_engine.specs.Replay.{choices_at, step_by_bytes}
 use Rattle.gen1_engine.specs.Update.{refusal_of}
+use Rattle.gen1_outcomes.specs.declared.options.OutcomeOptions.{OutcomeOptions}
 use Rattle.gen1_outcomes.specs.declared.successor.Successor.{Successor}
 use Rattle.gen1_outcomes.specs.Listing.{EachFollows, sum_of}
 use Rattle.gen1_c.specs.Codes.{refusal_code}
+use Rattle.gen1_c.specs.declared.outcomes.OutcomeForm.{OutcomeForm}
 use Rattle.gen1_c.specs.declared.outcomes.OutcomeList.{OutcomeList}
 
 -- the arrays that a call may write
@@ -20,15 +22,23 @@ abbrev pub refusal_due : Answer → ℕ
 refusal_due (Refused why) = refusal_code (refusal_of why)
 refusal_due (Accepted events) = 0
 
--- the sum of all weights, in two words
+-- how outcomes are listed
+abbrev pub options_of : OutcomeForm → OutcomeOptions
+options_of o = record { damage_classes = o.damage_classes; least = o.least }
+
+-- the sum of all weights and of what is left out, in two words
 abbrev pub whole_of : OutcomeList → ℕ
 whole_of list = list.low + list.high * 18446744073709551616
 
--- each battle in the first places can follow from the pair, and the weights sum to the whole
+-- the weight of all that is left out
+abbrev pub left_out_of : OutcomeList → ℕ
+left_out_of list = list.left_low + list.left_high * 18446744073709551616
+
+-- each battle in the first places can follow from the pair, and the weights and what is left out sum to the whole
 pub record AreListed (s : State) (one two : Choice) (successors : List Successor) (list : OutcomeList) : Type 0 where
   pub within : list.count ≤ length successors
   pub follow : EachFollows s one two list.count successors
-  pub sum : sum_of list.count successors ≡ whole_of list
+  pub sum : sum_of list.count successors + left_out_of list ≡ whole_of list
 
 -- for a refused pair its code, and nothing has changed; for any other a list, if the code is 0
 abbrev pub ListsAs : Answer → State → ℕ × ℕ → Arrays → Arrays → OutcomeList → ℕ → Type 0

@@ -67,7 +67,7 @@ pub use events::EventFields;
 pub use gen1_playouts::Playouts;
 pub use gen1_states::{ActiveState, BattleState, MemberState, SideState};
 pub use names::{BaseForm, MoveForm};
-pub use outcomes::OutcomeList;
+pub use outcomes::{OutcomeForm, OutcomeList};
 pub use playouts::PlayoutForm;
 pub use team_text::TextFaultForm;
 pub use teams::{MemberForm, TeamForm};

@@ -1,4 +1,4 @@
-//! Sums and products of probabilities (docs/MECHANICS.md, "Link numbers").
+//! Sums of probabilities, and which are below the least one (docs/MECHANICS.md, "Link numbers").
 ghost use Rattle.std.specs.Prelude.{IfSome, ◌<◌, ◌≡◌};
 ghost use Rattle.gen1_outcomes.specs.Chances.{IsProduct, IsSum};
 
@@ -24,12 +24,20 @@ pub fn plus(one: Chance, other: Chance) -> Option<Chance>
     Some(Chance { num, whole })
 }
 
-/// The probability that both happen, of two that are independent. `None` if 128 bits do not hold it.
-pub fn times(one: Chance, other: Chance) -> Option<Chance>
-    ensures { IfSome result (λ c. IsProduct one other c) }
+/// Whether a probability is below so many 2^-32. One whose numerator has more than 96 bits is not.
+pub fn is_below(chance: Chance, least: u32) -> bool
+    ensures below { IsTrue result → IsBelow least chance }
+    ensures kept { IsFalse result → chance.num < 2 ^ 96 → IsAtLeast least chance }
 {
-    Some(Chance {
-        num: one.num.checked_mul(other.num)?,
-        whole: one.whole.checked_mul(other.whole)?,
-    })
+    if least == 0 {
+        return false;
+    }
+    match chance.num.checked_mul(0x1_0000_0000) {
+        None => false,
+        Some(num) => match chance.whole.checked_mul(least as u128) {
+            Some(bound) => num < bound,
+            // Then it is more than 128 bits hold.
+            None => true,
+        },
+    }
 }

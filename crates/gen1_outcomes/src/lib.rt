@@ -5,11 +5,12 @@
 //! - `classes`: classes of damage
 //! - `alike`: the bytes that a look sees alike, or that are in a class of damage
 //! - `script`: a generator whose first bytes are given
+//! - `options`: [`OutcomeOptions`], how outcomes are listed
 //! - `nodes`: the draws of a way, each with the bytes that are still to be tried
 //! - `explorer`: a generator that takes an update through all its ways, one after the other
 //! - `playing`: an update whose draws come from any generator
 //! - `beginning`: a turn up to its second action
-//! - `chances`: sums and products of probabilities
+//! - `chances`: sums of probabilities, and which are below the least one
 //! - `middles`: positions between the two actions of a turn
 //! - `ways`: [`Ways`], the ways of an update one by one
 //! - `plain`: the same walk as a plain struct that its caller keeps
@@ -29,6 +30,7 @@ mod fault;
 mod merging;
 mod middles;
 mod nodes;
+mod options;
 mod outcomes;
 pub mod plain;
 mod playing;
@@ -36,8 +38,10 @@ mod script;
 mod successor;
 mod ways;
 
+pub use chances::is_below;
 pub use fault::OutcomesFault;
 pub use nodes::Chance;
+pub use options::OutcomeOptions;
 pub use outcomes::{Outcomes, list_outcomes};
 pub use playing::play;
 pub use successor::Successor;

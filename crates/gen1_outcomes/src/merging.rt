@@ -17,6 +17,8 @@ pub struct Tally {
     pub count: usize,
     /// The common denominator of the weights.
     pub whole: u128,
+    /// The sum of the weights of the branches that are left out.
+    pub left_out: u128,
     /// How many ways were added.
     pub ways: u32,
 }
@@ -76,6 +78,26 @@ pub fn add(
             Successor::new(copy_of(battle), weight),
         ),
         Place::Full => Err(OutcomesFault::Table),
+    }
+}
+
+/// Adds the probability of a branch that is left out.
+pub fn leave_out(
+    successors: &mut [Successor],
+    tally: &mut Tally,
+    chance: Chance,
+) -> Result<(), OutcomesFault>
+    requires within { tally.old.count ≤ length successors.old }
+    ensures count { tally.new.count ≡ tally.old.count }
+    ensures battles { AreThose successors.old successors.new }
+{
+    let weight = scaled_weight(successors, tally, chance)?;
+    match tally.left_out.checked_add(weight) {
+        Some(sum) => {
+            tally.left_out = sum;
+            Ok(())
+        }
+        None => Err(OutcomesFault::Size),
     }
 }
 
@@ -195,15 +217,21 @@ fn scaled_weight(
     }
 }
 
-// Multiplies the weights and their denominator.
+// Multiplies the weights, those that are left out too, and their denominator.
 fn scale(successors: &mut [Successor], tally: &mut Tally, more: u128) -> Result<(), OutcomesFault>
     requires within { tally.old.count ≤ length successors.old }
     ensures count { tally.new.count ≡ tally.old.count }
     ensures battles { AreThose successors.old successors.new }
 {
-    match tally.whole.checked_mul(more) {
-        Some(whole) => tally.whole = whole,
-        None => return Err(OutcomesFault::Size),
+    match (
+        tally.whole.checked_mul(more),
+        tally.left_out.checked_mul(more),
+    ) {
+        (Some(whole), Some(left_out)) => {
+            tally.whole = whole;
+            tally.left_out = left_out;
+        }
+        _ => return Err(OutcomesFault::Size),
     }
     'places: for place in 0..tally.count {
         multiply(successors, place, more)?;

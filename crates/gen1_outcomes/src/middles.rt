@@ -3,7 +3,7 @@ ghost use Rattle.std.specs.Prelude.{IfOk, IfSome, IsFalse, IsTrue, OnOk, slice_i
 ghost use Rattle.gen1_layout.specs.Parts.{joined};
 
 use crate::beginning::Rest;
-use crate::chances::{plus, times};
+use crate::chances::plus;
 use crate::fault::OutcomesFault;
 use crate::merging::hash;
 use crate::nodes::{Chance, Nodes};
@@ -34,8 +34,8 @@ pub struct Middle {
 }
 
 impl Middle {
-    ghost use Rattle.gen1_outcomes.specs.Chances.{IsProduct};
     ghost use Rattle.gen1_outcomes.specs.Middles.{Gets, GoOnAlike};
+    ghost use Rattle.gen1_outcomes.specs.Nodes.{IsChance};
 
     /// Where one way leads, which has these draws.
     pub fn new(battle: &Packed, rest: Rest, nodes: &Nodes, chance: Chance) -> Self
@@ -88,27 +88,19 @@ impl Middle {
         path
     }
 
-    /// The probability of the ways that lead there and then have these draws.
+    /// The probability of the ways that lead there and then have these draws, which were noted with that of `self` before them.
     ///
     /// # Errors
     ///
     /// `Size`, if a way has too many draws, or if 128 bits do not hold it.
     pub fn chance_with(&self, nodes: &Nodes) -> Result<Chance, OutcomesFault>
         ensures few { IfOk result (λ _. self.now.draws + nodes.now.len ≤ 24) }
+        ensures chance { IfOk result (λ c. IsChance nodes.now c) }
     {
         if self.draws + nodes.len > DEPTH {
             return Err(OutcomesFault::Size);
         }
         match nodes.chance() {
-            Some(chance) => self.chance_times(chance),
-            None => Err(OutcomesFault::Size),
-        }
-    }
-
-    fn chance_times(&self, further: Chance) -> Result<Chance, OutcomesFault>
-        ensures { IfOk result (λ c. IsProduct self.now.chance further c) }
-    {
-        match times(self.chance, further) {
             Some(chance) => Ok(chance),
             None => Err(OutcomesFault::Size),
         }

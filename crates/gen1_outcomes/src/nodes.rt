@@ -5,6 +5,8 @@ ghost use Rattle.gen1_outcomes.specs.Classes.{alike_in};
 
 use crate::alike::alike_to;
 use crate::byte_set::ByteSet;
+use crate::chances::is_below;
+use crate::options::OutcomeOptions;
 use crate::script::DEPTH;
 use gen1_rolls::Look;
 
@@ -186,62 +188,81 @@ pub struct Nodes {
     pub at: usize,
     /// Whether there were more than there is room for, or 128 bits do not hold a probability.
     pub too_large: bool,
-    /// How many classes of damage are told apart, 1 to 39. 0: each damage.
-    pub damage_classes: u8,
+    /// The probability of what comes before the first draw.
+    pub before: Chance,
+    /// How many classes of damage are told apart, and from which probability on draws are noted.
+    pub options: OutcomeOptions,
     ghost few: { len ≤ 24 },
 }
 
 impl Nodes {
-    ghost use Rattle.gen1_outcomes.specs.Nodes.{Adds, AllDone, IsChance, LeadsOn};
+    ghost use Rattle.gen1_outcomes.specs.Nodes.{AllDone, IsChance, IsLeftOut, LeadsOn, Notes};
 
-    /// No draw yet.
-    pub fn new(damage_classes: u8) -> Self
-        ensures classes { result.damage_classes ≡ damage_classes }
+    /// No draw yet, and nothing before it.
+    pub fn new(options: OutcomeOptions) -> Self
+        ensures options { result.options ≡ options }
         ensures empty { result.len ≡ 0 }
         ensures fits { result.too_large ≡ false }
+        ensures before { result.before ≡ record { num = 1; whole = 1 } }
     {
         Nodes {
             list: [Node::none(); DEPTH],
             len: 0,
             at: 0,
             too_large: false,
-            damage_classes,
+            before: Chance { num: 1, whole: 1 },
+            options,
         }
     }
 
-    /// Forgets all draws.
-    pub fn clear(&mut self)
-        ensures classes { self.new.damage_classes ≡ self.old.damage_classes }
+    /// Forgets all draws. The next one comes after ways of this probability.
+    pub fn clear(&mut self, before: Chance)
+        ensures options { self.new.options ≡ self.old.options }
         ensures empty { self.new.len ≡ 0 }
         ensures fits { self.new.too_large ≡ false }
+        ensures before { self.new.before ≡ before }
     {
         self.len = 0;
         self.at = 0;
         self.too_large = false;
+        self.before = before;
     }
 
-    /// Whether the next draw is one that no way had before.
-    pub fn is_new(&self) -> bool
-        ensures { result ≡ nat_le self.now.len self.now.at }
+    /// Whether the draws so far are a branch that is left out: no further one is noted.
+    pub fn is_left_out(&self) -> bool
+        ensures { IsTrue result → IsLeftOut self.now }
     {
-        self.at >= self.len
+        if self.options.least == 0 {
+            return false;
+        }
+        match self.chance() {
+            Some(chance) => is_below(chance, self.options.least),
+            None => false,
+        }
+    }
+
+    /// Whether the next draw is one that no way had before, and is to be noted.
+    pub fn is_new(&self) -> bool
+        ensures new { IsTrue result → self.now.len ≤ self.now.at }
+        ensures other { IsFalse result → (self.now.at < self.now.len) ⊎ IsLeftOut self.now }
+    {
+        self.at >= self.len && !self.is_left_out()
     }
 
     /// Notes that a draw has this byte, of those that it may have.
     pub fn note(&mut self, byte: u8, look: Look, may_have: &ByteSet)
         ensures passed { self.old.at < self.old.len → self.new ≡ record self.old { at = self.old.at + 1 } }
-        ensures added { self.old.len ≤ self.old.at → (self.new ≡ record self.old { too_large = true })
-            ⊎ Adds byte look may_have.now self.old self.new }
+        ensures noted { self.old.len ≤ self.old.at → Notes byte look may_have.now self.old self.new }
     {
         if self.at < self.len {
             self.at += 1;
-        } else {
+        } else if !self.is_left_out() {
             match self.chance() {
                 Some(above) if self.len < DEPTH => {
                     self.list[self.len] = Node::new(
                         byte,
                         look,
-                        self.damage_classes,
+                        self.options.damage_classes,
                         above,
                         may_have,
                     );
@@ -279,21 +300,21 @@ impl Nodes {
         ensures { (k : ℕ) → (none : Node) → k < self.now.len
             → slice_index result k ≡ (slice_index_or self.now.list k none).byte }
     {
-        let mut path = [middle_of_last(self.damage_classes); DEPTH];
+        let mut path = [middle_of_last(self.options.damage_classes); DEPTH];
         'places: for place in 0..self.len {
             path[place] = self.list[place].byte;
         }
         path
     }
 
-    /// The probability of the way. `None` if it has too many draws, or if 128 bits do not hold it.
+    /// The probability of the way, with what comes before it. `None` if it has too many draws, or if 128 bits do not hold it.
     pub fn chance(&self) -> Option<Chance>
         ensures { IfSome result (λ c. IsChance self.now c) }
     {
         if self.too_large {
             None
         } else if self.len == 0 {
-            Some(Chance { num: 1, whole: 1 })
+            Some(self.before)
         } else {
             self.list[self.len - 1].chance()
         }

@@ -6,9 +6,10 @@ ghost use Rattle.gen1_engine.specs.Update.{AreOffered};
 ghost use Rattle.gen1_outcomes.specs.Listing.{EachFollows, StillFollow, sum_of};
 
 use crate::fault::OutcomesFault;
-use crate::merging::{Tally, add};
+use crate::merging::{Tally, add, leave_out};
 use crate::middles::{Middle, Middles};
 use crate::nodes::Nodes;
+use crate::options::OutcomeOptions;
 use crate::successor::Successor;
 use crate::ways::{Ways, copy_of};
 use gen1_layout::Packed;
@@ -19,19 +20,24 @@ use gen1_machine::Choice;
 pub struct Outcomes {
     /// How many outcomes there are.
     pub count: usize,
-    /// The sum of their weights.
+    /// The sum of their weights and of `left_out`.
     pub whole: u128,
-    /// How many ways the update has. Ways that agree after the first action are played on once.
+    /// The weight of all that is left out.
+    pub left_out: u128,
+    /// How many ways the update has. A branch that is left out is one. Ways that agree after the first action are played on
+    /// once.
     pub ways: u32,
 }
 
 /// Lists all battles that an update of the battle can lead to by a choice of each side, each once, with its weight.
 ///
-/// They are written to the first places of `successors`. The weights sum to `whole`. The probability of a battle is its
-/// weight over `whole`, if every draw is an independent uniform byte. `table` is for the call's own use, and has at
-/// least as many places as there are outcomes; twice as many make the call faster. With `damage_classes` above 0, up to
-/// 39, rolls of damage are told apart in that many classes, as by `Ways::new`: the battles are some of those, and a
-/// weight is that of a whole class.
+/// They are written to the first places of `successors`. The probability of a battle is its weight over `whole`, if every
+/// draw is an independent uniform byte. `table` is for the call's own use, and has at least as many places as there are
+/// outcomes; twice as many make the call faster.
+///
+/// With `damage_classes` above 0 the battles are some of those, and a weight is that of a whole class. With `least` above 0
+/// branches of the draws are left out, and a weight is that of the ways that are not. The weights and `left_out` sum to
+/// `whole`. An update that makes a draw may have no outcome left.
 ///
 /// # Errors
 ///
@@ -40,16 +46,16 @@ pub struct Outcomes {
 pub fn list_outcomes(
     battle: &Packed,
     pair: (Choice, Choice),
-    damage_classes: u8,
+    options: OutcomeOptions,
     successors: &mut [Successor],
     table: &mut [u32],
 ) -> Result<Outcomes, OutcomesFault>
     ensures follow { (s : State) → Stands battle.now s
         → IfOk result (λ o. EachFollows s pair.0 pair.1 o.count successors.new) }
-    ensures sum { IfOk result (λ o. sum_of o.count successors.new ≡ o.whole) }
+    ensures sum { IfOk result (λ o. sum_of o.count successors.new + o.left_out ≡ o.whole) }
     ensures within { IfOk result (λ o. o.count ≤ length successors.new) }
 {
-    match Ways::new(battle, pair.0, pair.1, damage_classes) {
+    match Ways::new(battle, pair.0, pair.1, options) {
         Err(why) => Err(OutcomesFault::Refused(why)),
         Ok(ways) => {
             clear(table);
@@ -74,12 +80,13 @@ fn list_ways(
     ensures follow { (s : State) → Stands ways.old.start s
         → AreOffered s ways.old.one ways.old.two
         → IfOk result (λ o. EachFollows s ways.old.one ways.old.two o.count successors.new) }
-    ensures sum { IfOk result (λ o. sum_of o.count successors.new ≡ o.whole) }
+    ensures sum { IfOk result (λ o. sum_of o.count successors.new + o.left_out ≡ o.whole) }
     ensures within { IfOk result (λ o. o.count ≤ length successors.new) }
 {
     let mut tally = Tally {
         count: 0,
         whole: 1,
+        left_out: 0,
         ways: 0,
     };
     add_all(ways, successors, table, &mut tally)?;
@@ -115,14 +122,19 @@ fn add_in_parts(
     ensures follow { OnOk result (StillFollow ways.old tally.old.count successors.old
         tally.new.count successors.new) }
 {
-    let mut nodes = Nodes::new(ways.damage_classes());
+    let mut nodes = Nodes::new(ways.options());
     let mut middles = Middles::new();
     'walk: for _ in 0..u32::MAX {
         let Some(middle) = ways.begin(&mut nodes) else {
             return Err(OutcomesFault::Size);
         };
-        make_room(ways, &mut middles, successors, table, tally)?;
-        middles.add(&middle)?;
+        if nodes.is_left_out() {
+            leave_out(successors, tally, middle.chance)?;
+            tally.count_ways(1)?;
+        } else {
+            make_room(ways, &mut middles, successors, table, tally)?;
+            middles.add(&middle)?;
+        }
         if !nodes.advance() {
             return go_on_from(ways, &middles, successors, table, tally);
         }
@@ -186,11 +198,15 @@ fn finish(
     ensures follow { OnOk result (StillFollow ways.old tally.old.count successors.old
         tally.new.count successors.new) }
 {
-    ways.restart();
+    ways.restart(middle);
     let mut next = copy_of(ways.start());
     'walk: for _ in 0..u32::MAX {
         let chance = ways.go_on(middle, &mut next)?;
-        add(successors, table, tally, &next, chance)?;
+        if ways.is_left_out() {
+            leave_out(successors, tally, chance)?;
+        } else {
+            add(successors, table, tally, &next, chance)?;
+        }
         tally.count_ways(middle.ways)?;
         if !ways.advance() {
             return Ok(());
@@ -199,17 +215,18 @@ fn finish(
     Err(OutcomesFault::Size)
 }
 
-// The result, if the weights sum to their denominator.
+// The result, if the weights and what is left out sum to their denominator.
 fn finished(successors: &[Successor], tally: Tally) -> Result<Outcomes, OutcomesFault>
     requires within { tally.count ≤ length successors.now }
     ensures count { IfOk result (λ o. o.count ≡ tally.count) }
     ensures within { IfOk result (λ o. o.count ≤ length successors.now) }
-    ensures sum { IfOk result (λ o. sum_of o.count successors.now ≡ o.whole) }
+    ensures sum { IfOk result (λ o. sum_of o.count successors.now + o.left_out ≡ o.whole) }
 {
-    if sums_to(&successors[..tally.count], tally.whole) {
+    if sums_to(&successors[..tally.count], tally.left_out, tally.whole) {
         Ok(Outcomes {
             count: tally.count,
             whole: tally.whole,
+            left_out: tally.left_out,
             ways: tally.ways,
         })
     } else {
@@ -217,10 +234,10 @@ fn finished(successors: &[Successor], tally: Tally) -> Result<Outcomes, Outcomes
     }
 }
 
-fn sums_to(successors: &[Successor], whole: u128) -> bool
-    ensures { IsTrue result → sum_of (length successors.now) successors.now ≡ whole }
+fn sums_to(successors: &[Successor], left_out: u128, whole: u128) -> bool
+    ensures { IsTrue result → sum_of (length successors.now) successors.now + left_out ≡ whole }
 {
-    let mut sum: u128 = 0;
+    let mut sum = left_out;
     for successor in successors {
         match sum.checked_add(successor.weight()) {
             Some(more) => sum = more,

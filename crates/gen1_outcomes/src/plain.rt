@@ -11,9 +11,10 @@ ghost use Rattle.gen1_outcomes.specs.Following.{CanFollow};
 ghost use Rattle.gen1_outcomes.specs.Plain.{KeepsUpdate, walk_before};
 
 use crate::byte_set::ByteSet;
-use crate::explorer::{After, Explorer};
+use crate::explorer::Explorer;
 use crate::fault::OutcomesFault;
 use crate::nodes::{Chance, Node, Nodes};
+use crate::options::OutcomeOptions;
 use crate::script::DEPTH;
 use crate::ways::{copy_of, play_way};
 use gen1_events::EventSink;
@@ -68,7 +69,7 @@ pub struct PlainWalk {
 }
 
 /// The ways of an update of the battle by the bytes of two offered choices, before the first way. `damage_classes` is that of
-/// [`Ways::new`](crate::Ways::new).
+/// [`OutcomeOptions`]. No way is left out.
 ///
 /// It is not tested whether the choices are offered. If one is not, the ways lead to battles that mean nothing.
 pub fn first(battle: &Packed, one: u8, two: u8, damage_classes: u8) -> PlainWalk
@@ -134,19 +135,16 @@ pub fn next<S: EventSink>(
     let Some(two) = Choice::from_byte(walk.two) else {
         return Ok(None);
     };
-    let mut nodes = Nodes::new(walk.damage_classes);
+    let mut nodes = Nodes::new(OutcomeOptions {
+        damage_classes: walk.damage_classes,
+        least: 0,
+    });
     if !read_nodes(walk, &mut nodes) {
         return Ok(None);
     }
     *battle = copy_of(&walk.battle);
     let path = nodes.path();
-    play_way(
-        battle,
-        one,
-        two,
-        Explorer::new(path, After::of(&mut nodes)),
-        events,
-    );
+    play_way(battle, one, two, Explorer::new(path, 0, &mut nodes), events);
     match nodes.chance() {
         Some(chance) => {
             walk.over = u8::from(!nodes.advance());

@@ -9,10 +9,11 @@ ghost use Rattle.gen1_outcomes.specs.Listing.{untold};
 ghost use Rattle.gen1_outcomes.specs.Nodes.{IsChance};
 
 use crate::beginning::{begin, have_two_actions};
-use crate::explorer::{After, Explorer, Notes};
+use crate::explorer::Explorer;
 use crate::fault::OutcomesFault;
 use crate::middles::Middle;
 use crate::nodes::{Chance, Nodes};
+use crate::options::OutcomeOptions;
 use crate::playing::play;
 use gen1_engine::Refusal;
 use gen1_engine::packed::update_silent;
@@ -45,9 +46,8 @@ impl Model for Ways {
 impl Ways {
     /// The ways of an update of the battle by a choice of each side, before the first.
     ///
-    /// A roll of damage is told apart in as many classes as `damage_classes` says, 1 to 39. 0: each damage. A class has
-    /// neighbouring damages below the HP that is left, and one of them near its middle is played for all. All damages from
-    /// the HP on are one class more.
+    /// With a `least` above 0, a way whose probability is below it is one of those that begin with the same draws, and has the
+    /// probability of all of them ([`is_below`]).
     ///
     /// # Errors
     ///
@@ -56,7 +56,7 @@ impl Ways {
         battle: &Packed,
         one: Choice,
         two: Choice,
-        damage_classes: u8,
+        options: OutcomeOptions,
     ) -> Result<Ways, Refusal>
         ensures walk { IfOk result (λ w. w ≡ record { start = battle.now; one = one; two = two }) }
         ensures offered { (s : State) → Stands battle.now s
@@ -72,7 +72,7 @@ impl Ways {
                 start: copy_of(battle),
                 one,
                 two,
-                nodes: Nodes::new(damage_classes),
+                nodes: Nodes::new(options),
                 over: false,
             }),
         }
@@ -105,7 +105,7 @@ impl Ways {
             battle,
             copied(&self.one),
             copied(&self.two),
-            Explorer::new(path, After::of(&mut self.nodes)),
+            Explorer::new(path, 0, &mut self.nodes),
             events,
         );
         match self.nodes.chance() {
@@ -127,7 +127,7 @@ impl Ways {
     {
         let mut battle = copy_of(&self.start);
         let path = nodes.path();
-        let mut explorer = Explorer::new(path, After::of(&mut *nodes));
+        let mut explorer = Explorer::new(path, 0, &mut *nodes);
         let one = copied(&self.one);
         let two = copied(&self.two);
         let rest = begin(&mut battle, one, two, &mut explorer);
@@ -138,10 +138,10 @@ impl Ways {
     }
 
     /// Begins with the first of the ways that lead there and go on.
-    pub(crate) fn restart(&mut self)
+    pub(crate) fn restart(&mut self, middle: &Middle)
         ensures same { self.new ≡ self.old }
     {
-        self.nodes.clear();
+        self.nodes.clear(middle.chance);
     }
 
     /// Plays the update in a way that leads there and then goes on, and returns its probability.
@@ -161,11 +161,7 @@ impl Ways {
     {
         *battle = copy_of(&self.start);
         let path = middle.path_to(&self.nodes.path());
-        let notes = After {
-            left: middle.draws,
-            nodes: &mut self.nodes,
-        };
-        let explorer = Explorer::new(path, notes);
+        let explorer = Explorer::new(path, middle.draws, &mut self.nodes);
         let one = copied(&self.one);
         let two = copied(&self.two);
         play_way(battle, one, two, explorer, &mut Silent);
@@ -191,18 +187,23 @@ impl Ways {
         &self.start
     }
 
-    /// How many classes of damage are told apart. 0: each damage.
-    pub(crate) fn damage_classes(&self) -> u8 {
-        self.nodes.damage_classes
+    /// Whether the way that was played last is a branch that is left out.
+    pub(crate) fn is_left_out(&self) -> bool {
+        self.nodes.is_left_out()
+    }
+
+    /// How the outcomes are listed.
+    pub(crate) fn options(&self) -> OutcomeOptions {
+        self.nodes.options
     }
 }
 
 /// Plays an update by two offered choices in the way that the explorer is at.
-pub(crate) fn play_way<N: Notes + Drop, S: EventSink>(
+pub(crate) fn play_way<S: EventSink>(
     battle: &mut Packed,
     one: Choice,
     two: Choice,
-    explorer: Explorer<N>,
+    explorer: Explorer,
     events: &mut S,
 )
     requires empty { S.tells events.old [] }

@@ -1,11 +1,11 @@
 //! Lists the outcomes of positions of one kind. `bench/outcomes` counts its instructions, and says what the kinds are.
 //!
-//! cargo run --release -p gen1-tests --example outcomes -- KIND CALLS [CLASSES]
+//! cargo run --release -p gen1-tests --example outcomes -- KIND CALLS [CLASSES [LEAST]]
 
 use gen1::generated::engine::packed::update_silent;
 use gen1::generated::layout::Packed;
 use gen1::generated::machine::{Choice, Side};
-use gen1::generated::outcomes::{Outcomes, Successor, list_outcomes};
+use gen1::generated::outcomes::{OutcomeOptions, Outcomes, Successor, list_outcomes};
 use gen1::generated::offers::offered;
 use gen1::generated::stats::{MemberSpec, Team};
 use gen1::generated::tables::{MoveId, Species};
@@ -177,18 +177,21 @@ fn chosen(battle: &Packed, side: Side, kind: &Kind, random: &mut Numbers) -> Cho
 fn list(
     battle: &Packed,
     pair: (Choice, Choice),
-    classes: u8,
+    options: OutcomeOptions,
     successors: &mut [Successor],
     table: &mut [u32],
 ) -> Outcomes {
-    black_box(list_outcomes(battle, pair, classes, successors, table).unwrap())
+    black_box(list_outcomes(battle, pair, options, successors, table).unwrap())
 }
 
 fn main() {
     let words: Vec<String> = std::env::args().skip(1).collect();
     let kind = kind_of(&words[0]);
     let calls: usize = words[1].parse().unwrap();
-    let classes: u8 = words.get(2).map_or(0, |word| word.parse().unwrap());
+    let options = OutcomeOptions {
+        damage_classes: words.get(2).map_or(0, |word| word.parse().unwrap()),
+        least: words.get(3).map_or(0.0, |word| word.parse::<f64>().unwrap() * 4_294_967_296.0) as u32,
+    };
     let mut random = Numbers(0x9E37_79B9_7F4A_7C15);
     let mut successors: Vec<Successor> = Vec::new();
     let mut found: Vec<(u32, usize)> = Vec::new();
@@ -206,10 +209,10 @@ fn main() {
             if update % EVERY == 0 {
                 // With a table of twice as many places as there are outcomes, which a call that is not counted finds.
                 let count =
-                    list_outcomes(&battle, (one, two), classes, &mut successors, &mut vec![0; 2 * PLACES])
+                    list_outcomes(&battle, (one, two), options, &mut successors, &mut vec![0; 2 * PLACES])
                         .unwrap()
                         .count;
-                let outcomes = list(&battle, (one, two), classes, &mut successors, &mut vec![0; 2 * count]);
+                let outcomes = list(&battle, (one, two), options, &mut successors, &mut vec![0; 2 * count]);
                 found.push((outcomes.ways, outcomes.count));
             }
             update_silent(&mut battle, one, two).unwrap();

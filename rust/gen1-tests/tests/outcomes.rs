@@ -7,7 +7,7 @@ use gen1::generated::events::{LogBuf, Silent};
 use gen1::generated::layout::Packed;
 use gen1::generated::machine::{Choice, Request, Side, UsedMove};
 use gen1::generated::odds::odds_of;
-use gen1::generated::outcomes::{Outcomes, OutcomesFault, Successor, Ways, list_outcomes, plain, play};
+use gen1::generated::outcomes::{OutcomeOptions, Outcomes, OutcomesFault, Successor, Ways, list_outcomes, plain, play};
 use gen1::generated::offers::offered;
 use gen1::generated::switching::start;
 use gen1::generated::rolls::{Look, Rolls};
@@ -18,6 +18,8 @@ use std::fmt::Debug;
 
 const ONE: Side = Side::One;
 const TWO: Side = Side::Two;
+/// Each damage of a roll is an outcome of its own, and nothing is left out.
+const ALL: OutcomeOptions = OutcomeOptions { damage_classes: 0, least: 0 };
 
 /// Independent bytes: xoshiro256**, a word for eight of them.
 #[derive(Clone)]
@@ -83,11 +85,15 @@ struct List {
 
 impl List {
     fn of(battle: &Packed, one: Choice, two: Choice) -> Self {
+        List::with(ALL, battle, one, two)
+    }
+
+    fn with(options: OutcomeOptions, battle: &Packed, one: Choice, two: Choice) -> Self {
         let mut places = 1 << 8;
         loop {
             let mut successors: Vec<Successor> = (0..places).map(|_| Successor::new(battle.clone(), 0)).collect();
             let mut table = vec![0; 2 * places];
-            match list_outcomes(battle, (one, two), 0, &mut successors, &mut table) {
+            match list_outcomes(battle, (one, two), options, &mut successors, &mut table) {
                 Ok(outcomes) => {
                     successors.truncate(outcomes.count);
                     return List { successors, table, outcomes };
@@ -102,7 +108,7 @@ impl List {
     fn weights(&self) -> HashMap<&[u8], u128> {
         let weights: HashMap<_, _> = self.successors.iter().map(|it| (it.battle.as_bytes(), it.weight())).collect();
         assert_eq!(weights.len(), self.outcomes.count, "each battle is there once");
-        assert_eq!(weights.values().sum::<u128>(), self.outcomes.whole);
+        assert_eq!(weights.values().sum::<u128>() + self.outcomes.left_out, self.outcomes.whole);
         assert!(self.table.len() >= self.outcomes.count);
         weights
     }
@@ -332,16 +338,44 @@ fn updates_without_draws_have_one_outcome() {
     let team = Team::new(&[member("Tauros", &["Splash"]), member("Snorlax", &["Splash"])]).unwrap();
     let mut battle = Packed::new(&team, &team, [0; 10]);
     let list = List::of(&battle, Choice::Pass, Choice::Pass);
-    assert_eq!(list.outcomes, Outcomes { count: 1, whole: 1, ways: 1 });
+    assert_eq!(list.outcomes, Outcomes { count: 1, whole: 1, left_out: 0, ways: 1 });
     start(&mut battle, &mut Silent);
     assert!(list.successors[0].battle.as_bytes() == battle.as_bytes());
+}
+
+/// What is left out where so many 2^-32 are the least probability: its part, and how many outcomes are listed.
+fn left_out(battle: &Packed, least: u32) -> (Fraction, usize) {
+    let list = List::with(OutcomeOptions { least, ..ALL }, battle, slot(1), slot(1));
+    assert_eq!(list.weights().len(), list.outcomes.count);
+    (reduced(list.outcomes.left_out, list.outcomes.whole), list.outcomes.count)
+}
+
+#[test]
+fn what_is_less_probable_is_left_out() {
+    let hundredth = 42_949_672;
+    // A paralysed Tauros can't act with 63 of 256 bytes, and else misses with 1 of 256. Snorlax acts after it, Starmie before it.
+    for foe in ["Snorlax", "Starmie"] {
+        let mut battle = uses("Tauros", "Thunder Wave", foe);
+        battle.put_status(ONE, Status::Paralysed);
+        assert_eq!(left_out(&battle, hundredth).0, (193, 65536), "{foe}");
+    }
+    // Only what is below is left out: a miss has 1 of 256.
+    let wave = uses("Starmie", "Thunder Wave", "Snorlax");
+    assert_eq!(left_out(&wave, 1 << 24), ((0, 1), 3));
+    assert_eq!(left_out(&wave, (1 << 24) + 1), ((1, 256), 2));
+    // Paralysed, Snorlax can't act with 63 of 256: 255 * 63 of 65,536 in all.
+    assert_eq!(left_out(&wave, 255 * 63 << 16), ((1, 256), 2));
+    assert_eq!(left_out(&wave, (255 * 63 << 16) + 1), ((256 + 255 * 63, 65536), 1));
+    // Nothing may be left, unless the update draws nothing.
+    assert_eq!(left_out(&wave, u32::MAX), ((1, 1), 0));
+    assert_eq!(left_out(&uses("Tauros", "Splash", "Snorlax"), u32::MAX), ((0, 1), 1));
 }
 
 #[test]
 fn faults() {
     let battle = uses("Tauros", "Body Slam", "Tauros");
     let places = |count: usize| (0..count).map(|_| Successor::new(battle.clone(), 0)).collect::<Vec<_>>();
-    let ask = |one, two, places: &mut [Successor], table: usize| list_outcomes(&battle, (one, two), 0, places, &mut vec![0; table]);
+    let ask = |one, two, places: &mut [Successor], table: usize| list_outcomes(&battle, (one, two), ALL, places, &mut vec![0; table]);
     let refused = |side| Err(OutcomesFault::Refused(Refusal::NotOffered(side)));
     assert_eq!(ask(slot(2), slot(3), &mut places(1), 1), refused(ONE));
     assert_eq!(ask(slot(1), Choice::Pass, &mut places(1), 1), refused(TWO));
@@ -353,7 +387,7 @@ fn faults() {
     let mut over = battle.clone();
     over.put_hp(TWO, 1);
     let over = List::of(&over, slot(1), slot(1)).successors.into_iter().find(|next| next.battle.outcome().is_over()).unwrap();
-    let fault = list_outcomes(&over.battle, (slot(1), slot(1)), 0, &mut places(1), &mut [0]);
+    let fault = list_outcomes(&over.battle, (slot(1), slot(1)), ALL, &mut places(1), &mut [0]);
     assert_eq!(fault, Err(OutcomesFault::Refused(Refusal::Over)));
     assert_eq!(fault.unwrap_err().number(), 1);
 }
@@ -568,7 +602,7 @@ fn ways_sum_to_the_outcomes() {
     for it in positions(60, &mut Bytes::new(7)) {
         let list = List::of(&it.battle, it.one, it.two);
         let weights = list.weights();
-        let mut ways = Ways::new(&it.battle, it.one, it.two, 0).unwrap();
+        let mut ways = Ways::new(&it.battle, it.one, it.two, ALL).unwrap();
         let mut sums: HashMap<Vec<u8>, u128> = HashMap::new();
         let mut next = it.battle.clone();
         let mut played = 0;
@@ -587,12 +621,45 @@ fn ways_sum_to_the_outcomes() {
     }
 }
 
+/// A list with a least probability has some of the battles of the whole list, each with a part of its weight. A way that is no less
+/// probable by itself is not left out.
+#[test]
+fn what_is_left_out_of_positions() {
+    let mut fewer = 0;
+    for it in positions(60, &mut Bytes::new(9)) {
+        let all = List::of(&it.battle, it.one, it.two);
+        let (weights, whole) = (all.weights(), all.outcomes.whole);
+        for least in [1u32 << 12, 1 << 22, 1 << 26] {
+            let list = List::with(OutcomeOptions { least, ..ALL }, &it.battle, it.one, it.two);
+            let part = |weight: u128, of: u128| weight as f64 / of as f64;
+            let listed = list.weights();
+            for (bytes, &weight) in &listed {
+                assert!(part(weight, list.outcomes.whole) <= part(weights[bytes], whole) * (1.0 + 1e-12));
+            }
+            fewer += weights.len() - listed.len();
+            let mut least_weights: HashMap<Vec<u8>, f64> = HashMap::new();
+            let mut ways = Ways::new(&it.battle, it.one, it.two, ALL).unwrap();
+            let mut next = it.battle.clone();
+            while let Some(chance) = ways.next(&mut next, &mut Silent).unwrap() {
+                if part(chance.num, chance.whole) * 4_294_967_296.0 >= f64::from(least) {
+                    *least_weights.entry(next.as_bytes().to_vec()).or_default() += part(chance.num, chance.whole);
+                }
+            }
+            for (bytes, kept) in least_weights {
+                assert!(part(listed[&bytes[..]], list.outcomes.whole) >= kept * (1.0 - 1e-12));
+            }
+        }
+    }
+    assert!(fewer > 1000, "{fewer}");
+}
+
 /// A walk in a plain struct has the same ways: battles, probabilities and logs.
 #[test]
 fn plain_walks_have_the_same_ways() {
     for it in positions(20, &mut Bytes::new(8)) {
         for classes in [0, 3] {
-            let mut ways = Ways::new(&it.battle, it.one, it.two, classes).unwrap();
+            let options = OutcomeOptions { damage_classes: classes, ..ALL };
+            let mut ways = Ways::new(&it.battle, it.one, it.two, options).unwrap();
             let mut walk = plain::first(&it.battle, it.one.byte(), it.two.byte(), classes);
             let (mut next, mut other) = (it.battle.clone(), it.battle.clone());
             loop {

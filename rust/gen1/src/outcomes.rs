@@ -23,6 +23,7 @@ pub struct Way {
 pub struct Ways {
     ways: outcomes::Ways,
     start: Battle,
+    least: u32,
     is_over: bool,
 }
 
@@ -30,17 +31,20 @@ impl Iterator for Ways {
     type Item = Result<Way, OutcomesFault>;
 
     fn next(&mut self) -> Option<Self::Item> {
-        if self.is_over {
-            return None;
+        while !self.is_over {
+            let mut way = Way {
+                battle: self.start.clone(),
+                chance: Chance { num: 0, whole: 1 },
+                events: EventList::new(),
+            };
+            let found = self.ways.next(&mut way.battle.packed, &mut way.events).transpose()?;
+            self.is_over = found.is_err();
+            match found {
+                Ok(chance) if outcomes::is_below(chance, self.least) => {}
+                found => return Some(found.map(|chance| Way { chance, ..way })),
+            }
         }
-        let mut way = Way {
-            battle: self.start.clone(),
-            chance: Chance { num: 0, whole: 1 },
-            events: EventList::new(),
-        };
-        let found = self.ways.next(&mut way.battle.packed, &mut way.events).transpose()?;
-        self.is_over = found.is_err();
-        Some(found.map(|chance| Way { chance, ..way }))
+        None
     }
 }
 
@@ -81,7 +85,8 @@ impl Battle {
         self.ways_with(one, two, &OutcomeOptions::new())
     }
 
-    /// As [`Battle::ways`], with options.
+    /// As [`Battle::ways`], with options. With a least probability, the ways that are left out are skipped, and the probabilities of the
+    /// others sum to less than 1.
     ///
     /// ```
     /// use gen1::{Battle, Choice, OutcomeOptions, Team, member};
@@ -104,8 +109,9 @@ impl Battle {
     pub fn ways_with<A: Chosen, B: Chosen>(&self, one: A, two: B, options: &OutcomeOptions) -> Result<Ways, Refusal> {
         let (one, two) = self.pair(one, two)?;
         Ok(Ways {
-            ways: outcomes::Ways::new(&self.packed, one, two, options.damage_classes)?,
+            ways: outcomes::Ways::new(&self.packed, one, two, options.plain())?,
             start: self.clone(),
+            least: options.least,
             is_over: false,
         })
     }
@@ -145,7 +151,7 @@ impl Battle {
         successors: &mut [Successor],
         table: &mut [u32],
     ) -> Result<Outcomes, OutcomesFault> {
-        outcomes::list_outcomes(&self.packed, self.pair(one, two)?, options.damage_classes, successors, table)
+        outcomes::list_outcomes(&self.packed, self.pair(one, two)?, options.plain(), successors, table)
     }
 
     /// The choices of both sides, if they are offered now.
@@ -154,19 +160,23 @@ impl Battle {
     }
 }
 
-/// Options of lists of outcomes and of ways. By default each damage of a roll is an outcome of its own.
+/// Options of lists of outcomes and of ways. By default each damage of a roll is an outcome of its own, and nothing is left out.
 ///
 /// `Battle::outcomes_with`, [`Battle::outcomes_into`] and [`Battle::ways_with`] take it.
 #[derive(Clone, Copy, Debug, Default, PartialEq, Eq, Hash)]
 pub struct OutcomeOptions {
     damage_classes: u8,
+    least: u32,
 }
 
 impl OutcomeOptions {
-    /// Each damage of a roll is listed apart.
+    /// Each damage of a roll is listed apart, and nothing is left out.
     #[must_use]
     pub const fn new() -> Self {
-        OutcomeOptions { damage_classes: 0 }
+        OutcomeOptions {
+            damage_classes: 0,
+            least: 0,
+        }
     }
 
     /// The same with at most so many classes of damage for each roll: for a search, which wants fewer outcomes.
@@ -177,7 +187,50 @@ impl OutcomeOptions {
     /// does any number from 39 on.
     #[must_use]
     pub const fn with_damage_classes(self, damage_classes: u8) -> Self {
-        OutcomeOptions { damage_classes }
+        OutcomeOptions {
+            damage_classes,
+            ..self
+        }
+    }
+
+    /// The same without what is less probable than this: for a search, which saves the time to play it.
+    ///
+    /// Draws are left out as soon as those of an update so far are less probable together, with all that may come after them. So the
+    /// weight of an outcome is that of its ways that are not left out: at most its full weight. `left_out` of the list is the exact weight
+    /// of all the rest. An outcome without a draw is always listed. Of an update with draws, none may be left.
+    ///
+    /// The probability is rounded down to a multiple of 2^-32. 0, a negative number or NaN leaves nothing out, and 1 or more is as 1 - 2^-32.
+    ///
+    /// ```
+    /// use gen1::{Battle, Choice, OutcomeOptions, Team, member};
+    ///
+    /// # fn main() -> Result<(), Box<dyn std::error::Error>> {
+    /// let one = Team::new(&[member("Tauros", &["Thunder Wave"])?])?;
+    /// let two = Team::new(&[member("Slowbro", &["Amnesia"])?])?;
+    /// let mut battle = Battle::new(&one, &two, [0; 10]);
+    /// battle.update(Choice::Pass, Choice::Pass)?;
+    /// let options = OutcomeOptions::new().with_least_probability(0.01);
+    /// let ways = battle.ways_with(Choice::MOVE_1, Choice::MOVE_1, &options)?;
+    /// let chances = ways.map(|way| way.map(|way| way.chance.probability())).collect::<Result<Vec<f64>, _>>()?;
+    /// // It misses with 1 of 256 bytes: that is left out. A paralysed Slowbro then acts or not.
+    /// assert_eq!((chances.len(), chances.iter().sum()), (2, 255.0 / 256.0));
+    /// # Ok(())
+    /// # }
+    /// ```
+    #[must_use]
+    pub const fn with_least_probability(self, probability: f64) -> Self {
+        // A cast takes NaN for 0, and the nearest number for one that is out of range.
+        OutcomeOptions {
+            least: (probability * 4_294_967_296.0) as u32,
+            ..self
+        }
+    }
+
+    const fn plain(&self) -> outcomes::OutcomeOptions {
+        outcomes::OutcomeOptions {
+            damage_classes: self.damage_classes,
+            least: self.least,
+        }
     }
 }
 
@@ -187,23 +240,46 @@ impl OutcomeOptions {
 pub struct OutcomeList {
     successors: alloc::vec::Vec<Successor>,
     whole: u128,
+    left_out: u128,
 }
 
 #[cfg(feature = "alloc")]
 impl OutcomeList {
-    /// The outcomes with their exact weights, in no particular order. There is at least one.
+    /// The outcomes with their exact weights, in no particular order. There is at least one, if nothing is left out.
     #[must_use]
     pub fn successors(&self) -> &[Successor] {
         &self.successors
     }
 
-    /// The sum of all weights, of which each weight is its outcome's part.
+    /// The sum of all weights and of what is left out, of which each weight is its outcome's part.
     #[must_use]
     pub const fn whole(&self) -> u128 {
         self.whole
     }
 
-    /// Each outcome with its probability.
+    /// The weight of all that is left out: 0 without [`OutcomeOptions::with_least_probability`].
+    ///
+    /// ```
+    /// use gen1::{Battle, Choice, OutcomeOptions, Successor, Team, member};
+    ///
+    /// # fn main() -> Result<(), Box<dyn std::error::Error>> {
+    /// let one = Team::new(&[member("Tauros", &["Body Slam"])?])?;
+    /// let two = Team::new(&[member("Slowbro", &["Amnesia"])?])?;
+    /// let mut battle = Battle::new(&one, &two, [0; 10]);
+    /// battle.update(Choice::Pass, Choice::Pass)?;
+    /// let options = OutcomeOptions::new().with_least_probability(0.01);
+    /// let list = battle.outcomes_with(Choice::MOVE_1, Choice::MOVE_1, &options)?;
+    /// let listed: u128 = list.successors().iter().map(Successor::weight).sum();
+    /// assert_eq!(listed + list.left_out(), list.whole());
+    /// # Ok(())
+    /// # }
+    /// ```
+    #[must_use]
+    pub const fn left_out(&self) -> u128 {
+        self.left_out
+    }
+
+    /// Each outcome with its probability. They sum to 1, if nothing is left out.
     pub fn iter(&self) -> impl ExactSizeIterator<Item = (Battle, f64)> + '_ {
         let whole = self.whole as f64;
         self.successors.iter().map(move |it| (it.battle(), it.weight() as f64 / whole))
@@ -272,11 +348,12 @@ impl Battle {
         loop {
             let mut successors = alloc::vec![Successor::from(self); places];
             let mut table = alloc::vec![0; 2 * places];
-            match outcomes::list_outcomes(&self.packed, pair, options.damage_classes, &mut successors, &mut table) {
+            match outcomes::list_outcomes(&self.packed, pair, options.plain(), &mut successors, &mut table) {
                 Ok(found) => {
                     successors.truncate(found.count);
                     successors.shrink_to_fit();
-                    return Ok(OutcomeList { successors, whole: found.whole });
+                    let Outcomes { whole, left_out, .. } = found;
+                    return Ok(OutcomeList { successors, whole, left_out });
                 }
                 Err(OutcomesFault::Places | OutcomesFault::Table) => places *= 8,
                 Err(fault) => return Err(fault),

@@ -80,6 +80,34 @@ fn ways_sum_to_the_outcomes() {
     assert!(all > 5 * few);
 }
 
+#[test]
+fn what_is_less_probable_is_left_out() {
+    // It misses with 1 of 256 bytes. A paralysed Snorlax can't act with 63 of 256.
+    let battle = facing(("Tauros", "Thunder Wave"), ("Snorlax", "Splash"));
+    let listed = |least: f64| {
+        let options = OutcomeOptions::new().with_least_probability(least).with_damage_classes(1);
+        let mut places = vec![Successor::from(&battle); 8];
+        let found = battle.outcomes_into(Choice::MOVE_1, Choice::MOVE_1, &options, &mut places, &mut [0; 16]).unwrap();
+        let ways: Vec<Way> = battle.ways_with(Choice::MOVE_1, Choice::MOVE_1, &options).unwrap().map(Result::unwrap).collect();
+        let missing = Chance { num: found.left_out, whole: found.whole };
+        let (num, whole) = sum(ways.iter().map(|way| way.chance).chain([missing]));
+        assert_eq!((num, whole, ways.len()), (1, 1, found.count));
+        (sum([missing].into_iter()), found.count)
+    };
+    assert_eq!(listed(0.0), ((0, 1), 3));
+    assert_eq!(listed(1.0 / 256.0), ((0, 1), 3));
+    assert_eq!(listed(0.004), ((1, 256), 2));
+    assert_eq!(listed(0.25), ((256 + 63 * 255, 65536), 1));
+    assert_eq!(listed(0.76), ((1, 1), 0));
+    // Numbers that are no probability.
+    for none in [f64::NAN, -0.5, f64::NEG_INFINITY] {
+        assert_eq!(listed(none), ((0, 1), 3));
+    }
+    for all in [1.0, 7.0, f64::INFINITY] {
+        assert_eq!(listed(all), ((1, 1), 0));
+    }
+}
+
 /// An update with any numbers to draw leads to one of the outcomes.
 #[test]
 fn updates_are_among_the_outcomes() {

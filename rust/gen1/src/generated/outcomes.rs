@@ -6,11 +6,12 @@
 //! - `classes`: classes of damage
 //! - `alike`: the bytes that a look sees alike, or that are in a class of damage
 //! - `script`: a generator whose first bytes are given
+//! - `options`: [`OutcomeOptions`], how outcomes are listed
 //! - `nodes`: the draws of a way, each with the bytes that are still to be tried
 //! - `explorer`: a generator that takes an update through all its ways, one after the other
 //! - `playing`: an update whose draws come from any generator
 //! - `beginning`: a turn up to its second action
-//! - `chances`: sums and products of probabilities
+//! - `chances`: sums of probabilities, and which are below the least one
 //! - `middles`: positions between the two actions of a turn
 //! - `ways`: [`Ways`], the ways of an update one by one
 //! - `plain`: the same walk as a plain struct that its caller keeps
@@ -316,7 +317,7 @@ mod byte_set {
 }
 
 mod chances {
-    //! Sums and products of probabilities ([docs/MECHANICS.md, "Link numbers"](https://hibsuloy.example/gen1/blob/main/docs/MECHANICS.md#link-numbers)).
+    //! Sums of probabilities, and which are below the least one ([docs/MECHANICS.md, "Link numbers"](https://hibsuloy.example/gen1/blob/main/docs/MECHANICS.md#link-numbers)).
 
     use crate::generated::outcomes::merging::common_divisor;
     use crate::generated::outcomes::nodes::Chance;
@@ -338,12 +339,19 @@ mod chances {
         Some(Chance { num, whole })
     }
 
-    /// The probability that both happen, of two that are independent. `None` if 128 bits do not hold it.
-    pub fn times(one: Chance, other: Chance) -> Option<Chance> {
-        Some(Chance {
-            num: one.num.checked_mul(other.num)?,
-            whole: one.whole.checked_mul(other.whole)?,
-        })
+    /// Whether a probability is below so many 2^-32. One whose numerator has more than 96 bits is not.
+    pub fn is_below(chance: Chance, least: u32) -> bool {
+        if least == 0 {
+            return false;
+        }
+        match chance.num.checked_mul(0x1_0000_0000) {
+            None => false,
+            Some(num) => match chance.whole.checked_mul(least as u128) {
+                Some(bound) => num < bound,
+                // Then it is more than 128 bits hold.
+                None => true,
+            },
+        }
     }
 }
 
@@ -391,60 +399,25 @@ mod explorer {
     use crate::generated::outcomes::script::{DEPTH, Script};
     use crate::generated::rolls::{Look, Rolls};
 
-    /// What draws are noted in.
-    pub(crate) trait Notes {
-        /// Whether the next draw is one that no way had before.
-        fn is_new(&self) -> bool;
-
-        /// Notes that a draw has this byte, of those that it may have.
-        fn note(&mut self, byte: u8, look: Look, may_have: &ByteSet);
-    }
-
-    /// Nodes for the draws after a first part of the update, which may have no draw. The draws of the first part are not noted.
-
-    pub(crate) struct After<'a> {
-        /// How many draws of the first part are still to come.
-        pub(crate) left: usize,
-        /// The draws after it. They are borrowed, so that an update moves a reference to them.
-        pub(crate) nodes: &'a mut Nodes,
-    }
-
-    impl<'a> After<'a> {
-        /// Nodes for all draws of an update.
-        pub(crate) fn of(nodes: &'a mut Nodes) -> After<'a> {
-            After { left: 0, nodes }
-        }
-    }
-
-    impl Notes for After<'_> {
-        fn is_new(&self) -> bool {
-            self.left == 0 && self.nodes.is_new()
-        }
-
-        fn note(&mut self, byte: u8, look: Look, may_have: &ByteSet) {
-            if self.left == 0 {
-                self.nodes.note(byte, look, may_have);
-            } else {
-                self.left -= 1;
-            }
-        }
-    }
-
-    /// A script that notes the draws that are taken from it.
+    /// A script that notes the draws that are taken from it, after a first part of the update, whose draws are not noted.
     ///
     /// For contracts it is its script. What it notes changes no byte that it draws.
 
-    pub(crate) struct Explorer<N> {
+    pub(crate) struct Explorer<'a> {
         script: Script,
-        notes: N,
+        // How many draws of the first part are still to come.
+        left: usize,
+        // The draws after it. They are borrowed, so that an update moves a reference to them.
+        nodes: &'a mut Nodes,
     }
 
-    impl<N: Notes> Explorer<N> {
-        /// An explorer of the way that begins with these bytes, before its first draw.
-        pub(crate) fn new(path: [u8; DEPTH], notes: N) -> Explorer<N> {
+    impl<'a> Explorer<'a> {
+        /// An explorer of the way that begins with these bytes, before its first draw. Its first draws, as many as are passed, are not noted.
+        pub(crate) fn new(path: [u8; DEPTH], passed: usize, nodes: &'a mut Nodes) -> Explorer<'a> {
             Explorer {
                 script: Script::new(path),
-                notes,
+                left: passed,
+                nodes,
             }
         }
 
@@ -456,12 +429,30 @@ mod explorer {
         // Draws a byte, and notes it.
         fn draw_noted(&mut self, look: Look) -> u8 {
             let byte = self.script.draw();
-            self.notes.note(byte, look, &ByteSet::all());
+            self.note(byte, look, &ByteSet::all());
             byte
+        }
+
+        // Notes that a draw has this byte, of those that it may have.
+        fn note(&mut self, byte: u8, look: Look, may_have: &ByteSet) {
+            if self.left == 0 {
+                self.nodes.note(byte, look, may_have);
+            } else {
+                self.left -= 1;
+            }
+        }
+
+        // The bytes that a search may find, if they are to be noted.
+        fn may_have<F: Fn(u8) -> bool>(&self, test: &F) -> ByteSet {
+            if self.left == 0 && self.nodes.is_new() {
+                ByteSet::that_pass(test)
+            } else {
+                ByteSet::none()
+            }
         }
     }
 
-    impl<N: Notes> Rolls for Explorer<N> {
+    impl Rolls for Explorer<'_> {
         const SPAN: usize = 280;
 
         // A draw of which all is looked at.
@@ -474,23 +465,14 @@ mod explorer {
         }
 
         fn until_as<F: Fn(u8) -> bool>(&mut self, test: F, look: Look) -> Option<u8> {
-            let bytes = may_have(&self.notes, &test);
+            let bytes = self.may_have(&test);
             match self.script.until_as(test, look) {
                 Some(byte) => {
-                    self.notes.note(byte, look, &bytes);
+                    self.note(byte, look, &bytes);
                     Some(byte)
                 }
                 None => None,
             }
-        }
-    }
-
-    // The bytes that a search may find, if they are to be noted.
-    fn may_have<N: Notes, F: Fn(u8) -> bool>(notes: &N, test: &F) -> ByteSet {
-        if notes.is_new() {
-            ByteSet::that_pass(test)
-        } else {
-            ByteSet::none()
         }
     }
 }
@@ -558,6 +540,8 @@ mod merging {
         pub count: usize,
         /// The common denominator of the weights.
         pub whole: u128,
+        /// The sum of the weights of the branches that are left out.
+        pub left_out: u128,
         /// How many ways were added.
         pub ways: u32,
     }
@@ -609,6 +593,22 @@ mod merging {
                 Successor::new(copy_of(battle), weight),
             ),
             Place::Full => Err(OutcomesFault::Table),
+        }
+    }
+
+    /// Adds the probability of a branch that is left out.
+    pub fn leave_out(
+        successors: &mut [Successor],
+        tally: &mut Tally,
+        chance: Chance,
+    ) -> Result<(), OutcomesFault> {
+        let weight = scaled_weight(successors, tally, chance)?;
+        match tally.left_out.checked_add(weight) {
+            Some(sum) => {
+                tally.left_out = sum;
+                Ok(())
+            }
+            None => Err(OutcomesFault::Size),
         }
     }
 
@@ -709,11 +709,17 @@ mod merging {
         }
     }
 
-    // Multiplies the weights and their denominator.
+    // Multiplies the weights, those that are left out too, and their denominator.
     fn scale(successors: &mut [Successor], tally: &mut Tally, more: u128) -> Result<(), OutcomesFault> {
-        match tally.whole.checked_mul(more) {
-            Some(whole) => tally.whole = whole,
-            None => return Err(OutcomesFault::Size),
+        match (
+            tally.whole.checked_mul(more),
+            tally.left_out.checked_mul(more),
+        ) {
+            (Some(whole), Some(left_out)) => {
+                tally.whole = whole;
+                tally.left_out = left_out;
+            }
+            _ => return Err(OutcomesFault::Size),
         }
         for place in 0..tally.count {
             multiply(successors, place, more)?;
@@ -748,7 +754,7 @@ mod middles {
     //! Positions between the two actions of a turn. Positions that agree are merged ([docs/MECHANICS.md, "Link numbers"](https://hibsuloy.example/gen1/blob/main/docs/MECHANICS.md#link-numbers)).
 
     use crate::generated::outcomes::beginning::Rest;
-    use crate::generated::outcomes::chances::{plus, times};
+    use crate::generated::outcomes::chances::plus;
     use crate::generated::outcomes::fault::OutcomesFault;
     use crate::generated::outcomes::merging::hash;
     use crate::generated::outcomes::nodes::{Chance, Nodes};
@@ -815,7 +821,7 @@ mod middles {
             path
         }
 
-        /// The probability of the ways that lead there and then have these draws.
+        /// The probability of the ways that lead there and then have these draws, which were noted with that of `self` before them.
         ///
         /// # Errors
         ///
@@ -825,13 +831,6 @@ mod middles {
                 return Err(OutcomesFault::Size);
             }
             match nodes.chance() {
-                Some(chance) => self.chance_times(chance),
-                None => Err(OutcomesFault::Size),
-            }
-        }
-
-        fn chance_times(&self, further: Chance) -> Result<Chance, OutcomesFault> {
-            match times(self.chance, further) {
                 Some(chance) => Ok(chance),
                 None => Err(OutcomesFault::Size),
             }
@@ -936,6 +935,8 @@ mod nodes {
 
     use crate::generated::outcomes::alike::alike_to;
     use crate::generated::outcomes::byte_set::ByteSet;
+    use crate::generated::outcomes::chances::is_below;
+    use crate::generated::outcomes::options::OutcomeOptions;
     use crate::generated::outcomes::script::DEPTH;
     use crate::generated::rolls::Look;
 
@@ -1086,45 +1087,60 @@ mod nodes {
         pub at: usize,
         /// Whether there were more than there is room for, or 128 bits do not hold a probability.
         pub too_large: bool,
-        /// How many classes of damage are told apart, 1 to 39. 0: each damage.
-        pub damage_classes: u8,
+        /// The probability of what comes before the first draw.
+        pub before: Chance,
+        /// How many classes of damage are told apart, and from which probability on draws are noted.
+        pub options: OutcomeOptions,
     }
 
     impl Nodes {
-        /// No draw yet.
-        pub fn new(damage_classes: u8) -> Self {
+        /// No draw yet, and nothing before it.
+        pub fn new(options: OutcomeOptions) -> Self {
             Nodes {
                 list: [Node::none(); DEPTH],
                 len: 0,
                 at: 0,
                 too_large: false,
-                damage_classes,
+                before: Chance { num: 1, whole: 1 },
+                options,
             }
         }
 
-        /// Forgets all draws.
-        pub fn clear(&mut self) {
+        /// Forgets all draws. The next one comes after ways of this probability.
+        pub fn clear(&mut self, before: Chance) {
             self.len = 0;
             self.at = 0;
             self.too_large = false;
+            self.before = before;
         }
 
-        /// Whether the next draw is one that no way had before.
+        /// Whether the draws so far are a branch that is left out: no further one is noted.
+        pub fn is_left_out(&self) -> bool {
+            if self.options.least == 0 {
+                return false;
+            }
+            match self.chance() {
+                Some(chance) => is_below(chance, self.options.least),
+                None => false,
+            }
+        }
+
+        /// Whether the next draw is one that no way had before, and is to be noted.
         pub fn is_new(&self) -> bool {
-            self.at >= self.len
+            self.at >= self.len && !self.is_left_out()
         }
 
         /// Notes that a draw has this byte, of those that it may have.
         pub fn note(&mut self, byte: u8, look: Look, may_have: &ByteSet) {
             if self.at < self.len {
                 self.at += 1;
-            } else {
+            } else if !self.is_left_out() {
                 match self.chance() {
                     Some(above) if self.len < DEPTH => {
                         self.list[self.len] = Node::new(
                             byte,
                             look,
-                            self.damage_classes,
+                            self.options.damage_classes,
                             above,
                             may_have,
                         );
@@ -1156,19 +1172,19 @@ mod nodes {
 
         /// The bytes of the way. The places after them have the byte of the middle factor of the last class of damage.
         pub fn path(&self) -> [u8; DEPTH] {
-            let mut path = [middle_of_last(self.damage_classes); DEPTH];
+            let mut path = [middle_of_last(self.options.damage_classes); DEPTH];
             for place in 0..self.len {
                 path[place] = self.list[place].byte;
             }
             path
         }
 
-        /// The probability of the way. `None` if it has too many draws, or if 128 bits do not hold it.
+        /// The probability of the way, with what comes before it. `None` if it has too many draws, or if 128 bits do not hold it.
         pub fn chance(&self) -> Option<Chance> {
             if self.too_large {
                 None
             } else if self.len == 0 {
-                Some(Chance { num: 1, whole: 1 })
+                Some(self.before)
             } else {
                 self.list[self.len - 1].chance()
             }
@@ -1186,13 +1202,30 @@ mod nodes {
     }
 }
 
+mod options {
+    //! How outcomes are listed ([docs/MECHANICS.md, "Link numbers"](https://hibsuloy.example/gen1/blob/main/docs/MECHANICS.md#link-numbers)).
+
+    /// How outcomes are listed.
+    #[derive(Clone, Copy, PartialEq, Eq, Debug)]
+    pub struct OutcomeOptions {
+        /// In how many classes a roll of damage is told apart, 1 to 39. 0: each damage.
+        ///
+        /// A class has neighbouring damages below the HP that is left, and one of them near its middle is played for all. All
+        /// damages from the HP on are one class more.
+        pub damage_classes: u8,
+        /// A branch of the draws is left out as soon as its probability is below so many 2^-32. 0: none is.
+        pub least: u32,
+    }
+}
+
 mod outcomes {
     //! All battles that an update can lead to ([docs/MECHANICS.md, "Link numbers"](https://hibsuloy.example/gen1/blob/main/docs/MECHANICS.md#link-numbers)).
 
     use crate::generated::outcomes::fault::OutcomesFault;
-    use crate::generated::outcomes::merging::{Tally, add};
+    use crate::generated::outcomes::merging::{Tally, add, leave_out};
     use crate::generated::outcomes::middles::{Middle, Middles};
     use crate::generated::outcomes::nodes::Nodes;
+    use crate::generated::outcomes::options::OutcomeOptions;
     use crate::generated::outcomes::successor::Successor;
     use crate::generated::outcomes::ways::{Ways, copy_of};
     use crate::generated::layout::Packed;
@@ -1203,19 +1236,24 @@ mod outcomes {
     pub struct Outcomes {
         /// How many outcomes there are.
         pub count: usize,
-        /// The sum of their weights.
+        /// The sum of their weights and of `left_out`.
         pub whole: u128,
-        /// How many ways the update has. Ways that agree after the first action are played on once.
+        /// The weight of all that is left out.
+        pub left_out: u128,
+        /// How many ways the update has. A branch that is left out is one. Ways that agree after the first action are played on
+        /// once.
         pub ways: u32,
     }
 
     /// Lists all battles that an update of the battle can lead to by a choice of each side, each once, with its weight.
     ///
-    /// They are written to the first places of `successors`. The weights sum to `whole`. The probability of a battle is its
-    /// weight over `whole`, if every draw is an independent uniform byte. `table` is for the call's own use, and has at
-    /// least as many places as there are outcomes; twice as many make the call faster. With `damage_classes` above 0, up to
-    /// 39, rolls of damage are told apart in that many classes, as by `Ways::new`: the battles are some of those, and a
-    /// weight is that of a whole class.
+    /// They are written to the first places of `successors`. The probability of a battle is its weight over `whole`, if every
+    /// draw is an independent uniform byte. `table` is for the call's own use, and has at least as many places as there are
+    /// outcomes; twice as many make the call faster.
+    ///
+    /// With `damage_classes` above 0 the battles are some of those, and a weight is that of a whole class. With `least` above 0
+    /// branches of the draws are left out, and a weight is that of the ways that are not. The weights and `left_out` sum to
+    /// `whole`. An update that makes a draw may have no outcome left.
     ///
     /// # Errors
     ///
@@ -1224,11 +1262,11 @@ mod outcomes {
     pub fn list_outcomes(
         battle: &Packed,
         pair: (Choice, Choice),
-        damage_classes: u8,
+        options: OutcomeOptions,
         successors: &mut [Successor],
         table: &mut [u32],
     ) -> Result<Outcomes, OutcomesFault> {
-        match Ways::new(battle, pair.0, pair.1, damage_classes) {
+        match Ways::new(battle, pair.0, pair.1, options) {
             Err(why) => Err(OutcomesFault::Refused(why)),
             Ok(ways) => {
                 clear(table);
@@ -1253,6 +1291,7 @@ mod outcomes {
         let mut tally = Tally {
             count: 0,
             whole: 1,
+            left_out: 0,
             ways: 0,
         };
         add_all(ways, successors, table, &mut tally)?;
@@ -1278,14 +1317,19 @@ mod outcomes {
         table: &mut [u32],
         tally: &mut Tally,
     ) -> Result<(), OutcomesFault> {
-        let mut nodes = Nodes::new(ways.damage_classes());
+        let mut nodes = Nodes::new(ways.options());
         let mut middles = Middles::new();
         for _ in 0..u32::MAX {
             let Some(middle) = ways.begin(&mut nodes) else {
                 return Err(OutcomesFault::Size);
             };
-            make_room(ways, &mut middles, successors, table, tally)?;
-            middles.add(&middle)?;
+            if nodes.is_left_out() {
+                leave_out(successors, tally, middle.chance)?;
+                tally.count_ways(1)?;
+            } else {
+                make_room(ways, &mut middles, successors, table, tally)?;
+                middles.add(&middle)?;
+            }
             if !nodes.advance() {
                 return go_on_from(ways, &middles, successors, table, tally);
             }
@@ -1330,11 +1374,15 @@ mod outcomes {
         table: &mut [u32],
         tally: &mut Tally,
     ) -> Result<(), OutcomesFault> {
-        ways.restart();
+        ways.restart(middle);
         let mut next = copy_of(ways.start());
         for _ in 0..u32::MAX {
             let chance = ways.go_on(middle, &mut next)?;
-            add(successors, table, tally, &next, chance)?;
+            if ways.is_left_out() {
+                leave_out(successors, tally, chance)?;
+            } else {
+                add(successors, table, tally, &next, chance)?;
+            }
             tally.count_ways(middle.ways)?;
             if !ways.advance() {
                 return Ok(());
@@ -1343,12 +1391,13 @@ mod outcomes {
         Err(OutcomesFault::Size)
     }
 
-    // The result, if the weights sum to their denominator.
+    // The result, if the weights and what is left out sum to their denominator.
     fn finished(successors: &[Successor], tally: Tally) -> Result<Outcomes, OutcomesFault> {
-        if sums_to(&successors[..tally.count], tally.whole) {
+        if sums_to(&successors[..tally.count], tally.left_out, tally.whole) {
             Ok(Outcomes {
                 count: tally.count,
                 whole: tally.whole,
+                left_out: tally.left_out,
                 ways: tally.ways,
             })
         } else {
@@ -1356,8 +1405,8 @@ mod outcomes {
         }
     }
 
-    fn sums_to(successors: &[Successor], whole: u128) -> bool {
-        let mut sum: u128 = 0;
+    fn sums_to(successors: &[Successor], left_out: u128, whole: u128) -> bool {
+        let mut sum = left_out;
         for successor in successors {
             match sum.checked_add(successor.weight()) {
                 Some(more) => sum = more,
@@ -1373,9 +1422,10 @@ pub mod plain {
     //! The calls take any bytes. [`Ways`](crate::Ways) is for callers that want its type to guarantee them.
 
     use crate::generated::outcomes::byte_set::ByteSet;
-    use crate::generated::outcomes::explorer::{After, Explorer};
+    use crate::generated::outcomes::explorer::Explorer;
     use crate::generated::outcomes::fault::OutcomesFault;
     use crate::generated::outcomes::nodes::{Chance, Node, Nodes};
+    use crate::generated::outcomes::options::OutcomeOptions;
     use crate::generated::outcomes::script::DEPTH;
     use crate::generated::outcomes::ways::{copy_of, play_way};
     use crate::generated::events::EventSink;
@@ -1430,7 +1480,7 @@ pub mod plain {
     }
 
     /// The ways of an update of the battle by the bytes of two offered choices, before the first way. `damage_classes` is that of
-    /// [`Ways::new`](crate::Ways::new).
+    /// [`OutcomeOptions`]. No way is left out.
     ///
     /// It is not tested whether the choices are offered. If one is not, the ways lead to battles that mean nothing.
     pub fn first(battle: &Packed, one: u8, two: u8, damage_classes: u8) -> PlainWalk {
@@ -1481,19 +1531,16 @@ pub mod plain {
         let Some(two) = Choice::from_byte(walk.two) else {
             return Ok(None);
         };
-        let mut nodes = Nodes::new(walk.damage_classes);
+        let mut nodes = Nodes::new(OutcomeOptions {
+            damage_classes: walk.damage_classes,
+            least: 0,
+        });
         if !read_nodes(walk, &mut nodes) {
             return Ok(None);
         }
         *battle = copy_of(&walk.battle);
         let path = nodes.path();
-        play_way(
-            battle,
-            one,
-            two,
-            Explorer::new(path, After::of(&mut nodes)),
-            events,
-        );
+        play_way(battle, one, two, Explorer::new(path, 0, &mut nodes), events);
         match nodes.chance() {
             Some(chance) => {
                 walk.over = u8::from(!nodes.advance());
@@ -1744,10 +1791,11 @@ mod ways {
     //! Each way of an update apart ([docs/MECHANICS.md, "Link numbers"](https://hibsuloy.example/gen1/blob/main/docs/MECHANICS.md#link-numbers)).
 
     use crate::generated::outcomes::beginning::{begin, have_two_actions};
-    use crate::generated::outcomes::explorer::{After, Explorer, Notes};
+    use crate::generated::outcomes::explorer::Explorer;
     use crate::generated::outcomes::fault::OutcomesFault;
     use crate::generated::outcomes::middles::Middle;
     use crate::generated::outcomes::nodes::{Chance, Nodes};
+    use crate::generated::outcomes::options::OutcomeOptions;
     use crate::generated::outcomes::playing::play;
     use crate::generated::engine::Refusal;
     use crate::generated::engine::packed::update_silent;
@@ -1771,9 +1819,8 @@ mod ways {
     impl Ways {
         /// The ways of an update of the battle by a choice of each side, before the first.
         ///
-        /// A roll of damage is told apart in as many classes as `damage_classes` says, 1 to 39. 0: each damage. A class has
-        /// neighbouring damages below the HP that is left, and one of them near its middle is played for all. All damages from
-        /// the HP on are one class more.
+        /// With a `least` above 0, a way whose probability is below it is one of those that begin with the same draws, and has the
+        /// probability of all of them ([`is_below`]).
         ///
         /// # Errors
         ///
@@ -1782,7 +1829,7 @@ mod ways {
             battle: &Packed,
             one: Choice,
             two: Choice,
-            damage_classes: u8,
+            options: OutcomeOptions,
         ) -> Result<Ways, Refusal> {
             // The update itself says whether it is refused.
             let mut copy = copy_of(battle);
@@ -1792,7 +1839,7 @@ mod ways {
                     start: copy_of(battle),
                     one,
                     two,
-                    nodes: Nodes::new(damage_classes),
+                    nodes: Nodes::new(options),
                     over: false,
                 }),
             }
@@ -1818,7 +1865,7 @@ mod ways {
                 battle,
                 copied(&self.one),
                 copied(&self.two),
-                Explorer::new(path, After::of(&mut self.nodes)),
+                Explorer::new(path, 0, &mut self.nodes),
                 events,
             );
             match self.nodes.chance() {
@@ -1836,7 +1883,7 @@ mod ways {
         pub(crate) fn begin(&self, nodes: &mut Nodes) -> Option<Middle> {
             let mut battle = copy_of(&self.start);
             let path = nodes.path();
-            let mut explorer = Explorer::new(path, After::of(&mut *nodes));
+            let mut explorer = Explorer::new(path, 0, &mut *nodes);
             let one = copied(&self.one);
             let two = copied(&self.two);
             let rest = begin(&mut battle, one, two, &mut explorer);
@@ -1847,8 +1894,8 @@ mod ways {
         }
 
         /// Begins with the first of the ways that lead there and go on.
-        pub(crate) fn restart(&mut self) {
-            self.nodes.clear();
+        pub(crate) fn restart(&mut self, middle: &Middle) {
+            self.nodes.clear(middle.chance);
         }
 
         /// Plays the update in a way that leads there and then goes on, and returns its probability.
@@ -1863,11 +1910,7 @@ mod ways {
         ) -> Result<Chance, OutcomesFault> {
             *battle = copy_of(&self.start);
             let path = middle.path_to(&self.nodes.path());
-            let notes = After {
-                left: middle.draws,
-                nodes: &mut self.nodes,
-            };
-            let explorer = Explorer::new(path, notes);
+            let explorer = Explorer::new(path, middle.draws, &mut self.nodes);
             let one = copied(&self.one);
             let two = copied(&self.two);
             play_way(battle, one, two, explorer, &mut Silent);
@@ -1889,18 +1932,23 @@ mod ways {
             &self.start
         }
 
-        /// How many classes of damage are told apart. 0: each damage.
-        pub(crate) fn damage_classes(&self) -> u8 {
-            self.nodes.damage_classes
+        /// Whether the way that was played last is a branch that is left out.
+        pub(crate) fn is_left_out(&self) -> bool {
+            self.nodes.is_left_out()
+        }
+
+        /// How the outcomes are listed.
+        pub(crate) fn options(&self) -> OutcomeOptions {
+            self.nodes.options
         }
     }
 
     /// Plays an update by two offered choices in the way that the explorer is at.
-    pub(crate) fn play_way<N: Notes , S: EventSink>(
+    pub(crate) fn play_way<S: EventSink>(
         battle: &mut Packed,
         one: Choice,
         two: Choice,
-        explorer: Explorer<N>,
+        explorer: Explorer,
         events: &mut S,
     ) {
         explorer.draws_a_stream();
@@ -1925,8 +1973,10 @@ mod ways {
 }
 
 
+pub use chances::is_below;
 pub use fault::OutcomesFault;
 pub use nodes::Chance;
+pub use options::OutcomeOptions;
 pub use outcomes::{Outcomes, list_outcomes};
 pub use playing::play;
 pub use successor::Successor;

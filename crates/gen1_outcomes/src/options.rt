@@ -1,0 +1,13 @@
+//! How outcomes are listed (docs/MECHANICS.md, "Link numbers").
+
+/// How outcomes are listed.
+#[derive(Clone, Copy, PartialEq, Eq, Debug, Drop)]
+pub struct OutcomeOptions {
+    /// In how many classes a roll of damage is told apart, 1 to 39. 0: each damage.
+    ///
+    /// A class has neighbouring damages below the HP that is left, and one of them near its middle is played for all. All
+    /// damages from the HP on are one class more.
+    pub damage_classes: u8,
+    /// A branch of the draws is left out as soon as its probability is below so many 2^-32. 0: none is.
+    pub least: u32,
+}
