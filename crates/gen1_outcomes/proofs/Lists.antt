@@ -5,6 +5,7 @@ use Rattle.gen1_machine.specs.declared.choice.Choice.{Choice}
 use Rattle.gen1_machine.specs.State.{State}
 use Rattle.gen1_layout.specs.Parts.{Parts}
 use Rattle.gen1_outcomes.specs.declared.fault.OutcomesFault.{OutcomesFault}
+use Rattle.gen1_outcomes.specs.declared.options.OutcomeOptions.{OutcomeOptions}
 use Rattle.gen1_outcomes.specs.declared.outcomes.Outcomes.{Outcomes}
 use Rattle.gen1_outcomes.specs.declared.successor.Successor.{Successor}
 use Rattle.gen1_layout.specs.Within.{Stands}
@@ -66,10 +67,10 @@ finished_follows s one two count xs (Ok o) each e = subst (λ (n : ℕ). EachFol
 finished_follows s one two count xs (Err fault) each e = tt
 
 -- What a walk lists follows from the pair that it was made of.
-pub follows_walk : (s : State) (one two : Choice) (battle : Parts) (w : Walk) → w ≡ record { start = battle; one = one; two = two } → Stands battle s
+pub follows_walk : (s : State) (one two : Choice) (options : OutcomeOptions) (battle : Parts) (w : Walk) → w ≡ record { start = battle; one = one; two = two; options = options } → Stands battle s
     → AreOffered s one two → (xs : List Successor) (r : Result Outcomes OutcomesFault)
     → (Stands w.start s → AreOffered s w.one w.two → IfOk r (λ o. EachFollows s w.one w.two o.count xs)) → IfOk r (λ o. EachFollows s one two o.count xs)
-follows_walk s one two battle w is stands offered xs r all =
+follows_walk s one two options battle w is stands offered xs r all =
     subst (λ (v : Walk). Stands v.start s → AreOffered s v.one v.two → IfOk r (λ o. EachFollows s v.one v.two o.count xs)) is all stands offered
 
 -- Where a battle that follows is added, what a walk lists still follows, also under another name of the walk.
@@ -81,6 +82,12 @@ still_more w v battle first before count now start old new is still follows thos
     subst (λ (x : Walk). Stands x.start s → AreOffered s x.one x.two → CanFollow s x.one x.two battle untold) is (follows s) h o
     in
     subst (λ (n : ℕ). EachFollows s w.one w.two n new) (sym e) (follows_more s w.one w.two battle before count old new (still s h o each) this those)
+
+-- The same where the battles stay.
+pub still_those : (w : Walk) (first before now : ℕ) (start old new : List Successor) → StillFollow w first start before old → AreThose old new → now ≡ before
+    → StillFollow w first start now new
+still_those w first before now start old new still those e s h o each k none lt =
+    subst (λ (p : Parts). CanFollow s w.one w.two p untold) (sym (those k none)) (still s h o each k none (omega (arith, e, lt)))
 
 -- The same where more is listed.
 pub still_then : (w v : Walk) (first before count : ℕ) (start old new : List Successor) → v ≡ w → StillFollow w first start before old

@@ -6,16 +6,16 @@ use Rattle.gen1_outcomes.specs.declared.nodes.Node.{Node}
 use Rattle.gen1_outcomes.specs.declared.nodes.Nodes.{Nodes}
 use Rattle.gen1_outcomes.specs.Nodes.{GoesOn, IsDone, LeadsOn}
 
-pub leads_on : (old new : Nodes) (list : List Node) (len : ℕ) (node : Node) → new.list ≡ set list (len - 1) node → new.len ≡ len → new.damage_classes ≡ old.damage_classes → list ≡ old.list
+pub leads_on : (old new : Nodes) (list : List Node) (len : ℕ) (node : Node) → new.list ≡ set list (len - 1) node → new.len ≡ len → new.options ≡ old.options → list ≡ old.list
     → len ≤ old.len → 0 < len → len ≤ length list → (d : Node) → GoesOn (get_or list (len - 1) d) node
     → ((k : ℕ) (none : Node) → len ≤ k → k < old.len → IsDone (get_or old.list k none)) → LeadsOn old new
-leads_on old new list len node is same_len classes same shorter some within d goes done =
+leads_on old new list len node is same_len options same shorter some within d goes done =
     let inside : len - 1 < length list = omega arith in
     record {
       place = len - 1;
       within = omega arith;
       length = omega (arith, same_len);
-      classes = classes;
+      options = options;
       before = λ k none lt.
           let ne : k ≢ len - 1 = omega (arith, lt) in
           ap (λ (l : List Node). get_or l k none) is ∙ get_or-set_other list (len - 1) k node none ne ∙ ap (λ (l : List Node). get_or l k none) same;

@@ -1,11 +1,14 @@
--- Sums and products of probabilities.
-use Rattle.std.specs.Prelude.{◌+◌, ◌*◌, ◌≡◌}
+-- Sums of probabilities, and which are below the least one.
+use Rattle.std.specs.Prelude.{ℕ, ◌+◌, ◌*◌, ◌<◌, ◌≡◌, ◌≤◌}
 use Rattle.gen1_outcomes.specs.declared.nodes.Chance.{Chance}
 
 -- The sum of two probabilities.
 abbrev pub IsSum : Chance → Chance → Chance → Type 0
 IsSum a b c = c.num * (a.whole * b.whole) ≡ c.whole * (a.num * b.whole + b.num * a.whole)
 
--- The product of two probabilities.
-abbrev pub IsProduct : Chance → Chance → Chance → Type 0
-IsProduct a b c = (c.num ≡ a.num * b.num) × (c.whole ≡ a.whole * b.whole)
+-- A probability is below so many 2^-32, or it is no less.
+abbrev pub IsBelow : ℕ → Chance → Type 0
+IsBelow least c = c.num * 4294967296 < least * c.whole
+
+abbrev pub IsAtLeast : ℕ → Chance → Type 0
+IsAtLeast least c = least * c.whole ≤ c.num * 4294967296

@@ -14,13 +14,15 @@ use Rattle.gen1_layout.specs.Parts.{Parts}
 use Rattle.gen1_layout.specs.Shows.{Telling}
 use Rattle.gen1_layout.specs.Operations.{Scene}
 use Rattle.gen1_layout.specs.Within.{Within, setting_of}
+use Rattle.gen1_outcomes.specs.declared.options.OutcomeOptions.{OutcomeOptions}
 use Rattle.gen1_switching.specs.Updates.{Steps, UpdatesDrawing, drawing_on}
 
--- What a walk goes through: the ways of an update of a battle by a pair of choices.
+-- What a walk goes through: the ways of an update of a battle by a pair of choices, and what of them is listed.
 pub record Walk : Type 0 where
   pub start : Parts
   pub one : Choice
   pub two : Choice
+  pub options : OutcomeOptions
 
 -- A turn, and its close, with the draws of a stream from a place on.
 abbrev pub turn_on : State → Choice → Choice → Stream → ℕ → Progress

@@ -1,5 +1,7 @@
 //! A turn up to its second action (docs/MECHANICS.md, "Order of a turn").
 
+ghost use Rattle.std.specs.Prelude.{false, ◌≡◌};
+
 use gen1_events::Silent;
 use gen1_hits::Known;
 use gen1_layout::Packed;
@@ -33,7 +35,10 @@ fn is_move(choice: &Choice) -> bool {
 
 impl Rest {
     /// The rest of an update of which nothing has been played.
-    pub(crate) fn all() -> Rest {
+    pub(crate) fn all() -> Rest
+        ensures skips { result.skips ≡ false }
+        ensures cut { result.is_cut ≡ false }
+    {
         Rest {
             second: Side::One,
             skips: false,

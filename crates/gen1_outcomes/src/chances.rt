@@ -1,6 +1,6 @@
 //! Sums of probabilities, and which are below the least one (docs/MECHANICS.md, "Link numbers").
-ghost use Rattle.std.specs.Prelude.{IfSome, ◌<◌, ◌≡◌};
-ghost use Rattle.gen1_outcomes.specs.Chances.{IsProduct, IsSum};
+ghost use Rattle.std.specs.Prelude.{IfSome, IsFalse, IsTrue, ◌^◌, ◌<◌, ◌≡◌};
+ghost use Rattle.gen1_outcomes.specs.Chances.{IsAtLeast, IsBelow, IsSum};
 
 use crate::merging::common_divisor;
 use crate::nodes::Chance;

@@ -10,19 +10,57 @@ use crate::script::{DEPTH, Script};
 use gen1_rolls::{Look, Rolls};
 use std::marker::Model;
 
-/// A script that notes the draws that are taken from it, after a first part of the update, whose draws are not noted.
+/// What draws are noted in. Nothing but [`After`] is; a type parameter lets the explorer hold a reference.
+pub(crate) trait Notes {
+    /// Whether the next draw is one that no way had before.
+    fn is_new(&self) -> bool;
+
+    /// Notes that a draw has this byte, of those that it may have.
+    fn note(&mut self, byte: u8, look: Look, may_have: &ByteSet);
+}
+
+/// Nodes for the draws after a first part of the update, which may have no draw. The draws of the first part are not noted.
+#[derive(Drop)]
+pub(crate) struct After<'a> {
+    /// How many draws of the first part are still to come.
+    pub(crate) left: usize,
+    /// The draws after it. They are borrowed, so that an update moves a reference to them.
+    pub(crate) nodes: &'a mut Nodes,
+}
+
+impl<'a> After<'a> {
+    /// Nodes for all draws of an update.
+    pub(crate) fn of(nodes: &'a mut Nodes) -> After<'a>
+        ensures { result.left ≡ 0 }
+    {
+        After { left: 0, nodes }
+    }
+}
+
+impl Notes for After<'_> {
+    fn is_new(&self) -> bool {
+        self.left == 0 && self.nodes.is_new()
+    }
+
+    fn note(&mut self, byte: u8, look: Look, may_have: &ByteSet) {
+        if self.left == 0 {
+            self.nodes.note(byte, look, may_have);
+        } else {
+            self.left -= 1;
+        }
+    }
+}
+
+/// A script that notes the draws that are taken from it.
 ///
 /// For contracts it is its script. What it notes changes no byte that it draws.
 #[derive(Drop)]
-pub(crate) struct Explorer<'a> {
+pub(crate) struct Explorer<N> {
     script: Script,
-    // How many draws of the first part are still to come.
-    left: usize,
-    // The draws after it. They are borrowed, so that an update moves a reference to them.
-    nodes: &'a mut Nodes,
+    notes: N,
 }
 
-impl Model for Explorer<'_> {
+impl<N> Model for Explorer<N> {
     ghost use Rattle.gen1_outcomes.specs.declared.script.Script.{Script};
 
     ghost Value = { Script };
@@ -30,15 +68,14 @@ impl Model for Explorer<'_> {
     ghost view = { λ e. e.script };
 }
 
-impl<'a> Explorer<'a> {
-    /// An explorer of the way that begins with these bytes, before its first draw. Its first draws, as many as are passed, are not noted.
-    pub(crate) fn new(path: [u8; DEPTH], passed: usize, nodes: &'a mut Nodes) -> Explorer<'a>
+impl<N: Notes> Explorer<N> {
+    /// An explorer of the way that begins with these bytes, before its first draw.
+    pub(crate) fn new(path: [u8; DEPTH], notes: N) -> Explorer<N>
         ensures { result ≡ record { path = path; at = 0; number = 0 } }
     {
         Explorer {
             script: Script::new(path),
-            left: passed,
-            nodes,
+            notes,
         }
     }
 
@@ -56,34 +93,12 @@ impl<'a> Explorer<'a> {
         ensures stream { IsStream (stream_of scripted self.old) }
     {
         let byte = self.script.draw();
-        self.note(byte, look, &ByteSet::all());
+        self.notes.note(byte, look, &ByteSet::all());
         byte
-    }
-
-    // Notes that a draw has this byte, of those that it may have.
-    fn note(&mut self, byte: u8, look: Look, may_have: &ByteSet)
-        ensures { self.new ≡ self.old }
-    {
-        if self.left == 0 {
-            self.nodes.note(byte, look, may_have);
-        } else {
-            self.left -= 1;
-        }
-    }
-
-    // The bytes that a search may find, if they are to be noted.
-    fn may_have<F: Fn(u8) -> bool>(&self, test: &F) -> ByteSet
-        requires callable { F.IsAlwaysCallable test.now }
-    {
-        if self.left == 0 && self.nodes.is_new() {
-            ByteSet::that_pass(test)
-        } else {
-            ByteSet::none()
-        }
     }
 }
 
-impl Rolls for Explorer<'_> {
+impl<N: Notes> Rolls for Explorer<N> {
     const SPAN: usize = 280;
 
     ghost SPAN = { 280 };
@@ -100,10 +115,10 @@ impl Rolls for Explorer<'_> {
     }
 
     fn until_as<F: Fn(u8) -> bool>(&mut self, test: F, look: Look) -> Option<u8> {
-        let bytes = self.may_have(&test);
+        let bytes = may_have(&self.notes, &test);
         match self.script.until_as(test, look) {
             Some(byte) => {
-                self.note(byte, look, &bytes);
+                self.notes.note(byte, look, &bytes);
                 Some(byte)
             }
             None => None,
@@ -115,4 +130,15 @@ impl Rolls for Explorer<'_> {
     ghost positive = { lit< tt };
 
     ghost spans = { refl };
+}
+
+// The bytes that a search may find, if they are to be noted.
+fn may_have<N: Notes, F: Fn(u8) -> bool>(notes: &N, test: &F) -> ByteSet
+    requires callable { F.IsAlwaysCallable test.now }
+{
+    if notes.is_new() {
+        ByteSet::that_pass(test)
+    } else {
+        ByteSet::none()
+    }
 }

@@ -4,6 +4,7 @@ ghost use Rattle.gen1_layout.specs.Parts.{joined};
 ghost use Rattle.gen1_outcomes.specs.Listing.{AreThose, AreThoseOr};
 ghost use Rattle.gen1_outcomes.specs.Merging.{IsPlace};
 
+use crate::chances::is_below;
 use crate::fault::OutcomesFault;
 use crate::nodes::Chance;
 use crate::successor::Successor;
@@ -19,6 +20,8 @@ pub struct Tally {
     pub whole: u128,
     /// The sum of the weights of the branches that are left out.
     pub left_out: u128,
+    /// A branch is left out if its probability is below so many 2^-32.
+    pub least: u32,
     /// How many ways were added.
     pub ways: u32,
 }
@@ -54,7 +57,8 @@ pub enum Place {
     Full,
 }
 
-/// Adds a battle with its probability. One that is there with the same bytes gets its weight.
+/// Adds a battle with its probability, or leaves it out if that is below the least one. A battle that is there with the same
+/// bytes gets its weight.
 pub fn add(
     successors: &mut [Successor],
     table: &mut [u32],
@@ -67,6 +71,9 @@ pub fn add(
     ensures battles { OnOk result (AreThoseOr battle.now tally.old.count successors.old
         tally.new.count successors.new) }
 {
+    if is_below(chance, tally.least) {
+        return leave_out(successors, tally, chance);
+    }
     let weight = scaled_weight(successors, tally, chance)?;
     match find(&successors[..tally.count], table, battle) {
         Place::Taken(place) => add_weight(successors, place, weight),

@@ -203,7 +203,7 @@ impl Nodes {
         ensures options { result.options ≡ options }
         ensures empty { result.len ≡ 0 }
         ensures fits { result.too_large ≡ false }
-        ensures before { result.before ≡ record { num = 1; whole = 1 } }
+        ensures before { (result.before.num ≡ 1) × (result.before.whole ≡ 1) }
     {
         Nodes {
             list: [Node::none(); DEPTH],

@@ -1,10 +1,11 @@
 //! All battles that an update can lead to (docs/MECHANICS.md, "Link numbers").
-ghost use Rattle.std.specs.Prelude.{IfOk, IsTrue, OnOk, length, ◌<◌, ◌≡◌, ◌≤◌};
+ghost use Rattle.std.specs.Prelude.{IfOk, IsTrue, OnOk, length, ◌+◌, ◌<◌, ◌≡◌, ◌≤◌};
 ghost use Rattle.gen1_machine.specs.State.{State};
 ghost use Rattle.gen1_layout.specs.Within.{Stands};
 ghost use Rattle.gen1_engine.specs.Update.{AreOffered};
-ghost use Rattle.gen1_outcomes.specs.Listing.{EachFollows, StillFollow, sum_of};
+ghost use Rattle.gen1_outcomes.specs.Listing.{AreThose, EachFollows, StillFollow, sum_of};
 
+use crate::chances::is_below;
 use crate::fault::OutcomesFault;
 use crate::merging::{Tally, add, leave_out};
 use crate::middles::{Middle, Middles};
@@ -87,6 +88,7 @@ fn list_ways(
         count: 0,
         whole: 1,
         left_out: 0,
+        least: ways.options().least,
         ways: 0,
     };
     add_all(ways, successors, table, &mut tally)?;
@@ -128,18 +130,32 @@ fn add_in_parts(
         let Some(middle) = ways.begin(&mut nodes) else {
             return Err(OutcomesFault::Size);
         };
-        if nodes.is_left_out() {
-            leave_out(successors, tally, middle.chance)?;
-            tally.count_ways(1)?;
-        } else {
-            make_room(ways, &mut middles, successors, table, tally)?;
-            middles.add(&middle)?;
-        }
+        make_room(ways, &mut middles, successors, table, tally)?;
+        keep(&middle, &mut middles, successors, tally)?;
         if !nodes.advance() {
             return go_on_from(ways, &middles, successors, table, tally);
         }
     }
     Err(OutcomesFault::Size)
+}
+
+// Keeps a position, or leaves it out with all that it leads to if its probability is below the least one.
+fn keep(
+    middle: &Middle,
+    middles: &mut Middles,
+    successors: &mut [Successor],
+    tally: &mut Tally,
+) -> Result<(), OutcomesFault>
+    requires room { middles.old.len < 16 }
+    requires within { tally.old.count ≤ length successors.old }
+    ensures count { tally.new.count ≡ tally.old.count }
+    ensures battles { AreThose successors.old successors.new }
+{
+    if is_below(middle.chance, tally.least) {
+        leave_out(successors, tally, middle.chance)?;
+        return tally.count_ways(middle.ways);
+    }
+    middles.add(middle)
 }
 
 // If no place is left, adds what each position leads to, and removes them.
@@ -202,11 +218,7 @@ fn finish(
     let mut next = copy_of(ways.start());
     'walk: for _ in 0..u32::MAX {
         let chance = ways.go_on(middle, &mut next)?;
-        if ways.is_left_out() {
-            leave_out(successors, tally, chance)?;
-        } else {
-            add(successors, table, tally, &next, chance)?;
-        }
+        add(successors, table, tally, &next, chance)?;
         tally.count_ways(middle.ways)?;
         if !ways.advance() {
             return Ok(());

@@ -11,7 +11,7 @@ ghost use Rattle.gen1_outcomes.specs.Following.{CanFollow};
 ghost use Rattle.gen1_outcomes.specs.Plain.{KeepsUpdate, walk_before};
 
 use crate::byte_set::ByteSet;
-use crate::explorer::Explorer;
+use crate::explorer::{After, Explorer};
 use crate::fault::OutcomesFault;
 use crate::nodes::{Chance, Node, Nodes};
 use crate::options::OutcomeOptions;
@@ -144,7 +144,13 @@ pub fn next<S: EventSink>(
     }
     *battle = copy_of(&walk.battle);
     let path = nodes.path();
-    play_way(battle, one, two, Explorer::new(path, 0, &mut nodes), events);
+    play_way(
+        battle,
+        one,
+        two,
+        Explorer::new(path, After::of(&mut nodes)),
+        events,
+    );
     match nodes.chance() {
         Some(chance) => {
             walk.over = u8::from(!nodes.advance());

@@ -9,7 +9,7 @@ ghost use Rattle.gen1_outcomes.specs.Listing.{untold};
 ghost use Rattle.gen1_outcomes.specs.Nodes.{IsChance};
 
 use crate::beginning::{begin, have_two_actions};
-use crate::explorer::Explorer;
+use crate::explorer::{After, Explorer, Notes};
 use crate::fault::OutcomesFault;
 use crate::middles::Middle;
 use crate::nodes::{Chance, Nodes};
@@ -31,6 +31,7 @@ pub struct Ways {
     start: Packed,
     one: Choice,
     two: Choice,
+    options: OutcomeOptions,
     nodes: Nodes,
     over: bool,
 }
@@ -40,7 +41,7 @@ impl Model for Ways {
 
     ghost Value = { Walk };
 
-    ghost view = { λ w. record { start = w.start; one = w.one; two = w.two } };
+    ghost view = { λ w. record { start = w.start; one = w.one; two = w.two; options = w.options } };
 }
 
 impl Ways {
@@ -58,7 +59,8 @@ impl Ways {
         two: Choice,
         options: OutcomeOptions,
     ) -> Result<Ways, Refusal>
-        ensures walk { IfOk result (λ w. w ≡ record { start = battle.now; one = one; two = two }) }
+        ensures walk { IfOk result (λ w. w
+            ≡ record { start = battle.now; one = one; two = two; options = options }) }
         ensures offered { (s : State) → Stands battle.now s
             → IfOk result (λ _. AreOffered s one two) }
         ensures refused { (s : State) → Stands battle.now s
@@ -72,6 +74,7 @@ impl Ways {
                 start: copy_of(battle),
                 one,
                 two,
+                options,
                 nodes: Nodes::new(options),
                 over: false,
             }),
@@ -105,7 +108,7 @@ impl Ways {
             battle,
             copied(&self.one),
             copied(&self.two),
-            Explorer::new(path, 0, &mut self.nodes),
+            Explorer::new(path, After::of(&mut self.nodes)),
             events,
         );
         match self.nodes.chance() {
@@ -127,7 +130,7 @@ impl Ways {
     {
         let mut battle = copy_of(&self.start);
         let path = nodes.path();
-        let mut explorer = Explorer::new(path, 0, &mut *nodes);
+        let mut explorer = Explorer::new(path, After::of(&mut *nodes));
         let one = copied(&self.one);
         let two = copied(&self.two);
         let rest = begin(&mut battle, one, two, &mut explorer);
@@ -161,7 +164,11 @@ impl Ways {
     {
         *battle = copy_of(&self.start);
         let path = middle.path_to(&self.nodes.path());
-        let explorer = Explorer::new(path, middle.draws, &mut self.nodes);
+        let notes = After {
+            left: middle.draws,
+            nodes: &mut self.nodes,
+        };
+        let explorer = Explorer::new(path, notes);
         let one = copied(&self.one);
         let two = copied(&self.two);
         play_way(battle, one, two, explorer, &mut Silent);
@@ -187,23 +194,20 @@ impl Ways {
         &self.start
     }
 
-    /// Whether the way that was played last is a branch that is left out.
-    pub(crate) fn is_left_out(&self) -> bool {
-        self.nodes.is_left_out()
-    }
-
     /// How the outcomes are listed.
-    pub(crate) fn options(&self) -> OutcomeOptions {
-        self.nodes.options
+    pub(crate) fn options(&self) -> OutcomeOptions
+        ensures { result ≡ self.now.options }
+    {
+        self.options
     }
 }
 
 /// Plays an update by two offered choices in the way that the explorer is at.
-pub(crate) fn play_way<S: EventSink>(
+pub(crate) fn play_way<N: Notes + Drop, S: EventSink>(
     battle: &mut Packed,
     one: Choice,
     two: Choice,
-    explorer: Explorer,
+    explorer: Explorer<N>,
     events: &mut S,
 )
     requires empty { S.tells events.old [] }

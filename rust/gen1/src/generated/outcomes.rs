@@ -399,25 +399,60 @@ mod explorer {
     use crate::generated::outcomes::script::{DEPTH, Script};
     use crate::generated::rolls::{Look, Rolls};
 
-    /// A script that notes the draws that are taken from it, after a first part of the update, whose draws are not noted.
+    /// What draws are noted in. Nothing but [`After`] is; a type parameter lets the explorer hold a reference.
+    pub(crate) trait Notes {
+        /// Whether the next draw is one that no way had before.
+        fn is_new(&self) -> bool;
+
+        /// Notes that a draw has this byte, of those that it may have.
+        fn note(&mut self, byte: u8, look: Look, may_have: &ByteSet);
+    }
+
+    /// Nodes for the draws after a first part of the update, which may have no draw. The draws of the first part are not noted.
+
+    pub(crate) struct After<'a> {
+        /// How many draws of the first part are still to come.
+        pub(crate) left: usize,
+        /// The draws after it. They are borrowed, so that an update moves a reference to them.
+        pub(crate) nodes: &'a mut Nodes,
+    }
+
+    impl<'a> After<'a> {
+        /// Nodes for all draws of an update.
+        pub(crate) fn of(nodes: &'a mut Nodes) -> After<'a> {
+            After { left: 0, nodes }
+        }
+    }
+
+    impl Notes for After<'_> {
+        fn is_new(&self) -> bool {
+            self.left == 0 && self.nodes.is_new()
+        }
+
+        fn note(&mut self, byte: u8, look: Look, may_have: &ByteSet) {
+            if self.left == 0 {
+                self.nodes.note(byte, look, may_have);
+            } else {
+                self.left -= 1;
+            }
+        }
+    }
+
+    /// A script that notes the draws that are taken from it.
     ///
     /// For contracts it is its script. What it notes changes no byte that it draws.
 
-    pub(crate) struct Explorer<'a> {
+    pub(crate) struct Explorer<N> {
         script: Script,
-        // How many draws of the first part are still to come.
-        left: usize,
-        // The draws after it. They are borrowed, so that an update moves a reference to them.
-        nodes: &'a mut Nodes,
+        notes: N,
     }
 
-    impl<'a> Explorer<'a> {
-        /// An explorer of the way that begins with these bytes, before its first draw. Its first draws, as many as are passed, are not noted.
-        pub(crate) fn new(path: [u8; DEPTH], passed: usize, nodes: &'a mut Nodes) -> Explorer<'a> {
+    impl<N: Notes> Explorer<N> {
+        /// An explorer of the way that begins with these bytes, before its first draw.
+        pub(crate) fn new(path: [u8; DEPTH], notes: N) -> Explorer<N> {
             Explorer {
                 script: Script::new(path),
-                left: passed,
-                nodes,
+                notes,
             }
         }
 
@@ -429,30 +464,12 @@ mod explorer {
         // Draws a byte, and notes it.
         fn draw_noted(&mut self, look: Look) -> u8 {
             let byte = self.script.draw();
-            self.note(byte, look, &ByteSet::all());
+            self.notes.note(byte, look, &ByteSet::all());
             byte
-        }
-
-        // Notes that a draw has this byte, of those that it may have.
-        fn note(&mut self, byte: u8, look: Look, may_have: &ByteSet) {
-            if self.left == 0 {
-                self.nodes.note(byte, look, may_have);
-            } else {
-                self.left -= 1;
-            }
-        }
-
-        // The bytes that a search may find, if they are to be noted.
-        fn may_have<F: Fn(u8) -> bool>(&self, test: &F) -> ByteSet {
-            if self.left == 0 && self.nodes.is_new() {
-                ByteSet::that_pass(test)
-            } else {
-                ByteSet::none()
-            }
         }
     }
 
-    impl Rolls for Explorer<'_> {
+    impl<N: Notes> Rolls for Explorer<N> {
         const SPAN: usize = 280;
 
         // A draw of which all is looked at.
@@ -465,14 +482,23 @@ mod explorer {
         }
 
         fn until_as<F: Fn(u8) -> bool>(&mut self, test: F, look: Look) -> Option<u8> {
-            let bytes = self.may_have(&test);
+            let bytes = may_have(&self.notes, &test);
             match self.script.until_as(test, look) {
                 Some(byte) => {
-                    self.note(byte, look, &bytes);
+                    self.notes.note(byte, look, &bytes);
                     Some(byte)
                 }
                 None => None,
             }
+        }
+    }
+
+    // The bytes that a search may find, if they are to be noted.
+    fn may_have<N: Notes, F: Fn(u8) -> bool>(notes: &N, test: &F) -> ByteSet {
+        if notes.is_new() {
+            ByteSet::that_pass(test)
+        } else {
+            ByteSet::none()
         }
     }
 }
@@ -527,6 +553,7 @@ mod fault {
 mod merging {
     //! Battles that are equal become one ([docs/MECHANICS.md, "Link numbers"](https://hibsuloy.example/gen1/blob/main/docs/MECHANICS.md#link-numbers)).
 
+    use crate::generated::outcomes::chances::is_below;
     use crate::generated::outcomes::fault::OutcomesFault;
     use crate::generated::outcomes::nodes::Chance;
     use crate::generated::outcomes::successor::Successor;
@@ -542,6 +569,8 @@ mod merging {
         pub whole: u128,
         /// The sum of the weights of the branches that are left out.
         pub left_out: u128,
+        /// A branch is left out if its probability is below so many 2^-32.
+        pub least: u32,
         /// How many ways were added.
         pub ways: u32,
     }
@@ -574,7 +603,8 @@ mod merging {
         Full,
     }
 
-    /// Adds a battle with its probability. One that is there with the same bytes gets its weight.
+    /// Adds a battle with its probability, or leaves it out if that is below the least one. A battle that is there with the same
+    /// bytes gets its weight.
     pub fn add(
         successors: &mut [Successor],
         table: &mut [u32],
@@ -582,6 +612,9 @@ mod merging {
         battle: &Packed,
         chance: Chance,
     ) -> Result<(), OutcomesFault> {
+        if is_below(chance, tally.least) {
+            return leave_out(successors, tally, chance);
+        }
         let weight = scaled_weight(successors, tally, chance)?;
         match find(&successors[..tally.count], table, battle) {
             Place::Taken(place) => add_weight(successors, place, weight),
@@ -1221,6 +1254,7 @@ mod options {
 mod outcomes {
     //! All battles that an update can lead to ([docs/MECHANICS.md, "Link numbers"](https://hibsuloy.example/gen1/blob/main/docs/MECHANICS.md#link-numbers)).
 
+    use crate::generated::outcomes::chances::is_below;
     use crate::generated::outcomes::fault::OutcomesFault;
     use crate::generated::outcomes::merging::{Tally, add, leave_out};
     use crate::generated::outcomes::middles::{Middle, Middles};
@@ -1292,6 +1326,7 @@ mod outcomes {
             count: 0,
             whole: 1,
             left_out: 0,
+            least: ways.options().least,
             ways: 0,
         };
         add_all(ways, successors, table, &mut tally)?;
@@ -1323,18 +1358,27 @@ mod outcomes {
             let Some(middle) = ways.begin(&mut nodes) else {
                 return Err(OutcomesFault::Size);
             };
-            if nodes.is_left_out() {
-                leave_out(successors, tally, middle.chance)?;
-                tally.count_ways(1)?;
-            } else {
-                make_room(ways, &mut middles, successors, table, tally)?;
-                middles.add(&middle)?;
-            }
+            make_room(ways, &mut middles, successors, table, tally)?;
+            keep(&middle, &mut middles, successors, tally)?;
             if !nodes.advance() {
                 return go_on_from(ways, &middles, successors, table, tally);
             }
         }
         Err(OutcomesFault::Size)
+    }
+
+    // Keeps a position, or leaves it out with all that it leads to if its probability is below the least one.
+    fn keep(
+        middle: &Middle,
+        middles: &mut Middles,
+        successors: &mut [Successor],
+        tally: &mut Tally,
+    ) -> Result<(), OutcomesFault> {
+        if is_below(middle.chance, tally.least) {
+            leave_out(successors, tally, middle.chance)?;
+            return tally.count_ways(middle.ways);
+        }
+        middles.add(middle)
     }
 
     // If no place is left, adds what each position leads to, and removes them.
@@ -1378,11 +1422,7 @@ mod outcomes {
         let mut next = copy_of(ways.start());
         for _ in 0..u32::MAX {
             let chance = ways.go_on(middle, &mut next)?;
-            if ways.is_left_out() {
-                leave_out(successors, tally, chance)?;
-            } else {
-                add(successors, table, tally, &next, chance)?;
-            }
+            add(successors, table, tally, &next, chance)?;
             tally.count_ways(middle.ways)?;
             if !ways.advance() {
                 return Ok(());
@@ -1422,7 +1462,7 @@ pub mod plain {
     //! The calls take any bytes. [`Ways`](crate::Ways) is for callers that want its type to guarantee them.
 
     use crate::generated::outcomes::byte_set::ByteSet;
-    use crate::generated::outcomes::explorer::Explorer;
+    use crate::generated::outcomes::explorer::{After, Explorer};
     use crate::generated::outcomes::fault::OutcomesFault;
     use crate::generated::outcomes::nodes::{Chance, Node, Nodes};
     use crate::generated::outcomes::options::OutcomeOptions;
@@ -1540,7 +1580,13 @@ pub mod plain {
         }
         *battle = copy_of(&walk.battle);
         let path = nodes.path();
-        play_way(battle, one, two, Explorer::new(path, 0, &mut nodes), events);
+        play_way(
+            battle,
+            one,
+            two,
+            Explorer::new(path, After::of(&mut nodes)),
+            events,
+        );
         match nodes.chance() {
             Some(chance) => {
                 walk.over = u8::from(!nodes.advance());
@@ -1791,7 +1837,7 @@ mod ways {
     //! Each way of an update apart ([docs/MECHANICS.md, "Link numbers"](https://hibsuloy.example/gen1/blob/main/docs/MECHANICS.md#link-numbers)).
 
     use crate::generated::outcomes::beginning::{begin, have_two_actions};
-    use crate::generated::outcomes::explorer::Explorer;
+    use crate::generated::outcomes::explorer::{After, Explorer, Notes};
     use crate::generated::outcomes::fault::OutcomesFault;
     use crate::generated::outcomes::middles::Middle;
     use crate::generated::outcomes::nodes::{Chance, Nodes};
@@ -1812,6 +1858,7 @@ mod ways {
         start: Packed,
         one: Choice,
         two: Choice,
+        options: OutcomeOptions,
         nodes: Nodes,
         over: bool,
     }
@@ -1839,6 +1886,7 @@ mod ways {
                     start: copy_of(battle),
                     one,
                     two,
+                    options,
                     nodes: Nodes::new(options),
                     over: false,
                 }),
@@ -1865,7 +1913,7 @@ mod ways {
                 battle,
                 copied(&self.one),
                 copied(&self.two),
-                Explorer::new(path, 0, &mut self.nodes),
+                Explorer::new(path, After::of(&mut self.nodes)),
                 events,
             );
             match self.nodes.chance() {
@@ -1883,7 +1931,7 @@ mod ways {
         pub(crate) fn begin(&self, nodes: &mut Nodes) -> Option<Middle> {
             let mut battle = copy_of(&self.start);
             let path = nodes.path();
-            let mut explorer = Explorer::new(path, 0, &mut *nodes);
+            let mut explorer = Explorer::new(path, After::of(&mut *nodes));
             let one = copied(&self.one);
             let two = copied(&self.two);
             let rest = begin(&mut battle, one, two, &mut explorer);
@@ -1910,7 +1958,11 @@ mod ways {
         ) -> Result<Chance, OutcomesFault> {
             *battle = copy_of(&self.start);
             let path = middle.path_to(&self.nodes.path());
-            let explorer = Explorer::new(path, middle.draws, &mut self.nodes);
+            let notes = After {
+                left: middle.draws,
+                nodes: &mut self.nodes,
+            };
+            let explorer = Explorer::new(path, notes);
             let one = copied(&self.one);
             let two = copied(&self.two);
             play_way(battle, one, two, explorer, &mut Silent);
@@ -1932,23 +1984,18 @@ mod ways {
             &self.start
         }
 
-        /// Whether the way that was played last is a branch that is left out.
-        pub(crate) fn is_left_out(&self) -> bool {
-            self.nodes.is_left_out()
-        }
-
         /// How the outcomes are listed.
         pub(crate) fn options(&self) -> OutcomeOptions {
-            self.nodes.options
+            self.options
         }
     }
 
     /// Plays an update by two offered choices in the way that the explorer is at.
-    pub(crate) fn play_way<S: EventSink>(
+    pub(crate) fn play_way<N: Notes , S: EventSink>(
         battle: &mut Packed,
         one: Choice,
         two: Choice,
-        explorer: Explorer,
+        explorer: Explorer<N>,
         events: &mut S,
     ) {
         explorer.draws_a_stream();

@@ -1,5 +1,5 @@
 use Rattle.std.proofs.Common.{arith, refl, ◌∙◌}
-use Rattle.gen1_outcomes.proofs.Lists.{on_ok_then, still_then}
+use Rattle.gen1_outcomes.proofs.Lists.{on_ok_then, still_then, still_those}
 use Rattle.gen1_outcomes.proofs.outcomes.add_in_parts.Goals as goal
 
 pub walk-init : goal.walk-init
@@ -10,14 +10,20 @@ walk-preserved c =
     record {
       same = c.in_ok-make_room.ensures.same ∙ c.walk.invariant.same;
       within = omega arith;
-      follow = still_then c.args.ways.now c.walk.ways c.args.tally.now.count c.walk.tally.count c.make_room.new.tally.count
-          c.args.successors.now c.walk.successors c.make_room.new.successors c.walk.invariant.same c.walk.invariant.follow c.in_ok-make_room.ensures.follow;
+      follow = still_those c.args.ways.now c.args.tally.now.count c.make_room.new.tally.count c.keep.new.tally.count
+          c.args.successors.now c.make_room.new.successors c.keep.new.successors
+          (still_then c.args.ways.now c.walk.ways c.args.tally.now.count c.walk.tally.count c.make_room.new.tally.count
+          c.args.successors.now c.walk.successors c.make_room.new.successors c.walk.invariant.same c.walk.invariant.follow c.in_ok-make_room.ensures.follow)
+          c.in_ok-keep.ensures.battles c.in_ok-keep.ensures.count;
     }
 
 pub returns-then-not-advance-clause-follow : goal.returns-then-not-advance-clause-follow
 returns-then-not-advance-clause-follow c =
-    on_ok_then c.args.ways.now c.make_room.new.ways c.args.tally.now.count c.make_room.new.tally.count c.go_on_from.new.tally.count
-    c.args.successors.now c.make_room.new.successors c.go_on_from.new.successors c.go_on_from.result (c.in_ok-make_room.ensures.same ∙ c.walk.invariant.same)
+    on_ok_then c.args.ways.now c.make_room.new.ways c.args.tally.now.count c.keep.new.tally.count c.go_on_from.new.tally.count
+    c.args.successors.now c.keep.new.successors c.go_on_from.new.successors c.go_on_from.result (c.in_ok-make_room.ensures.same ∙ c.walk.invariant.same)
+    (still_those c.args.ways.now c.args.tally.now.count c.make_room.new.tally.count c.keep.new.tally.count
+    c.args.successors.now c.make_room.new.successors c.keep.new.successors
     (still_then c.args.ways.now c.walk.ways c.args.tally.now.count c.walk.tally.count c.make_room.new.tally.count
     c.args.successors.now c.walk.successors c.make_room.new.successors c.walk.invariant.same c.walk.invariant.follow c.in_ok-make_room.ensures.follow)
+    c.in_ok-keep.ensures.battles c.in_ok-keep.ensures.count)
     c.go_on_from.ensures.follow

@@ -3,5 +3,5 @@ use Rattle.gen1_outcomes.proofs.outcomes.list_outcomes.Goals as goal
 
 pub returns-in-Ok-clause-follow : goal.returns-in-Ok-clause-follow
 returns-in-Ok-clause-follow c s h =
-    follows_walk s c.args.pair.0 c.args.pair.1 c.args.battle.now c.in-Ok.ways c.in-Ok.ensures.walk h (c.in-Ok.ensures.offered s h)
+    follows_walk s c.args.pair.0 c.args.pair.1 c.args.options c.args.battle.now c.in-Ok.ways c.in-Ok.ensures.walk h (c.in-Ok.ensures.offered s h)
     c.list_ways.new.successors c.list_ways.result (λ stands offered. c.list_ways.ensures.follow s stands offered)

@@ -7,7 +7,7 @@ abbrev pub invariant-places : goal.invariant-places
 invariant-places l =
     record {
       list : l.self.list ≡ l.fn.self.list;
-      classes : l.self.damage_classes ≡ l.fn.self.damage_classes;
+      options : l.self.options ≡ l.fn.self.options;
       few : l.self.len + l.counter ≤ 24;
       shorter : l.self.len ≤ l.fn.self.len;
       done : (k : ℕ) (none : Node) → l.self.len ≤ k → k < l.fn.self.len → IsDone (get_or l.fn.self.list k none);
