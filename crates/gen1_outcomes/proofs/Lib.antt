@@ -1,5 +1,6 @@
 -- Lemmas.
 pub mod Joining
+pub mod Leaving
 pub mod Lists
 pub mod Offered
 pub mod Paths

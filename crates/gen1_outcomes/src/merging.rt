@@ -1,8 +1,9 @@
 //! Battles that are equal become one (docs/MECHANICS.md, "Link numbers").
-ghost use Rattle.std.specs.Prelude.{IsTrue, OnOk, length, ◌+◌, ◌<◌, ◌≡◌, ◌≤◌};
+ghost use Rattle.std.specs.Prelude.{IfOk, IsTrue, OnOk, length, ◌+◌, ◌<◌, ◌≡◌, ◌≤◌};
 ghost use Rattle.gen1_layout.specs.Parts.{joined};
+ghost use Rattle.gen1_outcomes.specs.Chances.{IsBelow};
 ghost use Rattle.gen1_outcomes.specs.Listing.{AreThose, AreThoseOr};
-ghost use Rattle.gen1_outcomes.specs.Merging.{IsPlace};
+ghost use Rattle.gen1_outcomes.specs.Merging.{IsPlace, LeavesOut};
 
 use crate::chances::is_below;
 use crate::fault::OutcomesFault;
@@ -35,6 +36,7 @@ impl Tally {
     pub fn count_ways(&mut self, ways: u32) -> Result<(), OutcomesFault>
         ensures count { self.new.count ≡ self.old.count }
         ensures ways { OnOk result (self.new.ways ≡ self.old.ways + ways) }
+        ensures left_out { LeavesOut self.old self.new }
     {
         match self.ways.checked_add(ways) {
             Some(sum) => {
@@ -70,6 +72,7 @@ pub fn add(
     ensures within { tally.new.count ≤ length successors.new }
     ensures battles { OnOk result (AreThoseOr battle.now tally.old.count successors.old
         tally.new.count successors.new) }
+    ensures left_out { OnOk result (LeavesOut tally.old tally.new) }
 {
     if is_below(chance, tally.least) {
         return leave_out(successors, tally, chance);
@@ -95,8 +98,10 @@ pub fn leave_out(
     chance: Chance,
 ) -> Result<(), OutcomesFault>
     requires within { tally.old.count ≤ length successors.old }
+    requires below { IsBelow tally.old.least chance }
     ensures count { tally.new.count ≡ tally.old.count }
     ensures battles { AreThose successors.old successors.new }
+    ensures left_out { OnOk result (LeavesOut tally.old tally.new) }
 {
     let weight = scaled_weight(successors, tally, chance)?;
     match tally.left_out.checked_add(weight) {
@@ -121,6 +126,7 @@ fn append(
     ensures within { tally.new.count ≤ length successors.new }
     ensures battles { OnOk result (AreThoseOr successor.battle tally.old.count successors.old
         tally.new.count successors.new) }
+    ensures left_out { OnOk result (LeavesOut tally.old tally.new) }
 {
     if tally.count >= successors.len() {
         return Err(OutcomesFault::Places);
@@ -213,6 +219,7 @@ fn scaled_weight(
     requires within { tally.old.count ≤ length successors.old }
     ensures count { tally.new.count ≡ tally.old.count }
     ensures battles { AreThose successors.old successors.new }
+    ensures left_out { IfOk result (λ _. LeavesOut tally.old tally.new) }
 {
     if tally.whole % chance.whole != 0 {
         let more = chance.whole / common_divisor(tally.whole, chance.whole);
@@ -229,6 +236,7 @@ fn scale(successors: &mut [Successor], tally: &mut Tally, more: u128) -> Result<
     requires within { tally.old.count ≤ length successors.old }
     ensures count { tally.new.count ≡ tally.old.count }
     ensures battles { AreThose successors.old successors.new }
+    ensures left_out { OnOk result (LeavesOut tally.old tally.new) }
 {
     match (
         tally.whole.checked_mul(more),

@@ -4,6 +4,7 @@ ghost use Rattle.gen1_machine.specs.State.{State};
 ghost use Rattle.gen1_layout.specs.Within.{Stands};
 ghost use Rattle.gen1_engine.specs.Update.{AreOffered};
 ghost use Rattle.gen1_outcomes.specs.Listing.{AreThose, EachFollows, StillFollow, sum_of};
+ghost use Rattle.gen1_outcomes.specs.Merging.{LeavesOut};
 
 use crate::chances::is_below;
 use crate::fault::OutcomesFault;
@@ -55,6 +56,7 @@ pub fn list_outcomes(
         → IfOk result (λ o. EachFollows s pair.0 pair.1 o.count successors.new) }
     ensures sum { IfOk result (λ o. sum_of o.count successors.new + o.left_out ≡ o.whole) }
     ensures within { IfOk result (λ o. o.count ≤ length successors.new) }
+    ensures all { options.least ≡ 0 → IfOk result (λ o. o.left_out ≡ 0) }
 {
     match Ways::new(battle, pair.0, pair.1, options) {
         Err(why) => Err(OutcomesFault::Refused(why)),
@@ -83,6 +85,7 @@ fn list_ways(
         → IfOk result (λ o. EachFollows s ways.old.one ways.old.two o.count successors.new) }
     ensures sum { IfOk result (λ o. sum_of o.count successors.new + o.left_out ≡ o.whole) }
     ensures within { IfOk result (λ o. o.count ≤ length successors.new) }
+    ensures all { ways.old.options.least ≡ 0 → IfOk result (λ o. o.left_out ≡ 0) }
 {
     let mut tally = Tally {
         count: 0,
@@ -105,6 +108,7 @@ fn add_all(
     ensures within { tally.new.count ≤ length successors.new }
     ensures follow { OnOk result (StillFollow ways.old tally.old.count successors.old
         tally.new.count successors.new) }
+    ensures left_out { OnOk result (LeavesOut tally.old tally.new) }
 {
     if ways.has_two_actions() {
         return add_in_parts(ways, successors, table, tally);
@@ -123,6 +127,7 @@ fn add_in_parts(
     ensures within { tally.new.count ≤ length successors.new }
     ensures follow { OnOk result (StillFollow ways.old tally.old.count successors.old
         tally.new.count successors.new) }
+    ensures left_out { OnOk result (LeavesOut tally.old tally.new) }
 {
     let mut nodes = Nodes::new(ways.options());
     let mut middles = Middles::new();
@@ -150,6 +155,7 @@ fn keep(
     requires within { tally.old.count ≤ length successors.old }
     ensures count { tally.new.count ≡ tally.old.count }
     ensures battles { AreThose successors.old successors.new }
+    ensures left_out { OnOk result (LeavesOut tally.old tally.new) }
 {
     if is_below(middle.chance, tally.least) {
         leave_out(successors, tally, middle.chance)?;
@@ -172,6 +178,7 @@ fn make_room(
     ensures within { tally.new.count ≤ length successors.new }
     ensures follow { OnOk result (StillFollow ways.old tally.old.count successors.old
         tally.new.count successors.new) }
+    ensures left_out { OnOk result (LeavesOut tally.old tally.new) }
 {
     if middles.is_full() {
         go_on_from(ways, middles, successors, table, tally)?;
@@ -193,6 +200,7 @@ fn go_on_from(
     ensures within { tally.new.count ≤ length successors.new }
     ensures follow { OnOk result (StillFollow ways.old tally.old.count successors.old
         tally.new.count successors.new) }
+    ensures left_out { OnOk result (LeavesOut tally.old tally.new) }
 {
     'places: for place in 0..middles.len {
         finish(ways, &middles.list[place], successors, table, tally)?;
@@ -213,6 +221,7 @@ fn finish(
     ensures within { tally.new.count ≤ length successors.new }
     ensures follow { OnOk result (StillFollow ways.old tally.old.count successors.old
         tally.new.count successors.new) }
+    ensures left_out { OnOk result (LeavesOut tally.old tally.new) }
 {
     ways.restart(middle);
     let mut next = copy_of(ways.start());
@@ -231,6 +240,7 @@ fn finish(
 fn finished(successors: &[Successor], tally: Tally) -> Result<Outcomes, OutcomesFault>
     requires within { tally.count ≤ length successors.now }
     ensures count { IfOk result (λ o. o.count ≡ tally.count) }
+    ensures left_out { IfOk result (λ o. o.left_out ≡ tally.left_out) }
     ensures within { IfOk result (λ o. o.count ≤ length successors.now) }
     ensures sum { IfOk result (λ o. sum_of o.count successors.now + o.left_out ≡ o.whole) }
 {

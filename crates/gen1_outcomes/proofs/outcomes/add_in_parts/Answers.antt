@@ -1,15 +1,17 @@
 use Rattle.std.proofs.Common.{arith, refl, ◌∙◌}
+use Rattle.gen1_outcomes.proofs.Leaving.{leaves_then, on_ok_leaves}
 use Rattle.gen1_outcomes.proofs.Lists.{on_ok_then, still_then, still_those}
 use Rattle.gen1_outcomes.proofs.outcomes.add_in_parts.Goals as goal
 
 pub walk-init : goal.walk-init
-walk-init c = record { same = refl; within = omega arith; follow = λ s h o each. each }
+walk-init c = record { same = refl; within = omega arith; left_out = record { least = refl; none = λ l z. z }; follow = λ s h o each. each }
 
 pub walk-preserved : goal.walk-preserved
 walk-preserved c =
     record {
       same = c.in_ok-make_room.ensures.same ∙ c.walk.invariant.same;
       within = omega arith;
+      left_out = leaves_then _ _ _ (leaves_then _ _ _ c.walk.invariant.left_out c.in_ok-make_room.ensures.left_out) c.in_ok-keep.ensures.left_out;
       follow = still_those c.args.ways.now c.args.tally.now.count c.make_room.new.tally.count c.keep.new.tally.count
           c.args.successors.now c.make_room.new.successors c.keep.new.successors
           (still_then c.args.ways.now c.walk.ways c.args.tally.now.count c.walk.tally.count c.make_room.new.tally.count
@@ -27,3 +29,9 @@ returns-then-not-advance-clause-follow c =
     c.args.successors.now c.walk.successors c.make_room.new.successors c.walk.invariant.same c.walk.invariant.follow c.in_ok-make_room.ensures.follow)
     c.in_ok-keep.ensures.battles c.in_ok-keep.ensures.count)
     c.go_on_from.ensures.follow
+
+pub returns-then-not-advance-clause-left_out : goal.returns-then-not-advance-clause-left_out
+returns-then-not-advance-clause-left_out c =
+    on_ok_leaves _ _ _ c.go_on_from.result
+    (leaves_then _ _ _ (leaves_then _ _ _ c.walk.invariant.left_out c.in_ok-make_room.ensures.left_out) c.in_ok-keep.ensures.left_out)
+    c.go_on_from.ensures.left_out

@@ -1,4 +1,6 @@
-use Rattle.std.proofs.Common.{arith}
+use Rattle.std.proofs.Common.{ap, arith, refl, ◌∙◌}
+use Rattle.gen1_outcomes.specs.declared.options.OutcomeOptions.{OutcomeOptions}
+use Rattle.gen1_outcomes.proofs.Leaving.{finished_all}
 use Rattle.gen1_outcomes.proofs.Lists.{finished_follows}
 use Rattle.gen1_outcomes.proofs.outcomes.list_ways.Goals as goal
 
@@ -6,3 +8,7 @@ pub returns-clause-follow : goal.returns-clause-follow
 returns-clause-follow c s h o =
     finished_follows s c.args.ways.now.one c.args.ways.now.two c.add_all.new.tally.count c.add_all.new.successors c.finished.result
     (c.in_ok-add_all.ensures.follow s h o (λ k none lt. absurd (omega (arith, lt)))) c.finished.ensures.count
+
+pub returns-clause-all : goal.returns-clause-all
+returns-clause-all c least =
+    finished_all _ _ c.finished.result c.in_ok-add_all.ensures.left_out (ap (λ (o : OutcomeOptions). o.least) c.options.ensures ∙ least) refl c.finished.ensures.left_out
