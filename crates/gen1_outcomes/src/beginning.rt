@@ -1,6 +1,8 @@
 //! A turn up to its second action (docs/MECHANICS.md, "Order of a turn").
 
 ghost use Rattle.std.specs.Prelude.{false, ◌≡◌};
+ghost use Rattle.gen1_layout.specs.Words.{Reads};
+ghost use Rattle.gen1_outcomes.specs.Beginning.{asks_for_move, have_two_actions, is_move};
 
 use gen1_events::Silent;
 use gen1_hits::Known;
@@ -22,11 +24,24 @@ pub struct Rest {
 }
 
 /// Whether both sides use a move, so that the update has two actions.
-pub(crate) fn have_two_actions(battle: &Packed, one: &Choice, two: &Choice) -> bool {
-    battle.request(Side::One) == Request::Move && is_move(one) && is_move(two)
+pub(crate) fn have_two_actions(battle: &Packed, one: &Choice, two: &Choice) -> bool
+    ensures stands { Reads battle.now result (have_two_actions one.now two.now) }
+{
+    asks_for_move(battle.request(Side::One)) && is_move(one) && is_move(two)
 }
 
-fn is_move(choice: &Choice) -> bool {
+fn asks_for_move(request: Request) -> bool
+    ensures { result ≡ asks_for_move request }
+{
+    match request {
+        Request::Move => true,
+        _ => false,
+    }
+}
+
+fn is_move(choice: &Choice) -> bool
+    ensures { result ≡ is_move choice.now }
+{
     match choice {
         Choice::Move(_) => true,
         _ => false,

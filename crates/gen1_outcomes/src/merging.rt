@@ -183,8 +183,10 @@ fn are_equal(one: &Packed, other: &Packed) -> bool
     one.as_bytes() == other.as_bytes()
 }
 
-/// A number that is equal for equal bytes.
-pub(crate) fn hash(battle: &Packed) -> u64 {
+/// A number of 32 bits that is equal for equal bytes.
+pub(crate) fn hash(battle: &Packed) -> u64
+    ensures { result < 4294967296 }
+{
     let bytes = battle.as_bytes();
     let mut hash: u64 = 0;
     for word in 0..48 {

@@ -2,8 +2,9 @@
 ghost use Rattle.std.specs.Prelude.{IfErr, IfOk, IfSome, IsOk, Some, [], ◌≡◌};
 ghost use Rattle.gen1_machine.specs.State.{State};
 ghost use Rattle.gen1_layout.specs.Within.{Stands};
-ghost use Rattle.gen1_layout.specs.Words.{AddsAtMost, HasRoom};
+ghost use Rattle.gen1_layout.specs.Words.{AddsAtMost, HasRoom, Reads};
 ghost use Rattle.gen1_engine.specs.Update.{AreOffered, Tests};
+ghost use Rattle.gen1_outcomes.specs.Beginning.{have_two_actions};
 ghost use Rattle.gen1_outcomes.specs.Following.{CanFollow};
 ghost use Rattle.gen1_outcomes.specs.Listing.{untold};
 ghost use Rattle.gen1_outcomes.specs.Nodes.{IsChance};
@@ -183,7 +184,9 @@ impl Ways {
     }
 
     /// Whether both sides use a move, so that the update has two actions.
-    pub(crate) fn has_two_actions(&self) -> bool {
+    pub(crate) fn has_two_actions(&self) -> bool
+        ensures stands { Reads self.now.start result (have_two_actions self.now.one self.now.two) }
+    {
         have_two_actions(&self.start, &self.one, &self.two)
     }
 

@@ -117,7 +117,14 @@ mod beginning {
 
     /// Whether both sides use a move, so that the update has two actions.
     pub(crate) fn have_two_actions(battle: &Packed, one: &Choice, two: &Choice) -> bool {
-        battle.request(Side::One) == Request::Move && is_move(one) && is_move(two)
+        asks_for_move(battle.request(Side::One)) && is_move(one) && is_move(two)
+    }
+
+    fn asks_for_move(request: Request) -> bool {
+        match request {
+            Request::Move => true,
+            _ => false,
+        }
     }
 
     fn is_move(choice: &Choice) -> bool {
@@ -701,7 +708,7 @@ mod merging {
         one.as_bytes() == other.as_bytes()
     }
 
-    /// A number that is equal for equal bytes.
+    /// A number of 32 bits that is equal for equal bytes.
     pub(crate) fn hash(battle: &Packed) -> u64 {
         let bytes = battle.as_bytes();
         let mut hash: u64 = 0;
