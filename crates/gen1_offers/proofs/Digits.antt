@@ -1,7 +1,6 @@
 -- Binary digits as a list of tests: clearing one of them, and the digits of four bytes.
-use Rattle.std.proofs.Common.{Bool, List, [], ap, arith, false, inl, inr, length, length-append, nat_lt, refl, set, suc, sym, true, zero, ℕ, ◌&&◌, ◌%◌, ◌*◌, ◌++◌, ◌+◌, ◌-◌, ◌/◌, ◌<◌, ◌==◌, ◌^◌, ◌≡◌, ◌≢◌, ◌≤◌, ◌⊎◌, ◌∙◌, ◌∷◌}
+use Rattle.std.proofs.Common.{Bool, List, [], ap, arith, false, inl, inr, length, nat_lt, refl, set, suc, sym, true, zero, ℕ, ◌&&◌, ◌%◌, ◌*◌, ◌+◌, ◌-◌, ◌/◌, ◌<◌, ◌==◌, ◌^◌, ◌≡◌, ◌≢◌, ◌≤◌, ◌⊎◌, ◌∙◌, ◌∷◌}
 use Rattle.std.proofs.lemmas.Bool.Decides.{eqb_tells, nat_tests}
-use Rattle.std.proofs.lemmas.List.{set-append_right}
 use Rattle.std.proofs.lemmas.Nat.{and_comm, and_mod, and_shr, one_shl}
 use Rattle.std.proofs.lemmas.Nat.Bits.{and_pow}
 use Rattle.std.specs.Int.{bit_not, w32}
@@ -56,14 +55,19 @@ taken_out bs k inside few =
     ∙ bits_clear bs k 32 inside few
     ∙ sym (bits_of-is (set bs k false))
 
--- Clearing one of six places above six other digits.
-pub place_out : (low high : List Bool) (place : ℕ) → length low ≡ 6 → length high ≡ 6 → 1 ≤ place → place ≤ 6
-    → bit_and (number_of_bits (low ++ high)) (bit_not w32 (1 * 2 ^ (place + 5) % 2 ^ 32)) ≡ number_of_bits (low ++ passing 1 place high)
-place_out low high place six more least most =
-    let long : length (low ++ high) ≡ 12 = omega (arith, length-append low high) in
-    taken_out (low ++ high) (place + 5) (omega arith) (omega arith)
-    ∙ ap number_of_bits (set-append_right low high 6 (place + 5) false six (omega arith)
-    ∙ ap (λ (l : List Bool). low ++ l) (passing-set 1 (place + 5 - 6) place high (omega arith)))
+-- Clearing one of six places.
+pub place_out : (bs : List Bool) (place : ℕ) → length bs ≡ 6 → 1 ≤ place → place ≤ 6
+    → bit_and (number_of_bits bs) (bit_not w32 (1 * 2 ^ (place - 1) % 2 ^ 32)) ≡ number_of_bits (passing 1 place bs)
+place_out bs place six least most =
+    taken_out bs (place - 1) (omega arith) (omega arith) ∙ ap number_of_bits (passing-set 1 (place - 1) place bs (omega (arith, least)))
+
+-- Adding a digit where there is none.
+pub digit-added : (bs : List Bool) (k : ℕ) (b : Bool) → k < length bs → number_of_bits (set bs k false) + bit_of b * 2 ^ k ≡ number_of_bits (set bs k b)
+digit-added [] k b inside = absurd (omega (arith, inside))
+digit-added (x ∷ bs) zero true inside = omega arith
+digit-added (x ∷ bs) zero false inside = omega arith
+digit-added (x ∷ bs) (suc k) true inside = omega (arith, digit-added bs k true (omega (arith, inside)))
+digit-added (x ∷ bs) (suc k) false inside = omega (arith, digit-added bs k false (omega (arith, inside)))
 
 pub six_below : (a b c d e f : Bool) (high : List Bool)
     → number_of_bits (a ∷ b ∷ c ∷ d ∷ e ∷ f ∷ []) + 64 * number_of_bits high ≡ number_of_bits (a ∷ b ∷ c ∷ d ∷ e ∷ f ∷ high)

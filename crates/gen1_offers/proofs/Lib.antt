@@ -17,3 +17,5 @@ pub mod MaskDigits
 pub mod MaskChoices
 -- The table of six digits: how many of them are 1, and which.
 pub mod MaskTable
+-- The members that may come out, kept from update to update.
+pub mod Benches

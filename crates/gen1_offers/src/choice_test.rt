@@ -10,7 +10,8 @@ ghost use Rattle.gen1_machine.specs.Step.{is_among, offers};
 ghost use Rattle.gen1_machine.specs.declared.choice.Choice.TheVariants as choices;
 ghost use Rattle.gen1_machine.specs.declared.terms.Request.TheVariants as requests;
 
-use crate::masks::{SLEEPS_OR_FREEZES, asked, lives, usable};
+use crate::bench::lives;
+use crate::masks::{SLEEPS_OR_FREEZES, asked, usable};
 use crate::offered_choices::{has_no_slot, is_committed, is_disabled};
 use gen1_layout::offsets::{PLACE, STATUS};
 use gen1_layout::{Conditions, Packed};

@@ -1,15 +1,16 @@
 //! What a side may choose, as a number of twelve binary digits, read straight from the bytes (docs/MECHANICS.md,
 //! "Offered choices"). Digits are gathered from the highest down, and each is one comparison with memory.
-ghost use Rattle.std.specs.Prelude.{Bool, List, false, length, ◌*◌, ◌++◌, ◌+◌, ◌<◌, ◌≡◌, ◌≤◌, ◌∷◌};
-ghost use Rattle.gen1_layout.specs.Words.{Field, Packs, Reads, Setting, Within, is_living, member_at, member_in, party, request_of, status_in};
+ghost use Rattle.std.specs.Prelude.{IfSome, false, length, ◌<◌, ◌≡◌, ◌≤◌, ◌∷◌};
+ghost use Rattle.gen1_layout.specs.Words.{Field, Packs, Setting, Within, member_in, request_of, status_in};
 ghost use Rattle.gen1_layout.specs.Within.{Stands};
 ghost use Rattle.gen1_machine.specs.Layout.{member_block, number_of_bits, request_byte, status_byte};
-ghost use Rattle.gen1_machine.specs.Rules.{bit_of};
 ghost use Rattle.gen1_machine.specs.OfferedChoices.{has_no_slot_in, moves_offered, offered_for};
 ghost use Rattle.gen1_machine.specs.State.{State};
 ghost use Rattle.gen1_machine.specs.declared.terms.Request.TheVariants as requests;
-ghost use Rattle.gen1_offers.specs.OfferedMask.{AreDigitsOf, digits_of, living_of, mask_of, moves_and_pass, offered_mask, passing, usable_of};
+ghost use Rattle.gen1_offers.specs.Bench.{IsBench, IsInRange};
+ghost use Rattle.gen1_offers.specs.OfferedMask.{AreDigitsOf, digits_of, mask_of, moves_and_pass, offered_mask, usable_of};
 
+use crate::bench::{Bench, bench_or};
 use crate::offered_choices::is_committed;
 use bitflags::Flags;
 use gen1_layout::offsets::{PP, REQUEST_ONE, REQUEST_TWO, STATUS};
@@ -31,22 +32,25 @@ pub fn offered_mask(battle: &Packed, side: Side) -> u16
 {
     // The compiler knows the side in each arm, so each address is a constant.
     match side {
-        Side::One => mask(battle, Side::One) as u16,
-        Side::Two => mask(battle, Side::Two) as u16,
+        Side::One => mask(battle, Side::One, None) as u16,
+        Side::Two => mask(battle, Side::Two, None) as u16,
     }
 }
 
+// The same, where the bench may be known.
 #[inline(always)]
-fn mask(battle: &Packed, side: Side) -> u32
-    ensures stands { (s : State) → Stands battle.now s → result ≡ offered_mask s side }
+pub(crate) fn mask(battle: &Packed, side: Side, known: Option<Bench>) -> u32
+    requires { IfSome known (λ b. IsInRange b) }
+    ensures stands { (s : State) → Stands battle.now s → IfSome known (λ b. IsBench side s.field b)
+        → result ≡ offered_mask s side }
     ensures twelve { result < 4096 }
 {
     let request = asked(battle, side);
     if request == 1 {
-        return mask_to_move(battle, side);
+        return mask_to_move(battle, side, known);
     }
     if request == 2 {
-        return mask_to_switch(battle, side);
+        return mask_to_switch(battle, side, known);
     }
     mask_to_pass(battle)
 }
@@ -77,73 +81,29 @@ fn mask_to_pass(battle: &Packed) -> u32
 }
 
 #[inline(always)]
-fn mask_to_switch(battle: &Packed, side: Side) -> u32
-    ensures stands { Reads battle.now result λ f. mask_of (offered_for requests.Switch side f) }
+fn mask_to_switch(battle: &Packed, side: Side, known: Option<Bench>) -> u32
+    requires { IfSome known (λ b. IsInRange b) }
+    ensures stands { (g : Setting) (f : Field) → Within g battle.now f
+        → IfSome known (λ b. IsBench side f b)
+        → result ≡ mask_of (offered_for requests.Switch side f) }
     ensures twelve { result < 4096 }
 {
-    without(64 * living(battle, side), battle.place(side))
+    64 * bench_or(battle, side, known).digits
 }
 
 #[inline(always)]
-fn mask_to_move(battle: &Packed, side: Side) -> u32
-    ensures stands { Reads battle.now result λ f. mask_of (offered_for requests.Move side f) }
+fn mask_to_move(battle: &Packed, side: Side, known: Option<Bench>) -> u32
+    requires { IfSome known (λ b. IsInRange b) }
+    ensures stands { (g : Setting) (f : Field) → Within g battle.now f
+        → IfSome known (λ b. IsBench side f b)
+        → result ≡ mask_of (offered_for requests.Move side f) }
     ensures twelve { result < 4096 }
 {
     if is_committed(battle, side) {
         return 2;
     }
-    let place = battle.place(side);
-    let member = battle.member(side, place);
-    without(
-        moves(battle, side, member) + 64 * living(battle, side),
-        place,
-    )
-}
-
-// The digits, without that of the switch to a place.
-#[inline(always)]
-fn without(mask: u32, place: u8) -> u32
-    requires low { 1 ≤ place }
-    requires high { place ≤ 6 }
-    ensures digits { (low high : List Bool) → length low ≡ 6 → length high ≡ 6
-        → mask ≡ number_of_bits (low ++ high)
-        → result ≡ number_of_bits (low ++ passing 1 place high) }
-    ensures fewer { result ≤ mask }
-{
-    mask & !(1_u32 << (place as u32 + 5))
-}
-
-// For each member, whether it lives.
-#[inline(always)]
-fn living(battle: &Packed, side: Side) -> u32
-    ensures stands { Reads battle.now result λ f. number_of_bits (living_of side f) }
-    ensures six { result < 64 }
-{
-    let six = digit(lives(battle, side, 6), 0);
-    let five = digit(lives(battle, side, 5), six);
-    let four = digit(lives(battle, side, 4), five);
-    let three = digit(lives(battle, side, 3), four);
-    let two = digit(lives(battle, side, 2), three);
-    digit(lives(battle, side, 1), two)
-}
-
-#[inline(always)]
-pub(crate) fn lives(battle: &Packed, side: Side, place: u8) -> bool
-    requires low { 1 ≤ place }
-    requires high { place ≤ 6 }
-    ensures stands { Reads battle.now result λ f. is_living (member_at place (party side f)) }
-{
-    battle.hp_at(side, place) > 0
-}
-
-// Appends a digit below others.
-#[inline(always)]
-fn digit(holds: bool, above: u32) -> u32
-    requires few { above < 32768 }
-    ensures value { result ≡ bit_of holds + 2 * above }
-    ensures bound { result ≤ 2 * above + 1 }
-{
-    2 * above + u32::from(holds)
+    let bench = bench_or(battle, side, known);
+    moves(battle, side, battle.member(side, bench.out)) + 64 * bench.digits
 }
 
 // Whether Pass and each move is offered, below the digits of switches, by the bytes of the member that is out.

@@ -18,11 +18,11 @@ pub record Accepts (s : State) (count : ℕ) (battle : Parts) : Type 0 where
   pub stands : Stands battle (run s pairs).state
   pub counted : accepted_in s pairs ≡ count
 
-pub accepts-none : (s : State) {battle : Parts} → Stands battle s → Accepts s 0 battle
+unfoldable pub accepts-none : (s : State) {battle : Parts} → Stands battle s → Accepts s 0 battle
 unfolding run_by
 accepts-none s stands = record { pairs = []; stands = stands; counted = refl }
 
-pub accepts-more : {s : State} {count : ℕ} {old new : Parts} {events : Telling} (one two : Choice) (h : Accepts s count old)
+unfoldable pub accepts-more : {s : State} {count : ℕ} {old new : Parts} {events : Telling} (one two : Choice) (h : Accepts s count old)
     → Steps (run s h.pairs).state one two new events → Accepts s (count + 1) new
 unfolding run_by
 accepts-more {s = s} {new = new} one two h steps =

@@ -8,6 +8,10 @@ pub mod Drawing
 pub mod Weighing
 -- A battle that is played by random choices, update by update.
 pub mod Playing
+-- An update changes no member but those that are out before or after it.
+pub mod Following
+-- The members that may come out, while a battle is played.
+pub mod Benched
 -- The HP of two sides, compared.
 pub mod Shares
 -- Playouts, one after the other.

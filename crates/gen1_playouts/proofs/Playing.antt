@@ -109,20 +109,23 @@ pub record PlaysOn (weights : List ℕ) (s : State) (seed updates : ℕ) (battle
 pub plays_on-none : (weights : List ℕ) (s : State) (seed : ℕ) {battle : Parts} → Stands battle s → PlaysOn weights s seed 0 battle seed
 plays_on-none weights s seed stands = record { stands = stands; drawn = refl }
 
-pub plays_on-more : {weights : List ℕ} {s : State} {seed updates : ℕ} {old new : Parts} {events : Telling} {before middle random : ℕ} {one two : Choice}
-    → PlaysOn weights s seed updates old before → is_over (played weights updates s seed).battle.field.outcome ≡ false
+pub plays-next : {weights : List ℕ} {s : State} {seed updates : ℕ} {battle : Parts} {before middle random : ℕ} {one two : Choice}
+    → PlaysOn weights s seed updates battle before → is_over (played weights updates s seed).battle.field.outcome ≡ false
     → IsDrawn before (drawn_from weights One (played weights updates s seed).battle.field) one middle
     → IsDrawn middle (drawn_from weights Two (played weights updates s seed).battle.field) two random
-    → Steps (played weights updates s seed).battle one two new events → PlaysOn weights s seed (updates + 1) new random
-plays_on-more {weights = weights} {s = s} {seed = seed} {updates = updates} {new = new} {middle = middle} {random = random} {one = one} {two = two} h going first second steps =
+    → played weights (updates + 1) s seed ≡ record { battle = (step (played weights updates s seed).battle one two).state; random = random }
+plays-next {weights = weights} {s = s} {seed = seed} {updates = updates} {middle = middle} {one = one} h going first second =
     let p = played weights updates s seed in
     let from_here = subst (λ (state : ℕ). IsDrawn state (drawn_from weights One p.battle.field) one middle) h.drawn first in
-    let next : played weights (updates + 1) s seed ≡ record { battle = (step p.battle one two).state; random = random } =
-    iterate-more (play_on weights) updates (record { battle = s; random = seed }) ∙ goes-on weights p going from_here second in
-    record {
-      stands = subst (λ (q : Playout). Stands new q.battle) (sym next) steps.stands;
-      drawn = sym (ap (λ (q : Playout). q.random) next);
-    }
+    iterate-more (play_on weights) updates (record { battle = s; random = seed }) ∙ goes-on weights p going from_here second
+
+pub plays_on-more : {weights : List ℕ} {s : State} {seed random : ℕ} {new : Parts} {events : Telling} {one two : Choice} (updates : ℕ)
+    → played weights (updates + 1) s seed ≡ record { battle = (step (played weights updates s seed).battle one two).state; random = random }
+    → Steps (played weights updates s seed).battle one two new events → PlaysOn weights s seed (updates + 1) new random
+plays_on-more {new = new} updates next steps = record {
+  stands = subst (λ (q : Playout). Stands new q.battle) (sym next) steps.stands;
+  drawn = sym (ap (λ (q : Playout). q.random) next);
+}
 
 -- a battle that is over is not played on
 

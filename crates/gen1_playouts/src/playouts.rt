@@ -2,15 +2,18 @@
 ghost use Rattle.std.specs.Prelude.{IfOk, IsOk, false, ◌+◌, ◌<◌, ◌≡◌};
 ghost use Rattle.gen1_machine.specs.State.{State, is_over};
 ghost use Rattle.gen1_layout.specs.Within.{Stands};
+ghost use Rattle.gen1_offers.specs.Bench.{IsBench, IsInRange};
+ghost use Rattle.gen1_offers.specs.OfferedMask.{offered_mask};
 ghost use Rattle.gen1_playouts.specs.Playouts.{EndsAs, IsDrawn, IsPlayedOut, IsRound, IsZeros, MayEndAs, PlaysOut, counting, drawn_from, end_in, most_updates, total};
 
 use crate::ahead::leader;
 use crate::choice_generator::ChoiceGenerator;
 use crate::weights::{has_weights, pick, pick_weighted, weights_of};
-use gen1_engine::packed::{count_of, offered_mask, reseed, result, update_offered};
+use gen1_engine::packed::{count_of, reseed, result, update_offered};
 use gen1_events::Silent;
 use gen1_layout::Packed;
 use gen1_machine::{Choice, Outcome, Side};
+use gen1_offers::Bench;
 use gen1_rolls::LinkRandom;
 use std::alloc::AllocError;
 
@@ -123,14 +126,18 @@ fn run(
     ensures played { (s : State) → Stands battle.old s
         → IsPlayedOut options.now s random.old.state result random.new.state }
 {
+    let mut bench_one = Bench::new(battle, Side::One);
+    let mut bench_two = Bench::new(battle, Side::Two);
     'updates: for _ in 0..most_updates(battle.limit(), options.depth) {
         let now = result(battle);
         if now.outcome.is_over() {
             return now.outcome;
         }
-        let one = draw(battle, Side::One, options, by_weights, random);
-        let two = draw(battle, Side::Two, options, by_weights, random);
+        let one = draw(battle, &bench_one, options, by_weights, random);
+        let two = draw(battle, &bench_two, options, by_weights, random);
         update_offered(battle, one, two, &mut Silent);
+        bench_one.follow(battle, &one);
+        bench_two.follow(battle, &two);
     }
     end_now(battle)
 }
@@ -139,32 +146,37 @@ fn run(
 #[inline(always)] // docs/SPEED.md, "Hints on inlining"
 fn draw(
     battle: &Packed,
-    side: Side,
+    bench: &Bench,
     options: &PlayoutOptions,
     by_weights: bool,
     random: &mut ChoiceGenerator,
 ) -> Choice
     requires none { by_weights ≡ false → IsZeros options.now.weights }
+    requires range { IsInRange bench.now }
     ensures { (s : State) → Stands battle.now s → is_over s.field.outcome ≡ false
-        → IsDrawn random.old.state (drawn_from options.now.weights side s.field) result random.new.state }
+        → IsBench bench.now.side s.field bench.now
+        → IsDrawn random.old.state (drawn_from options.now.weights bench.now.side s.field) result random.new.state }
 {
+    let mask = bench.offered_mask(battle);
     if by_weights {
-        return draw_by_weights(battle, side, options, random);
+        return draw_by_weights(battle, bench.side, mask, options, random);
     }
-    pick(offered_mask(battle, side), random)
+    pick(mask, random)
 }
 
+// The same by weights, where the mask of the side's offered choices is known.
 #[inline(never)] // docs/SPEED.md, "Hints on inlining"
 fn draw_by_weights(
     battle: &Packed,
     side: Side,
+    mask: u16,
     options: &PlayoutOptions,
     random: &mut ChoiceGenerator,
 ) -> Choice
-    ensures { (s : State) → Stands battle.now s → is_over s.field.outcome ≡ false
+    requires twelve { mask < 4096 }
+    ensures { (s : State) → Stands battle.now s → is_over s.field.outcome ≡ false → mask ≡ offered_mask s side
         → IsDrawn random.old.state (drawn_from options.now.weights side s.field) result random.new.state }
 {
-    let mask = offered_mask(battle, side);
     // Before the first update no member is out whose moves could have weights, but then a side can only pass.
     if count_of(mask) < 2 {
         return pick(mask, random);

@@ -4,14 +4,124 @@
 //! - `offered_choices`: what each side may choose
 //! - `choice_test`: whether a choice is among these
 //! - `masks`: the same as a number of twelve binary digits, read straight from the bytes
+//! - `bench`: [`Bench`], the members that may come out, kept for the masks of many updates
 //! - `mask_choices`: the choices of such a number: how many, and which is at a place
 //! - `laws`: what holds for all offered choices
+
+mod bench {
+    //! The members of a side that may come out ([docs/MECHANICS.md, "Offered choices"](https://hibsuloy.example/gen1/blob/main/docs/MECHANICS.md#offered-choices)), kept from update to update, so that
+    //! masks needn't read the HP of all six ([docs/SPEED.md, "What a side may choose"](https://hibsuloy.example/gen1/blob/main/docs/SPEED.md#what-a-side-may-choose)).
+
+    use crate::generated::offers::masks::mask;
+    use crate::generated::layout::Packed;
+    use crate::generated::machine::{Choice, Side};
+
+    /// The members of a side that live and are not out. A caller that makes a mask for each update keeps them, and lets them follow each
+    /// update.
+    #[derive(Clone, Copy)]
+    pub struct Bench {
+        /// The side.
+        pub side: Side,
+        /// The place of the member that is out, 1 to 6. Before the first update it is 1, since that member comes out first.
+        pub out: u8,
+        /// For each place, whether a member is there that lives and is not out, as six binary digits from the lowest one.
+        pub digits: u32,
+    }
+
+    impl Bench {
+        /// Reads the bench of a side from the bytes.
+        pub fn new(battle: &Packed, side: Side) -> Bench {
+            beside(battle, side, first_out(battle, side))
+        }
+
+        /// What the side may choose, as [`offered_mask`](crate::offered_mask) returns it.
+        #[inline(always)] // docs/SPEED.md, "Hints on inlining"
+        pub fn offered_mask(&self, battle: &Packed) -> u16 {
+            mask(battle, self.side, Some(*self)) as u16
+        }
+
+        /// Follows an update, after it, in which the side made this choice.
+        #[inline(always)] // docs/SPEED.md, "Hints on inlining"
+        pub fn follow(&mut self, battle: &Packed, choice: &Choice) {
+            match choice {
+                Choice::Switch(_) => self.digits_follow(battle),
+                _ => {}
+            }
+        }
+
+        // Only the member that was out can have changed besides the one that is.
+        #[inline(always)]
+        fn digits_follow(&mut self, battle: &Packed) {
+            let back = u32::from(lives(battle, self.side, self.out)) << (self.out as u32 - 1);
+            let out = battle.place(self.side);
+            self.digits = without(self.digits + back, out) % 64;
+            self.out = out;
+        }
+    }
+
+    // The bench that is known, or as the bytes say.
+    #[inline(always)]
+    pub(crate) fn bench_or(battle: &Packed, side: Side, known: Option<Bench>) -> Bench {
+        match known {
+            Some(bench) => bench,
+            None => beside(battle, side, battle.place(side)),
+        }
+    }
+
+    // The place of the member that is out, or that comes out first.
+    fn first_out(battle: &Packed, side: Side) -> u8 {
+        if battle.turn() == 0 {
+            1
+        } else {
+            battle.place(side)
+        }
+    }
+
+    // The living members beside the one at a place.
+    #[inline(always)]
+    fn beside(battle: &Packed, side: Side, out: u8) -> Bench {
+        Bench {
+            side,
+            out,
+            digits: without(living(battle, side), out),
+        }
+    }
+
+    // The digits, without that of a place.
+    #[inline(always)]
+    fn without(digits: u32, place: u8) -> u32 {
+        digits & !(1_u32 << (place as u32 - 1))
+    }
+
+    // For each member, whether it lives.
+    #[inline(always)]
+    fn living(battle: &Packed, side: Side) -> u32 {
+        let six = digit(lives(battle, side, 6), 0);
+        let five = digit(lives(battle, side, 5), six);
+        let four = digit(lives(battle, side, 4), five);
+        let three = digit(lives(battle, side, 3), four);
+        let two = digit(lives(battle, side, 2), three);
+        digit(lives(battle, side, 1), two)
+    }
+
+    #[inline(always)]
+    pub(crate) fn lives(battle: &Packed, side: Side, place: u8) -> bool {
+        battle.hp_at(side, place) > 0
+    }
+
+    // Appends a digit below others.
+    #[inline(always)]
+    fn digit(holds: bool, above: u32) -> u32 {
+        2 * above + u32::from(holds)
+    }
+}
 
 mod choice_test {
     //! Whether a side may make a choice, from the few bytes that this depends on and without the list of its choices
     //! ([docs/MECHANICS.md, "Offered choices"](https://hibsuloy.example/gen1/blob/main/docs/MECHANICS.md#offered-choices)).
 
-    use crate::generated::offers::masks::{SLEEPS_OR_FREEZES, asked, lives, usable};
+    use crate::generated::offers::bench::lives;
+    use crate::generated::offers::masks::{SLEEPS_OR_FREEZES, asked, usable};
     use crate::generated::offers::offered_choices::{has_no_slot, is_committed, is_disabled};
     use crate::generated::layout::offsets::{PLACE, STATUS};
     use crate::generated::layout::{Conditions, Packed};
@@ -216,6 +326,7 @@ mod masks {
     //! What a side may choose, as a number of twelve binary digits, read straight from the bytes ([docs/MECHANICS.md](https://hibsuloy.example/gen1/blob/main/docs/MECHANICS.md),
     //! "Offered choices"). Digits are gathered from the highest down, and each is one comparison with memory.
 
+    use crate::generated::offers::bench::{Bench, bench_or};
     use crate::generated::offers::offered_choices::is_committed;
     use crate::adapter::bitflags::Flags;
     use crate::generated::layout::offsets::{PP, REQUEST_ONE, REQUEST_TWO, STATUS};
@@ -234,19 +345,20 @@ mod masks {
     pub fn offered_mask(battle: &Packed, side: Side) -> u16 {
         // The compiler knows the side in each arm, so each address is a constant.
         match side {
-            Side::One => mask(battle, Side::One) as u16,
-            Side::Two => mask(battle, Side::Two) as u16,
+            Side::One => mask(battle, Side::One, None) as u16,
+            Side::Two => mask(battle, Side::Two, None) as u16,
         }
     }
 
+    // The same, where the bench may be known.
     #[inline(always)]
-    fn mask(battle: &Packed, side: Side) -> u32 {
+    pub(crate) fn mask(battle: &Packed, side: Side, known: Option<Bench>) -> u32 {
         let request = asked(battle, side);
         if request == 1 {
-            return mask_to_move(battle, side);
+            return mask_to_move(battle, side, known);
         }
         if request == 2 {
-            return mask_to_switch(battle, side);
+            return mask_to_switch(battle, side, known);
         }
         mask_to_pass(battle)
     }
@@ -270,49 +382,17 @@ mod masks {
     }
 
     #[inline(always)]
-    fn mask_to_switch(battle: &Packed, side: Side) -> u32 {
-        without(64 * living(battle, side), battle.place(side))
+    fn mask_to_switch(battle: &Packed, side: Side, known: Option<Bench>) -> u32 {
+        64 * bench_or(battle, side, known).digits
     }
 
     #[inline(always)]
-    fn mask_to_move(battle: &Packed, side: Side) -> u32 {
+    fn mask_to_move(battle: &Packed, side: Side, known: Option<Bench>) -> u32 {
         if is_committed(battle, side) {
             return 2;
         }
-        let place = battle.place(side);
-        let member = battle.member(side, place);
-        without(
-            moves(battle, side, member) + 64 * living(battle, side),
-            place,
-        )
-    }
-
-    // The digits, without that of the switch to a place.
-    #[inline(always)]
-    fn without(mask: u32, place: u8) -> u32 {
-        mask & !(1_u32 << (place as u32 + 5))
-    }
-
-    // For each member, whether it lives.
-    #[inline(always)]
-    fn living(battle: &Packed, side: Side) -> u32 {
-        let six = digit(lives(battle, side, 6), 0);
-        let five = digit(lives(battle, side, 5), six);
-        let four = digit(lives(battle, side, 4), five);
-        let three = digit(lives(battle, side, 3), four);
-        let two = digit(lives(battle, side, 2), three);
-        digit(lives(battle, side, 1), two)
-    }
-
-    #[inline(always)]
-    pub(crate) fn lives(battle: &Packed, side: Side, place: u8) -> bool {
-        battle.hp_at(side, place) > 0
-    }
-
-    // Appends a digit below others.
-    #[inline(always)]
-    fn digit(holds: bool, above: u32) -> u32 {
-        2 * above + u32::from(holds)
+        let bench = bench_or(battle, side, known);
+        moves(battle, side, battle.member(side, bench.out)) + 64 * bench.digits
     }
 
     // Whether Pass and each move is offered, below the digits of switches, by the bytes of the member that is out.
@@ -502,6 +582,7 @@ mod offered_choices {
 }
 
 
+pub use bench::Bench;
 pub use choice_test::is_offered;
 pub use mask_choices::{choice_at, count_of};
 pub use masks::offered_mask;

@@ -96,10 +96,11 @@ mod playouts {
     use crate::generated::playouts::ahead::leader;
     use crate::generated::playouts::choice_generator::ChoiceGenerator;
     use crate::generated::playouts::weights::{has_weights, pick, pick_weighted, weights_of};
-    use crate::generated::engine::packed::{count_of, offered_mask, reseed, result, update_offered};
+    use crate::generated::engine::packed::{count_of, reseed, result, update_offered};
     use crate::generated::events::Silent;
     use crate::generated::layout::Packed;
     use crate::generated::machine::{Choice, Outcome, Side};
+    use crate::generated::offers::Bench;
     use crate::generated::rolls::LinkRandom;
     use crate::adapter::alloc::AllocError;
 
@@ -191,14 +192,18 @@ mod playouts {
         by_weights: bool,
         random: &mut ChoiceGenerator,
     ) -> Outcome {
+        let mut bench_one = Bench::new(battle, Side::One);
+        let mut bench_two = Bench::new(battle, Side::Two);
         for _ in 0..most_updates(battle.limit(), options.depth) {
             let now = result(battle);
             if now.outcome.is_over() {
                 return now.outcome;
             }
-            let one = draw(battle, Side::One, options, by_weights, random);
-            let two = draw(battle, Side::Two, options, by_weights, random);
+            let one = draw(battle, &bench_one, options, by_weights, random);
+            let two = draw(battle, &bench_two, options, by_weights, random);
             update_offered(battle, one, two, &mut Silent);
+            bench_one.follow(battle, &one);
+            bench_two.follow(battle, &two);
         }
         end_now(battle)
     }
@@ -207,25 +212,27 @@ mod playouts {
     #[inline(always)] // docs/SPEED.md, "Hints on inlining"
     fn draw(
         battle: &Packed,
-        side: Side,
+        bench: &Bench,
         options: &PlayoutOptions,
         by_weights: bool,
         random: &mut ChoiceGenerator,
     ) -> Choice {
+        let mask = bench.offered_mask(battle);
         if by_weights {
-            return draw_by_weights(battle, side, options, random);
+            return draw_by_weights(battle, bench.side, mask, options, random);
         }
-        pick(offered_mask(battle, side), random)
+        pick(mask, random)
     }
 
+    // The same by weights, where the mask of the side's offered choices is known.
     #[inline(never)] // docs/SPEED.md, "Hints on inlining"
     fn draw_by_weights(
         battle: &Packed,
         side: Side,
+        mask: u16,
         options: &PlayoutOptions,
         random: &mut ChoiceGenerator,
     ) -> Choice {
-        let mask = offered_mask(battle, side);
         // Before the first update no member is out whose moves could have weights, but then a side can only pass.
         if count_of(mask) < 2 {
             return pick(mask, random);

@@ -8,14 +8,13 @@ use Rattle.gen1_playouts.proofs.Playing.{drawn-alike, drawn-weighted, within-sev
 use Rattle.gen1_playouts.proofs.playouts.draw_by_weights.Goals as goal
 
 pub returns-then-count_of-lt2 : goal.returns-then-count_of-lt2
-returns-then-count_of-lt2 c s h going =
-    let few : length (choices_in c.offered_mask-mask.result) ≤ 1 = omega (arith, c.count_of.ensures.value, c.if-count_of-lt2.true) in
-    drawn-alike c.args.side s c.args.options.now.weights c.offered_mask-mask.result _ h.valid going (c.offered_mask-mask.ensures.stands s h) (inr few) c.pick.ensures.drawn
+returns-then-count_of-lt2 c s h going is =
+    let few : length (choices_in c.args.mask) ≤ 1 = omega (arith, c.count_of.ensures.value, c.if-count_of-lt2.true) in
+    drawn-alike c.args.side s c.args.options.now.weights c.args.mask _ h.valid going is (inr few) c.pick.ensures.drawn
 
 pub returns : goal.returns
-returns c s h going =
-    let mask = c.offered_mask-mask.result in
-    let is = c.offered_mask-mask.ensures.stands s h in
+returns c s h going is =
+    let mask = c.args.mask in
     let same : length (choices_in mask) ≡ length (offered c.args.side s.field) = ap (λ (n : ℕ). length (choices_in n)) is ∙ ap length (offered_chosen s c.args.side h.valid) in
     let within = within-several c.args.side h (omega (arith, c.count_of.ensures.value, c.if-count_of-lt2.false, same)) in
     drawn-weighted c.args.side s c.args.options.now.weights mask _ h.valid going is

@@ -1,9 +1,14 @@
 -- That many pairs, drawn at random, were accepted.
+use Rattle.std.proofs.Common.{◌≡◌}
+use Rattle.gen1_machine.specs.declared.side.Side.TheVariants.{One, Two}
 use Rattle.gen1_machine.specs.State.{State}
 use Rattle.gen1_layout.specs.Within.{Stands}
-use Rattle.gen1_playouts.proofs.Accepting.{Accepts}
-use Rattle.gen1_playouts.proofs.Playing.{PlaysOn}
+use Rattle.gen1_offers.specs.Bench.{IsInRange}
+use Rattle.gen1_playouts.proofs.Benched.{Rounds}
 use Rattle.gen1_playouts.proofs.playouts.run.Given as goal
 
 abbrev pub invariant-updates : goal.invariant-updates
-invariant-updates l = (s : State) → Stands l.initial.battle s → Accepts s l.counter l.battle × PlaysOn l.options.weights s l.initial.random.state l.counter l.battle l.random.state
+invariant-updates l =
+    (l.bench_one.side ≡ One) × IsInRange l.bench_one × (l.bench_two.side ≡ Two) × IsInRange l.bench_two
+    × ((s : State) → Stands l.initial.battle s
+    → Rounds l.options.weights s l.initial.random.state l.counter l.battle l.random.state l.bench_one l.bench_two)
