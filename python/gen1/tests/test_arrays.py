@@ -408,6 +408,18 @@ def test_outcomes_of_many(threads):
         found[600]
 
 
+def test_what_is_left_out_of_many_outcomes():
+    """Thunder Wave misses with 1 of 256 bytes, and a refused pair has nothing to leave out."""
+    battle = Battle([Member("Tauros", ["Thunder Wave"])], [Member("Slowbro", ["Amnesia"])], bytes(10))
+    battle.update_silent(0, 0)
+    array = BattleArray.of([battle, battle, battle])
+    found = array.outcomes_many([0x11, 0xFF, 0x11], [0x11] * 3, least_probability=0.01)
+    assert found.offsets.tolist() == [0, 2, 2, 4] and found.left_out_probabilities.tolist() == [1 / 256, 0.0, 1 / 256]
+    alone = battle.outcomes(0x11, 0x11, least_probability=0.01)
+    assert (found[2].weights, found[2].left_out, found.left_out) == (alone.weights, alone.left_out, [alone.left_out, 0, alone.left_out])
+    assert found.probabilities.sum() == pytest.approx(2 * 255 / 256)
+
+
 def test_many_outcomes_of_one_battle():
     """More outcomes than there is space for at first."""
     several = Battle([Member("Cloyster", ["Spike Cannon"])], [Member("Fearow", ["Fury Attack"])], bytes(10))
@@ -428,3 +440,5 @@ def test_bad_choices_of_many_outcomes(battle):
         array.outcomes_many([0.5, 0, 0], [0, 0, 0])
     with pytest.raises(BadArgument, match="damage_classes must be 0 to 39"):
         array.outcomes_many([0, 0, 0], [0, 0, 0], damage_classes=40)
+    with pytest.raises(BadArgument, match="least_probability must be 0 to 1"):
+        array.outcomes_many([0, 0, 0], [0, 0, 0], least_probability=1.5)

@@ -120,6 +120,60 @@ def test_classes_keep_the_chances_to_fall():
     assert listed[1] < listed[3] < listed[8] < listed[0]
 
 
+# Thunder Wave hits with 255 of 256 bytes. The slower Slowbro, once it is paralysed, can't act with 63 of 256.
+MISSES, IS_STOPPED = Fraction(1, 256), Fraction(255 * 63, 65536)
+
+
+@pytest.mark.parametrize(
+    ("least", "left_out"),
+    (
+        (0, 0),
+        (MISSES, 0),
+        (0.01, MISSES),
+        (IS_STOPPED, MISSES),
+        (IS_STOPPED + Fraction(1, 1 << 32), MISSES + IS_STOPPED),
+        (1 - MISSES, 1),
+        (1, 1),
+    ),
+)
+def test_least_probability(least, left_out):
+    """What is less probable is left out, with its exact weight, and the rest keeps its own."""
+    battle = facing(("Tauros", "Thunder Wave"), ("Slowbro", "Amnesia"))
+    found = battle.outcomes(FIRST, FIRST, least_probability=least)
+    assert sum(found.weights) + found.left_out == found.whole
+    assert Fraction(found.left_out, found.whole) == left_out and found.left_out_probability == pytest.approx(float(left_out))
+    every = (MISSES, IS_STOPPED, 1 - MISSES - IS_STOPPED)
+    assert sorted(Fraction(it, found.whole) for it in found.weights) == [it for it in every if it >= least]
+    assert len(found) == len(found.battles) == len(found.probabilities) == len(found.weights)
+
+
+def test_an_update_without_draws_is_never_left_out():
+    """Both use Splash."""
+    found = facing(("Snorlax", "Splash"), ("Tauros", "Splash")).outcomes(FIRST, FIRST, least_probability=1.0)
+    assert (len(found), found.left_out, found.left_out_probability) == (1, 0, 0.0)
+
+
+def test_what_is_left_out_of_random_battles():
+    """Each outcome is one of all, with at most its weight, and the greater the least probability, the more is left out."""
+    dice = random.Random(13)
+    for _ in range(12):
+        battle = Battle(random_team(dice), random_team(dice), bytes(dice.randrange(256) for _ in range(10)))
+        for _ in range(12):
+            if not battle.result.is_over:
+                battle.update_silent(*(dice.choice(battle.choices(side)) for side in (1, 2)))
+        if battle.result.is_over:
+            continue
+        pair = [dice.choice(battle.choices(side)) for side in (1, 2)]
+        full, before = battle.outcomes(*pair), Fraction(0)
+        every = {it.bytes: Fraction(weight, full.whole) for it, weight in zip(full.battles, full.weights)}
+        for least in (1e-6, 1e-4, 0.01, 0.5):
+            found = battle.outcomes(*pair, least_probability=least)
+            assert sum(found.weights) + found.left_out == found.whole
+            assert all(Fraction(weight, found.whole) <= every[it.bytes] for it, weight in zip(found.battles, found.weights))
+            assert before <= Fraction(found.left_out, found.whole)
+            before = Fraction(found.left_out, found.whole)
+
+
 def has_fallen(battle):
     """How the battle has ended, and which members are down."""
     return battle.result.outcome, tuple(it.hp == 0 for side in (1, 2) for it in battle.state.side(side).members)
@@ -293,6 +347,12 @@ def test_bad_choices():
     for number in (-1, 40, 255, *BIG):
         with pytest.raises(BadArgument, match="damage_classes must be 0 to 39"):
             battle.outcomes(FIRST, FIRST, damage_classes=number)
+    for thing in (None, "0.5", True, 1j, [0.5]):
+        with pytest.raises(BadType, match="least_probability must be a number"):
+            battle.outcomes(FIRST, FIRST, least_probability=thing)
+    for number in (-1e-9, 1.0000001, -1, 2, float("nan"), float("inf"), 10**400):
+        with pytest.raises(ValueError, match="least_probability must be 0 to 1, not "):
+            battle.outcomes(FIRST, FIRST, least_probability=number)
     fallen = facing(("Tauros", "Horn Drill"), ("Snorlax", "Splash")).outcomes(FIRST, FIRST)
     over = next(it for it in fallen.battles if it.result.is_over)
     with pytest.raises(Refused, match="the battle is over"):

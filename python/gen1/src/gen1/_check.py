@@ -3,6 +3,8 @@
 import operator
 from collections.abc import Iterable, Sequence
 from itertools import islice
+from math import inf
+from numbers import Real
 from typing import TypeVar
 
 from gen1 import _library
@@ -27,6 +29,19 @@ def within(value: object, what: str, low: int, high: int) -> int:
     number = whole(value, what)
     if not low <= number <= high:
         raise BadArgument(f"{what} must be {low:,} to {high:,}, not {digits(number)}")
+    return number
+
+
+def probability(value: object, what: str) -> float:
+    """A number from 0 to 1."""
+    if isinstance(value, bool) or not isinstance(value, Real):
+        raise BadType(f"{what} must be a number, not {shown(value)}")
+    try:
+        number = float(value)
+    except OverflowError:  # it is a whole number that no float holds
+        number = inf
+    if not 0 <= number <= 1:
+        raise BadArgument(f"{what} must be 0 to 1, not {shown(value)}")
     return number
 
 

@@ -19,6 +19,7 @@ from gen1._structs import (
     MoveStruct,
     OddsStruct,
     OutcomeListStruct,
+    OutcomeOptionsStruct,
     OwnSideStruct,
     PlayerStruct,
     PlayoutOptionsStruct,
@@ -168,8 +169,8 @@ effectiveness = bind("gen1_effectiveness", c_uint8, c_uint8, c_uint8, POINTER(c_
 move_row = bind("gen1_move_data", c_uint8, c_uint8, POINTER(MoveStruct))
 member_stats = bind("gen1_member_stats", c_uint8, _MEMBER, c_uint16 * 5)
 playout = bind("gen1_playout", c_uint8, _BATTLE, POINTER(PlayoutOptionsStruct), POINTER(PlayoutsStruct), of=LONG)
-_LIST = POINTER(OutcomeListStruct)
-outcomes = bind("gen1_outcomes", c_uint8, _BATTLE, c_uint8, c_uint8, c_uint8, POINTER(SuccessorStruct), c_size_t, POINTER(c_uint32), c_size_t, _LIST, of=LONG)
+_LISTED = (POINTER(SuccessorStruct), c_size_t, POINTER(c_uint32), c_size_t, POINTER(OutcomeListStruct))
+outcomes = bind("gen1_outcomes", c_uint8, _BATTLE, c_uint8, c_uint8, POINTER(OutcomeOptionsStruct), *_LISTED, of=LONG)
 get_state = bind("gen1_get_state", None, _BATTLE, POINTER(StateStruct))
 set_state = bind("gen1_set_state", c_uint8, _BATTLE, POINTER(StateStruct), POINTER(StateFaultStruct))
 choice_words = bind("gen1_choice_words", c_uint8, _BATTLE, c_uint8, c_uint8, _TEXT, c_size_t, _SIZES)

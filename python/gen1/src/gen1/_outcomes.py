@@ -10,7 +10,8 @@ from struct import iter_unpack
 from typing import TYPE_CHECKING, Any
 
 from gen1 import _library
-from gen1._structs import OutcomeListStruct, SuccessorStruct
+from gen1._check import probability, within
+from gen1._structs import OutcomeListStruct, OutcomeOptionsStruct, SuccessorStruct
 from gen1.errors import Error
 
 if TYPE_CHECKING:
@@ -34,10 +35,14 @@ class Outcomes:
     battle before, so reseed one before you play it on.
     """
 
-    def __init__(self, rows: bytes, whole: int) -> None:
+    def __init__(self, rows: bytes, whole: int, left_out: int) -> None:
         self._rows = rows
         self.whole = whole
-        """The sum of all weights."""
+        """The sum of all weights and of `left_out`."""
+        self.left_out = left_out
+        """The exact weight of all that is left out. It is 0 without a
+        `least_probability`.
+        """
 
     def __len__(self) -> int:
         return len(self._rows) // SIZE
@@ -76,6 +81,11 @@ class Outcomes:
         found = [weight / self.whole for weight in self.weights]
         return _numpy().array(found) if find_spec("numpy") else found
 
+    @property
+    def left_out_probability(self) -> float:
+        """The probability of all that is left out: `left_out` over `whole`."""
+        return self.left_out / self.whole
+
     @cached_property
     def states(self) -> Any:
         """The 384 bytes of each battle, in an array of uint8 with a row for
@@ -87,22 +97,35 @@ class Outcomes:
         return b"".join(self._held())
 
 
+def sums_of(of: OutcomeListStruct) -> tuple[int, int]:
+    """The sum of all weights, and the part of it that is left out."""
+    return of.high << 64 | of.low, of.left_high << 64 | of.left_low
+
+
 def _numpy() -> Any:
     import numpy
 
     return numpy
 
 
-def outcomes_of(held: Any, one: int, two: int, damage_classes: int) -> tuple[int, Outcomes | None]:
+def options_of(damage_classes: object, least_probability: object) -> OutcomeOptionsStruct:
+    """The options of a list of outcomes, as the caller gives them."""
+    classes = within(damage_classes, "damage_classes", 0, 39)
+    # In units of 2^-32, rounded down. There are less than 2^32 of them, so that of 1 is the greatest.
+    least = int(probability(least_probability, "least_probability") * 2.0**32)
+    return OutcomeOptionsStruct(min(least, 2**32 - 1), classes)
+
+
+def outcomes_of(held: Any, one: int, two: int, options: OutcomeOptionsStruct) -> tuple[int, Outcomes | None]:
     """The outcomes of an update of the battle with these 384 bytes, or the
     code of the refusal.
     """
     places = PLACES
     while True:
         rows, table, of = (SuccessorStruct * places)(), (c_uint32 * (2 * places))(), OutcomeListStruct()
-        code = _library.outcomes(byref(held), one, two, damage_classes, rows, places, table, 2 * places, byref(of))
+        code = _library.outcomes(byref(held), one, two, byref(options), rows, places, table, 2 * places, byref(of))
         if code == 0:
-            return code, Outcomes(string_at(rows, SIZE * of.count), of.high << 64 | of.low)
+            return code, Outcomes(string_at(rows, SIZE * of.count), *sums_of(of))
         if code == _library.TOO_MANY_DRAWS:  # no update is known that has
             raise Error("the update has too many draws to list its outcomes")
         if code not in _library.FEW_PLACES:

@@ -192,10 +192,16 @@ class SuccessorStruct(Structure):
     _fields_ = [("battle", BattleBytes), ("low", c_uint64), ("high", c_uint64)]
 
 
+class OutcomeOptionsStruct(Structure):
+    """gen1_outcome_options."""
+
+    _fields_ = [("least", c_uint32), ("damage_classes", c_uint8), ("reserved", c_uint8 * 3)]
+
+
 class OutcomeListStruct(Structure):
     """gen1_outcome_list."""
 
-    _fields_ = [("low", c_uint64), ("high", c_uint64), ("count", c_uint64)]
+    _fields_ = [("low", c_uint64), ("high", c_uint64), ("left_low", c_uint64), ("left_high", c_uint64), ("count", c_uint64)]
 
 
 class RoomStruct(Structure):

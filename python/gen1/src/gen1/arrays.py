@@ -11,6 +11,7 @@ from numpy.typing import ArrayLike, NDArray
 
 from gen1 import _library
 from gen1._check import listed, place, shown, within
+from gen1._outcomes import options_of
 from gen1._threads import in_parts
 from gen1.battle import Battle
 from gen1.choices import Choice, a_side
@@ -188,19 +189,22 @@ class BattleArray:
         self._update(*pair)
         return self._results.copy()
 
-    def outcomes_many(self, ones: ArrayLike, twos: ArrayLike, *, damage_classes: int = 0) -> OutcomeArray:
+    def outcomes_many(
+        self, ones: ArrayLike, twos: ArrayLike, *, damage_classes: int = 0, least_probability: float = 0.0
+    ) -> OutcomeArray:
         """Lists all battles that an update of each battle by a choice of
         each side can lead to, as `Battle.outcomes` does for one battle.
         The choices are as for `step`.
 
         No battle is changed. A battle that refuses its pair has no
         outcomes, and `codes` of the result says why. An update can have
-        thousands of outcomes, of 400 bytes each. `damage_classes` makes
-        them fewer. Raises `BadArgument` or `BadType` for choices of another
-        length, range or type, and for another `damage_classes`.
+        thousands of outcomes, of 400 bytes each. `damage_classes` and
+        `least_probability` make them fewer. Raises `BadArgument` or
+        `BadType` for choices of another length, range or type, and for
+        other numbers of these two.
         """
         pair = self._choices(ones, "ones"), self._choices(twos, "twos")
-        return outcomes_of_array(self._bytes, *pair, within(damage_classes, "damage_classes", 0, 39), self._threads)
+        return outcomes_of_array(self._bytes, *pair, options_of(damage_classes, least_probability), self._threads)
 
     def random_step(self, dice: np.random.Generator, *, reset: bool = False) -> tuple[Bytes, Bytes]:
         """Makes a step with a random choice of each side, all equally

@@ -14,7 +14,7 @@ from gen1._check import byte as a_byte
 from gen1._check import move as a_move
 from gen1._check import digits, octets, seed_bytes, shown, truth, whole, within
 from gen1._odds import NO_CHANGE, Chances, HpChange, Odds, ThreeChances, chances_of, hp_change, no_damage, odds_of, three_chances_of
-from gen1._outcomes import Outcomes, outcomes_of
+from gen1._outcomes import Outcomes, options_of, outcomes_of
 from gen1._pack import bad_state, packed
 from gen1._structs import (
     DAMAGES,
@@ -395,7 +395,7 @@ class Battle:
                 return Playouts(*counts)
             number = dice.getrandbits(64)
 
-    def outcomes(self, one: Choice | int, two: Choice | int, *, damage_classes: int = 0) -> Outcomes:
+    def outcomes(self, one: Choice | int, two: Choice | int, *, damage_classes: int = 0, least_probability: float = 0.0) -> Outcomes:
         """All battles that an update by a choice of each side can lead to,
         each with its exact probability (`Outcomes` says of what draws).
 
@@ -410,11 +410,19 @@ class Battle:
         are one class more, so the chance that a roll knocks out stays
         exact, and so does everything that is not a roll of damage.
 
+        With `least_probability`, 0 to 1, draws are left out as soon as
+        those of the update so far are less probable than that together,
+        with all that may come after them. So a weight is that of the ways
+        to its battle that are not left out, and `left_out` of the result
+        is the exact weight of the rest. Of an update with draws, none may
+        be left. The probability is rounded down to a multiple of 2^-32.
+
         Raises `Refused` and `BadArgument` as `update` does, and
-        `BadArgument` or `BadType` for another `damage_classes`.
+        `BadArgument` or `BadType` for another `damage_classes` or
+        `least_probability`. `BadArgument` is a `ValueError` too.
         """
         pair = a_choice(one, 1), a_choice(two, 2)
-        code, found = outcomes_of(self._held, *pair, within(damage_classes, "damage_classes", 0, 39))
+        code, found = outcomes_of(self._held, *pair, options_of(damage_classes, least_probability))
         if found is None:
             raise self._refused(Refusal(code), pair)
         return found

@@ -14,17 +14,18 @@ from numpy.typing import NDArray
 
 from gen1 import _library
 from gen1._check import place
-from gen1._outcomes import MORE, PLACES, SIZE, Outcomes
-from gen1._structs import OutcomeListStruct
+from gen1._outcomes import MORE, PLACES, SIZE, Outcomes, sums_of
+from gen1._structs import OutcomeListStruct, OutcomeOptionsStruct
 from gen1._threads import in_parts
 from gen1.errors import Error
 
 Bytes: TypeAlias = NDArray[np.uint8]
-# The outcomes of consecutive battles: all rows, and for each battle the number of outcomes, the sum of their weights, and the code.
-_Part: TypeAlias = tuple[Bytes, list[int], list[int], list[int]]
+# The outcomes of consecutive battles: all rows, and for each battle the number of outcomes, the sum of all weights, the weight that is
+# left out, and the code.
+_Part: TypeAlias = tuple[Bytes, list[int], list[int], list[int], list[int]]
 
 _list = _library.bind(
-    "gen1_outcomes", c_uint8, c_void_p, c_uint8, c_uint8, c_uint8, c_void_p, c_size_t, c_void_p, c_size_t, c_void_p, of=_library.LONG
+    "gen1_outcomes", c_uint8, c_void_p, c_uint8, c_uint8, c_void_p, c_void_p, c_size_t, c_void_p, c_size_t, c_void_p, of=_library.LONG
 )
 _WORD = 2.0**64
 
@@ -39,14 +40,20 @@ class OutcomeArray:
     probabilities are exact.
     """
 
-    def __init__(self, rows: Bytes, offsets: NDArray[np.int64], wholes: list[int], codes: Bytes) -> None:
+    def __init__(self, rows: Bytes, offsets: NDArray[np.int64], wholes: list[int], left_out: list[int], codes: Bytes) -> None:
         self._rows = rows
         self.offsets = offsets
         """Where the outcomes of each battle begin, and where those of the
         last end, (n + 1).
         """
         self.wholes = wholes
-        """The sum of all weights of each battle's outcomes, n whole numbers."""
+        """The sum of all weights of each battle's outcomes and of what is
+        left out, n whole numbers.
+        """
+        self.left_out = left_out
+        """The exact weight of all that is left out of each battle's outcomes,
+        n whole numbers. They are 0 without a `least_probability`.
+        """
         self.codes = codes
         """0, or for a refused pair the number of its `Refusal`, (n). A
         refused pair has no outcomes.
@@ -60,7 +67,7 @@ class OutcomeArray:
         an `IndexError` too.
         """
         of = place(at, len(self))
-        return Outcomes(self._rows[self.offsets[of] : self.offsets[of + 1]].tobytes(), self.wholes[of])
+        return Outcomes(self._rows[self.offsets[of] : self.offsets[of + 1]].tobytes(), self.wholes[of], self.left_out[of])
 
     def __iter__(self) -> Iterator[Outcomes]:
         return (self[at] for at in range(len(self)))
@@ -82,6 +89,13 @@ class OutcomeArray:
         return found
 
     @cached_property
+    def left_out_probabilities(self) -> NDArray[np.float64]:
+        """The probability of all that is left out of each battle's outcomes,
+        (n). It is 0 for a refused pair.
+        """
+        return np.array([left / whole if whole else 0.0 for left, whole in zip(self.left_out, self.wholes)])
+
+    @cached_property
     def weights(self) -> list[int]:
         """The exact weight of each outcome. Its probability is the weight
         divided by the `wholes` of its battle.
@@ -93,44 +107,45 @@ class OutcomeArray:
         return self._rows[:, _library.BATTLE_BYTES :].copy().view("<u8")
 
 
-def outcomes_of_array(battles: Bytes, ones: Bytes, twos: Bytes, damage_classes: int, threads: int) -> OutcomeArray:
+def outcomes_of_array(battles: Bytes, ones: Bytes, twos: Bytes, options: OutcomeOptionsStruct, threads: int) -> OutcomeArray:
     """The outcomes of an update of each of the battles by a choice of each
     side.
     """
     found: dict[int, _Part] = {}
 
     def part(first: int, past: int) -> None:
-        found[first] = _listed(battles[first:past], ones[first:past].tolist(), twos[first:past].tolist(), damage_classes)
+        found[first] = _listed(battles[first:past], ones[first:past].tolist(), twos[first:past].tolist(), options)
 
     in_parts(part, len(battles), threads)
     parts = [found[first] for first in sorted(found)]
-    counts, wholes, codes = ([it for part in parts for it in part[at]] for at in (1, 2, 3))
+    counts, wholes, left_out, codes = ([it for part in parts for it in part[at]] for at in (1, 2, 3, 4))
     rows = parts[0][0] if len(parts) == 1 else np.concatenate([part[0] for part in parts])
-    return OutcomeArray(rows, np.cumsum([0, *counts], dtype=np.int64), wholes, np.array(codes, np.uint8))
+    return OutcomeArray(rows, np.cumsum([0, *counts], dtype=np.int64), wholes, left_out, np.array(codes, np.uint8))
 
 
-def _listed(battles: Bytes, ones: list[int], twos: list[int], damage_classes: int) -> _Part:
+def _listed(battles: Bytes, ones: list[int], twos: list[int], options: OutcomeOptionsStruct) -> _Part:
     """The outcomes of consecutive battles, written one after the other to
     one array, which grows.
     """
     held, used = _Held(PLACES * len(ones)), 0
     of, first = OutcomeListStruct(), battles.ctypes.data
-    counts, wholes, codes = [], [], []
+    counts, wholes, left_out, codes = [], [], [], []
     for at, (one, two) in enumerate(zip(ones, twos)):
         places, code = PLACES // MORE, _library.FEW_PLACES[0]
         while code in _library.FEW_PLACES:
             places *= MORE
             into, table = held.room(used, places)
             battle = first + at * _library.BATTLE_BYTES
-            code = _list(battle, one, two, damage_classes, into, places, table, 2 * places, byref(of))
+            code = _list(battle, one, two, byref(options), into, places, table, 2 * places, byref(of))
         if code == _library.TOO_MANY_DRAWS:  # no known update has
             raise Error("the update has too many draws to list its outcomes")
-        count = 0 if code else of.count
+        count, (whole, left) = (0, (0, 0)) if code else (of.count, sums_of(of))
         counts.append(count)
-        wholes.append(0 if code else of.high << 64 | of.low)
+        wholes.append(whole)
+        left_out.append(left)
         codes.append(code)
         used += count
-    return held.rows[:used], counts, wholes, codes
+    return held.rows[:used], counts, wholes, left_out, codes
 
 
 class _Held:
