@@ -39,6 +39,13 @@ export function within(value, what, least, most) {
   return value;
 }
 
+/** A number from 0 to 1. */
+export function probability(value, what) {
+  if (typeof value !== "number") throw wrongType(value, what, "a number from 0 to 1");
+  if (!(value >= 0 && value <= 1)) throw new ArgumentError(`${what} is ${value}, not 0 to 1`, what);
+  return value;
+}
+
 /** A number as a byte; 255 if it is out of range, which the library refuses where this is used. */
 export function byteOr255(value, what) {
   return whole(value, what) >= 0 && value <= 255 ? value : 255;

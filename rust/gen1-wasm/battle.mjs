@@ -5,7 +5,7 @@ import { ArgumentError, DamageError, FreedError, LoadError, RefusedError } from 
 import { CODES } from "./header.mjs";
 import { inspected } from "./inspecting.mjs";
 import { guessOf, stateGuessed } from "./guesses.mjs";
-import { outcomesOf } from "./outcomes.mjs";
+import { outcomeOptions, outcomesOf } from "./outcomes.mjs";
 import { libraryOf } from "./players.mjs";
 import { bytesOf, moveOf, Team, teamAt, teamError, teamGiven } from "./teams.mjs";
 import { blockOfState, indexOf, memberAt } from "./states.mjs";
@@ -239,10 +239,12 @@ export class Battle {
   }
 
   /** All battles that an update by a choice of each side can lead to, with their exact probabilities. The battle is unchanged. */
-  outcomes(one, two, { damageClasses = 0 } = {}) {
+  outcomes(one, two, options = {}) {
     const pair = [choiceByte(one, 1), choiceByte(two, 2)];
-    const asked = [...pair, within(damageClasses, "damageClasses", 0, 39)];
-    const [code, found] = outcomesOf(this.#library, this.#begin(), asked, (block) => new Battle(this.#library, block));
+    const given = outcomeOptions(this.#library, object(options, "options", "an object with options"));
+    const battle = this.#begin();
+    const asked = [...pair, this.#library.put(given)];
+    const [code, found] = outcomesOf(this.#library, battle, asked, (block) => new Battle(this.#library, block));
     if (code) throw this.#refused(code, pair);
     return found;
   }

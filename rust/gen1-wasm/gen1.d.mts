@@ -438,6 +438,12 @@ export interface OutcomeOptions {
    * out stays exact, and so does everything that is not a roll of damage.
    */
   damageClasses?: number;
+  /**
+   * Draws are left out as soon as those of the update so far are less probable than this together, with all that may come after them: 0 to 1,
+   * by default 0, which leaves nothing out. For a search, which saves the time to play them. A weight is then that of the ways to its battle
+   * that are not left out, and `leftOut` of the list is the exact weight of the rest. It is rounded down to a multiple of 2 ** -32.
+   */
+  leastProbability?: number;
 }
 
 /**
@@ -449,10 +455,14 @@ export interface OutcomeOptions {
  */
 export class Outcomes implements Iterable<OutcomeAt> {
   private constructor();
-  /** How many there are, at least 1. */
+  /** How many there are: at least 1, if nothing is left out. */
   readonly length: number;
-  /** The sum of all weights. */
+  /** The sum of all weights and of `leftOut`. */
   readonly whole: bigint;
+  /** The exact weight of all that is left out: 0n without a `leastProbability`. */
+  readonly leftOut: bigint;
+  /** `leftOut` of `whole`, as a number. */
+  readonly leftOutProbability: number;
   /** The outcome at a place from 0. Each call makes a new battle. */
   at(place: number): OutcomeAt;
   [Symbol.iterator](): Iterator<OutcomeAt>;

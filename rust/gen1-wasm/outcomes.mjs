@@ -1,9 +1,10 @@
 // All battles that an update can lead to, with their exact probabilities.
-import { within } from "./arguments.mjs";
+import { probability, within } from "./arguments.mjs";
 import { BATTLE_SIZE } from "./arena.mjs";
 import { Gen1Error } from "./errors.mjs";
 import { CODES } from "./header.mjs";
 import { inspected } from "./inspecting.mjs";
+import { bytesOf } from "./teams.mjs";
 import { made } from "./update.mjs";
 
 const { SUCCESSOR_SIZE } = CODES;
@@ -11,6 +12,8 @@ const FEW_PLACES = [CODES.ERROR_OUTCOMES, CODES.ERROR_TABLE];
 // How many outcomes there is space for at first; where there are more, the call is repeated with more space.
 const PLACES = 256;
 const MORE = 8;
+// A least probability is a multiple of 1 / UNITS, below 1.
+const UNITS = 2 ** 32;
 
 // The number of 128 bits at an offset: its low 64 bits, then its high ones.
 const numberAt = (view, at) => view.getBigUint64(at, true) + (view.getBigUint64(at + 8, true) << 64n);
@@ -23,14 +26,22 @@ export class Outcomes {
 
   /** How many outcomes there are. */
   length;
-  /** The sum of all weights. */
+  /** The sum of all weights and of `leftOut`. */
   whole;
+  /** The weight of all that is left out. */
+  leftOut;
 
-  /** Of the rows of gen1_successor, and a function that makes a battle of a block. */
-  constructor(library, rows, whole, battleOf) {
+  /** Of the rows of gen1_successor, `whole` and `leftOut`, and a function that makes a battle of a block. */
+  constructor(library, rows, sums, battleOf) {
     this.#library = made(library, "Outcomes", "Battle.outcomes");
-    [this.#rows, this.#battleOf, this.whole] = [rows, battleOf, whole];
+    [this.#rows, this.#battleOf] = [rows, battleOf];
+    [this.whole, this.leftOut] = sums;
     this.length = rows.length / SUCCESSOR_SIZE;
+  }
+
+  /** The probability of all that is left out. */
+  get leftOutProbability() {
+    return Number(this.leftOut) / Number(this.whole);
   }
 
   /** The outcome at a place from 0: its battle, its probability, and its exact weight, of which the probability is that of `whole`. */
@@ -51,7 +62,14 @@ export class Outcomes {
   }
 }
 
-/** The code of a refusal, or 0 and the outcomes of an update of the battle at a pointer, by the bytes of two choices and the number of classes of damage. */
+/** The bytes of gen1_outcome_options. */
+export function outcomeOptions(library, { damageClasses = 0, leastProbability = 0 }) {
+  const classes = within(damageClasses, "damageClasses", 0, 39);
+  const least = Math.min(Math.floor(UNITS * probability(leastProbability, "leastProbability")), UNITS - 1);
+  return bytesOf("gen1_outcome_options", library.isLong, { least, damageClasses: classes });
+}
+
+/** The code of a refusal, or 0 and the outcomes of an update of the battle at a pointer, by the bytes of two choices and a pointer to options. */
 export function outcomesOf(library, battle, asked, battleOf) {
   const list = library.roomOf("gen1_outcome_list");
   let code = CODES.ERROR_OUTCOMES;
@@ -59,7 +77,8 @@ export function outcomesOf(library, battle, asked, battleOf) {
   for (let places = PLACES; FEW_PLACES.includes(code); places *= MORE) [code, rows] = listed(library, battle, asked, list, places);
   if (code === CODES.ERROR_DRAWS) throw new Gen1Error(library.sentence(code), code);
   if (code) return [code, null];
-  return [code, new Outcomes(library, rows, numberAt(new DataView(library.bytes.buffer), Number(list)), battleOf)];
+  const view = new DataView(library.bytes.buffer);
+  return [code, new Outcomes(library, rows, [0, 16].map((at) => numberAt(view, Number(list) + at)), battleOf)];
 }
 
 // The code of the call with space for so many outcomes, and a copy of their rows.

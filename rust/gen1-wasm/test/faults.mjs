@@ -300,6 +300,12 @@ function seeds(battle, check) {
     for (const number of [-1, 40, 255, ...BIG]) outside(() => listed(number), /^damageClasses is -?\d.*, not 0 to 39$/);
     for (const number of NO_NUMBERS) wrong(() => listed(number), /^damageClasses is .*, not a whole number$/);
   });
+  check("least probabilities", () => {
+    const listed = (leastProbability) => battle.outcomes(17, 17, { leastProbability });
+    for (const number of [-1e-9, 1.0000001, -1, 2, NaN, Infinity]) outside(() => listed(number), /^leastProbability is -?[\dNI].*, not 0 to 1$/);
+    for (const thing of [null, "0.5", 1n, true, [0.5]]) wrong(() => listed(thing), /^leastProbability is .*, not a number from 0 to 1$/);
+    for (const options of [null, 3, "leastProbability"]) wrong(() => battle.outcomes(17, 17, options), /^options is .*, not an object with options$/);
+  });
   check("playouts of nothing", () => {
     for (const seed of [-1, -1n, 2n ** 64n, 2 ** 53, 2 ** 64])
       outside(() => battle.playout(seed, 1), /^seed is -?\d.*, not 0 to 2/);

@@ -27,7 +27,7 @@ const OF_BATTLE = {
   reseed: true, playout: true, outcomes: true, odds: true, damage: true, knockOut: true, knockOutInThree: true, ownSide: true, withState: true, withHp: true, withStatus: true, withStage: true,
 };
 /** @type {Record<Named<import("../gen1.mjs").Outcomes>, true>} */
-const OF_OUTCOMES = { length: true, whole: true, at: true };
+const OF_OUTCOMES = { length: true, whole: true, leftOut: true, leftOutProbability: true, at: true };
 /** @type {Record<Named<import("../gen1.mjs").OutcomeAt>, true>} */
 const OF_OUTCOME = { battle: true, probability: true, weight: true };
 /** @type {Record<Named<import("../gen1.mjs").Room>, true>} */

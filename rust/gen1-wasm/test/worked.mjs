@@ -181,6 +181,25 @@ function outcomes(gen1, check) {
     for (const sum of sums) equal(`${sum * 65536n * 3n}`, `${found.whole * 255n * 201n}`);
     holds(battle.outcomes("move 1", "move 1", { damageClasses: 1 }).length === 1, "other outcomes of Splash");
   });
+  check("a least probability", () => {
+    // Thunder Wave hits with 255 of 256 bytes. The slower Slowbro, once it is paralysed, can't act with 63 of 256.
+    const battle = begun(gen1, "Tauros", "Slowbro", ["Thunder Wave", "Amnesia"]);
+    const [misses, isStopped] = [1 / 256, (255 * 63) / 65536];
+    const cases = [[0, 3, 0], [misses, 3, 0], [0.01, 2, misses], [isStopped, 2, misses], [isStopped + 2 ** -32, 1, misses + isStopped], [1, 0, 1]];
+    for (const [leastProbability, length, left] of cases) {
+      const found = battle.outcomes("move 1", "move 2", { leastProbability });
+      equal([found.length, found.leftOutProbability], [length, left]);
+      equal(`${found.leftOut * 65536n}`, `${found.whole * BigInt(left * 65536)}`);
+      let sum = found.leftOut;
+      for (const { battle: next, weight } of found) {
+        sum += weight;
+        next.free();
+      }
+      holds(sum === found.whole, "the weights and leftOut do not sum to whole");
+    }
+    const splash = facing("Tauros", "Snorlax", "Splash").outcomes("move 1", "move 1", { leastProbability: 1 });
+    holds(splash.length === 1 && splash.leftOut === 0n, "an update without draws is left out");
+  });
   check("more outcomes than the first space holds", () => {
     const found = facing("Tauros", "Starmie", "Thunder").outcomes("move 1", "move 1");
     const bytes = new Set(Array.from(found, ({ battle }) => hexOf(battle.bytes)));
