@@ -1,5 +1,5 @@
 -- A pair that is accepted was offered.
-use Rattle.std.proofs.Common.{◌≡◌, Bool, true, false, Err, Ok, Option, Result, Some, ap, refl, subst, sym, ◌∙◌, ℕ}
+use Rattle.std.proofs.Common.{◌≡◌, Bool, true, false, Err, Ok, Result, Some, ap, refl, subst, sym, ◌∙◌, ℕ}
 use Rattle.gen1_machine.specs.declared.choice.Choice.{Choice}
 use Rattle.gen1_machine.specs.declared.side.Side.TheVariants.{One, Two}
 use Rattle.gen1_machine.specs.Choices.{choice_at}

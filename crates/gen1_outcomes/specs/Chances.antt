@@ -6,7 +6,7 @@ use Rattle.gen1_outcomes.specs.declared.nodes.Chance.{Chance}
 abbrev pub IsSum : Chance → Chance → Chance → Type 0
 IsSum a b c = c.num * (a.whole * b.whole) ≡ c.whole * (a.num * b.whole + b.num * a.whole)
 
--- A probability is below so many 2^-32, or it is no less.
+-- A probability is below least / 2^32, or it is no less.
 abbrev pub IsBelow : ℕ → Chance → Type 0
 IsBelow least c = c.num * 4294967296 < least * c.whole
 

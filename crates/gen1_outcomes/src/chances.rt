@@ -24,7 +24,7 @@ pub fn plus(one: Chance, other: Chance) -> Option<Chance>
     Some(Chance { num, whole })
 }
 
-/// Whether a probability is below so many 2^-32. One whose numerator has more than 96 bits is not.
+/// Whether a probability is below `least` / 2^32. One whose numerator has more than 96 bits is not.
 pub fn is_below(chance: Chance, least: u32) -> bool
     ensures below { IsTrue result → IsBelow least chance }
     ensures kept { IsFalse result → chance.num < 2 ^ 96 → IsAtLeast least chance }

@@ -21,7 +21,7 @@ pub struct Tally {
     pub whole: u128,
     /// The sum of the weights of the branches that are left out.
     pub left_out: u128,
-    /// A branch is left out if its probability is below so many 2^-32.
+    /// A branch is left out if its probability is below `least` / 2^32.
     pub least: u32,
     /// How many ways were added.
     pub ways: u32,

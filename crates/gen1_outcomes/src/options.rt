@@ -8,6 +8,6 @@ pub struct OutcomeOptions {
     /// A class has neighbouring damages below the HP that is left, and one of them near its middle is played for all. All
     /// damages from the HP on are one class more.
     pub damage_classes: u8,
-    /// A branch of the draws is left out as soon as its probability is below so many 2^-32. 0: none is.
+    /// A branch of the draws is left out as soon as its probability is below `least` / 2^32. 0: none is.
     pub least: u32,
 }

@@ -343,7 +343,7 @@ fn updates_without_draws_have_one_outcome() {
     assert!(list.successors[0].battle.as_bytes() == battle.as_bytes());
 }
 
-/// What is left out where so many 2^-32 are the least probability: its part, and how many outcomes are listed.
+/// What is left out with a least probability of `least` / 2^32: its part, and how many outcomes are listed.
 fn left_out(battle: &Packed, least: u32) -> (Fraction, usize) {
     let list = List::with(OutcomeOptions { least, ..ALL }, battle, slot(1), slot(1));
     assert_eq!(list.weights().len(), list.outcomes.count);

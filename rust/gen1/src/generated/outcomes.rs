@@ -346,7 +346,7 @@ mod chances {
         Some(Chance { num, whole })
     }
 
-    /// Whether a probability is below so many 2^-32. One whose numerator has more than 96 bits is not.
+    /// Whether a probability is below `least` / 2^32. One whose numerator has more than 96 bits is not.
     pub fn is_below(chance: Chance, least: u32) -> bool {
         if least == 0 {
             return false;
@@ -576,7 +576,7 @@ mod merging {
         pub whole: u128,
         /// The sum of the weights of the branches that are left out.
         pub left_out: u128,
-        /// A branch is left out if its probability is below so many 2^-32.
+        /// A branch is left out if its probability is below `least` / 2^32.
         pub least: u32,
         /// How many ways were added.
         pub ways: u32,
@@ -1253,7 +1253,7 @@ mod options {
         /// A class has neighbouring damages below the HP that is left, and one of them near its middle is played for all. All
         /// damages from the HP on are one class more.
         pub damage_classes: u8,
-        /// A branch of the draws is left out as soon as its probability is below so many 2^-32. 0: none is.
+        /// A branch of the draws is left out as soon as its probability is below `least` / 2^32. 0: none is.
         pub least: u32,
     }
 }

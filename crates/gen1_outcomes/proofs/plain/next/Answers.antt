@@ -1,4 +1,4 @@
-use Rattle.std.proofs.Common.{Some, subst, sym, ◌≡◌}
+use Rattle.std.proofs.Common.{subst, sym}
 use Rattle.gen1_layout.specs.Parts.{Parts}
 use Rattle.gen1_layout.specs.Within.{Stands}
 use Rattle.gen1_outcomes.proofs.Offered.{follows_pair}
