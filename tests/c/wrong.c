@@ -21,7 +21,8 @@ uint8_t __real_gen1_odds_now(const gen1_battle *, uint8_t, uint8_t, gen1_odds *)
 uint32_t __real_gen1_odds_between(const gen1_member *, const gen1_member *, uint8_t, gen1_odds *);
 uint8_t __real_gen1_walk_begin(const gen1_battle *, uint8_t, uint8_t, uint8_t, gen1_walk *);
 uint8_t __real_gen1_walk_next(gen1_walk *, gen1_way *);
-uint8_t __real_gen1_outcomes(const gen1_battle *, uint8_t, uint8_t, const gen1_outcome_options *, gen1_successor *, size_t, uint32_t *, size_t, gen1_outcome_list *);
+uint8_t __real_gen1_outcomes(const gen1_battle *, uint8_t, uint8_t, const gen1_outcome_options *, gen1_successor *, size_t, uint32_t *,
+                             size_t, gen1_outcome_list *);
 
 /* 1: a DV of 16 is taken as 15, so that its team is accepted. 2: a refused battle is emptied. */
 uint32_t __wrap_gen1_new(gen1_battle *battle, const gen1_team *one, const gen1_team *two, const uint8_t seed[10], uint8_t rules,
