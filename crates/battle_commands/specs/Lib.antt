@@ -14,3 +14,4 @@ pub mod Served
 pub mod Replies
 pub mod Folders
 pub mod CommandLine
+pub mod Help

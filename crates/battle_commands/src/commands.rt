@@ -11,6 +11,7 @@ ghost use Rattle.battle_commands.specs.Calc.{PrintsDamages, damages_due};
 ghost use Rattle.battle_commands.specs.Due.{log_due, run_due};
 ghost use Rattle.battle_commands.specs.Explanations.{told_of};
 ghost use Rattle.battle_commands.specs.Faults.{status_of};
+ghost use Rattle.battle_commands.specs.Help.{Helps};
 ghost use Rattle.battle_commands.specs.Logs.{PrintsLog};
 ghost use Rattle.battle_commands.specs.Replies.{Replies, RepliesTo};
 ghost use Rattle.battle_commands.specs.Rooms.{room_due};
@@ -20,6 +21,7 @@ use crate::battles::{play, play_log};
 use crate::calc::play_calc;
 use crate::fault::ToolFault;
 use crate::folder::Folder;
+use crate::help::help_of;
 use crate::logs::play_print;
 use crate::rooms::play_room;
 use clap::error::ErrorKind;
@@ -36,31 +38,6 @@ const ABOUT: &str = "Runs link battles of the first generation";
 const STATUSES: &str =
     "Status: 0 all was printed, 1 the input was refused, 2 the command line was refused, 3 a read or a write failed, 4 out of memory. Standard error says why.";
 
-const RUN_ABOUT: &str = "Runs a battle and prints its lines";
-
-const RUN_INPUT: &str =
-    "Reads {\"seed\":[10 bytes],\"one\":[member],\"two\":[member],\"choices\":[[byte,byte],..]}, and optionally the keys \"rules\" and \"limit\". A member is {\"species\":name,\"level\":n,\"dvs\":[4],\"exp\":[5],\"moves\":[[name,ups],..]}. Prints a line for each event, pair by pair.";
-
-const LOG_ABOUT: &str = "Runs a battle and writes its log";
-
-const LOG_INPUT: &str =
-    "Reads the same object as run. Writes the log bytes of each pair, for print to read.";
-
-const PRINT_ABOUT: &str = "Prints the lines of a log";
-
-const PRINT_INPUT: &str =
-    "Reads the log bytes of updates, one after the other. Prints a line for each event, and nothing if the bytes are not a log.";
-
-const CALC_ABOUT: &str = "Prints the damage numbers of a move";
-
-const CALC_INPUT: &str =
-    "Reads {\"attacker\":member,\"defender\":member,\"move\":name,\"critical\":true or false}, with members as in run. Prints in one line the damage at each factor from 217 to 255, of the attacker's move against the defender, both just sent out. Prints nothing for a move without the usual damage.";
-
-const ROOM_ABOUT: &str = "Runs a room of two players and prints the reply to each submission";
-
-const ROOM_INPUT: &str =
-    "Reads the object of run with \"submissions\":[[side,number,byte],..] in place of choices: the side, 1 or 2, the number of its pair, from 0, and the choice. Prints the lines of the start, and for each submission |room|waiting, |room|advanced with the lines of the pair, or |room|refused|N.";
-
 const EXPLAIN_HELP: &str = "Says where the error is and what was expected, after its line";
 
 const FILE_HELP: &str = "The input (default: standard input)";
@@ -69,15 +46,9 @@ const FILE_HELP: &str = "The input (default: standard input)";
 const USAGE: &str = "usage: battle_tool SUBCOMMAND [--explain] [FILE]\n";
 
 /// A subcommand that reads a FILE, or standard input if none is named.
-fn reading<'a>(
-    alloc: Global,
-    name: &'a str,
-    about: &'a str,
-    input: &'a str,
-) -> Result<Command<'a>, AllocError>
-    ensures { IfOk result
-        (λ command. (app_of command ≡ reading name.now)
-        × ((fields_of command).has_globals ≡ false)) }
+fn reading<'a>(alloc: Global, name: &'a str) -> Result<Command<'a>, AllocError>
+    ensures { IfOk result (λ command. (app_of command ≡ reading name.now)
+        × ((fields_of command).has_globals ≡ false) × Helps name.now command) }
 {
     let file = Arg::new(alloc, "FILE")
         .help(FILE_HELP)
@@ -86,10 +57,10 @@ fn reading<'a>(
         .long("explain")
         .help(EXPLAIN_HELP)
         .action(ArgAction::SetTrue);
-    let command = Command::new(alloc, name).about(about).after_help(input);
-    let explained = command.arg(explain)?;
+    let explained = Command::new(alloc, name).arg(explain)?;
     let filed = explained.arg(file)?;
-    Ok(filed)
+    let (about, input) = help_of(name);
+    Ok(filed.about(about).after_help(input))
 }
 
 /// The command line.
@@ -100,15 +71,15 @@ fn command<'a>(alloc: Global) -> Result<Command<'a>, AllocError>
         .about(ABOUT)
         .after_help(STATUSES)
         .subcommand_required(true);
-    let run = reading(alloc, "run", RUN_ABOUT, RUN_INPUT)?;
+    let run = reading(alloc, "run")?;
     let with_run = top.subcommand(run)?;
-    let log = reading(alloc, "log", LOG_ABOUT, LOG_INPUT)?;
+    let log = reading(alloc, "log")?;
     let with_log = with_run.subcommand(log)?;
-    let print = reading(alloc, "print", PRINT_ABOUT, PRINT_INPUT)?;
+    let print = reading(alloc, "print")?;
     let with_print = with_log.subcommand(print)?;
-    let calc = reading(alloc, "calc", CALC_ABOUT, CALC_INPUT)?;
+    let calc = reading(alloc, "calc")?;
     let with_calc = with_print.subcommand(calc)?;
-    let room = reading(alloc, "room", ROOM_ABOUT, ROOM_INPUT)?;
+    let room = reading(alloc, "room")?;
     let with_room = with_calc.subcommand(room)?;
     Ok(with_room)
 }

@@ -1,6 +1,7 @@
 //! The subcommands of `battle_tool` (docs/PROGRAM.md). Each reads an input, prints what it asks for, and returns its error.
 //!
 //! - `commands`: the command line: which subcommand runs on what, and the exit status
+//! - `help`: the help of each subcommand
 //! - `folder`: inputs that are opened by name
 //! - `input`: an input, read completely
 //! - `asked_battle`: the battle of an input
@@ -24,6 +25,7 @@ mod duel;
 mod explanation;
 mod fault;
 mod folder;
+mod help;
 mod input;
 mod logs;
 mod number_line;

@@ -1,0 +1,21 @@
+-- The help of each subcommand (docs/PROGRAM.md, "The program battle_tool").
+use Rattle.std.specs.Prelude.{IsSomeAnd, List, codes, ℕ, ◌≡◌}
+use Rattle.clap.specs.declared.builder.command.Command.{Command}
+use Rattle.clap.specs.declared.builder.command.Command.TheViews.{out-Command as fields_of}
+
+-- these texts say what the subcommand of this name does, and what it reads and prints
+pub record Describes (name about input : List ℕ) : Type 0 where
+  pub run_about : name ≡ codes "run" → about ≡ codes "Runs a battle and prints its lines"
+  pub log_about : name ≡ codes "log" → about ≡ codes "Runs a battle and writes its log"
+  pub print_about : name ≡ codes "print" → about ≡ codes "Prints the lines of a log"
+  pub calc_about : name ≡ codes "calc" → about ≡ codes "Prints the damage numbers of a move"
+  pub room_about : name ≡ codes "room" → about ≡ codes "Runs a room of two players and prints the reply to each submission"
+  pub run_input : name ≡ codes "run" → input ≡ codes "Reads {\"seed\":[10 bytes],\"one\":[member],\"two\":[member],\"choices\":[[byte,byte],..]}, and optionally the keys \"rules\" and \"limit\". A member is {\"species\":name,\"level\":n,\"dvs\":[4],\"exp\":[5],\"moves\":[[name,ups],..]}. Prints a line for each event, pair by pair."
+  pub log_input : name ≡ codes "log" → input ≡ codes "Reads the same object as run. Writes the log bytes of each pair, for print to read."
+  pub print_input : name ≡ codes "print" → input ≡ codes "Reads the log bytes of updates, one after the other. Prints a line for each event, and nothing if the bytes are not a log."
+  pub calc_input : name ≡ codes "calc" → input ≡ codes "Reads {\"attacker\":member,\"defender\":member,\"move\":name,\"critical\":true or false}, with members as in run. Prints in one line the damage at each factor from 217 to 255, of the attacker's move against the defender, both just sent out. Prints nothing for a move without the usual damage."
+  pub room_input : name ≡ codes "room" → input ≡ codes "Reads the object of run with \"submissions\":[[side,number,byte],..] in place of choices: the side, 1 or 2, the number of its pair, from 0, and the choice. Prints the lines of the start, and for each submission |room|waiting, |room|advanced with the lines of the pair, or |room|refused|N."
+
+-- the help of a command begins with what the subcommand of this name does, and ends with what it reads and prints
+abbrev pub Helps : List ℕ → Command → Type 0
+Helps name c = IsSomeAnd (fields_of c).about (λ about. IsSomeAnd (fields_of c).after_help (λ input. Describes name about.now input.now))
