@@ -968,7 +968,8 @@ uint32_t gen1_version(void);
  *   - "plain, rustc VERSION, sources sha256 HEX": rustc's, from the same sources without their contracts
  *   - "unknown": neither is known
  *
- * The sum is that of the files of crates/ that a proof reads. Where one of these isn't known, it is "unknown".
+ * The sum is that of the files of crates/ that a proof reads. Where one of these isn't known, it is "unknown". A library that was
+ * optimized with a profile of battles says "with a profile" after "proved," or after rustc's VERSION.
  */
 const char *gen1_build(void);
 

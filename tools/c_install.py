@@ -8,7 +8,7 @@ import subprocess
 import sys
 
 sys.dont_write_bytecode = True
-from c_library import Unbuilt, build_of, calls, kit_logic, needed, origin, ran, shown, version, with_build, write_record
+from c_library import PROFILED, PROVED, Unbuilt, build_of, calls, kit_logic, needed, origin, ran, shown, version, with_build, write_record
 from licenses import licenses, not_permitted, of_library, permitted
 from repository import ROOT
 
@@ -88,23 +88,27 @@ class Tried:
         return None if said == "unknown" else f"a library of unknown origin says {said!r}"
 
     def origins(self):
-        """A library is proved only if it is, byte for byte, that of tools/library, whose record says what it was built from."""
-        given, proved = self.gate.work / "given.a", self.gate.work / "proved" / "libgen1_c.a"
+        """A library is proved only if it is, byte for byte, one of tools/library, whose record says what it was built from."""
+        return self.origin_of(PROVED.name, "proved") or self.origin_of(PROFILED.name, "proved, with a profile")
+
+    def origin_of(self, name, how):
+        """What is wrong with the origin of a library of tools/library that has this name, or None."""
+        given, proved = self.gate.work / "given.a", self.gate.work / "proved" / name
         shutil.rmtree(proved.parent, ignore_errors=True)
         proved.parent.mkdir()
         given.write_bytes(b"a library")
-        found = [origin(given, proved)]
+        found = [origin(given, proved.parent)]
         shutil.copyfile(given, proved)
-        found.append(origin(given, proved))
+        found.append(origin(given, proved.parent))
         write_record("1234", proved)
-        found.append(origin(given, proved))
+        found.append(origin(given, proved.parent))
         given.write_bytes(b"another")
-        found.append(origin(given, proved))
+        found.append(origin(given, proved.parent))
         shutil.copyfile(given, proved)
-        found.append(origin(given, proved))
-        unrecorded = "proved, logic unknown, sources sha256 unknown"
-        due = ["unknown", unrecorded, f"proved, logic {kit_logic()}, sources sha256 1234", "unknown", unrecorded]
-        return None if found == due else f"{found}"
+        found.append(origin(given, proved.parent))
+        unrecorded = f"{how}, logic unknown, sources sha256 unknown"
+        due = ["unknown", unrecorded, f"{how}, logic {kit_logic()}, sources sha256 1234", "unknown", unrecorded]
+        return None if found == due else f"{name}: {found}"
 
     def licenses(self):
         """LICENSES.txt is that of the library, and each crate that an artifact links has a license that is permitted."""

@@ -19,8 +19,10 @@ from repository import ROOT
 HEADER = ROOT / "include" / "gen1.h"
 # The library that tools/library leaves.
 PROVED = ROOT / "crates" / "gen1_c" / "out" / "libgen1_c.a"
-# Beside it; three words: the sums of the archive and of the sources, and the kit's logic.
-RECORD = "libgen1_c.record"
+# The one that `tools/library --profile` leaves too: the same module, compiled with a profile of battles.
+PROFILED = PROVED.with_name("libgen1_c_profiled.a")
+# Beside each; three words: the sums of the archive and of the sources, and the kit's logic.
+RECORD = ".record"
 SOURCE = """const char *gen1_build(void);
 const char *gen1_build(void) {{ return "{text}"; }}
 """
@@ -134,19 +136,21 @@ def kit_logic():
 
 
 def write_record(sources, proved=PROVED):
-    """Records what the archive of tools/library was built from; `sources` is their sum before the build."""
-    proved.with_name(RECORD).write_text(f"{sum_of(proved)} {sources} {kit_logic()}\n")
+    """Records what an archive of tools/library was built from; `sources` is their sum before the build."""
+    proved.with_suffix(RECORD).write_text(f"{sum_of(proved)} {sources} {kit_logic()}\n")
 
 
-def origin(archive, proved=PROVED):
-    """The text of gen1_build for an archive that has no such function. It is proved only if it is the one of tools/library."""
-    if not proved.is_file() or archive.read_bytes() != proved.read_bytes():
-        return "unknown"
-    record = proved.with_name(RECORD)
-    recorded = record.read_text().split() if record.is_file() else []
-    known = len(recorded) == 3 and recorded[0] == sum_of(archive)
-    sources, logic = recorded[1:] if known else ("unknown", "unknown")
-    return f"proved, logic {logic}, sources sha256 {sources}"
+def origin(archive, folder=PROVED.parent):
+    """The text of gen1_build for an archive that has no such function. It is proved only if it is one of tools/library, in the folder."""
+    for name, how in ((PROVED.name, "proved"), (PROFILED.name, "proved, with a profile")):
+        proved = folder / name
+        if proved.is_file() and archive.read_bytes() == proved.read_bytes():
+            record = proved.with_suffix(RECORD)
+            recorded = record.read_text().split() if record.is_file() else []
+            known = len(recorded) == 3 and recorded[0] == sum_of(archive)
+            sources, logic = recorded[1:] if known else ("unknown", "unknown")
+            return f"{how}, logic {logic}, sources sha256 {sources}"
+    return "unknown"
 
 
 def plain_origin(how=""):
