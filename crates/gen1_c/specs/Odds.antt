@@ -19,19 +19,23 @@ use Rattle.gen1_c.specs.Battle.{teams_fault}
 use Rattle.gen1_c.specs.Teams.{fault_of_any, member_fault, sheet_of}
 use Rattle.gen1_c.specs.declared.teams.MemberForm.{MemberForm}
 
--- what a move has in the present state; or a code: not a move, no active member yet
-unfoldable pub due_of : {A : Type 0} → (Rules → Side → Move → Field → A) → Rules → Side → ℕ → Field → Result A ℕ
-due_of read r side id f =
-    if nat_le 1 id && nat_le id 165 then (if f.turn == 0 then Err 50 else Ok (read r side (move_at id) f)) else Err 11
+-- the side and the move of a use; or a code: not a move, no active member yet
+unfoldable pub use_due : Side → ℕ → Field → Result (Side × ℕ) ℕ
+use_due side id f = if nat_le 1 id && nat_le id 165 then (if f.turn == 0 then Err 50 else Ok (side, id)) else Err 11
+
+-- what a use has in the present state, or its code
+abbrev pub due_of : {A : Type 0} → (Rules → Side → Move → Field → A) → Rules → Field → Result (Side × ℕ) ℕ → Result A ℕ
+due_of read r f (Ok used) = Ok (read r used.0 (move_at used.1) f)
+due_of read r f (Err why) = Err why
 
 abbrev pub odds_due : Rules → Side → ℕ → Field → Result Odds ℕ
-odds_due = due_of odds_in
+odds_due r side id f = due_of odds_in r f (use_due side id f)
 
 abbrev pub chances_due : Rules → Side → ℕ → Field → Result Chances ℕ
-chances_due = due_of chances_in
+chances_due r side id f = due_of chances_in r f (use_due side id f)
 
 abbrev pub three_chances_due : Between → Rules → Side → ℕ → Field → Result ThreeChances ℕ
-three_chances_due between = due_of (three_chances_in between)
+three_chances_due between r side id f = due_of (three_chances_in between) r f (use_due side id f)
 
 abbrev pub Tells : {A : Type 0} → Result A ℕ → A → A → ℕ → Type 0
 Tells (Ok value) old new code = (code ≡ 0) × (new ≡ value)

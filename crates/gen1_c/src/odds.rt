@@ -1,12 +1,12 @@
 //! The odds of a use of a move, and its chance to knock out (include/gen1.h, "calculating"; docs/MECHANICS.md, "Critical hits" to "Hit test").
-ghost use Rattle.std.specs.Prelude.{[], if◌then◌else◌, ◌∷◌, ◌≡◌, ◌≢◌};
+ghost use Rattle.std.specs.Prelude.{Err, IfErr, [], if◌then◌else◌, ◌∷◌, ◌≡◌, ◌≢◌};
 ghost use Rattle.gen1_stats.specs.Teams.{team_of};
 ghost use Rattle.gen1_machine.specs.Numbers.{side_number};
 ghost use Rattle.gen1_machine.specs.State.{State};
 ghost use Rattle.gen1_machine.specs.declared.side.Side.{Side};
 ghost use Rattle.gen1_machine.specs.declared.side.Side.TheVariants.{One};
 ghost use Rattle.gen1_layout.specs.Within.{Stands};
-ghost use Rattle.gen1_c.specs.Odds.{Tells, between_fault, chances_due, drained_due, facing, hit_test_due, odds_due, odds_of_state, recoil_due, three_chances_due};
+ghost use Rattle.gen1_c.specs.Odds.{Tells, between_fault, chances_due, drained_due, facing, hit_test_due, odds_due, odds_of_state, recoil_due, three_chances_due, use_due};
 ghost use Rattle.gen1_c.specs.Teams.{sheet_of};
 ghost use Rattle.gen1_c.specs.Update.{IsNoSide};
 
@@ -41,17 +41,13 @@ pub extern "C" fn gen1_odds_now(battle: &Packed, side: u8, number: u8, odds: &mu
     // For any bytes, valid or not.
     ensures kept { result ≢ 0 → odds.new ≡ odds.old }
 {
-    let Some(side) = Side::from_number(side) else {
-        return NO_SIDE;
-    };
-    let Some(id) = MoveId::new(number) else {
-        return NO_MOVE;
-    };
-    if battle.turn() == 0 {
-        return NOBODY;
+    match use_of(battle, side, number) {
+        Ok(used) => {
+            *odds = odds_of(battle, used.0, used.1);
+            0
+        }
+        Err(code) => code,
     }
-    *odds = odds_of(battle, side, id);
-    0
 }
 
 /// Computes the chance that one use of a move of a side knocks out the foe's active member, or two uses in a row, with both as
@@ -65,17 +61,13 @@ pub extern "C" fn gen1_knock_out(battle: &Packed, side: u8, number: u8, chances:
     // For any bytes, valid or not.
     ensures kept { result ≢ 0 → chances.new ≡ chances.old }
 {
-    let Some(side) = Side::from_number(side) else {
-        return NO_SIDE;
-    };
-    let Some(id) = MoveId::new(number) else {
-        return NO_MOVE;
-    };
-    if battle.turn() == 0 {
-        return NOBODY;
+    match use_of(battle, side, number) {
+        Ok(used) => {
+            *chances = knock_out(battle, used.0, used.1);
+            0
+        }
+        Err(code) => code,
     }
-    *chances = knock_out(battle, side, id);
-    0
 }
 
 /// Computes the chance that one use of a move of a side knocks out the foe's active member, or two or three in a row, with both as
@@ -95,17 +87,32 @@ pub extern "C" fn gen1_knock_out_in_three(
     // For any bytes, valid or not.
     ensures kept { result ≢ 0 → chances.new ≡ chances.old }
 {
+    match use_of(battle, side, number) {
+        Ok(used) => {
+            *chances = knock_out_in_three(battle, used.0, used.1, between);
+            0
+        }
+        Err(code) => code,
+    }
+}
+
+// The side and the move of a use; or the first code that applies.
+fn use_of(battle: &Packed, side: u8, number: u8) -> Result<(Side, MoveId), u8>
+    ensures due { (s : State) (which : Side) → Stands battle.now s → side ≡ side_number which
+        → result ≡ use_due which number s.field }
+    ensures no_side { IsNoSide side → result ≡ Err 40 }
+    ensures some { IfErr result (λ code. code ≢ 0) }
+{
     let Some(side) = Side::from_number(side) else {
-        return NO_SIDE;
+        return Err(NO_SIDE);
     };
     let Some(id) = MoveId::new(number) else {
-        return NO_MOVE;
+        return Err(NO_MOVE);
     };
     if battle.turn() == 0 {
-        return NOBODY;
+        return Err(NOBODY);
     }
-    *chances = knock_out_in_three(battle, side, id, between);
-    0
+    Ok((side, id))
 }
 
 /// Returns the HP that a damage of a move gives to its user (docs/MECHANICS.md, "Recoil, drain and explosion"): 0 if the move does

@@ -1,30 +1,17 @@
-use Rattle.std.proofs.Common.{Err, Ok, ap, refl, sym, ◌≡◌, ◌∙◌, ℕ}
-use Rattle.gen1_machine.specs.declared.side.Side.{Side}
-use Rattle.gen1_machine.specs.Moves.{move_at}
+use Rattle.std.proofs.Common.{Err, Ok, refl, sym, ◌∙◌}
 use Rattle.gen1_layout.specs.Within.{setting_of}
-use Rattle.gen1_offers.proofs.BetweenUpdates.{packs_of}
 use Rattle.gen1_odds.specs.KnockOut.{chances_in}
-use Rattle.gen1_c.proofs.Begun.{kept_out, let_through}
-use Rattle.gen1_c.proofs.Hits.{same_side, within_out}
-use Rattle.gen1_c.proofs.OddsDue.{due_no_move, due_none_out, due_value, tells}
+use Rattle.gen1_c.proofs.Hits.{within_out}
+use Rattle.gen1_c.proofs.OddsDue.{tells, use_out}
 use Rattle.gen1_c.proofs.odds.gen1_knock_out.Goals as goal
 
-pub returns-in_default-new-clause-tells : goal.returns-in_default-new-clause-tells
-returns-in_default-new-clause-tells c s which h e =
-    tells (Err 11) _ _ _ (due_no_move chances_in s.terms.rules which c.args.number s.field (kept_out _ c.args.number (λ is. c.in_default-new.not-Some c.args.number (c.new.ensures ∙ is)))) (refl, refl)
+pub returns-in-Ok-clause-tells : goal.returns-in-Ok-clause-tells
+returns-in-Ok-clause-tells c s which h e =
+    let due = sym c.in-Ok.is ∙ c.use_of.ensures.due s which h e in
+    let out = use_out which c.args.number s.field c.in-Ok.used (sym due) in
+    tells chances_in s.terms.rules s.field (Ok c.in-Ok.used) _ _ _ due
+    (refl, c.knock_out.ensures.stands (setting_of s) s.field (within_out h out))
 
-pub returns-then-turn-eq0-clause-tells : goal.returns-then-turn-eq0-clause-tells
-returns-then-turn-eq0-clause-tells c s which h e =
-    let id = let_through _ _ _ (sym c.new.ensures ∙ c.in-Some-new.is) in
-    let turn = sym (c.turn.ensures.packs (setting_of s) s.field (packs_of h)) ∙ c.if-turn-eq0.true in
-    tells (Err 50) _ _ _ (due_none_out chances_in s.terms.rules which c.args.number s.field id.0 turn) (refl, refl)
-
-pub returns-clause-tells : goal.returns-clause-tells
-returns-clause-tells c s which h e =
-    let id = let_through _ _ _ (sym c.new.ensures ∙ c.in-Some-new.is) in
-    let turn = c.turn.ensures.packs (setting_of s) s.field (packs_of h) in
-    let out : s.field.turn ≡ 0 → ⊥ = λ z. c.if-turn-eq0.false (turn ∙ z) in
-    let side = same_side c.in-Some.side which (c.in-Some.ensures.exact ∙ e) in
-    let value = c.knock_out.ensures.stands (setting_of s) s.field (within_out h out)
-    ∙ ap (λ (it : Side). chances_in s.terms.rules it (move_at c.in-Some-new.id) s.field) side ∙ ap (λ (n : ℕ). chances_in s.terms.rules which (move_at n) s.field) id.1 in
-    tells (Ok (chances_in s.terms.rules which (move_at c.args.number) s.field)) _ _ _ (due_value chances_in s.terms.rules which c.args.number s.field id.0 out) (refl, value)
+pub returns-in-Err-clause-tells : goal.returns-in-Err-clause-tells
+returns-in-Err-clause-tells c s which h e =
+    tells chances_in s.terms.rules s.field (Err c.in-Err.code) _ _ _ (sym c.in-Err.is ∙ c.use_of.ensures.due s which h e) (refl, refl)
