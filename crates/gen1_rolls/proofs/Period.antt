@@ -94,7 +94,7 @@ below_byte zero x lt = lt
 below_byte (suc k) x lt = omega arith
 
 -- Each ninth byte of a link battle is the same number, renewed.
-byte_at-rounds : (seed : List ℕ) (n r : ℕ) → byte_at (Link seed) (n + 9 * r) ≡ iterate r renewed (byte_at (Link seed) n)
+pub byte_at-rounds : (seed : List ℕ) (n r : ℕ) → byte_at (Link seed) (n + 9 * r) ≡ iterate r renewed (byte_at (Link seed) n)
 unfolding byte_at
 byte_at-rounds seed n r =
     let place : (n + 9 * r) % 9 ≡ n % 9 = omega arith in

@@ -43,7 +43,7 @@ turned-at s q j long lt =
     ∙ get_or-map (times_renewed q) (take 9 s) j 0 0 (omega (arith, length-take 9 s))
     ∙ ap (times_renewed q) (get_or-take 9 s j 0 lt)
 
-same_ring : (i j : ℕ) (xs ys : List ℕ) → i ≡ j → xs ≡ ys → ◌≡◌ {A = Ring} (record { index = i; numbers = xs }) (record { index = j; numbers = ys })
+pub same_ring : (i j : ℕ) (xs ys : List ℕ) → i ≡ j → xs ≡ ys → ◌≡◌ {A = Ring} (record { index = i; numbers = xs }) (record { index = j; numbers = ys })
 same_ring i j xs ys e h = cc
 
 -- One more draw.

@@ -1,5 +1,5 @@
 -- The ring of numbers of a link battle's generator (docs/MECHANICS.md, "Link numbers").
-use Rattle.std.specs.Prelude.{ℕ, ◌+◌, ◌/◌, ◌%◌, List, ◌++◌, map, take, drop, slice_index, nat_lt, if◌then◌else◌}
+use Rattle.std.specs.Prelude.{ℕ, ◌+◌, ◌/◌, ◌%◌, ◌<◌, ◌≤◌, Bool, IsFalse, List, ◌++◌, map, take, drop, slice_index, nat_lt, if◌then◌else◌}
 use Rattle.gen1_rolls.specs.Draws.{Drawing}
 use Rattle.gen1_rolls.specs.Streams.{times_renewed}
 
@@ -34,3 +34,7 @@ ring_of seed = record { index = 0; numbers = seed }
 -- That ring after n draws.
 abbrev pub ring_at : List ℕ → ℕ → Ring
 ring_at seed n = record { index = n % 9; numbers = turned (n / 9) seed }
+
+-- The nine numbers fail the test from a place on.
+abbrev pub FailsFrom : ℕ → List ℕ → (ℕ → Bool) → Type 0
+FailsFrom from numbers test = (k : ℕ) → from ≤ k → k < 9 → IsFalse (test (slice_index numbers k))

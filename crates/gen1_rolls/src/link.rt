@@ -1,9 +1,10 @@
 //! The generator of a link battle (docs/MECHANICS.md, "Link numbers").
-ghost use Rattle.std.specs.Prelude.{◌≡◌, ◌<◌, nat_lt, if◌then◌else◌, slice_index, length, IfSome};
-ghost use Rattle.gen1_rolls.specs.Draws.{stream_of, StandsAt};
-ghost use Rattle.gen1_rolls.specs.Link.{Ring, link, ring_of, turned};
-ghost use Rattle.gen1_rolls.specs.Streams.{IsStream, renewed, Link};
+ghost use Rattle.std.specs.Prelude.{◌≡◌, ◌<◌, ℕ, Bool, nat_lt, if◌then◌else◌, slice_index, length, IfSome, IfNone};
+ghost use Rattle.gen1_rolls.specs.Draws.{stream_of, Finds, FindsNoDraw, Settles, StandsAt};
+ghost use Rattle.gen1_rolls.specs.Link.{FailsFrom, Ring, link, ring_of, turned};
+ghost use Rattle.gen1_rolls.specs.Streams.{IsFirstOf, IsStream, renewed, Link};
 
+use crate::look::Look;
 use crate::rolls::Rolls;
 use std::marker::Model;
 
@@ -71,6 +72,34 @@ impl LinkRandom {
     {
         self.numbers
     }
+
+    // The rest of a search, where no number that is left in this round passes. Within 256 rounds the last number alone
+    // is every byte.
+    #[inline(never)] // docs/SPEED.md, "Hints on inlining"
+    fn until_later<F: Fn(u8) -> bool>(&mut self, test: F) -> Option<u8>
+        requires callable { F.IsAlwaysCallable test }
+        requires stream { IsStream (Link self.old.numbers) }
+        ensures found { (p : ℕ → Bool) → Settles (F.post test) p → FailsFrom self.old.index self.old.numbers p
+            → IfSome result (λ b. Finds link p self b) }
+        ensures none { (p : ℕ → Bool) → Settles (F.post test) p → FailsFrom self.old.index self.old.numbers p
+            → IfNone result (FindsNoDraw link p self) }
+    {
+        let start = self.index;
+        'rounds: for _ in 0..255_u16 {
+            self.index = 0;
+            turn(&mut self.numbers);
+            match place_from(&self.numbers, 0, &test) {
+                Some(place) => {
+                    self.index = place;
+                    return Some(self.draw());
+                }
+                None => {}
+            }
+        }
+        self.index = start;
+        turn(&mut self.numbers);
+        None
+    }
 }
 
 impl Rolls for LinkRandom {
@@ -89,6 +118,19 @@ impl Rolls for LinkRandom {
             turn(&mut self.numbers);
         }
         drawn
+    }
+
+    // The numbers of this round are looked at where they are, and only the one that passes is drawn (docs/SPEED.md,
+    // "A search by draws").
+    #[inline] // docs/SPEED.md, "Hints on inlining"
+    fn until_as<F: Fn(u8) -> bool>(&mut self, test: F, _look: Look) -> Option<u8> {
+        match place_from(&self.numbers, self.index, &test) {
+            Some(place) => {
+                self.index = place;
+                Some(self.draw())
+            }
+            None => self.until_later(test),
+        }
     }
 
     ghost use Rattle.std.proofs.Common.{lit<, refl};
@@ -114,6 +156,25 @@ fn turn(numbers: &mut [u8; 10])
     for place in 0..9 {
         numbers[place] = renew(numbers[place]);
     }
+}
+
+/// The place of the first of the nine numbers, from a place on, that passes the test. Its contract also says that the
+/// numbers begin a stream.
+fn place_from<F: Fn(u8) -> bool>(numbers: &[u8; 10], from: u8, test: &F) -> Option<u8>
+    requires callable { F.IsAlwaysCallable test.now }
+    ensures stream { IsStream (Link numbers.now) }
+    ensures below { IfSome result (λ place. place < 9) }
+    ensures found { (p : ℕ → Bool) → Settles (F.post test.now) p
+        → IfSome result (IsFirstOf (slice_index numbers.now) from p) }
+    ensures none { (p : ℕ → Bool) → Settles (F.post test.now) p
+        → IfNone result (FailsFrom from numbers.now p) }
+{
+    'places: for place in from..9 {
+        if test(numbers[place as usize]) {
+            return Some(place);
+        }
+    }
+    None
 }
 
 /// The number at an index. Its contract also says that the draws from there on are a stream.

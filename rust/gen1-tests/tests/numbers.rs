@@ -92,14 +92,14 @@ mod draws {
         assert_same(&rt, LinkRandom::from_parts(9, [0; 10]), None);
     }
 
-    /// What `until` returns for a number, and the number of draws. No byte is 256.
+    /// What `until` returns for a number, and how many bytes it tests. No byte is 256.
     fn found<R: Rolls>(r: &mut R, wanted: u16) -> (Option<u8>, u32) {
-        let draws = Cell::new(0_u32);
+        let tests = Cell::new(0_u32);
         let byte = until(r, |x| {
-            draws.set(draws.get().wrapping_add(1));
+            tests.set(tests.get().wrapping_add(1));
             u16::from(x) == wanted
         });
-        (byte, draws.get())
+        (byte, tests.get())
     }
 
     #[test]
@@ -116,8 +116,14 @@ mod draws {
             random.numbers(),
             [51, 51, 51, 51, 51, 51, 51, 51, 51, 0],
         );
-        assert_same(&rt, found(&mut random, 256), (None, 2304));
+        // It stands where 2,304 draws lead. The last of these is not tested, since 256 rounds are over.
+        assert_same(&rt, found(&mut random, 256), (None, 2303));
         assert_same(&rt, random.index(), 1);
+        assert_same(
+            &rt,
+            random.numbers(),
+            [51, 51, 51, 51, 51, 51, 51, 51, 51, 0],
+        );
     }
 
     /// Draws a count from 1 to 7: the lowest three bits of the first draw in which they aren't 0. Like the engine, it

@@ -27,6 +27,7 @@ mod laws {
 mod link {
     //! The generator of a link battle ([docs/MECHANICS.md, "Link numbers"](https://hibsuloy.example/gen1/blob/main/docs/MECHANICS.md#link-numbers)).
 
+    use crate::generated::rolls::look::Look;
     use crate::generated::rolls::rolls::Rolls;
 
     /// The generator of a link battle ([docs/MECHANICS.md, "Link numbers"](https://hibsuloy.example/gen1/blob/main/docs/MECHANICS.md#link-numbers)).
@@ -66,6 +67,27 @@ mod link {
         pub fn numbers(&self) -> [u8; 10] {
             self.numbers
         }
+
+        // The rest of a search, where no number that is left in this round passes. Within 256 rounds the last number alone
+        // is every byte.
+        #[inline(never)] // docs/SPEED.md, "Hints on inlining"
+        fn until_later<F: Fn(u8) -> bool>(&mut self, test: F) -> Option<u8> {
+            let start = self.index;
+            for _ in 0..255_u16 {
+                self.index = 0;
+                turn(&mut self.numbers);
+                match place_from(&self.numbers, 0, &test) {
+                    Some(place) => {
+                        self.index = place;
+                        return Some(self.draw());
+                    }
+                    None => {}
+                }
+            }
+            self.index = start;
+            turn(&mut self.numbers);
+            None
+        }
     }
 
     impl Rolls for LinkRandom {
@@ -81,6 +103,19 @@ mod link {
             }
             drawn
         }
+
+        // The numbers of this round are looked at where they are, and only the one that passes is drawn (docs/SPEED.md,
+        // "A search by draws").
+        #[inline] // docs/SPEED.md, "Hints on inlining"
+        fn until_as<F: Fn(u8) -> bool>(&mut self, test: F, _look: Look) -> Option<u8> {
+            match place_from(&self.numbers, self.index, &test) {
+                Some(place) => {
+                    self.index = place;
+                    Some(self.draw())
+                }
+                None => self.until_later(test),
+            }
+        }
     }
 
     /// Renews one of the nine numbers: five times the number, plus one, modulo 256 ([docs/MECHANICS.md, "Link numbers"](https://hibsuloy.example/gen1/blob/main/docs/MECHANICS.md#link-numbers)).
@@ -95,6 +130,17 @@ mod link {
         for place in 0..9 {
             numbers[place] = renew(numbers[place]);
         }
+    }
+
+    /// The place of the first of the nine numbers, from a place on, that passes the test. Its contract also says that the
+    /// numbers begin a stream.
+    fn place_from<F: Fn(u8) -> bool>(numbers: &[u8; 10], from: u8, test: &F) -> Option<u8> {
+        for place in from..9 {
+            if test(numbers[place as usize]) {
+                return Some(place);
+            }
+        }
+        None
     }
 
     /// The number at an index. Its contract also says that the draws from there on are a stream.
