@@ -12,7 +12,7 @@ INLINED = {
     "gen1_hits": {"current_stats", "damage", "hit_or_miss", "land", "must_hit", "own_stats", "type_steps", "types"},
     "gen1_multiturn": {"bide_knowing", "hit_effect", "land_hit", "note_effectiveness", "note_first_hit"},
     "gen1_switching": {"coming_out", "faint_and_settle", "put_out", "tell_coming_out"},
-    "gen1_turn": {"carry_out", "damage_unless_landing", "faster_side", "is_cut", "move_taken"},
+    "gen1_turn": {"carry_out", "damage_unless_landing", "faster_side", "move_taken", "one_has_fallen"},
 }
 COLD = {"gen1_switching": {"put_out_with_penalty"}}
 FUNCTION = re.compile(r"( *)((?:pub(?:\([a-z]+\))? )?(?:const )?fn (\w+)\b.*)")

@@ -4,6 +4,10 @@ pub mod Acted
 pub mod ByEffect
 -- The number of a move, and PP.
 pub mod Used
+-- Who lives in a turn.
+pub mod Living
+-- Where no trapping is on.
+pub mod Trapping
 -- How the parts of a turn follow one another.
 pub mod Turns
 -- The words of contracts, spelled out.

@@ -1,11 +1,10 @@
 -- How the parts of a turn follow one another, and what is planned meanwhile.
 use Rattle.std.proofs.Common.{◌+◌, ◌≡◌}
 use Rattle.std.proofs.lemmas.Bool.{false≢true}
-use Rattle.gen1_layout.proofs.Words.{Bool, Frame, Parts, Phase, Progress, Shows, ShowsDrawn, Side, Telling, active_in, ap, choose-false, choose-true, draw, drawn_goes, false, given, goes, if_not, if_so, length, member_in, nat_lt, on_active, on_conditions, on_field, refl, stay, stays, still, subst, sym, then-goes, true, ℕ, ◌∙◌, ◌▸◌}
+use Rattle.gen1_layout.proofs.Words.{Bool, Frame, Parts, Phase, Progress, Shows, ShowsDrawn, Side, Telling, active_in, ap, choose-false, choose-true, draw, drawn_goes, false, given, goes, if_not, if_so, length, member_in, nat_lt, on_conditions, on_field, refl, stay, stays, still, subst, sym, then-goes, true, ℕ, ◌∙◌, ◌▸◌}
 use Rattle.gen1_rolls.specs.Draws.{Drawing}
 use Rattle.gen1_rolls.specs.Streams.{byte_at, Stream}
 use Rattle.gen1_rolls.proofs.Standing.{byte_drawn, stands_after_draw}
-use Rattle.gen1_stats.specs.Members.{IsBetween}
 use Rattle.gen1_machine.specs.declared.choice.Choice.{Choice}
 use Rattle.gen1_machine.specs.declared.choice.Choice.TheVariants as choices
 use Rattle.gen1_machine.specs.declared.picks.Pick.{Pick}
@@ -16,19 +15,17 @@ use Rattle.gen1_machine.specs.State.{changed_active, changed_conditions, Terms}
 use Rattle.gen1_machine.specs.Progress.{on_action, underway, unless}
 use Rattle.gen1_machine.specs.Picks.{pick_in, picked_after}
 use Rattle.gen1_machine.specs.ResidualDamage.{residual}
-use Rattle.gen1_machine.specs.Ruling.{Ruling, ruling_of}
+use Rattle.gen1_machine.specs.Ruling.{Ruling}
 use Rattle.gen1_machine.specs.Action.{begin}
 use Rattle.gen1_machine.specs.TurnOrder.{toss}
-use Rattle.gen1_machine.specs.Turn.{both_pick, both_switch, do_part, do_parts, end_spent_trapping, end_turn, is_cut, is_spent, one_picks, play_turn, set_picked, Sends}
+use Rattle.gen1_machine.specs.Turn.{both_pick, both_switch, do_parts, end_spent_trapping, end_turn, is_cut, is_spent, one_picks, play_turn}
 use Rattle.gen1_machine.specs.Valid.{IsUsedMove}
-use Rattle.gen1_machine.specs.Plans.{Comes, FitsPick, InRange, IsPlanned, Plan, PlanOf}
-use Rattle.gen1_machine.proofs.Bench.{between-free}
+use Rattle.gen1_machine.specs.Plans.{FitsPick, InRange, IsPlanned, Plan, PlanOf}
 use Rattle.gen1_machine.proofs.Keeps.{on_conditions-keeps, Keeps}
 use Rattle.gen1_machine.proofs.Sound.{party-valid, planned-holds, planned-sound}
 use Rattle.gen1_machine.proofs.SoundWalk.{conditions-spared}
 use Rattle.gen1_machine.proofs.Tame.{without_flinch-tame}
-use Rattle.gen1_machine.proofs.Turns.{part-suffers}
-use Rattle.gen1_machine.proofs.ValidTurns.{comes-kept, pick-plan, range-kept, room-free, sends-room, Picked}
+use Rattle.gen1_machine.proofs.ValidTurns.{pick-plan, Picked}
 use Rattle.gen1_layout.specs.Operations.{Does, between}
 use Rattle.gen1_hits.specs.declared.known.Known.{Known}
 use Rattle.gen1_hits.specs.Knowing.{begun, knowing, with_broke, ShowsOver}
@@ -176,28 +173,10 @@ picked-fits terms plan s Continue p fits h = (party-valid s p.field h.field).act
 picked-fits terms plan s Idle p fits h = (party-valid s p.field h.field).active.picked_move
 picked-fits terms plan s Held p fits h = tt
 
-pub picked-range : (s t : Side) (pick : Pick) (place : ℕ) (p : Progress) → InRange t place p.field → InRange t place (set_picked s pick p).field
-unfolding set_picked given on_active on_field
-picked-range s t pick place p h = range-kept s t _ place p.field h
-
-pub room-after : (terms : Terms) (one two : ℕ) (p : Progress) → InRange Two two p.field → InRange Two two (residual One (do_part (ruling_of terms) (Sends One one) p)).field
-unfolding do_part
-room-after terms one two p h =
-    let a = length p.field.one.members in
-    let b = length p.field.two.members in
-    let q : Progress = do_part (ruling_of terms) (Sends One one) p in
-    let k = (part-suffers (between-free p.field.turn (room-free a) (room-free b)) terms One).kept q
-    ((sends-room terms a b p.field.turn one).led p (record { turned = refl; one = refl; two = refl })) in
-    subst (λ (n : ℕ). IsBetween 1 n two) (sym k.two) h
-
 -- A flinch that ends
 
 pub flinch-planned : (terms : Terms) (plan : Side → Plan) (s : Side) → Keeps (IsPlanned terms plan) (on_conditions s without_flinch)
 flinch-planned terms plan s = on_conditions-keeps s _ (conditions-spared (planned-sound terms plan) s _ without_flinch-tame)
-
-pub flinch-comes : (c : Choice) (s t : Side) (p : Progress) → Comes c t p.field → Comes c t (on_conditions s without_flinch p).field
-unfolding on_conditions on_field changed_conditions
-flinch-comes c s t p h = comes-kept c s t _ p.field h
 
 -- A turn, by both choices
 

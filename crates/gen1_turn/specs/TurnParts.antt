@@ -1,15 +1,16 @@
 -- What the parts of a turn show, each with the residual damage of its side (docs/MECHANICS.md, "Order of a turn").
 use Rattle.std.specs.Prelude.{◌∷◌, ◌≡◌}
-use Rattle.gen1_layout.specs.Words.{Bool, Event, Frame, List, Phase, Progress, ShowsDrawn, Side, Telling, Told, [], false, other, true, ℕ, ◌▸◌}
+use Rattle.gen1_layout.specs.Words.{Bool, Event, Field, Frame, List, Phase, Progress, ShowsDrawn, Side, Telling, Told, [], false, is_living, member_at, other, party, true, ℕ, ◌▸◌}
 use Rattle.gen1_rolls.specs.Draws.{Drawing, Ref}
 use Rattle.gen1_machine.specs.declared.choice.Choice.{Choice}
+use Rattle.gen1_machine.specs.declared.choice.Choice.TheVariants as choices
 use Rattle.gen1_machine.specs.declared.picks.Pick.{Pick}
 use Rattle.gen1_machine.specs.declared.side.Side.TheVariants.{One, Two}
 use Rattle.gen1_machine.specs.Progress.{unless}
 use Rattle.gen1_machine.specs.Ruling.{Ruling, ruling_of}
 use Rattle.gen1_machine.specs.ResidualDamage.{residual}
 use Rattle.gen1_machine.specs.Turn.{do_part, is_cut, Acts, Part, Suffers}
-use Rattle.gen1_machine.specs.Plans.{Comes, Plan, PlanOf}
+use Rattle.gen1_machine.specs.Plans.{InRange, Plan, PlanOf}
 use Rattle.gen1_layout.specs.Operations.{Premise}
 use Rattle.gen1_layout.specs.Parts.{Parts}
 use Rattle.gen1_hits.specs.declared.known.Known.{Known}
@@ -59,9 +60,20 @@ DoesTurn {A = A} d random premise s cut phase = s λ parts events k parts' event
     (ShowsOver d origin k g parts events random.entry.now false p
     → EndsCut d origin k' g parts' events' random.exit.now cut (phase (ruling_of g.setting.terms) p))
 
--- The premise about the plans for these choices.
+-- A member that may come out is in the party, and lives.
+abbrev pub MayCome : Side → ℕ → Field → Type 0
+MayCome s place f = InRange s place f × (is_living (member_at place (party s f)) ≡ true)
+
+-- A switch brings out such a member.
+abbrev pub Brings : Choice → Side → Field → Type 0
+Brings (choices.Switch place) s f = MayCome s place f
+Brings _ s f = Unit {0}
+
+-- The premise about these choices: they have plans and bring out living members, both members that are out live, and
+-- the battle goes on.
 abbrev pub Chooses : Choice → Choice → (Side → Plan) → Progress → Type 0
-Chooses one two plan p = PlanOf one (plan One) × PlanOf two (plan Two) × Comes one One p.field × Comes two Two p.field
+Chooses one two plan p =
+    PlanOf one (plan One) × PlanOf two (plan Two) × Brings one One p.field × Brings two Two p.field × (is_cut p ≡ false)
 
 -- Both sides use a move, this side first.
 abbrev pub acts_in_turn : Side → Pick → Pick → List Part

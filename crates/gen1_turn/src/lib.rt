@@ -32,5 +32,5 @@ pub use gen1_offers::{Choices, offered};
 pub use gen1_switching::{replace, send_out, start};
 pub use turn_choices::{end_flinch, set_picked};
 pub use turn_order::first_side;
-pub use turn_parts::{act_and_suffer_as, end_turn, sends_and_suffers};
+pub use turn_parts::{act_and_suffer_as, end_turn};
 pub use turn_update::turn;

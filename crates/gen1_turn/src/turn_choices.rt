@@ -7,17 +7,17 @@ ghost use Rattle.gen1_machine.specs.Conditions.{without_flinch};
 ghost use Rattle.gen1_machine.specs.State.{active_in};
 ghost use Rattle.gen1_machine.specs.Progress.{on_conditions};
 ghost use Rattle.gen1_machine.specs.Picks.{picked_after};
-ghost use Rattle.gen1_machine.specs.Plans.{Any, FitsPick, InRange};
+ghost use Rattle.gen1_machine.specs.Plans.{Any, FitsPick};
 ghost use Rattle.gen1_machine.specs.Turn.{both_pick, both_switch, do_parts, is_cut, one_picks, play_turn, set_picked, turn};
 ghost use Rattle.gen1_machine.specs.Valid.{IsUsedMove};
 ghost use Rattle.gen1_machine.specs.Ruling.{ruling_of};
 ghost use Rattle.gen1_hits.specs.Knowing.{knowing, with_broke};
-ghost use Rattle.gen1_turn.specs.TurnParts.{Chooses, DoesTurn, acts_in_turn};
+ghost use Rattle.gen1_turn.specs.TurnParts.{Chooses, DoesTurn, MayCome, acts_in_turn};
 ghost use Rattle.gen1_turn.specs.Action.{acting, aware_after, planning};
 
 use crate::by_side::BySide;
 use crate::turn_order::first_side;
-use crate::turn_parts::{act_and_suffer, end_turn, sends_and_suffers};
+use crate::turn_parts::{act_and_suffer, end_spent_trapping, end_turn, sends_and_suffers};
 use gen1_events::EventSink;
 use gen1_hits::Known;
 use gen1_layout::{Conditions, Packed};
@@ -167,7 +167,7 @@ fn one_picks<R: Rolls, S: EventSink>(
     requires room { HasRoom S.room 48 events.old }
     ensures shown { DoesTurn R.drawing random
         (planning (λ plan p. FitsPick pick (plan side) × (plan (other side) ≡ Any)
-        × InRange (other side) place p.field)) (acting known (scene S.tells battle events))
+        × MayCome (other side) place p.field × (is_cut p ≡ false))) (acting known (scene S.tells battle events))
         result (λ r. one_picks r side pick place) }
     ensures room { AddsAtMost S.room 48 events.old events.new }
 {
@@ -178,7 +178,8 @@ fn one_picks<R: Rolls, S: EventSink>(
     if act_and_suffer(battle, side, pick, known, random, events) {
         return true;
     }
-    end_turn(battle);
+    // The side that switched isn't trapping.
+    end_spent_trapping(battle, side);
     false
 }
 
@@ -192,11 +193,12 @@ fn both_switch<S: EventSink>(
 ) -> bool
     requires room { HasRoom S.room 48 events.old }
     ensures shown { (broke : Bool) → DoesAnyway
-        (λ g p Then. InRange sides.One one p.field → InRange sides.Two two p.field → Then)
+        (λ g p Then. MayCome sides.One one p.field → MayCome sides.Two two p.field → is_cut p ≡ false
+        → Then)
         (aware_after broke known (scene S.tells battle events))
         (λ r. do_parts r (both_switch one two)) }
     ensures uncut { (broke : Bool) (g : Frame) (p : Progress) → result ≡ false
-        → InRange sides.One one p.field → InRange sides.Two two p.field
+        → MayCome sides.One one p.field → MayCome sides.Two two p.field → is_cut p ≡ false
         → Shows (knowing (with_broke broke known.old) g) battle.old (S.tells events.old) false p
         → is_cut (do_parts (ruling_of g.setting.terms) (both_switch one two) p) ≡ false }
     ensures room { AddsAtMost S.room 48 events.old events.new }
@@ -207,6 +209,6 @@ fn both_switch<S: EventSink>(
     if sends_and_suffers(battle, Side::Two, two, known, events) {
         return true;
     }
-    end_turn(battle);
+    // Neither side is trapping.
     false
 }

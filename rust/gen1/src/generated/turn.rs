@@ -505,7 +505,7 @@ mod turn_choices {
 
     use crate::generated::turn::by_side::BySide;
     use crate::generated::turn::turn_order::first_side;
-    use crate::generated::turn::turn_parts::{act_and_suffer, end_turn, sends_and_suffers};
+    use crate::generated::turn::turn_parts::{act_and_suffer, end_spent_trapping, end_turn, sends_and_suffers};
     use crate::generated::events::EventSink;
     use crate::generated::hits::Known;
     use crate::generated::layout::{Conditions, Packed};
@@ -629,7 +629,8 @@ mod turn_choices {
         if act_and_suffer(battle, side, pick, known, random, events) {
             return true;
         }
-        end_turn(battle);
+        // The side that switched isn't trapping.
+        end_spent_trapping(battle, side);
         false
     }
 
@@ -647,7 +648,7 @@ mod turn_choices {
         if sends_and_suffers(battle, Side::Two, two, known, events) {
             return true;
         }
-        end_turn(battle);
+        // Neither side is trapping.
         false
     }
 }
@@ -719,6 +720,7 @@ mod turn_parts {
     use crate::generated::layout::Packed;
     use crate::generated::machine::{Pick, Place, Side};
     use crate::generated::rolls::Rolls;
+    use crate::generated::stats::Status;
     use crate::generated::status::{residual, suffers};
     use crate::generated::switching::send_out;
 
@@ -751,33 +753,21 @@ mod turn_parts {
         random: &mut R,
         events: &mut S,
     ) -> bool {
-        if act_unless_skipped(battle, side, pick, known, random, events) {
+        *known = known.begun(side);
+        if known.skips {
+            return suffer_unless_over(battle, side, events);
+        }
+        if act(battle, side, pick, known, random, events) {
             return true;
         }
         suffer(battle, side, events)
-    }
-
-    // Returns whether a fault ended the battle.
-    fn act_unless_skipped<R: Rolls, S: EventSink>(
-        battle: &mut Packed,
-        side: Side,
-        pick: Pick,
-        known: &mut Known,
-        random: &mut R,
-        events: &mut S,
-    ) -> bool {
-        *known = known.begun(side);
-        if known.skips {
-            return false;
-        }
-        act(battle, side, pick, known, random, events)
     }
 
     /// Sends out a member of `side`, and then takes its residual damage ([docs/MECHANICS.md, "Order of a turn"](https://hibsuloy.example/gen1/blob/main/docs/MECHANICS.md#order-of-a-turn)).
     ///
     /// Returns whether the rest of the turn is skipped. It needs 4 free places in `events`.
     #[inline(always)] // docs/SPEED.md, "Hints on inlining"
-    pub fn sends_and_suffers<S: EventSink>(
+    pub(crate) fn sends_and_suffers<S: EventSink>(
         battle: &mut Packed,
         side: Side,
         place: Place,
@@ -785,27 +775,55 @@ mod turn_parts {
         events: &mut S,
     ) -> bool {
         *known = known.begun(side);
+        let is_hurt = is_hurt_at(battle, side, place);
         send_out(battle, side, place, events);
+        suffer_if(battle, side, is_hurt, events)
+    }
+
+    // Whether residual damage will take HP from a member that comes out. No seed is on it.
+    #[inline(always)] // docs/SPEED.md, "Hints on inlining"
+    fn is_hurt_at(battle: &Packed, side: Side, place: Place) -> bool {
+        let at = place.number();
+        takes_hp(battle.status_at(side, at))
+    }
+
+    fn takes_hp(status: Status) -> bool {
+        matches!(status, Status::Poisoned | Status::Burned)
+    }
+
+    // A side's residual damage after a skipped action. Few actions are skipped.
+    #[inline(never)] // docs/SPEED.md, "Hints on inlining"
+    fn suffer_unless_over<S: EventSink>(battle: &mut Packed, side: Side, events: &mut S) -> bool {
+        if battle.outcome().is_over() {
+            return true;
+        }
         suffer(battle, side, events)
     }
 
-    // A side's residual damage, unless the turn was cut. Returns whether it is cut now.
+    // A side's residual damage in a battle that goes on, unless an active member has fallen. Returns whether the turn is
+    // cut now.
     #[inline(always)] // docs/SPEED.md, "Hints on inlining"
     fn suffer<S: EventSink>(battle: &mut Packed, side: Side, events: &mut S) -> bool {
-        if is_cut(battle) {
+        if one_has_fallen(battle) {
             return true;
         }
-        // Then no HP are taken, so nothing can cut the turn.
-        if !suffers(battle, side) {
+        let is_hurt = suffers(battle, side);
+        suffer_if(battle, side, is_hurt, events)
+    }
+
+    // A side's residual damage in a turn that isn't cut, if there is any. Returns whether the turn is cut now.
+    #[inline(always)] // docs/SPEED.md, "Hints on inlining"
+    fn suffer_if<S: EventSink>(battle: &mut Packed, side: Side, is_hurt: bool, events: &mut S) -> bool {
+        if !is_hurt {
             return false;
         }
         residual(battle, side, events);
-        is_cut(battle)
+        one_has_fallen(battle)
     }
 
-    // Whether an active member has fallen, or the battle is over.
-    #[cfg_attr(not(target_family = "wasm"), inline(always))] fn is_cut(battle: &Packed) -> bool {
-        battle.has_fallen(Side::One) || battle.has_fallen(Side::Two) || battle.outcome().is_over()
+    // Whether an active member has fallen.
+    #[cfg_attr(not(target_family = "wasm"), inline(always))] fn one_has_fallen(battle: &Packed) -> bool {
+        battle.has_fallen(Side::One) || battle.has_fallen(Side::Two)
     }
 
     /// Ends a turn whose rest was not skipped: trapping with a count of 0 ends ([docs/MECHANICS.md, "Order of a turn"](https://hibsuloy.example/gen1/blob/main/docs/MECHANICS.md#order-of-a-turn)).
@@ -814,7 +832,7 @@ mod turn_parts {
         end_spent_trapping(battle, Side::Two);
     }
 
-    fn end_spent_trapping(battle: &mut Packed, side: Side) {
+    pub(crate) fn end_spent_trapping(battle: &mut Packed, side: Side) {
         if is_spent(battle.trapping(side)) {
             battle.end_trapping(side);
         }
@@ -951,5 +969,5 @@ pub use crate::generated::offers::{Choices, offered};
 pub use crate::generated::switching::{replace, send_out, start};
 pub use turn_choices::{end_flinch, set_picked};
 pub use turn_order::first_side;
-pub use turn_parts::{act_and_suffer_as, end_turn, sends_and_suffers};
+pub use turn_parts::{act_and_suffer_as, end_turn};
 pub use turn_update::turn;

@@ -1,7 +1,7 @@
 use Rattle.std.proofs.Common.{◌≡◌}
 use Rattle.gen1_layout.proofs.Words.{false, refl, sym}
 use Rattle.gen1_rolls.proofs.Standing.{stands_there}
-use Rattle.gen1_machine.specs.declared.side.Side.TheVariants.{One, Two}
+use Rattle.gen1_machine.specs.declared.side.Side.TheVariants.{One}
 use Rattle.gen1_machine.specs.declared.terms.Request.TheVariants as requests
 use Rattle.gen1_machine.specs.Progress.{new_action, Progress}
 use Rattle.gen1_machine.specs.Ruling.{ruling_of}
@@ -13,7 +13,8 @@ use Rattle.gen1_layout.specs.Within.{setting_of}
 use Rattle.gen1_layout.proofs.Storing.{within_of}
 use Rattle.gen1_hits.specs.Knowing.{knowing, with_broke}
 use Rattle.gen1_switching.specs.Updates.{drawing_on}
-use Rattle.gen1_switching.proofs.OfferedChoices.{comes_offered, planned, reopened, started}
+use Rattle.gen1_switching.proofs.OfferedChoices.{planned, reopened, started}
+use Rattle.gen1_turn.proofs.Living.{begins-whole, both-bring}
 use Rattle.gen1_turn.proofs.turn_update.turn.Goals as goal
 
 pub returns-clause-updated : goal.returns-clause-updated
@@ -26,9 +27,8 @@ returns-clause-updated t c s stands plays origin stream drawn w at =
     let p = drawing_on stream drawn s in
     let shown = rw c.new-known.ensures at c.take_turn-cut.ensures.shown in
     let plans = both-plan_of one two s.field in
-    let comes_one = comes_offered s One one v.field plays.goes_on plays.first in
-    let comes_two = comes_offered s Two two v.field plays.goes_on plays.second in
-    let a = shown origin g p (both_plan one two s.field) (plans.0, plans.1, comes_one, comes_two) (planned s one two stream drawn v plays w) (
+    let brings = both-bring s one two v plays in
+    let a = shown origin g p (both_plan one two s.field) (plans.0, plans.1, brings.0, brings.1, begins-whole s one two v plays) (planned s one two stream drawn v plays w) (
       false,
       record {
         shows = record { within = within_of _ s stands v.field; written = c.requires.empty; ends = refl; stream = refl; drawn = refl; skips = refl; action = refl };
