@@ -1,7 +1,7 @@
 -- How the parts of a turn follow one another, and what is planned meanwhile.
 use Rattle.std.proofs.Common.{◌+◌, ◌≡◌}
 use Rattle.std.proofs.lemmas.Bool.{false≢true}
-use Rattle.gen1_layout.proofs.Words.{Bool, Frame, Parts, Phase, Progress, Shows, ShowsDrawn, Side, Telling, active_in, ap, choose-false, choose-true, draw, drawn_goes, false, given, goes, if_not, if_so, length, member_in, nat_lt, on_conditions, on_field, refl, stay, stays, still, subst, sym, then-goes, true, ℕ, ◌∙◌, ◌▸◌}
+use Rattle.gen1_layout.proofs.Words.{Bool, Frame, Parts, Phase, Progress, Shows, ShowsDrawn, Side, Telling, active_in, ap, choose-false, choose-true, draw, drawn_goes, false, given, goes, if_not, if_so, length, member_in, nat_lt, on_active, on_conditions, on_field, refl, stay, stays, still, subst, sym, then-goes, true, ℕ, ◌∙◌, ◌▸◌}
 use Rattle.gen1_rolls.specs.Draws.{Drawing}
 use Rattle.gen1_rolls.specs.Streams.{byte_at, Stream}
 use Rattle.gen1_rolls.proofs.Standing.{byte_drawn, stands_after_draw}
@@ -11,14 +11,14 @@ use Rattle.gen1_machine.specs.declared.picks.Pick.{Pick}
 use Rattle.gen1_machine.specs.declared.picks.Pick.TheVariants.{Continue, Held, Idle, Use}
 use Rattle.gen1_machine.specs.declared.side.Side.TheVariants.{One, Two}
 use Rattle.gen1_machine.specs.Conditions.{ActiveConditions, without_flinch, without_trapping}
-use Rattle.gen1_machine.specs.State.{changed_active, changed_conditions, Terms}
+use Rattle.gen1_machine.specs.State.{changed_active, changed_conditions, with_picked_move, Terms}
 use Rattle.gen1_machine.specs.Progress.{on_action, underway, unless}
 use Rattle.gen1_machine.specs.Picks.{pick_in, picked_after}
 use Rattle.gen1_machine.specs.ResidualDamage.{residual}
 use Rattle.gen1_machine.specs.Ruling.{Ruling}
 use Rattle.gen1_machine.specs.Action.{begin}
-use Rattle.gen1_machine.specs.TurnOrder.{toss}
-use Rattle.gen1_machine.specs.Turn.{both_pick, both_switch, do_parts, end_spent_trapping, end_turn, is_cut, is_spent, one_picks, play_turn}
+use Rattle.gen1_machine.specs.TurnOrder.{in_order, in_order_of_rank, rank_in, toss}
+use Rattle.gen1_machine.specs.Turn.{both_pick, both_switch, do_parts, end_spent_trapping, end_turn, is_cut, is_spent, one_picks, play_turn, set_picked}
 use Rattle.gen1_machine.specs.Valid.{IsUsedMove}
 use Rattle.gen1_machine.specs.Plans.{FitsPick, InRange, IsPlanned, Plan, PlanOf}
 use Rattle.gen1_machine.proofs.Keeps.{on_conditions-keeps, Keeps}
@@ -163,6 +163,21 @@ tossed_one begins p d at small = choose-true _ (begins One) (begins Two) (record
 pub tossed_two : (begins : Side → Phase) (p : Progress) (d : ℕ) → d ≡ byte_at p.stream p.drawn → nat_lt d 128 ≡ false → draw (toss begins) p ≡ begins Two (record p { drawn = p.drawn + 1 })
 unfolding draw toss
 tossed_two begins p d at large = choose-false _ (begins One) (begins Two) (record p { drawn = p.drawn + 1 }) (ap (λ (n : ℕ). nat_lt n 128) (sym at) ∙ large)
+
+-- The order by ranks that were found as each pick was written down
+
+pub picked-now : (s : Side) (pick : Pick) (p : Progress) → (active_in s (set_picked s pick p).field).picked_move ≡ picked_after pick (active_in s p.field).picked_move
+unfolding set_picked given on_active on_field changed_active with_picked_move
+picked-now One pick p = refl
+picked-now Two pick p = refl
+
+pub ranked : (begins : Side → Phase) (one two : ℕ) (x y : Pick) (p q : Progress) → let sent = set_picked Two y (set_picked One x p) in
+    one ≡ rank_in One (set_picked One x p).field → two ≡ rank_in Two sent.field → in_order_of_rank one two begins sent ≡ q → in_order begins sent ≡ q
+unfolding in_order given set_picked on_active on_field changed_active
+ranked begins one two x y p q e f h =
+    let sent = set_picked Two y (set_picked One x p) in
+    subst (λ (n : ℕ). in_order_of_rank n (rank_in Two sent.field) begins sent ≡ q) e
+    (subst (λ (n : ℕ). in_order_of_rank one n begins sent ≡ q) f h)
 
 -- What is planned
 

@@ -1,7 +1,7 @@
 //! A turn, by both choices (docs/MECHANICS.md, "Order of a turn").
 ghost use Rattle.std.specs.Prelude.{◌≡◌};
 ghost use Rattle.gen1_layout.specs.Operations.{Does, DoesAnyway, DoesWhere, holding, quiet, scene};
-ghost use Rattle.gen1_layout.specs.Words.{AddsAtMost, Bool, Event, Frame, HasRoom, List, Progress, Shows, false, length, member_in, other};
+ghost use Rattle.gen1_layout.specs.Words.{AddsAtMost, Bool, Event, Frame, HasRoom, List, Progress, Shows, Told, false, length, member_in, other};
 ghost use Rattle.gen1_machine.specs.declared.side.Side.TheVariants as sides;
 ghost use Rattle.gen1_machine.specs.Conditions.{without_flinch};
 ghost use Rattle.gen1_machine.specs.State.{active_in};
@@ -9,6 +9,7 @@ ghost use Rattle.gen1_machine.specs.Progress.{on_conditions};
 ghost use Rattle.gen1_machine.specs.Picks.{picked_after};
 ghost use Rattle.gen1_machine.specs.Plans.{Any, FitsPick};
 ghost use Rattle.gen1_machine.specs.Turn.{both_pick, both_switch, do_parts, is_cut, one_picks, play_turn, set_picked, turn};
+ghost use Rattle.gen1_machine.specs.TurnOrder.{rank_in};
 ghost use Rattle.gen1_machine.specs.Valid.{IsUsedMove};
 ghost use Rattle.gen1_machine.specs.Ruling.{ruling_of};
 ghost use Rattle.gen1_hits.specs.Knowing.{knowing, with_broke};
@@ -16,14 +17,14 @@ ghost use Rattle.gen1_turn.specs.TurnParts.{Chooses, DoesTurn, MayCome, acts_in_
 ghost use Rattle.gen1_turn.specs.Action.{acting, aware_after, planning};
 
 use crate::by_side::BySide;
-use crate::turn_order::first_side;
+use crate::turn_order::{rank, rank_of, side_by_ranks};
 use crate::turn_parts::{act_and_suffer, end_spent_trapping, end_turn, sends_and_suffers};
 use gen1_events::EventSink;
 use gen1_hits::Known;
 use gen1_layout::{Conditions, Packed};
 use gen1_machine::{Choice, Pick, Place, Side, UsedMove};
 use gen1_rolls::Rolls;
-use gen1_status::pick;
+use gen1_status::{number_of, pick};
 
 // A whole turn. No member has fainted after it yet. If it returns false, both members that are out live and the battle goes on.
 pub(crate) fn take_turn<R: Rolls, S: EventSink>(
@@ -104,11 +105,38 @@ fn both_pick<R: Rolls, S: EventSink>(
         (acting known (scene S.tells battle events)) result (λ r. both_pick r one two) }
     ensures room { AddsAtMost S.room 48 events.old events.new }
 {
-    set_picked(battle, Side::One, one);
-    set_picked(battle, Side::Two, two);
-    match first_side(battle, random) {
+    let first = settle_pick(battle, Side::One, one);
+    let second = settle_pick(battle, Side::Two, two);
+    match side_by_ranks(battle, first, second, random) {
         Side::One => both_act(battle, Side::One, one, two, known, random, events),
         Side::Two => both_act(battle, Side::Two, two, one, known, random, events),
+    }
+}
+
+// Writes down what `side` has picked, and returns the rank of its move. A picked move is not read back.
+#[inline(always)] // docs/SPEED.md, "Hints on inlining"
+fn settle_pick(battle: &mut Packed, side: Side, picked: Pick) -> u8
+    ensures shown { (told : List Event) → DoesWhere
+        (holding λ p. IsUsedMove (length (member_in side p.field).moves)
+        (picked_after picked (active_in side p.field).picked_move)) (quiet told battle) false
+        (λ r. set_picked side picked) }
+    ensures ranks { (told : List Event) (g : Frame) (p : Progress)
+        → IsUsedMove (length (member_in side p.field).moves)
+        (picked_after picked (active_in side p.field).picked_move)
+        → Shows g battle.old (Told told) false p
+        → result ≡ rank_in side (set_picked side picked p).field }
+{
+    match picked {
+        Pick::Use(used) => {
+            battle.put_picked_move(side, used);
+            rank(number_of(battle, side, used))
+        }
+        Pick::Held => {
+            battle.put_picked_move(side, UsedMove::Nothing);
+            rank(0)
+        }
+        Pick::Continue => rank_of(battle, side),
+        Pick::Idle => rank_of(battle, side),
     }
 }
 

@@ -1,7 +1,7 @@
 //! Who acts first in a turn (docs/MECHANICS.md, "Order of a turn").
 ghost use Rattle.std.specs.Prelude.{◌≡◌};
 ghost use Rattle.gen1_layout.specs.Words.{Reads};
-ghost use Rattle.gen1_machine.specs.TurnOrder.{in_order, in_order_of_speed, rank, rank_in};
+ghost use Rattle.gen1_machine.specs.TurnOrder.{in_order, in_order_of_rank, in_order_of_speed, rank, rank_in};
 ghost use Rattle.gen1_turn.specs.TurnParts.{Orders};
 
 use gen1_layout::Packed;
@@ -22,6 +22,14 @@ pub fn first_side<R: Rolls>(battle: &Packed, random: &mut R) -> Side
 {
     let one = rank_of(battle, Side::One);
     let two = rank_of(battle, Side::Two);
+    side_by_ranks(battle, one, two, random)
+}
+
+// The side that acts first, by the ranks of both sides' moves.
+#[inline(always)] // docs/SPEED.md, "Hints on inlining"
+pub(crate) fn side_by_ranks<R: Rolls>(battle: &Packed, one: u8, two: u8, random: &mut R) -> Side
+    ensures shown { Orders R.drawing random battle.now result (in_order_of_rank one two) }
+{
     if one < two {
         return Side::One;
     }
@@ -48,14 +56,14 @@ fn faster_side<R: Rolls>(battle: &Packed, random: &mut R) -> Side
     Side::Two
 }
 
-fn rank_of(battle: &Packed, side: Side) -> u8
+pub(crate) fn rank_of(battle: &Packed, side: Side) -> u8
     ensures stands { Reads battle.now result (rank_in side) }
 {
     rank(number_of(battle, side, battle.picked_move(side)))
 }
 
 // Quick Attack comes before other moves, and Counter after them.
-fn rank(number: u8) -> u8
+pub(crate) fn rank(number: u8) -> u8
     ensures { result ≡ rank number }
 {
     match number {

@@ -504,14 +504,14 @@ mod turn_choices {
     //! A turn, by both choices ([docs/MECHANICS.md, "Order of a turn"](https://hibsuloy.example/gen1/blob/main/docs/MECHANICS.md#order-of-a-turn)).
 
     use crate::generated::turn::by_side::BySide;
-    use crate::generated::turn::turn_order::first_side;
+    use crate::generated::turn::turn_order::{rank, rank_of, side_by_ranks};
     use crate::generated::turn::turn_parts::{act_and_suffer, end_spent_trapping, end_turn, sends_and_suffers};
     use crate::generated::events::EventSink;
     use crate::generated::hits::Known;
     use crate::generated::layout::{Conditions, Packed};
     use crate::generated::machine::{Choice, Pick, Place, Side, UsedMove};
     use crate::generated::rolls::Rolls;
-    use crate::generated::status::pick;
+    use crate::generated::status::{number_of, pick};
 
     // A whole turn. No member has fainted after it yet. If it returns false, both members that are out live and the battle goes on.
     pub(crate) fn take_turn<R: Rolls, S: EventSink>(
@@ -573,11 +573,28 @@ mod turn_choices {
         random: &mut BySide<R>,
         events: &mut S,
     ) -> bool {
-        set_picked(battle, Side::One, one);
-        set_picked(battle, Side::Two, two);
-        match first_side(battle, random) {
+        let first = settle_pick(battle, Side::One, one);
+        let second = settle_pick(battle, Side::Two, two);
+        match side_by_ranks(battle, first, second, random) {
             Side::One => both_act(battle, Side::One, one, two, known, random, events),
             Side::Two => both_act(battle, Side::Two, two, one, known, random, events),
+        }
+    }
+
+    // Writes down what `side` has picked, and returns the rank of its move. A picked move is not read back.
+    #[inline(always)] // docs/SPEED.md, "Hints on inlining"
+    fn settle_pick(battle: &mut Packed, side: Side, picked: Pick) -> u8 {
+        match picked {
+            Pick::Use(used) => {
+                battle.put_picked_move(side, used);
+                rank(number_of(battle, side, used))
+            }
+            Pick::Held => {
+                battle.put_picked_move(side, UsedMove::Nothing);
+                rank(0)
+            }
+            Pick::Continue => rank_of(battle, side),
+            Pick::Idle => rank_of(battle, side),
         }
     }
 
@@ -672,6 +689,12 @@ mod turn_order {
     pub fn first_side<R: Rolls>(battle: &Packed, random: &mut R) -> Side {
         let one = rank_of(battle, Side::One);
         let two = rank_of(battle, Side::Two);
+        side_by_ranks(battle, one, two, random)
+    }
+
+    // The side that acts first, by the ranks of both sides' moves.
+    #[inline(always)] // docs/SPEED.md, "Hints on inlining"
+    pub(crate) fn side_by_ranks<R: Rolls>(battle: &Packed, one: u8, two: u8, random: &mut R) -> Side {
         if one < two {
             return Side::One;
         }
@@ -696,12 +719,12 @@ mod turn_order {
         Side::Two
     }
 
-    fn rank_of(battle: &Packed, side: Side) -> u8 {
+    pub(crate) fn rank_of(battle: &Packed, side: Side) -> u8 {
         rank(number_of(battle, side, battle.picked_move(side)))
     }
 
     // Quick Attack comes before other moves, and Counter after them.
-    fn rank(number: u8) -> u8 {
+    pub(crate) fn rank(number: u8) -> u8 {
         match number {
             QUICK_ATTACK => 0,
             COUNTER => 2,
