@@ -192,3 +192,13 @@ any_read bs [] = is_none (bit_and (bits_of bs) 0) (and_comm (bits_of bs) 0 ∙ a
 any_read bs (k ∷ places) =
     ap (λ (n : ℕ). meets bs (bit_or (set_at places) n)) (power_is k) ∙ meets_bit bs (set_at places) k
     ∙ ap (λ (b : Bool). get_or bs k false || b) (any_read bs places) ∙ sym (holds_first (get_or bs k false) places bs)
+
+-- A number of at most 7 has no bits but the lowest three.
+pub lowest_three : (n mask : ℕ) → n ≤ 7 → bit_and n mask ≡ bit_and n (bit_and 7 mask)
+lowest_three n mask few =
+    let low : bit_and n 7 ≡ n % 2 ^ 3 = and_mask n 3 in
+    let same : n ≡ bit_and n 7 = omega arith in
+    ap (λ (k : ℕ). bit_and k mask) same ∙ and_assoc mask n 7
+
+pub none_above : (n mask : ℕ) → n ≤ 7 → bit_and 7 mask ≡ 0 → bit_and n mask ≡ 0
+none_above n mask few apart = lowest_three n mask few ∙ ap (bit_and n) apart ∙ and_comm n 0 ∙ and_nothing n

@@ -18,6 +18,8 @@ pub mod Begun
 pub mod Packing
 pub mod Numbers
 pub mod Slots
+mod ElementCodes
+mod KindBytes
 -- Loading.
 mod Loaded
 mod LoadingActives

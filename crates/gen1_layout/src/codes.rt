@@ -7,7 +7,10 @@ ghost use Rattle.gen1_layout.specs.Decoding.{element_of, outcome_of, request_of_
 
 use gen1_machine::{DisabledSlot, Outcome, Request, UsedMove};
 use gen1_stats::Status;
-use gen1_tables::Element;
+use gen1_tables::Element::{
+    self, Bug, Dragon, Electric, Fighting, Fire, Flying, Ghost, Grass, Ground, Ice, Normal, Poison,
+    Psychic, Rock, Water,
+};
 
 pub(crate) fn outcome_from(byte: u8) -> Outcome
     ensures { result ≡ outcome_of byte }
@@ -117,26 +120,36 @@ pub(crate) fn byte_of_used(used: UsedMove) -> u8
     }
 }
 
+// The type of each byte. A byte of no type counts as Normal.
+static ELEMENTS: [Element; 256] = [
+    Normal, Fighting, Flying, Poison, Ground, Rock, Bug, Ghost, Fire, Water, Grass, Electric,
+    Psychic, Ice, Dragon, Normal, Normal, Normal, Normal, Normal, Normal, Normal, Normal, Normal,
+    Normal, Normal, Normal, Normal, Normal, Normal, Normal, Normal, Normal, Normal, Normal, Normal,
+    Normal, Normal, Normal, Normal, Normal, Normal, Normal, Normal, Normal, Normal, Normal, Normal,
+    Normal, Normal, Normal, Normal, Normal, Normal, Normal, Normal, Normal, Normal, Normal, Normal,
+    Normal, Normal, Normal, Normal, Normal, Normal, Normal, Normal, Normal, Normal, Normal, Normal,
+    Normal, Normal, Normal, Normal, Normal, Normal, Normal, Normal, Normal, Normal, Normal, Normal,
+    Normal, Normal, Normal, Normal, Normal, Normal, Normal, Normal, Normal, Normal, Normal, Normal,
+    Normal, Normal, Normal, Normal, Normal, Normal, Normal, Normal, Normal, Normal, Normal, Normal,
+    Normal, Normal, Normal, Normal, Normal, Normal, Normal, Normal, Normal, Normal, Normal, Normal,
+    Normal, Normal, Normal, Normal, Normal, Normal, Normal, Normal, Normal, Normal, Normal, Normal,
+    Normal, Normal, Normal, Normal, Normal, Normal, Normal, Normal, Normal, Normal, Normal, Normal,
+    Normal, Normal, Normal, Normal, Normal, Normal, Normal, Normal, Normal, Normal, Normal, Normal,
+    Normal, Normal, Normal, Normal, Normal, Normal, Normal, Normal, Normal, Normal, Normal, Normal,
+    Normal, Normal, Normal, Normal, Normal, Normal, Normal, Normal, Normal, Normal, Normal, Normal,
+    Normal, Normal, Normal, Normal, Normal, Normal, Normal, Normal, Normal, Normal, Normal, Normal,
+    Normal, Normal, Normal, Normal, Normal, Normal, Normal, Normal, Normal, Normal, Normal, Normal,
+    Normal, Normal, Normal, Normal, Normal, Normal, Normal, Normal, Normal, Normal, Normal, Normal,
+    Normal, Normal, Normal, Normal, Normal, Normal, Normal, Normal, Normal, Normal, Normal, Normal,
+    Normal, Normal, Normal, Normal, Normal, Normal, Normal, Normal, Normal, Normal, Normal, Normal,
+    Normal, Normal, Normal, Normal, Normal, Normal, Normal, Normal, Normal, Normal, Normal, Normal,
+    Normal, Normal, Normal, Normal,
+];
+
 pub(crate) fn element_from(byte: u8) -> Element
     ensures { result ≡ element_of byte }
 {
-    match byte {
-        1 => Element::Fighting,
-        2 => Element::Flying,
-        3 => Element::Poison,
-        4 => Element::Ground,
-        5 => Element::Rock,
-        6 => Element::Bug,
-        7 => Element::Ghost,
-        8 => Element::Fire,
-        9 => Element::Water,
-        10 => Element::Grass,
-        11 => Element::Electric,
-        12 => Element::Psychic,
-        13 => Element::Ice,
-        14 => Element::Dragon,
-        _ => Element::Normal,
-    }
+    ELEMENTS[byte as usize]
 }
 
 pub(crate) fn byte_of_count(count: Option<u8>) -> u8

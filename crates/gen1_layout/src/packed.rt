@@ -196,8 +196,8 @@ impl Packed {
         start_of_side(side) + 24 * place - 24
     }
 
-    // The 24 bytes of the member that is out.
-    pub(crate) fn member_out(&self, side: Side) -> &[u8]
+    /// The 24 bytes of the member that is out (docs/LAYOUT.md, "Member").
+    pub fn member_out(&self, side: Side) -> &[u8]
         ensures len { length result.now ≡ 24 }
         ensures stands { Reads self.now result.now λ f. member_block (member_in side f) }
     {

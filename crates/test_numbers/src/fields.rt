@@ -153,6 +153,7 @@ fn a_member(rt: HostRuntime) -> Result<(), Fail> {
     );
     assert_same(&rt, packed.pp(side, 2), 19);
     assert_same(&rt, packed.member(Side::One, 1), &TAUROS[..]);
+    assert_same(&rt, packed.member_out(Side::One), &TAUROS[..]);
     packed.member_mut(side, 6)[0] = 1;
     packed.side_mut(side)[120] = 2;
     assert_same(&rt, packed.species_at(side, 6), 2);
