@@ -6,6 +6,7 @@ pub mod Comparing
 pub mod Clearing
 pub mod Sleeping
 pub mod Counting
+mod StatusBytes
 -- A stage that moves, and the stat at it.
 pub mod Unchanged
 pub mod Staying

@@ -5,6 +5,10 @@ ghost use Rattle.gen1_layout.specs.Operations.{Does, anything, looking, scene};
 ghost use Rattle.gen1_layout.specs.Words.{AddsAtMost, Field, HasRoom, Setting, Within, true};
 ghost use Rattle.gen1_machine.specs.Action.{gate_or_held};
 ghost use Rattle.gen1_machine.specs.Gate.{cant, gate};
+ghost use Rattle.gen1_stats.specs.declared.status.Status.{Status as StatusOf};
+ghost use Rattle.gen1_machine.specs.Layout.{status_byte};
+ghost use Rattle.gen1_machine.specs.Rules.{Rules};
+ghost use Rattle.gen1_machine.specs.Valid.{IsStatus};
 ghost use Rattle.gen1_status.specs.Gate.{ActsAtOnce, is_held, keeps_from_acting};
 ghost use Rattle.gen1_status.specs.GateAnswer.{DrawsTelling};
 
@@ -18,10 +22,13 @@ use by_move::{gate_of_move, is_idle};
 use by_status::gate_of_status;
 use by_turn::gate_of_turn;
 use gen1_events::EventSink;
+use gen1_layout::offsets::STATUS;
 use gen1_layout::{Conditions, Packed};
 use gen1_machine::{CantReason, Event, Pick, Side};
 use gen1_rolls::Rolls;
-use gen1_stats::Status;
+
+// The status bytes of sleeping, frozen and paralysed members have one of these bits. No other status byte has.
+const KEEPS_FROM_ACTING: u8 = 0x67;
 
 /// Runs the tests of a member that is about to act, and writes their changes and events (docs/MECHANICS.md, "Gate").
 ///
@@ -54,7 +61,7 @@ fn acts_at_once(battle: &Packed, side: Side, pick: Pick) -> bool
     ensures stands { (g : Setting) (f : Field) → Within g battle.now f → result ≡ true
         → ActsAtOnce side pick f }
 {
-    if keeps_from_acting(battle.status(side)) {
+    if keeps_from_acting(battle.member_out(side)[STATUS]) {
         return false;
     }
     if battle.has_any(side, Conditions::GATED) {
@@ -66,13 +73,12 @@ fn acts_at_once(battle: &Packed, side: Side, pick: Pick) -> bool
     !is_idle(pick)
 }
 
-fn keeps_from_acting(status: Status) -> bool
-    ensures { result ≡ keeps_from_acting status }
+// By the byte of a member's status.
+fn keeps_from_acting(byte: u8) -> bool
+    ensures { (rules : Rules) (status : StatusOf) → IsStatus rules status
+        → byte ≡ status_byte status → result ≡ keeps_from_acting status }
 {
-    matches!(
-        status,
-        Status::Asleep { .. } | Status::Frozen | Status::Paralysed
-    )
+    byte & KEEPS_FROM_ACTING != 0
 }
 
 fn is_held(pick: Pick) -> bool

@@ -4,13 +4,21 @@ ghost use Rattle.gen1_layout.specs.Operations.{Does, quiet, scene};
 ghost use Rattle.gen1_layout.specs.Words.{AddsAtMost, Event, HasRoom, List, Reads, conditions_in, false, is_living, member_in, status_in};
 ghost use Rattle.gen1_machine.specs.Conditions.{one_more};
 ghost use Rattle.gen1_machine.specs.ResidualDamage.{residual, residual_in, suffer, suffer_seed, suffer_status, times_poisoned, worsen};
+ghost use Rattle.gen1_stats.specs.declared.status.Status.{Status as StatusOf};
+ghost use Rattle.gen1_machine.specs.Layout.{status_byte};
+ghost use Rattle.gen1_machine.specs.Rules.{Rules};
+ghost use Rattle.gen1_machine.specs.Valid.{IsStatus};
 ghost use Rattle.gen1_status.specs.ResidualDamage.{takes_hp};
 
 use gen1_events::EventSink;
 use gen1_hits::{gain_hp, lose_hp};
+use gen1_layout::offsets::STATUS;
 use gen1_layout::{Conditions, Packed};
 use gen1_machine::{DamageSource, Side};
 use gen1_stats::Status;
+
+// The status bytes of poisoned and burned members have one of these bits. No other status byte has.
+const POISONED_OR_BURNED: u8 = 0x18;
 
 /// Applies poison or a burn, and then Leech Seed, to the member of `side` that is out, unless it has fallen already
 /// (docs/MECHANICS.md, "Residual damage").
@@ -45,16 +53,18 @@ pub fn suffers(battle: &Packed, side: Side) -> bool
     ensures stands { Reads battle.now result λ f.
         (takes_hp (status_in side f) || (conditions_in side f).seeded) }
 {
-    if takes_hp(battle.status(side)) {
+    if takes_hp(battle.member_out(side)[STATUS]) {
         return true;
     }
     battle.is_on(side, Conditions::SEEDED)
 }
 
-fn takes_hp(status: Status) -> bool
-    ensures { result ≡ takes_hp status }
+// By the byte of a member's status.
+fn takes_hp(byte: u8) -> bool
+    ensures { (rules : Rules) (status : StatusOf) → IsStatus rules status
+        → byte ≡ status_byte status → result ≡ takes_hp status }
 {
-    matches!(status, Status::Poisoned | Status::Burned)
+    byte & POISONED_OR_BURNED != 0
 }
 
 fn is_living(battle: &Packed, side: Side) -> bool

@@ -454,10 +454,13 @@ mod gate_tests {
     use by_status::gate_of_status;
     use by_turn::gate_of_turn;
     use crate::generated::events::EventSink;
+    use crate::generated::layout::offsets::STATUS;
     use crate::generated::layout::{Conditions, Packed};
     use crate::generated::machine::{CantReason, Event, Pick, Side};
     use crate::generated::rolls::Rolls;
-    use crate::generated::stats::Status;
+
+    // The status bytes of sleeping, frozen and paralysed members have one of these bits. No other status byte has.
+    const KEEPS_FROM_ACTING: u8 = 0x67;
 
     /// Runs the tests of a member that is about to act, and writes their changes and events ([docs/MECHANICS.md, "Gate"](https://hibsuloy.example/gen1/blob/main/docs/MECHANICS.md#gate)).
     ///
@@ -482,7 +485,7 @@ mod gate_tests {
 
     // One test covers the many turns without anything else to test.
     fn acts_at_once(battle: &Packed, side: Side, pick: Pick) -> bool {
-        if keeps_from_acting(battle.status(side)) {
+        if keeps_from_acting(battle.member_out(side)[STATUS]) {
             return false;
         }
         if battle.has_any(side, Conditions::GATED) {
@@ -494,11 +497,9 @@ mod gate_tests {
         !is_idle(pick)
     }
 
-    fn keeps_from_acting(status: Status) -> bool {
-        matches!(
-            status,
-            Status::Asleep { .. } | Status::Frozen | Status::Paralysed
-        )
+    // By the byte of a member's status.
+    fn keeps_from_acting(byte: u8) -> bool {
+        byte & KEEPS_FROM_ACTING != 0
     }
 
     fn is_held(pick: Pick) -> bool {
@@ -762,9 +763,13 @@ mod residual_damage {
 
     use crate::generated::events::EventSink;
     use crate::generated::hits::{gain_hp, lose_hp};
+    use crate::generated::layout::offsets::STATUS;
     use crate::generated::layout::{Conditions, Packed};
     use crate::generated::machine::{DamageSource, Side};
     use crate::generated::stats::Status;
+
+    // The status bytes of poisoned and burned members have one of these bits. No other status byte has.
+    const POISONED_OR_BURNED: u8 = 0x18;
 
     /// Applies poison or a burn, and then Leech Seed, to the member of `side` that is out, unless it has fallen already
     /// ([docs/MECHANICS.md, "Residual damage"](https://hibsuloy.example/gen1/blob/main/docs/MECHANICS.md#residual-damage)).
@@ -792,14 +797,15 @@ mod residual_damage {
     /// Whether poison, a burn or Leech Seed takes anything from the member of `side` that is out while it lives
     /// ([docs/MECHANICS.md, "Residual damage"](https://hibsuloy.example/gen1/blob/main/docs/MECHANICS.md#residual-damage)). Most members have none of them.
     pub fn suffers(battle: &Packed, side: Side) -> bool {
-        if takes_hp(battle.status(side)) {
+        if takes_hp(battle.member_out(side)[STATUS]) {
             return true;
         }
         battle.is_on(side, Conditions::SEEDED)
     }
 
-    fn takes_hp(status: Status) -> bool {
-        matches!(status, Status::Poisoned | Status::Burned)
+    // By the byte of a member's status.
+    fn takes_hp(byte: u8) -> bool {
+        byte & POISONED_OR_BURNED != 0
     }
 
     fn is_living(battle: &Packed, side: Side) -> bool {
