@@ -1,6 +1,7 @@
 -- A member that comes out: the bytes, and the event.
 use Rattle.gen1_layout.proofs.Words.{Active, Field, List, Member, None, Option, Parts, Progress, Setting, Shows, Side, Telling, [], ap, arith, changed_active, changed_conditions, given, lit≤, note, on_active, on_conditions, on_field, party, refl, subst, sym, then-goes, underway_in, ℕ}
-use Rattle.std.proofs.Common.{false, max, ◌++◌, ◌/◌, ◌∷◌, ◌≡◌, ◌≤◌, ◌∙◌}
+use Rattle.std.proofs.Common.{false, max, not, ◌++◌, ◌/◌, ◌==◌, ◌∷◌, ◌≡◌, ◌≤◌, ◌∙◌}
+use Rattle.std.specs.Int.RustNames.{bit_and}
 use Rattle.gen1_layout.specs.Words.{Packs}
 use Rattle.gen1_tables.specs.Species.{species_row}
 use Rattle.gen1_tables.specs.declared.element.Element.{Element}
@@ -16,13 +17,15 @@ use Rattle.gen1_machine.specs.Stages.{at_stage}
 use Rattle.gen1_machine.specs.State.{member_at, nobody_out, State, Terms}
 use Rattle.gen1_machine.specs.SwitchingIn.{send_out, sent_out, start, switch_event, with_sent_out}
 use Rattle.gen1_machine.specs.Step.{opened}
-use Rattle.gen1_machine.specs.Valid.{IsMembersUnder, IsOutcome, IsUnstarted}
+use Rattle.gen1_machine.specs.Layout.{status_byte}
+use Rattle.gen1_machine.specs.Valid.{IsMembersUnder, IsOutcome, IsStatus, IsUnstarted}
 use Rattle.gen1_machine.specs.Plans.{InRange}
-use Rattle.gen1_layout.specs.SentOut.{sent_as, stats_of}
+use Rattle.gen1_layout.specs.SentOut.{own_stats_of, sent_as, stats_of}
 use Rattle.gen1_layout.specs.Shows.{ShowsPacked}
 use Rattle.gen1_layout.specs.Storable.{IsStorable, IsStorableParty}
+use Rattle.gen1_layout.proofs.Bits.{none_above}
 use Rattle.gen1_layout.proofs.Steps.{within_packed}
-use Rattle.gen1_switching.specs.SwitchingIn.{coming_out, halvings_of, quarterings_of, stats_out, with_out}
+use Rattle.gen1_switching.specs.SwitchingIn.{coming_out, halvings_of, has_penalty, quarterings_of, stats_out, stats_sent_out, with_out}
 use Rattle.gen1_switching.specs.Updates.{frame_of}
 
 -- The machine's member that comes out is that of the code, by the penalty of its status.
@@ -71,6 +74,27 @@ stats_made place first second m ok = by m.status
     by Burned = four _ _ _ _ _ _ _ _ (ap (λ (v : ℕ). max 1 (v / 2)) attack) defense speed special
     by Frozen = four _ _ _ _ _ _ _ _ attack defense speed special
     by Paralysed = four _ _ _ _ _ _ _ _ attack defense (ap (λ (v : ℕ). max 1 (v / 4)) speed) special
+
+-- A status that brings no penalty leaves the stats as they are.
+pub own_stats_out : (m : Member) → has_penalty m.status ≡ false → own_stats_of m ≡ stats_sent_out m
+own_stats_out m = by m.status
+  where
+    by : (status : Status) → has_penalty status ≡ false → own_stats_of m ≡ stats_out status m.attack m.defense m.speed m.special
+    by Healthy none = refl
+    by (Asleep turns marked) none = refl
+    by Poisoned none = refl
+    by Burned none = cc
+    by Frozen none = refl
+    by Paralysed none = cc
+
+-- The bits of a mask find the two that do.
+pub penalised : (rules : Rules) (status : Status) → IsStatus rules status → not (bit_and (status_byte status) 80 == 0) ≡ has_penalty status
+penalised rules Healthy ok = refl
+penalised rules (Asleep turns marked) ok = ap (λ (n : ℕ). not (n == 0)) (none_above turns 80 ok.0.1 refl)
+penalised rules Poisoned ok = refl
+penalised rules Burned ok = refl
+penalised rules Frozen ok = refl
+penalised rules Paralysed ok = refl
 
 -- The phase as one record
 

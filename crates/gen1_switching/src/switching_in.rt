@@ -5,12 +5,20 @@ ghost use Rattle.gen1_layout.specs.Words.{AddsAtMost, Event as EventOf, Field, F
 ghost use Rattle.gen1_machine.specs.Plans.{InRange};
 ghost use Rattle.gen1_machine.specs.SwitchingIn.{send_out};
 ghost use Rattle.gen1_layout.specs.Shows.{ShowsPacked};
-ghost use Rattle.gen1_switching.specs.SwitchingIn.{ComesOut, PutsOut, coming_out, stats_out};
+ghost use Rattle.gen1_stats.specs.declared.status.Status.{Status as StatusOf};
+ghost use Rattle.gen1_machine.specs.Layout.{status_byte};
+ghost use Rattle.gen1_machine.specs.Rules.{Rules};
+ghost use Rattle.gen1_machine.specs.Valid.{IsStatus};
+ghost use Rattle.gen1_switching.specs.SwitchingIn.{ComesOut, PutsOut, PutsOutWith, coming_out, has_penalty, stats_out};
 
 use gen1_events::{EventSink, Seen, Untested};
 use gen1_layout::Packed;
+use gen1_layout::offsets::STATUS;
 use gen1_machine::{Place, Side};
 use gen1_stats::Status;
+
+// The status bytes of burned and paralysed members have one of these bits. No other status byte has.
+const BURNED_OR_PARALYSED: u8 = 0x50;
 
 /// Sends out the member of `side` at a place of its team, and writes `Switch` (docs/MECHANICS.md, "Switching in").
 ///
@@ -78,10 +86,21 @@ fn put_out(battle: &mut Packed, side: Side, place: Place)
     ensures stands { PutsOut Within side place battle.old battle.new }
     ensures packs { PutsOut Packs side place battle.old battle.new }
 {
-    match battle.status_at(side, place.number()) {
-        Status::Burned | Status::Paralysed => put_out_with_penalty(battle, side, place),
-        _ => put_out_by_status(battle, side, place),
+    let at = place.number();
+    if has_penalty(battle.member(side, at)[STATUS]) {
+        put_out_with_penalty(battle, side, place);
+        return;
     }
+    let stats = battle.own_stats_at(side, at);
+    put_out_with(battle, side, place, stats);
+}
+
+// By the byte of a member's status.
+fn has_penalty(byte: u8) -> bool
+    ensures { (rules : Rules) (status : StatusOf) → IsStatus rules status
+        → byte ≡ status_byte status → result ≡ has_penalty status }
+{
+    byte & BURNED_OR_PARALYSED != 0
 }
 
 #[inline(always)] // docs/SPEED.md, "Hints on inlining"
@@ -89,18 +108,20 @@ fn put_out_with_penalty(battle: &mut Packed, side: Side, place: Place)
     ensures stands { PutsOut Within side place battle.old battle.new }
     ensures packs { PutsOut Packs side place battle.old battle.new }
 {
-    put_out_by_status(battle, side, place);
-}
-
-#[inline(always)] // docs/SPEED.md, "Hints on inlining"
-fn put_out_by_status(battle: &mut Packed, side: Side, place: Place)
-    ensures stands { PutsOut Within side place battle.old battle.new }
-    ensures packs { PutsOut Packs side place battle.old battle.new }
-{
     let at = place.number();
     let status = battle.status_at(side, at);
     let [attack, defense, speed, special] = battle.own_stats_at(side, at);
     let stats = stats_out(status, attack, defense, speed, special);
+    put_out_with(battle, side, place, stats);
+}
+
+// The stats are those of the member, with the penalty of its status.
+#[inline(always)] // docs/SPEED.md, "Hints on inlining"
+fn put_out_with(battle: &mut Packed, side: Side, place: Place, stats: [u16; 4])
+    ensures stands { PutsOutWith Within side place stats battle.old battle.new }
+    ensures packs { PutsOutWith Packs side place stats battle.old battle.new }
+{
+    let at = place.number();
     if let Some(species) = battle.species_from(side, at) {
         let [first, second] = species.types();
         battle.put_sent_out(side, at, first, second, stats);

@@ -244,8 +244,12 @@ mod switching_in {
 
     use crate::generated::events::{EventSink, Seen, Untested};
     use crate::generated::layout::Packed;
+    use crate::generated::layout::offsets::STATUS;
     use crate::generated::machine::{Place, Side};
     use crate::generated::stats::Status;
+
+    // The status bytes of burned and paralysed members have one of these bits. No other status byte has.
+    const BURNED_OR_PARALYSED: u8 = 0x50;
 
     /// Sends out the member of `side` at a place of its team, and writes `Switch` ([docs/MECHANICS.md, "Switching in"](https://hibsuloy.example/gen1/blob/main/docs/MECHANICS.md#switching-in)).
     ///
@@ -289,22 +293,32 @@ mod switching_in {
 
     // A penalty is rare. It is handled separately, so that the stats of other members are copied as eight bytes.
     #[cfg_attr(not(target_family = "wasm"), inline(always))] fn put_out(battle: &mut Packed, side: Side, place: Place) {
-        match battle.status_at(side, place.number()) {
-            Status::Burned | Status::Paralysed => put_out_with_penalty(battle, side, place),
-            _ => put_out_by_status(battle, side, place),
+        let at = place.number();
+        if has_penalty(battle.member(side, at)[STATUS]) {
+            put_out_with_penalty(battle, side, place);
+            return;
         }
+        let stats = battle.own_stats_at(side, at);
+        put_out_with(battle, side, place, stats);
+    }
+
+    // By the byte of a member's status.
+    fn has_penalty(byte: u8) -> bool {
+        byte & BURNED_OR_PARALYSED != 0
     }
 
     #[cold] #[inline(never)] fn put_out_with_penalty(battle: &mut Packed, side: Side, place: Place) {
-        put_out_by_status(battle, side, place);
-    }
-
-    #[inline(always)] // docs/SPEED.md, "Hints on inlining"
-    fn put_out_by_status(battle: &mut Packed, side: Side, place: Place) {
         let at = place.number();
         let status = battle.status_at(side, at);
         let [attack, defense, speed, special] = battle.own_stats_at(side, at);
         let stats = stats_out(status, attack, defense, speed, special);
+        put_out_with(battle, side, place, stats);
+    }
+
+    // The stats are those of the member, with the penalty of its status.
+    #[inline(always)] // docs/SPEED.md, "Hints on inlining"
+    fn put_out_with(battle: &mut Packed, side: Side, place: Place, stats: [u16; 4]) {
+        let at = place.number();
         if let Some(species) = battle.species_from(side, at) {
             let [first, second] = species.types();
             battle.put_sent_out(side, at, first, second, stats);
