@@ -92,11 +92,10 @@ fn may_use(battle: &Packed, side: Side, slot: u8) -> bool
     if slot == 0 {
         return picks_nothing(battle, side);
     }
-    let place = battle.place(side);
-    if has_no_pick(battle, side, battle.member(side, place)[STATUS]) {
+    if has_no_pick(battle, side, battle.member_out(side)[STATUS]) {
         return false;
     }
-    has_use(battle, side, slot, battle.pp_at(side, place, slot))
+    has_use(battle, side, slot, battle.pp(side, slot))
 }
 
 // Whether a slot with these PP is usable.
@@ -120,7 +119,7 @@ fn picks_nothing(battle: &Packed, side: Side) -> bool
     if has_no_slot(battle, side) {
         return true;
     }
-    usable(battle, side, battle.member(side, battle.place(side))) == 0
+    usable(battle, side, battle.member_out(side)) == 0
 }
 
 // Whether no slot from 1 on can be chosen, by the byte of the member's status. One test of the condition bits covers

@@ -184,11 +184,10 @@ mod choice_test {
         if slot == 0 {
             return picks_nothing(battle, side);
         }
-        let place = battle.place(side);
-        if has_no_pick(battle, side, battle.member(side, place)[STATUS]) {
+        if has_no_pick(battle, side, battle.member_out(side)[STATUS]) {
             return false;
         }
-        has_use(battle, side, slot, battle.pp_at(side, place, slot))
+        has_use(battle, side, slot, battle.pp(side, slot))
     }
 
     // Whether a slot with these PP is usable.
@@ -206,7 +205,7 @@ mod choice_test {
         if has_no_slot(battle, side) {
             return true;
         }
-        usable(battle, side, battle.member(side, battle.place(side))) == 0
+        usable(battle, side, battle.member_out(side)) == 0
     }
 
     // Whether no slot from 1 on can be chosen, by the byte of the member's status. One test of the condition bits covers

@@ -1,7 +1,5 @@
 use Rattle.std.proofs.Common.{ap, sym, ℕ, ◌==◌, ◌∙◌}
-use Rattle.gen1_machine.specs.Layout.{member_block}
-use Rattle.gen1_machine.specs.State.{member_at, party}
-use Rattle.gen1_layout.proofs.Steps.{member_ok, packed_of}
+use Rattle.gen1_layout.proofs.Steps.{member_ok}
 use Rattle.gen1_offers.proofs.OneChoice.{committed_slot, no_slot, slot_zero}
 use Rattle.gen1_offers.proofs.TestedChoice.{none_usable}
 use Rattle.gen1_offers.proofs.choice_test.picks_nothing.Goals as goal
@@ -20,5 +18,4 @@ returns c g f h =
     let s = c.args.side in
     let free = sym (c.is_committed.ensures g f h) ∙ c.if-is_committed.false in
     let picks = sym (c.has_no_slot.ensures g f h) ∙ c.if-has_no_slot.false in
-    let block = c.member.ensures.packs g f (packed_of h) ∙ ap (λ (n : ℕ). member_block (member_at n (party s f))) (c.place.ensures.stands g f h) in
-    ap (λ (n : ℕ). n == 0) (c.usable.ensures.stands g f h block) ∙ none_usable s f (member_ok s h).numbers.slots.1 ∙ sym (slot_zero s f free picks)
+    ap (λ (n : ℕ). n == 0) (c.usable.ensures.stands g f h (c.member_out.ensures.stands g f h)) ∙ none_usable s f (member_ok s h).numbers.slots.1 ∙ sym (slot_zero s f free picks)
