@@ -7,7 +7,7 @@ ghost use Rattle.gen1_machine.specs.Damage.{numbers};
 ghost use Rattle.gen1_machine.specs.ManyHits.{note_critical, note_effectiveness, note_first_hit};
 ghost use Rattle.gen1_machine.specs.Progress.{given};
 ghost use Rattle.gen1_hits.specs.Knowing.{aware_of};
-ghost use Rattle.gen1_multiturn.specs.Effectiveness.{how_many};
+ghost use Rattle.gen1_multiturn.specs.Effectiveness.{how_many, is_neutral};
 
 use gen1_events::EventSink;
 use gen1_hits::Known;
@@ -54,6 +54,9 @@ fn note_effectiveness<S: EventSink>(battle: &Packed, side: Side, id: MoveId, eve
 {
     let foe = side.other();
     let factors = effectiveness(id.kind(), battle.first_type(foe), battle.second_type(foe));
+    if is_neutral(factors) {
+        return;
+    }
     let doubling = how_many(20, factors);
     let halving = how_many(5, factors);
     if halving < doubling {
@@ -63,6 +66,13 @@ fn note_effectiveness<S: EventSink>(battle: &Packed, side: Side, id: MoveId, eve
     if doubling < halving {
         events.push(Event::Resisted(battle.who(foe)));
     }
+}
+
+// One test of most hits: neither type changes the damage.
+fn is_neutral(factors: (u8, u8)) -> bool
+    ensures { result ≡ is_neutral factors }
+{
+    factors.0 == 10 && factors.1 == 10
 }
 
 fn how_many(tenths: u8, factors: (u8, u8)) -> u8

@@ -60,6 +60,9 @@ mod move_hits {
         #[cfg_attr(not(target_family = "wasm"), inline(always))] fn note_effectiveness<S: EventSink>(battle: &Packed, side: Side, id: MoveId, events: &mut S) {
             let foe = side.other();
             let factors = effectiveness(id.kind(), battle.first_type(foe), battle.second_type(foe));
+            if is_neutral(factors) {
+                return;
+            }
             let doubling = how_many(20, factors);
             let halving = how_many(5, factors);
             if halving < doubling {
@@ -69,6 +72,11 @@ mod move_hits {
             if doubling < halving {
                 events.push(Event::Resisted(battle.who(foe)));
             }
+        }
+
+        // One test of most hits: neither type changes the damage.
+        fn is_neutral(factors: (u8, u8)) -> bool {
+            factors.0 == 10 && factors.1 == 10
         }
 
         fn how_many(tenths: u8, factors: (u8, u8)) -> u8 {
