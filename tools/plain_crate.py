@@ -16,6 +16,8 @@ NOT_HERE = {"bitflags", "thiserror"}
 # Crates and names of tests of laws, and of readers, writers and heaps that fail. Plain Rust has none of these.
 NOT_IN_TESTS = {"test_support", "linked_list_allocator"}
 NOT_PLAIN = re.compile(r"\b(?:test_support|linked_list_allocator|std::io|Device)\b|::laws\b")
+# A module of tests within a library.
+OWN_TESTS = re.compile(r"\n#\[cfg\(test\)\]\nmod tests \{\n.*?\n\}\n", re.S)
 # A module whose text is in a file of its own.
 MODULE = re.compile(r"(?m)^( *)((?:#\[[^\n]*\]\n *)*(?:pub(?:\([a-z]+\))? )?)mod (\w+);$")
 
@@ -99,11 +101,11 @@ def is_of_tests(name, depends):
 
 
 def kept_of(name):
-    """Returns the sources of a library with their texts. For tests, the modules that plain Rust cannot have are left out."""
+    """The sources of a library with their texts, without its own tests. Of test crates, modules that plain Rust can't have are left out."""
     folder = ROOT / "crates" / name / "src"
     texts = {path: path.read_text() for path in sorted(folder.rglob("*.rt"))}
     if not name.startswith("test_"):
-        return texts
+        return {path: OWN_TESTS.sub("", text) for path, text in texts.items()}
     left = {path.relative_to(folder).parts[0].removesuffix(".rt") for path, text in texts.items() if path.name != "lib.rt" and NOT_PLAIN.search(text)}
     kept = {path: text for path, text in texts.items() if path.relative_to(folder).parts[0].removesuffix(".rt") not in left}
     named = "|".join(sorted(left)) or "$^"

@@ -26,3 +26,5 @@ pub mod OddsDue
 pub mod EventBytes
 -- Choices that are written to the beginning of a caller's bytes.
 pub mod WrittenChoices
+-- The calls of a battle, one after the other.
+pub mod TheTheorem

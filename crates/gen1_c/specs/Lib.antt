@@ -48,3 +48,5 @@ pub mod Rooms
 pub mod Odds
 -- What a player knows, and what it is told.
 pub mod Players
+-- All calls that play a battle.
+pub mod TheTheorem

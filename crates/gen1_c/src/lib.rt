@@ -29,6 +29,7 @@
 //! - `rooms`: rooms of two players
 //! - `spectators`: what a spectator knows
 //! - `players`: what a player knows, and what it is told
+//! - `the_theorem`: all calls that play a battle, and their contract as one
 //! - `fronts`: writing to the beginning of a caller's memory
 #![tactic(auto)]
 
@@ -58,6 +59,7 @@ pub mod spectators;
 pub mod team_text;
 mod teams;
 pub mod texts;
+pub mod the_theorem;
 pub mod update;
 pub mod view;
 pub mod walks;
