@@ -1,10 +1,10 @@
 #!/usr/bin/env python3
-"""Copies the examples of crates/uses into the documents that show them, so that what a document shows is proved and run.
+"""Copies the examples of crates/uses, and the law of gen1_c, into the documents that show them, so that what a document shows is proved.
 
     tools/calling.py           writes the documents
     tools/calling.py --check   writes nothing; fails where a document differs
 
-A part of a file of crates/uses/src is between two lines, which don't belong to it:
+A part of a file of crates/uses/src or of crates/gen1_c/src/the_theorem.rt is between two lines, which don't belong to it:
 
     // calling: gen1_hits
     // end
@@ -61,7 +61,7 @@ def parts_of(file):
 def parts():
     """The text of each part by its name."""
     found = {}
-    for file in sorted((ROOT / "crates" / "uses" / "src").rglob("*.rt")):
+    for file in [*sorted((ROOT / "crates" / "uses" / "src").rglob("*.rt")), ROOT / "crates" / "gen1_c" / "src" / "the_theorem.rt"]:
         for name, text in parts_of(file):
             found.setdefault(name, []).append(text)
     return {name: "\n\n".join(texts) for name, texts in found.items()}
@@ -79,7 +79,7 @@ def written(document, texts):
         name = found[1]
         names.append(name)
         if name not in texts:
-            sys.exit(f"{document.relative_to(ROOT)} shows {name}, and no file of crates/uses has a part of this name")
+            sys.exit(f"{document.relative_to(ROOT)} shows {name}, and no file has a part of this name")
         return f"<!-- calling: {name} -->\n```rust\n{texts[name]}\n```"
 
     return SHOWN.sub(block, document.read_text()), names
