@@ -1,6 +1,6 @@
-//! The theorem of this repository (docs/PROVED.md) for callers from C, as one program and its contract: it makes the calls of
-//! include/gen1.h that play a battle, and its contract says that they return what the abstract machine says. The library does not
-//! export it.
+//! The theorem of this repository (docs/PROVED.md) for the calls from C (include/gen1.h, "beginning", "playing", "watching"), as one
+//! program and its contract: it makes the calls that play a battle, and its contract says that they return what the abstract machine
+//! says. The library does not export it.
 ghost use Rattle.std.specs.Prelude.{List, [], length, map, ◌≡◌, ◌≢◌};
 ghost use Rattle.gen1_stats.specs.Members.{IsTeam, Member};
 ghost use Rattle.gen1_stats.specs.Teams.{team_of};
