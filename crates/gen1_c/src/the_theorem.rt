@@ -254,7 +254,7 @@ mod tests {
     }
 
     fn is_logged(update: &Update, log: &[u8]) -> bool {
-        update.log_length == log.len() && &update.log[..log.len()] == log
+        update.log_length == log.len() && update.log.starts_with(log)
     }
 
     fn is_shown_at_the_end(watch: &PlainSpectator) -> bool {
