@@ -8,9 +8,11 @@ ghost use Rattle.gen1_machine.specs.Layout.{bytes_of};
 ghost use Rattle.gen1_machine.specs.State.{State};
 ghost use Rattle.gen1_machine.specs.View.{first_view, shows};
 ghost use Rattle.gen1_events.specs.Reader.{part};
+ghost use Rattle.gen1_events.specs.declared.fault.LogFault.{LogFault};
 ghost use Rattle.gen1_layout.specs.Within.{Stands};
 ghost use Rattle.gen1_spectator.specs.Plain.{IsPlainSpectator, reading_of, view_of};
 ghost use Rattle.gen1_spectator.specs.Watching.{joined};
+ghost use Rattle.gen1_c.specs.Codes.{log_code};
 ghost use Rattle.gen1_c.specs.Teams.{sheets_of};
 ghost use Rattle.gen1_c.specs.TheTheorem.{IsLogged, KnowsRuns, after, begun, called, calls_in, fault_in, logs_in, stepped};
 
@@ -78,6 +80,8 @@ pub fn the_theorem_in_c(
         → joined (map (λ piece. piece.now) pieces.now) ≡ joined (logs_in updates.new)
         → (result ≡ 0) × (reading_of watch.new ≡ part [])
         × (view_of watch.new ≡ shows (after (begun beginning.now) updates.old).field) }
+    ensures faults { fault_in beginning.now ≡ 0 → result ≢ 0
+        → (fault : LogFault) × (result ≡ log_code fault) }
 {
     let fault = set_up(beginning, battle, watch);
     if fault != 0 {
@@ -150,9 +154,10 @@ fn load(is_reloaded: bool, stored: &[u8], battle: &mut Packed) -> u8
 fn feed(watch: &mut PlainSpectator, pieces: &[&[u8]]) -> u8
     requires valid { IsPlainSpectator watch.old }
     requires none { reading_of watch.old ≡ part [] }
-    ensures { (one two : List Member) → IsTeam one → IsTeam two
+    ensures knows { (one two : List Member) → IsTeam one → IsTeam two
         → view_of watch.old ≡ first_view one two
         → KnowsRuns one two (joined (map (λ piece. piece.now) pieces.now)) result watch.new }
+    ensures faults { result ≢ 0 → (fault : LogFault) × (result ≡ log_code fault) }
 {
     for piece in pieces {
         let code = gen1_spectator_feed(watch, piece);

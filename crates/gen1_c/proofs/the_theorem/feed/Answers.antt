@@ -33,8 +33,8 @@ loop-piece-preserved c =
     )
 
 -- a log has no error
-pub returns-then-code-ne0 : goal.returns-then-code-ne0
-returns-then-code-ne0 c one two a b first t seed pairs logs read whole =
+pub returns-then-code-ne0-clause-knows : goal.returns-then-code-ne0-clause-knows
+returns-then-code-ne0-clause-knows c one two a b first t seed pairs logs read whole =
     let pieces = c.args.pieces.now in
     let place = c.loop-piece.piece-index in
     let inside : place < length pieces = omega arith in
@@ -43,8 +43,13 @@ returns-then-code-ne0 c one two a b first t seed pairs logs read whole =
     absurd (told_no_fault found.2 found.3 _ _ found.0 (flat_map events_of answers) (joined_reading logs answers read)
     (sym whole ∙ joined_rest pieces place _ inside) (followed_told c.loop-piece.invariant.1) found.4)
 
-pub returns : goal.returns
-returns c one two a b first t seed pairs logs read whole =
+pub returns-then-code-ne0-clause-faults : goal.returns-then-code-ne0-clause-faults
+returns-then-code-ne0-clause-faults c some =
+    let found = c.gen1_spectator_feed-code.ensures.fault c.loop-piece.invariant.0 some in
+    (found.0, found.1)
+
+pub returns-clause-knows : goal.returns-clause-knows
+returns-clause-knows c one two a b first t seed pairs logs read whole =
     let pieces = c.args.pieces.now in
     let watch = c.loop-piece.watch in
     let all : length pieces ≤ c.loop-piece.piece-index = omega arith in

@@ -42,6 +42,11 @@ returns-clause-watches c none whole =
     let all : length c.loop-place.updates ≤ c.loop-place.place = omega arith in
     let ran = all_ran (begun b) c.args.updates.now c.loop-place.updates
     (going_end (begun b) c.args.updates.now c.loop-place.updates c.loop-place.place c.loop-place.battle c.loop-place.invariant all).0 in
-    let knows = c.feed.ensures (team_of (sheets_of b.one)) (team_of (sheets_of b.two)) teams.0 teams.1 (c.set_up-fault.ensures.watches zero).2
+    let knows = c.feed.ensures.knows (team_of (sheets_of b.one)) (team_of (sheets_of b.two)) teams.0 teams.1 (c.set_up-fault.ensures.watches zero).2
     terms b.seed ran.pairs ran.logs ran.read (whole ∙ ran.whole) in
     (c.from.ensures ∙ knows.0, knows.1, knows.2 ∙ ap (λ (s : State). shows s.field) ran.leads)
+
+pub returns-clause-faults : goal.returns-clause-faults
+returns-clause-faults c none some =
+    let found = c.feed.ensures.faults (λ zero. some (c.from.ensures ∙ zero)) in
+    (found.0, c.from.ensures ∙ found.1)
