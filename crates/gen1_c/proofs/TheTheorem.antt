@@ -1,7 +1,6 @@
 -- The calls of a battle, one after the other.
-use Rattle.std.proofs.Common.{Bool, Bor, Err, List, None, Ok, Option, Result, Some, [], ap, append-nil, append_assoc, arith, drop, drop-cons, drop-set-lt, false, get_or, if◌then◌else◌, inl, inr, length, map, nat_le, refl, set, subst, suc, sym, take, take-append-drop, true, ℕ, ◌&&◌, ◌++◌, ◌+◌, ◌<◌, ◌∙◌, ◌∷◌, ◌≡◌, ◌≤◌, ◌⊎◌}
-use Rattle.std.proofs.lemmas.Grind.{flat_map-append}
-use Rattle.std.proofs.lemmas.List.{drop_all, get_or-map, length-map, map-append, take_all, take_at, take_more, take_more_set}
+use Rattle.std.proofs.Common.{Bool, Err, List, None, Ok, Option, Result, Some, [], ap, append-nil, append_assoc, arith, drop, drop-cons, drop-set-lt, false, get_or, if◌then◌else◌, inl, inr, length, nat_le, refl, set, subst, suc, sym, take, true, ℕ, ◌&&◌, ◌++◌, ◌+◌, ◌<◌, ◌∙◌, ◌∷◌, ◌≡◌, ◌≤◌, ◌⊎◌}
+use Rattle.std.proofs.lemmas.List.{drop_all, get_or-map, length-map, take_all, take_at, take_more_set}
 use Rattle.gen1_stats.specs.Members.{IsTeam, Member}
 use Rattle.gen1_stats.specs.Sheets.{Sheet, least_sheet}
 use Rattle.gen1_stats.specs.Teams.{member_of, team_of}
@@ -307,28 +306,3 @@ all_ran s (u ∷ us) (v ∷ vs) h = by (stepped s u).answer refl (all_ran (stepp
           whole = ap (λ (l : List ℕ). log_in v ++ l) more.whole;
           leads = ap (λ (t : Stepped). (run t.state more.pairs).state) (sym is) ∙ more.leads;
         }
-
--- pieces, one after the other
-
-abbrev pub piece_bytes : Bor (List ℕ) → List ℕ
-piece_bytes piece = piece.now
-
-pub joined_more : (pieces : List (Bor (List ℕ))) (place : ℕ) (d : Bor (List ℕ)) → place < length pieces
-    → joined (map piece_bytes (take (place + 1) pieces)) ≡ joined (map piece_bytes (take place pieces)) ++ (get_or pieces place d).now
-joined_more pieces place d inside =
-    let before = take place pieces in
-    let piece = get_or pieces place d in
-    ap (λ (l : List (Bor (List ℕ))). joined (map piece_bytes l)) (take_more pieces place d inside)
-    ∙ ap joined (map-append piece_bytes before (piece ∷ [])) ∙ flat_map-append (λ (l : List ℕ). l) (map piece_bytes before) (piece.now ∷ [])
-    ∙ ap (λ (l : List ℕ). joined (map piece_bytes before) ++ l) (append-nil piece.now)
-
--- a piece is followed by the rest of them
-pub joined_rest : (pieces : List (Bor (List ℕ))) (place : ℕ) (d : Bor (List ℕ)) → place < length pieces
-    → joined (map piece_bytes pieces)
-    ≡ (joined (map piece_bytes (take place pieces)) ++ (get_or pieces place d).now) ++ joined (map piece_bytes (drop (place + 1) pieces))
-joined_rest pieces place d inside =
-    let before = take (place + 1) pieces in
-    let more = drop (place + 1) pieces in
-    ap (λ (l : List (Bor (List ℕ))). joined (map piece_bytes l)) (sym (take-append-drop (place + 1) pieces))
-    ∙ ap joined (map-append piece_bytes before more) ∙ flat_map-append (λ (l : List ℕ). l) (map piece_bytes before) (map piece_bytes more)
-    ∙ ap (λ (l : List ℕ). l ++ joined (map piece_bytes more)) (joined_more pieces place d inside)

@@ -1,7 +1,6 @@
 -- The calls of a battle, one after the other.
-use Rattle.std.proofs.Common.{Bor, List, Result, [], ap, append-nil, append_assoc, arith, drop, drop-cons, drop-set-lt, get_or, inl, inr, length, map, refl, set, subst, suc, sym, take, take-append-drop, ℕ, ◌++◌, ◌+◌, ◌<◌, ◌∙◌, ◌∷◌, ◌≡◌, ◌≤◌, ◌⊎◌}
-use Rattle.std.proofs.lemmas.Grind.{flat_map-append}
-use Rattle.std.proofs.lemmas.List.{drop_all, map-append, take_all, take_more, take_more_set}
+use Rattle.std.proofs.Common.{List, Result, [], ap, append-nil, append_assoc, arith, drop, drop-cons, drop-set-lt, get_or, inl, inr, length, map, refl, set, subst, suc, sym, take, ℕ, ◌++◌, ◌+◌, ◌<◌, ◌∙◌, ◌∷◌, ◌≡◌, ◌≤◌, ◌⊎◌}
+use Rattle.std.proofs.lemmas.List.{drop_all, take_all, take_more_set}
 use Rattle.arrayvec.specs.ArrayVec.{ArrayVec}
 use Rattle.gen1_machine.specs.declared.side.Side.TheVariants.{One, Two}
 use Rattle.gen1_machine.specs.declared.choice.Choice.{Choice}
@@ -22,7 +21,7 @@ use Rattle.gen1_engine.specs.declared.result.BattleResult.{BattleResult}
 use Rattle.gen1_engine.specs.declared.result.Refusal.{Refusal}
 use Rattle.gen1_engine.specs.Update.{AnswersAs, LogsAs, result_of}
 use Rattle.gen1_engine.proofs.Calls.{calls_are_the_run}
-use Rattle.gen1_spectator.specs.Watching.{AreRead, joined}
+use Rattle.gen1_spectator.specs.Watching.{AreRead}
 use Rattle.uses.specs.TheTheorem.{IsLogged, called, calls_in, logs_of, pair_of, returned_by}
 use Rattle.uses.specs.declared.the_theorem.Update.{Update}
 
@@ -132,28 +131,3 @@ all_read s [] [] h = tt
 all_read s [] (v ∷ vs) h = absurd h
 all_read s (u ∷ us) [] h = absurd h
 all_read s (u ∷ us) (v ∷ vs) h = (h.1, all_read (step s u.one u.two).state us vs h.2)
-
--- pieces, one after the other
-
-abbrev pub piece_bytes : Bor (List ℕ) → List ℕ
-piece_bytes piece = piece.now
-
-pub joined_more : (pieces : List (Bor (List ℕ))) (place : ℕ) (d : Bor (List ℕ)) → place < length pieces
-    → joined (map piece_bytes (take (place + 1) pieces)) ≡ joined (map piece_bytes (take place pieces)) ++ (get_or pieces place d).now
-joined_more pieces place d inside =
-    let before = take place pieces in
-    let piece = get_or pieces place d in
-    ap (λ (l : List (Bor (List ℕ))). joined (map piece_bytes l)) (take_more pieces place d inside)
-    ∙ ap joined (map-append piece_bytes before (piece ∷ [])) ∙ flat_map-append (λ (l : List ℕ). l) (map piece_bytes before) (piece.now ∷ [])
-    ∙ ap (λ (l : List ℕ). joined (map piece_bytes before) ++ l) (append-nil piece.now)
-
--- a piece is followed by the rest of them
-pub joined_rest : (pieces : List (Bor (List ℕ))) (place : ℕ) (d : Bor (List ℕ)) → place < length pieces
-    → joined (map piece_bytes pieces)
-    ≡ (joined (map piece_bytes (take place pieces)) ++ (get_or pieces place d).now) ++ joined (map piece_bytes (drop (place + 1) pieces))
-joined_rest pieces place d inside =
-    let before = take (place + 1) pieces in
-    let more = drop (place + 1) pieces in
-    ap (λ (l : List (Bor (List ℕ))). joined (map piece_bytes l)) (sym (take-append-drop (place + 1) pieces))
-    ∙ ap joined (map-append piece_bytes before more) ∙ flat_map-append (λ (l : List ℕ). l) (map piece_bytes before) (map piece_bytes more)
-    ∙ ap (λ (l : List ℕ). l ++ joined (map piece_bytes more)) (joined_more pieces place d inside)

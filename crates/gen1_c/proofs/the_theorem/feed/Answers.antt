@@ -10,7 +10,7 @@ use Rattle.gen1_events.specs.Splits.{IsReading}
 use Rattle.gen1_spectator.specs.Plain.{reading_of, view_of}
 use Rattle.gen1_spectator.specs.Watching.{Followed, begun, joined, piece}
 use Rattle.gen1_spectator.proofs.Logs.{followed_told, joined_reading, told_all, told_no_fault}
-use Rattle.gen1_c.proofs.TheTheorem.{joined_more, joined_rest, piece_bytes}
+use Rattle.gen1_spectator.proofs.Pieces.{joined_more, joined_rest, piece_bytes}
 use Rattle.gen1_c.proofs.the_theorem.feed.Goals as goal
 
 pub loop-piece-init : goal.loop-piece-init

@@ -2,7 +2,7 @@
 use Rattle.std.proofs.Common.{map, take}
 use Rattle.gen1_spectator.specs.Plain.{IsPlainSpectator, reading_of, view_of}
 use Rattle.gen1_spectator.specs.Watching.{Followed, joined}
-use Rattle.gen1_c.proofs.TheTheorem.{piece_bytes}
+use Rattle.gen1_spectator.proofs.Pieces.{piece_bytes}
 use Rattle.gen1_c.proofs.the_theorem.feed.Given as goal
 
 abbrev pub invariant-loop-piece : goal.invariant-loop-piece

@@ -2,7 +2,7 @@
 use Rattle.std.proofs.Common.{map, take}
 use Rattle.gen1_machine.specs.View.{first_view}
 use Rattle.gen1_spectator.specs.Watching.{Followed, joined}
-use Rattle.uses.proofs.TheTheorem.{piece_bytes}
+use Rattle.gen1_spectator.proofs.Pieces.{piece_bytes}
 use Rattle.uses.proofs.the_theorem.watch.Given as goal
 
 abbrev pub invariant-loop-piece : goal.invariant-loop-piece
