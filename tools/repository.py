@@ -2,7 +2,6 @@
 
 import os
 import re
-import shutil
 import subprocess
 import sys
 import tempfile
@@ -136,17 +135,6 @@ def run(words, folder):
         status = subprocess.run(words, cwd=folder, stdin=subprocess.DEVNULL, stdout=said, stderr=subprocess.STDOUT).returncode
         said.seek(0)
         return status, said.read()
-
-
-def copied(room, names):
-    """Copies these crates, with the results of earlier checks, into a new folder that is a repository of its own."""
-    lines = (ROOT / "crates.txt").read_text().splitlines()
-    listed = [line for line in lines if line.partition(":")[0].strip().split(" ")[0] in names]
-    (room / "crates.txt").write_text("\n".join(listed) + "\n")
-    shutil.copy(ROOT / "HANDLES", room)
-    ignored = shutil.ignore_patterns("must-fail")
-    for name in names:
-        shutil.copytree(ROOT / "crates" / name, room / "crates" / name, ignore=ignored)
 
 
 def edited(crate, edit):
