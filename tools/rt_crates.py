@@ -1,6 +1,7 @@
 """Crates as the kit's rt sees them, by rt's own code: for tools that prove libraries or check a crate over them."""
 
 import os
+import signal
 import subprocess
 import sys
 import tempfile
@@ -71,9 +72,12 @@ def prove(crate):
 def checked(crate, folder, *words):
     """Checks a crate whose texts are in a folder, over the libraries that are built; returns the status and what was printed.
 
-    The check takes the processor time that other work leaves.
+    The check takes the processor time that other work leaves. One that is killed, most likely for memory, is made once more.
     """
     rt = rt_module()
     command = [*rt.guarded(), "nice", rt.RATTLE, "check", *crate.words(["--jobs", "1", *words], keeps=False)]
-    ran = subprocess.run(command, cwd=folder, stdin=subprocess.DEVNULL, stdout=subprocess.PIPE, stderr=subprocess.STDOUT, errors="replace")
+    how = {"cwd": folder, "stdin": subprocess.DEVNULL, "stdout": subprocess.PIPE, "stderr": subprocess.STDOUT, "errors": "replace"}
+    ran = subprocess.run(command, **how)
+    if ran.returncode == -signal.SIGKILL:
+        ran = subprocess.run(command, **how)
     return ran.returncode, ran.stdout
