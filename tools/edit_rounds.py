@@ -28,7 +28,7 @@ VERDICT = re.compile(r"fn \w+?::(\S+): (.*)")
 NOT_PROVED = re.compile(r"not proved|no proof: ")
 FOR_ANOTHER = re.compile(r"it (?:calls|passes) .*not proved")
 # The goals of a function, which the prover names right before its verdict, and the errors of proofs, which it prints before all verdicts.
-NOTE = re.compile(r"note: (src/\S+:\d+:\d+: .*)")
+NOTE = re.compile(r"note: (src/\S+:\d+:\d+: it is not proved that .*)")
 ERROR = re.compile(r"(?:\./)?((?:src|specs|proofs)/\S+:\d+:\d+: error: .*)")
 # An error that says that a text cannot be read, and not that it is false.
 UNREAD = re.compile(
@@ -191,13 +191,13 @@ def judged(status, said):
 
 
 class Tally:
-    """What came of the edits so far. Prints each as it is told of it."""
+    """Counts the edits that were refused and those that were not, and prints each."""
 
     def __init__(self, total):
         self.begun, self.total, self.refused, self.failed = time.monotonic(), total, 0, []
 
     def add(self, crate, them):
-        """Takes what came of edits of a crate."""
+        """Adds edits of a crate, each a Tried, and prints them."""
         for edit, word, why in them:
             line = f"{word}: {crate}/{edit.name}"
             print(f"{line}: {why}"[:300])

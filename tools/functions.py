@@ -23,7 +23,7 @@ def functions_of(text, file):
 
 
 def of_items(tokens, ends, places, path):
-    """The functions among these tokens, which stand in a module or a block of this path."""
+    """The functions among these tokens of a module or a block with this path."""
     at = places.start
     while at < places.stop:
         token, at = tokens[at], at + 1
