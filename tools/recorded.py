@@ -4,8 +4,8 @@
     tools/recorded.py [--check] [TRACES]
 
 TRACES has a recorded battle in each line, and may be packed; the default is traces.jsonl of tests/battles. Each battle of BATTLES becomes a
-module of crates/test_turn/src/recorded: its teams, and for each update the pair of choices, the recorded log and all 384 bytes.
-crates/test_turn/src/recorded.rt plays them. Run `rt fmt` in crates/test_turn after it. --check writes nothing, and fails where a file
+module of crates/test_engine/src/recorded: its teams, and for each update the pair of choices, the recorded log and all 384 bytes.
+crates/test_engine/src/recorded.rt plays them. Run `rt fmt` in crates/test_engine after it. --check writes nothing, and fails where a file
 differs in more than its layout.
 
 Exit status: 0, 1 where a file differs, 2 where TRACES cannot be read or the arguments are wrong.
@@ -21,7 +21,7 @@ from repository import ROOT
 # The number of the line, from 0, by the name of the module.
 BATTLES = {"raging": 17, "outnumbered": 28, "digging": 50}
 
-FOLDER = ROOT / "crates" / "test_turn" / "src" / "recorded"
+FOLDER = ROOT / "crates" / "test_engine" / "src" / "recorded"
 
 SIDES = ("one", "two")
 PLACES = ("first", "second", "third", "fourth", "fifth", "sixth")

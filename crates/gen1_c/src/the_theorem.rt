@@ -173,6 +173,7 @@ mod tests {
     use super::*;
     use crate::teams::{MemberForm, teams_of};
     use gen1_spectator::plain::first;
+    use std::process::Abort;
     use std::test::Fail;
 
     // The log of the battle that is stored in crates/battle_tool (stdin, stdout): both come out, the first turn hits each, and the
@@ -267,6 +268,11 @@ mod tests {
         ends && watch.one.members[0].hp == 263 && watch.two.members[0].hp == 0
     }
 
+    // A test calls it, since an assertion in its own body costs the proof of the test seconds.
+    fn assert_holds(rt: &impl Abort, what: bool) {
+        assert!(rt; what);
+    }
+
     #[test]
     fn the_stored_battle_is_played_and_watched(rt: HostRuntime) -> Result<(), Fail> {
         for is_reloaded in [false, true] {
@@ -280,14 +286,26 @@ mod tests {
                 &mut watch,
                 &pieces,
             );
-            assert!(rt; code == 0 && is_shown_at_the_end(&watch));
-            assert!(rt; is_logged(&updates[0], &LOG[..23]) && is_logged(&updates[1], &LOG[23..59]));
-            assert!(rt; is_logged(&updates[2], &[]) && updates[2].code == 26);
-            assert!(rt; is_logged(&updates[3], &[]) && updates[3].code == 25);
-            assert!(rt; is_logged(&updates[4], &LOG[59..]) && updates[4].code == 0);
-            assert!(rt; updates[4].count_two == 1 && updates[4].offered_two[0] == STRENGTH);
-            assert!(rt; updates[4].stored == updates[3].stored && updates[4].stored[1] == 2);
-            assert!(rt; updates[4].loaded == 0 && gen1_result(&battle) == 1);
+            assert_holds(&rt, code == 0 && is_shown_at_the_end(&watch));
+            assert_holds(
+                &rt,
+                is_logged(&updates[0], &LOG[..23]) && is_logged(&updates[1], &LOG[23..59]),
+            );
+            assert_holds(&rt, is_logged(&updates[2], &[]) && updates[2].code == 26);
+            assert_holds(&rt, is_logged(&updates[3], &[]) && updates[3].code == 25);
+            assert_holds(
+                &rt,
+                is_logged(&updates[4], &LOG[59..]) && updates[4].code == 0,
+            );
+            assert_holds(
+                &rt,
+                updates[4].count_two == 1 && updates[4].offered_two[0] == STRENGTH,
+            );
+            assert_holds(
+                &rt,
+                updates[4].stored == updates[3].stored && updates[4].stored[1] == 2,
+            );
+            assert_holds(&rt, updates[4].loaded == 0 && gen1_result(&battle) == 1);
         }
         Ok(())
     }
@@ -304,7 +322,7 @@ mod tests {
             &mut watch,
             &pieces,
         );
-        assert!(rt; code == 12 && updates[0].code == 170);
+        assert_holds(&rt, code == 12 && updates[0].code == 170);
         let code = the_theorem_in_c(
             &two_tauros(3),
             &mut battle,
@@ -312,7 +330,7 @@ mod tests {
             &mut watch,
             &pieces,
         );
-        assert!(rt; code == 32 && updates[0].code == 0);
+        assert_holds(&rt, code == 32 && updates[0].code == 0);
         Ok(())
     }
 }

@@ -1,15 +1,24 @@
-//! Tests of `gen1_engine`, `gen1_events`, `gen1_printer`, `gen1_spectator`, `gen1_room` and `gen1_player`, through their
-//! public functions. They are in a crate of their own because a crate with tests is proved twice.
+//! Tests of `gen1_offers`, `gen1_switching`, `gen1_turn`, `gen1_engine`, `gen1_events`, `gen1_printer`, `gen1_room` and
+//! `gen1_player`, through their public functions. They are in a crate of their own because a crate with tests is proved
+//! twice.
 //!
+//! - `start`: the first update
+//! - `switching_in`: members that come out
+//! - `offered_choices`: what may be chosen
+//! - `turn_order`: who acts first
+//! - `turn_choices`: whole turns
+//! - `action`: actions of one side
+//! - `falls`: the end of an update
+//! - `recorded`: recorded battles
+//! - `duels`: battles of a few members, as tests of turns have them
+//! - `setting`: the battle at the start of most tests of turns
 //! - `first_state`: a battle before its first update
 //! - `loading`: battles that are loaded
 //! - `stored_run`: the stored run of `battle_tool`
 //! - `failing_writers`: the same run, replayed to writers that fail
 //! - `events`: codes, cuts and errors of log bytes
 //! - `lines`: lines, cuts and errors
-//! - `two_tauros`: the battle at the start of these tests, and its log
-//! - `view`: what each event changes
-//! - `following`: a view that follows log bytes
+//! - `two_tauros`: the battle of the stored run, and its log
 //! - `battles`: views and bytes of whole battles
 //! - `own_sides`: what a side is shown of itself
 //! - `rooms`: rooms
@@ -20,21 +29,27 @@
 #![tactic(auto)]
 
 #[cfg(test)]
+mod action;
+#[cfg(test)]
 mod battles;
 #[cfg(test)]
 mod comparing;
+#[cfg(test)]
+mod duels;
 #[cfg(test)]
 mod events;
 #[cfg(test)]
 mod failing_writers;
 #[cfg(test)]
-mod first_state;
+mod falls;
 #[cfg(test)]
-mod following;
+mod first_state;
 #[cfg(test)]
 mod lines;
 #[cfg(test)]
 mod loading;
+#[cfg(test)]
+mod offered_choices;
 #[cfg(test)]
 mod own_sides;
 #[cfg(test)]
@@ -42,12 +57,22 @@ mod plain_rooms;
 #[cfg(test)]
 mod players;
 #[cfg(test)]
+mod recorded;
+#[cfg(test)]
 mod rooms;
+#[cfg(test)]
+mod setting;
+#[cfg(test)]
+mod start;
 #[cfg(test)]
 mod stored_run;
 #[cfg(test)]
+mod switching_in;
+#[cfg(test)]
 mod teams;
 #[cfg(test)]
-mod two_tauros;
+mod turn_choices;
 #[cfg(test)]
-mod view;
+mod turn_order;
+#[cfg(test)]
+mod two_tauros;

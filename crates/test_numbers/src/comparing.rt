@@ -10,18 +10,18 @@ pub(crate) fn assert_same<T: PartialEq + Debug + Drop>(rt: &impl Abort, found: T
     assert_eq!(rt; found, expected);
 }
 
-/// The specification of a member whose moves have three PP ups each.
+/// The specification of a member, with the PP ups of each move.
 pub(crate) fn spec(
     species: &str,
     level: u8,
     dvs: [u8; 4],
     exp: [u16; 5],
-    moves: &[&str],
+    moves: &[(&str, u8)],
 ) -> Result<MemberSpec, &'static str> {
     let mut chosen = ArrayVec::new();
-    for name in moves {
-        let id = MoveId::from_name(*name).ok_or("no such move")?;
-        if chosen.try_push((id, 3)).is_err() {
+    for &(name, ups) in moves {
+        let id = MoveId::from_name(name).ok_or("no such move")?;
+        if chosen.try_push((id, ups)).is_err() {
             return Err("too many moves");
         }
     }

@@ -35,14 +35,19 @@ fn two_members(rt: HostRuntime) -> Result<(), Fail> {
         100,
         [15; 4],
         [63504; 5],
-        &["Thunder Wave", "Psychic", "Blizzard", "Recover"],
+        &[
+            ("Thunder Wave", 3),
+            ("Psychic", 3),
+            ("Blizzard", 3),
+            ("Recover", 3),
+        ],
     )?;
     let tauros = spec(
         "Tauros",
         88,
         [0, 10, 15, 15],
         [63504, 16, 0, 0, 10000],
-        &["Body Slam", "Double-Edge"],
+        &[("Body Slam", 3), ("Double-Edge", 3)],
     )?;
     assert_same(&rt, members.as_slice(), [starmie, tauros].as_slice());
     Ok(())
@@ -71,11 +76,11 @@ fn names_in_any_dress(rt: HostRuntime) -> Result<(), Fail> {
         b"Nick (the) name (Mr. Mime)\n-  Acid Armor".as_slice(),
     ] {
         let members = members_in_text(text)?;
-        let mime = spec("Mr. Mime", 100, [15; 4], [63504; 5], &["Acid Armor"])?;
+        let mime = spec("Mr. Mime", 100, [15; 4], [63504; 5], &[("Acid Armor", 3)])?;
         assert_same(&rt, members.as_slice(), [mime].as_slice());
     }
     let members = members_in_text(b"Farfetch'd\n- Vise Grip\n- Hi Jump Kick\n- Softboiled")?;
-    let moves = ["Vice Grip", "High Jump Kick", "Soft-Boiled"];
+    let moves = [("Vice Grip", 3), ("High Jump Kick", 3), ("Soft-Boiled", 3)];
     let duck = spec("Farfetchd", 100, [15; 4], [63504; 5], &moves)?;
     assert_same(&rt, members.as_slice(), [duck].as_slice());
     Ok(())

@@ -15,14 +15,24 @@ fn two_members(rt: HostRuntime) -> Result<(), Fail> {
         88,
         [0, 15, 15, 15],
         [0, 16, 0, 0, 0],
-        &["Body Slam", "Hyper Beam", "Blizzard", "Earthquake"],
+        &[
+            ("Body Slam", 3),
+            ("Hyper Beam", 3),
+            ("Blizzard", 3),
+            ("Earthquake", 3),
+        ],
     )?;
     let starmie = spec(
         "Starmie",
         100,
         [15; 4],
         [63504; 5],
-        &["Psychic", "Blizzard", "Thunder Wave", "Recover"],
+        &[
+            ("Psychic", 3),
+            ("Blizzard", 3),
+            ("Thunder Wave", 3),
+            ("Recover", 3),
+        ],
     )?;
     assert_same(&rt, members.as_slice(), [tauros, starmie].as_slice());
     Ok(())

@@ -1,26 +1,11 @@
 //! Worked stats, the order of the refusals, and their texts (docs/MECHANICS.md, "Stats", "Teams").
-use crate::comparing::assert_same;
-use arrayvec::ArrayVec;
+use crate::comparing::{assert_same, spec};
 use gen1_stats::{KnownMove, Member, MemberSpec, Status, Team, TeamRefusal, hp_stat, stat};
-use gen1_tables::{MoveId, Species};
 use std::test::Fail;
 
 // A Tauros at level 100, with full DVs and experience, and these moves with their PP ups.
 fn tauros(moves: &[(&str, u8)]) -> Result<MemberSpec, &'static str> {
-    let mut chosen = ArrayVec::new();
-    for &(name, ups) in moves {
-        let id = MoveId::from_name(name).ok_or("no such move")?;
-        if chosen.try_push((id, ups)).is_err() {
-            return Err("too many moves");
-        }
-    }
-    Ok(MemberSpec {
-        species: Species::from_name("Tauros").ok_or("no such species")?,
-        level: 100,
-        dvs: [15; 4],
-        exp: [65535; 5],
-        moves: chosen,
-    })
+    spec("Tauros", 100, [15; 4], [65535; 5], moves)
 }
 
 fn refusal_of(moves: &[(&str, u8)]) -> Result<Option<TeamRefusal>, &'static str> {

@@ -1,6 +1,7 @@
 //! What is known of an action, and its hit test, with the numbers of docs/MECHANICS.md, "Hit test" and "Action", and
 //! the type rows of docs/TABLES.md. Both sides have a Tauros out.
-use crate::battles::{self, FOE, USER, assert_same, named, tells};
+use crate::battles::{FOE, USER, assert_same, assert_told, named};
+use crate::facing;
 use gen1_hits::{Known, hit_or_miss, must_hit, note_miss};
 use gen1_layout::{Conditions, Packed};
 use gen1_machine::{Event, EventList};
@@ -15,7 +16,7 @@ use std::test::Fail;
 
 // With a last damage of 75.
 fn two_tauros() -> Result<Packed, Fail> {
-    let mut battle = battles::two_tauros()?;
+    let mut battle = facing::two_tauros()?;
     battle.put_last_damage(75);
     Ok(battle)
 }
@@ -188,7 +189,7 @@ fn must_test(
     let mut random = Sweep::new(byte);
     let stopped = must_hit(battle, USER, id, &mut known, &mut random, &mut events);
     assert_same(rt, stopped, ends);
-    tells(rt, &events, told);
+    assert_told(rt, &events, told);
 }
 
 #[test]
@@ -252,7 +253,7 @@ fn types_without_effect(rt: HostRuntime) -> Result<(), Fail> {
                 } else {
                     Event::Miss(battle.who(USER))
                 };
-                tells(&rt, &events, &[told]);
+                assert_told(&rt, &events, &[told]);
             }
         }
     }

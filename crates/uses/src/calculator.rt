@@ -64,39 +64,16 @@ fn taking_all(hp: u16, damages: &[u16; 39]) -> usize
 #[cfg(test)]
 mod tests {
     use super::*;
-    use arrayvec::ArrayVec;
-    use gen1_tables::Species;
+    use crate::testing::{assert_same, member};
     use std::test::Fail;
-
-    fn named(name: &str) -> Result<MoveId, Fail> {
-        Ok(MoveId::from_name(name).ok_or("no such move")?)
-    }
-
-    fn member(
-        species: &str,
-        level: u8,
-        dvs: [u8; 4],
-        exp: [u16; 5],
-        id: MoveId,
-    ) -> Result<MemberSpec, Fail> {
-        let mut moves = ArrayVec::new();
-        moves.push((id, 0));
-        Ok(MemberSpec {
-            species: Species::from_name(species).ok_or("no such species")?,
-            level,
-            dvs,
-            exp,
-            moves,
-        })
-    }
 
     // From an independent program. Oddish has 151 HP; 90 of 100 are 229 of 255; Dugtrio's base Speed is 120.
     #[test]
     fn dugtrio_uses_blizzard(rt: HostRuntime) -> Result<(), Fail> {
-        let blizzard = named("Blizzard")?;
+        let blizzard = MoveId::from_name("Blizzard").ok_or("no such move")?;
         let exp = [65535, 65535, 28425, 51341, 65535];
-        let dugtrio = member("Dugtrio", 69, [0, 7, 6, 1], exp, named("Hyper Beam")?)?;
-        let oddish = member("Oddish", 50, [15; 4], [65535; 5], named("Bubble")?)?;
+        let dugtrio = member("Dugtrio", 69, [0, 7, 6, 1], exp, &["Hyper Beam"])?;
+        let oddish = member("Oddish", 50, [15; 4], [65535; 5], &["Bubble"])?;
         let battle = face_off(dugtrio, oddish)?;
         let expected = Calculation {
             damages: [
@@ -108,9 +85,10 @@ mod tests {
             hits: 229,
             criticals: 60,
         };
-        assert_eq!(rt;
+        assert_same(
+            &rt,
             calculate(&battle, Side::One, blizzard, false),
-            Some(expected)
+            Some(expected),
         );
         Ok(())
     }

@@ -47,26 +47,18 @@ fn pick<R: Rolls>(choices: &Choices, random: &mut R) -> Choice
 #[cfg(test)]
 mod tests {
     use super::*;
-    use arrayvec::ArrayVec;
+    use crate::testing::{assert_same, member};
     use gen1_machine::Outcome;
     use gen1_rolls::LinkRandom;
-    use gen1_stats::{MemberSpec, Team};
-    use gen1_tables::{MoveId, Species};
+    use gen1_stats::Team;
     use std::test::Fail;
 
     const SEED: [u8; 10] = [111, 60, 126, 210, 108, 161, 136, 210, 103, 72];
 
     // A member with one move, so that there is never more than one choice.
     fn seaking() -> Result<Team, Fail> {
-        let mut moves = ArrayVec::new();
-        moves.push((MoveId::from_name("Acid").ok_or("no such move")?, 0));
-        Ok(Team::new(&[MemberSpec {
-            species: Species::from_name("Seaking").ok_or("no such species")?,
-            level: 1,
-            dvs: [15; 4],
-            exp: [65535; 5],
-            moves,
-        }])?)
+        let seaking = member("Seaking", 1, [15; 4], [65535; 5], &["Acid"])?;
+        Ok(Team::new(&[seaking])?)
     }
 
     // calling: ten_lines
@@ -96,10 +88,10 @@ mod tests {
         let mut random = LinkRandom::new(SEED);
         let mut events = EventList::new();
         let result = play_at_random(&mut battle, &mut random, &mut events)?;
-        assert_eq!(rt; result.outcome, Outcome::WinOne);
-        assert_eq!(rt; battle.bytes()[1], 5);
-        assert_eq!(rt; events.len(), 4);
-        assert_eq!(rt; first_choices(&team, &team, SEED), Ok(Outcome::WinOne));
+        assert_same(&rt, result.outcome, Outcome::WinOne);
+        assert_same(&rt, battle.bytes()[1], 5);
+        assert_same(&rt, events.len(), 4);
+        assert_same(&rt, first_choices(&team, &team, SEED), Ok(Outcome::WinOne));
         Ok(())
     }
 }

@@ -129,6 +129,7 @@ fn watch(one: &Team, two: &Team, pieces: &[&[u8]]) -> Result<View, LogFault>
 #[cfg(test)]
 mod tests {
     use super::*;
+    use crate::testing::{assert_holds, assert_same};
     use arrayvec::ArrayVec;
     use gen1_machine::{MoveSlot, Outcome, Request};
     use gen1_stats::MemberSpec;
@@ -212,16 +213,30 @@ mod tests {
             let mut updates = stored_battle(is_reloaded)?;
             let pieces: [&[u8]; 3] = [&LOG[..30], &LOG[30..31], &LOG[31..]];
             let view = the_theorem(&two_tauros()?, &mut updates, &pieces)?;
-            assert!(rt; is_shown_at_the_end(&view));
-            assert!(rt; is_logged(&updates[0], &LOG[..23]) && is_logged(&updates[1], &LOG[23..59]));
-            assert!(rt; is_logged(&updates[2], &[]) && is_logged(&updates[3], &LOG[59..]));
-            assert_eq!(rt; updates[2].returned, Err(Refusal::NotOffered(Side::Two)));
-            assert_eq!(rt; updates[3].returned, Ok(WON));
-            assert_eq!(rt;
-                updates[3].offered_two.first().copied(),
-                Some(updates[3].two)
+            assert_holds(&rt, is_shown_at_the_end(&view));
+            assert_holds(
+                &rt,
+                is_logged(&updates[0], &LOG[..23]) && is_logged(&updates[1], &LOG[23..59]),
             );
-            assert!(rt; updates[3].stored == updates[2].stored && updates[3].stored[1] == 2);
+            assert_holds(
+                &rt,
+                is_logged(&updates[2], &[]) && is_logged(&updates[3], &LOG[59..]),
+            );
+            assert_same(
+                &rt,
+                updates[2].returned,
+                Err(Refusal::NotOffered(Side::Two)),
+            );
+            assert_same(&rt, updates[3].returned, Ok(WON));
+            assert_same(
+                &rt,
+                updates[3].offered_two.first().copied(),
+                Some(updates[3].two),
+            );
+            assert_holds(
+                &rt,
+                updates[3].stored == updates[2].stored && updates[3].stored[1] == 2,
+            );
         }
         Ok(())
     }
@@ -231,7 +246,7 @@ mod tests {
         let mut updates = stored_battle(true)?;
         let pieces: [&[u8]; 2] = [&LOG[..23], &[0xFF]];
         let view = the_theorem(&two_tauros()?, &mut updates, &pieces);
-        assert!(rt; view.is_err_and(|fault| fault == LogFault::UnknownTag));
+        assert_holds(&rt, view.is_err_and(|fault| fault == LogFault::UnknownTag));
         Ok(())
     }
 }

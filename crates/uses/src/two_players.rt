@@ -8,38 +8,17 @@ pub use restored_room::restored;
 #[cfg(test)]
 mod tests {
     use super::*;
-    use arrayvec::ArrayVec;
+    use crate::testing::{assert_holds, assert_same, member};
     use gen1_engine::Battle;
     use gen1_machine::{Outcome, Side};
     use gen1_printer::print_log;
     use gen1_room::{Room, RoomRefusal, Submitted};
-    use gen1_stats::{MemberSpec, Team};
-    use gen1_tables::{MoveId, Species};
+    use gen1_stats::Team;
     use std::test::Fail;
 
     const ONE: Side = Side::One;
 
     const TWO: Side = Side::Two;
-
-    fn member(
-        species: &str,
-        level: u8,
-        dvs: [u8; 4],
-        exp: [u16; 5],
-        names: &[&str],
-    ) -> Result<MemberSpec, Fail> {
-        let mut moves = ArrayVec::new();
-        for name in names {
-            let _ = moves.try_push((MoveId::from_name(name).ok_or("no such move")?, 0));
-        }
-        Ok(MemberSpec {
-            species: Species::from_name(species).ok_or("no such species")?,
-            level,
-            dvs,
-            exp,
-            moves,
-        })
-    }
 
     fn seel_and_mew() -> Result<Team, Fail> {
         let exp = [41105, 6132, 0, 27624, 22806];
@@ -102,18 +81,19 @@ mod tests {
             side: TWO,
             number: 0,
         };
-        assert_eq!(rt; choose(&mut two, 18, &mut room), Next::Wait);
-        assert!(rt; looks(choose(&mut one, 17, &mut room)));
+        assert_same(&rt, choose(&mut two, 18, &mut room), Next::Wait);
+        assert_holds(&rt, looks(choose(&mut one, 17, &mut room)));
         let lines = print_log(rt.alloc(), look(&mut one, &room))?;
-        assert!(rt;
+        assert_holds(
+            &rt,
             lines.as_str()
-                == "|move|p2a: Pidgeot|Blizzard|p1a: Seel\n|-resisted|p1a: Seel\n|-damage|p1a: Seel|0 fnt\n|faint|p1a: Seel\n"
+                == "|move|p2a: Pidgeot|Blizzard|p1a: Seel\n|-resisted|p1a: Seel\n|-damage|p1a: Seel|0 fnt\n|faint|p1a: Seel\n",
         );
-        assert!(rt; look(&mut two, &room).len() == room.log().len());
+        assert_holds(&rt, look(&mut two, &room).len() == room.log().len());
         // Only side 1 is asked to replace its member.
-        assert_eq!(rt; choose(&mut two, 33, &mut room), Next::Wait);
-        assert!(rt; looks(choose(&mut one, 34, &mut room)));
-        assert!(rt; one.number == 1 && room.number() == 2);
+        assert_same(&rt, choose(&mut two, 33, &mut room), Next::Wait);
+        assert_holds(&rt, looks(choose(&mut one, 34, &mut room)));
+        assert_holds(&rt, one.number == 1 && room.number() == 2);
         Ok(())
     }
 
@@ -130,14 +110,14 @@ mod tests {
             side: TWO,
             number: 1,
         };
-        assert_eq!(rt; choose(&mut one, 17, &mut room), Next::Wait);
-        assert_eq!(rt; choose(&mut one, 17, &mut room), Next::Wait);
-        assert_eq!(rt; choose(&mut two, 17, &mut room), Next::Choose);
-        assert!(rt; looks(choose(&mut two, 17, &mut room)));
-        assert_eq!(rt; choose(&mut two, 17, &mut room), Next::Choose);
-        assert!(rt; two.number == 1 && one.number == 0);
+        assert_same(&rt, choose(&mut one, 17, &mut room), Next::Wait);
+        assert_same(&rt, choose(&mut one, 17, &mut room), Next::Wait);
+        assert_same(&rt, choose(&mut two, 17, &mut room), Next::Choose);
+        assert_holds(&rt, looks(choose(&mut two, 17, &mut room)));
+        assert_same(&rt, choose(&mut two, 17, &mut room), Next::Choose);
+        assert_holds(&rt, two.number == 1 && one.number == 0);
         look(&mut one, &room);
-        assert_eq!(rt; choose(&mut one, 20, &mut room), Next::Choose);
+        assert_same(&rt, choose(&mut one, 20, &mut room), Next::Choose);
         Ok(())
     }
 
@@ -145,13 +125,16 @@ mod tests {
     fn a_room_is_restored(rt: HostRuntime) -> Result<(), Fail> {
         let mut replies = [Ok(Submitted::Waiting); 9];
         let room = restored(recorded()?, &SUBMISSIONS, &mut replies).ok_or("other lengths")?;
-        assert_eq!(rt; replies[0], Ok(Submitted::Waiting));
-        assert_eq!(rt; replies[2], Err(RoomRefusal::AlreadyChosen));
-        assert_eq!(rt; replies[3], Err(RoomRefusal::AlreadyChosen));
-        assert_eq!(rt; replies[8], Err(RoomRefusal::Over));
-        assert_eq!(rt; room.battle().result().outcome, Outcome::WinTwo);
+        assert_same(&rt, replies[0], Ok(Submitted::Waiting));
+        assert_same(&rt, replies[2], Err(RoomRefusal::AlreadyChosen));
+        assert_same(&rt, replies[3], Err(RoomRefusal::AlreadyChosen));
+        assert_same(&rt, replies[8], Err(RoomRefusal::Over));
+        assert_same(&rt, room.battle().result().outcome, Outcome::WinTwo);
         let mut too_few = [Ok(Submitted::Waiting); 8];
-        assert!(rt; restored(recorded()?, &SUBMISSIONS, &mut too_few).is_none());
+        assert_holds(
+            &rt,
+            restored(recorded()?, &SUBMISSIONS, &mut too_few).is_none(),
+        );
         Ok(())
     }
 }

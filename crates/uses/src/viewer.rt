@@ -11,13 +11,12 @@ pub use shown::{Shown, show_log, what_shows};
 #[cfg(test)]
 mod tests {
     use super::*;
-    use arrayvec::ArrayVec;
+    use crate::testing::{assert_holds, assert_same, member};
     use gen1_events::{LogFault, LogReader};
     use gen1_machine::{Device, Kind, Outcome, Side};
     use gen1_printer::PrintFault;
     use gen1_spectator::View;
-    use gen1_stats::{MemberSpec, Team};
-    use gen1_tables::{MoveId, Species};
+    use gen1_stats::Team;
     use std::test::Fail;
 
     // A recorded log, and its lines.
@@ -37,25 +36,19 @@ mod tests {
     static TEXT: &str =
         "|switch|p1a: Vaporeon|Vaporeon|422/422\n|switch|p2a: Alakazam|Alakazam|276/276\n|turn|1\n|move|p2a: Alakazam|Toxic|p1a: Vaporeon\n|-status|p1a: Vaporeon|psn\n|move|p1a: Vaporeon|Body Slam|p2a: Alakazam\n|-damage|p2a: Alakazam|186/276\n|-status|p2a: Alakazam|par\n|-damage|p1a: Vaporeon|396/422 psn|[from] psn\n|turn|2\n|move|p1a: Vaporeon|Body Slam|p2a: Alakazam\n|-damage|p2a: Alakazam|92/276 par\n|-damage|p1a: Vaporeon|344/422 psn|[from] psn\n|cant|p2a: Alakazam|par\n|turn|3\n|move|p1a: Vaporeon|Pin Missile|p2a: Alakazam\n|-supereffective|p2a: Alakazam\n|-damage|p2a: Alakazam|61/276 par\n|-damage|p2a: Alakazam|30/276 par\n|-damage|p2a: Alakazam|0 fnt\n|-hitcount|p2a: Alakazam|3\n|faint|p2a: Alakazam\n|win|p1\n";
 
-    fn member(species: &str, exp: u16) -> Result<MemberSpec, Fail> {
-        let mut moves = ArrayVec::new();
-        moves.push((MoveId::from_name("Body Slam").ok_or("no such move")?, 0));
-        Ok(MemberSpec {
-            species: Species::from_name(species).ok_or("no such species")?,
-            level: 100,
-            dvs: [0; 4],
-            exp: [exp; 5],
-            moves,
-        })
+    // At level 100, with DVs of 0.
+    fn team(species: &str, exp: u16) -> Result<Team, Fail> {
+        let spec = member(species, 100, [0; 4], [exp; 5], &["Body Slam"])?;
+        Ok(Team::new(&[spec])?)
     }
 
     // The log shows that they have 422 HP and 276.
     fn vaporeon() -> Result<Team, Fail> {
-        Ok(Team::new(&[member("Vaporeon", 43264)?])?)
+        team("Vaporeon", 43264)
     }
 
     fn alakazam() -> Result<Team, Fail> {
-        Ok(Team::new(&[member("Alakazam", 50176)?])?)
+        team("Alakazam", 50176)
     }
 
     fn shows_the_end(view: &View) -> Result<bool, Fail> {
@@ -71,9 +64,12 @@ mod tests {
         let mut out = Device::new(Vec::new(rt.alloc()));
         let pieces: [&[u8]; 3] = [&LOG[..1], &LOG[1..77], &LOG[77..]];
         let view = show_log(&vaporeon()?, &alakazam()?, &pieces, &mut out)?;
-        assert!(rt; out.get_ref().as_slice() == TEXT.as_bytes());
+        assert_holds(&rt, out.get_ref().as_slice() == TEXT.as_bytes());
         let end = shows_the_end(&view)?;
-        assert!(rt; end && view.turn() == 3 && view.outcome() == Outcome::WinOne);
+        assert_holds(
+            &rt,
+            end && view.turn() == 3 && view.outcome() == Outcome::WinOne,
+        );
         Ok(())
     }
 
@@ -82,13 +78,13 @@ mod tests {
         let mut out = Device::new(Vec::new(rt.alloc()));
         let mut reader = LogReader::new();
         let mut view = View::new(&vaporeon()?, &alakazam()?);
-        assert_eq!(rt; what_shows(&view, Side::One, &vaporeon()?), None);
+        assert_same(&rt, what_shows(&view, Side::One, &vaporeon()?), None);
         for byte in LOG {
             show_piece(&mut reader, &[byte], &mut view, &mut out)?;
         }
-        assert!(rt; out.get_ref().as_slice() == TEXT.as_bytes());
+        assert_holds(&rt, out.get_ref().as_slice() == TEXT.as_bytes());
         let end = shows_the_end(&view)?;
-        assert!(rt; end && reader.finish() == Ok(()));
+        assert_holds(&rt, end && reader.finish() == Ok(()));
         Ok(())
     }
 
@@ -97,9 +93,13 @@ mod tests {
         let mut out = Device::new(Vec::new(rt.alloc()));
         let pieces: [&[u8]; 1] = [&LOG[..139]];
         let cut = show_log(&vaporeon()?, &alakazam()?, &pieces, &mut out);
-        assert!(rt; cut.is_err_and(|fault| fault == PrintFault::Log(LogFault::Truncated)));
-        assert!(rt; TEXT.as_bytes().starts_with(out.get_ref().as_slice()));
-        assert_eq!(rt; TEXT.len() - out.get_ref().len(), "|win|p1\n".len());
+        assert_holds(
+            &rt,
+            cut.is_err_and(|fault| fault == PrintFault::Log(LogFault::Truncated)),
+        );
+        assert_holds(&rt, TEXT.as_bytes().starts_with(out.get_ref().as_slice()));
+        let left = TEXT.len().checked_sub(out.get_ref().len());
+        assert_same(&rt, left, Some("|win|p1\n".len()));
         Ok(())
     }
 }

@@ -1,5 +1,6 @@
 //! Worked values (docs/MECHANICS.md, "Damage formula", "Types", "Factors").
-use crate::battles::{assert_same, named, two_tauros};
+use crate::battles::{assert_same, named};
+use crate::facing::two_tauros;
 use gen1_hits::{
     Numbers, damage, damage_list, factor, has_usual_damage, is_factor, numbers, own_numbers,
     type_steps,

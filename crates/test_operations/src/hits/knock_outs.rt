@@ -1,6 +1,7 @@
 //! Chances to knock out, drain and recoil, worked out on paper or by another program (docs/MECHANICS.md, "Landing", "Many
 //! hits", "Recoil, drain and explosion").
-use crate::battles::{FOE, USER, assert_same, named, persian_and_tauros, two_tauros};
+use crate::battles::{FOE, USER, assert_same, named};
+use crate::facing::{persian_and_tauros, two_tauros};
 use gen1_layout::{Conditions, Packed};
 use gen1_odds::{Between, HpChange, drained, knock_out, knock_out_in_three, recoil};
 use std::test::Fail;

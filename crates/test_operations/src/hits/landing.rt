@@ -1,5 +1,6 @@
 //! HP, landings, critical draws and hit tests: side 1's Persian against side 2's Tauros, which has 353 HP.
-use crate::battles::{FOE, USER, assert_same, named, persian_and_tauros, species, tells};
+use crate::battles::{FOE, USER, assert_same, assert_told, named, species};
+use crate::facing::persian_and_tauros;
 use gen1_hits::{
     Hit, Landed, critical, critical_bound, gain_hp, hit_test, land, land_on_hp, land_on_substitute,
     lose_hp, scaled_accuracy,
@@ -32,7 +33,7 @@ fn hp_is_lost_and_gained(rt: HostRuntime) -> Result<(), Fail> {
     assert_same(&rt, battle.hp(side), 353);
     lose_hp(&mut battle, side, DamageSource::Burn, 65535, &mut events);
     lose_hp(&mut battle, side, DamageSource::Burn, 1, &mut events);
-    tells(
+    assert_told(
         &rt,
         &events,
         &[
@@ -49,7 +50,7 @@ fn lands(rt: &impl Abort, battle: &mut Packed, damage: u16, landed: Landed, told
     let mut events = EventList::new();
     let answer = land(battle, USER, damage, &mut events);
     assert_same(rt, answer, landed);
-    tells(rt, &events, told);
+    assert_told(rt, &events, told);
 }
 
 // The last damage, and the foe's HP.
@@ -76,7 +77,7 @@ fn damage_lands_on_hp(rt: HostRuntime) -> Result<(), Fail> {
     land_on_hp(&mut battle, FOE, DamageSource::Confusion, 279, &mut events);
     has(&rt, &battle, 278, 0);
     let fallen = [Event::Damage(tauros, tauros_at(0)?, DamageSource::Confusion)];
-    tells(&rt, &events, &fallen);
+    assert_told(&rt, &events, &fallen);
     Ok(())
 }
 
@@ -102,7 +103,7 @@ fn damage_lands_on_a_substitute(rt: HostRuntime) -> Result<(), Fail> {
     let mut events = EventList::new();
     let broke = land_on_substitute(&mut battle, FOE, 256, 249, &mut events);
     assert_same(&rt, broke, true);
-    tells(&rt, &events, &breaks);
+    assert_told(&rt, &events, &breaks);
     has(&rt, &battle, 9, 353);
     Ok(())
 }

@@ -1,6 +1,7 @@
 //! The odds of a use of a move, worked out on paper (docs/MECHANICS.md, "Critical hits", "Hit test", "Early effects", "Late
 //! effects", "Side effects").
-use crate::battles::{FOE, USER, assert_same, named, persian_and_tauros, two_tauros};
+use crate::battles::{FOE, USER, assert_same, named};
+use crate::facing::{persian_and_tauros, two_tauros};
 use gen1_layout::{Conditions, Packed};
 use gen1_machine::{DisabledSlot, Side, UsedMove};
 use gen1_odds::{Odds, Reason, odds_of, takes_hit_test};

@@ -1,5 +1,6 @@
 //! Picks and the gate, with the numbers of docs/MECHANICS.md, "Picks", "Gate" and "Hit on itself".
-use crate::battles::{FOE, USER, assert_same, tells, two_tauros};
+use crate::battles::{FOE, USER, assert_same, assert_told};
+use crate::facing::two_tauros;
 use gen1_layout::{Conditions, Packed};
 use gen1_machine::{
     CantReason, Choice, DamageSource, DisabledSlot, Event, EventList, Health, Kind, MoveSlot,
@@ -33,7 +34,7 @@ fn gates<R: Rolls>(
 ) {
     let mut events = EventList::new();
     assert_same(rt, gate(battle, USER, pick, random, &mut events), answer);
-    tells(rt, &events, told);
+    assert_told(rt, &events, told);
 }
 
 // Whether the user has a condition.

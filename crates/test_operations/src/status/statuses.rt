@@ -1,5 +1,6 @@
 //! Statuses, stages, and the damage of poison, a burn and Leech Seed.
-use crate::battles::{FOE, USER, assert_same, tells, two_electrode, two_magikarp, two_tauros};
+use crate::battles::{FOE, USER, assert_same, assert_told};
+use crate::facing::{two_electrode, two_magikarp, two_tauros};
 use gen1_layout::{Conditions, Packed};
 use gen1_machine::{DamageSource, Event, EventList, Health, Kind, Side, StageCount, Who};
 use gen1_stats::Status;
@@ -39,7 +40,7 @@ fn penalties(rt: HostRuntime) -> Result<(), Fail> {
     has_stat(&rt, &battle, USER, Stat::Attack, 149);
     let paralysed = Event::Status(battle.who(FOE), Kind::Paralysis);
     let burned = Event::Status(battle.who(USER), Kind::Burn);
-    tells(&rt, &events, &[paralysed, burned]);
+    assert_told(&rt, &events, &[paralysed, burned]);
     take_penalty(&mut battle, FOE, Status::Paralysed);
     has_stat(&rt, &battle, FOE, Stat::Speed, 19);
     Ok(())
@@ -80,7 +81,7 @@ fn shifts(
     assert_same(rt, shifted, succeeds);
     has_stage(rt, battle, target, stat, stage);
     has_stat(rt, battle, target, stat, value);
-    tells(rt, &events, told);
+    assert_told(rt, &events, told);
 }
 
 // The foe is burned, and its Attack of 298 is 149 now (docs/MECHANICS.md, "Stage shift", "Penalties").
@@ -89,7 +90,7 @@ fn growl_and_swords_dance(rt: HostRuntime) -> Result<(), Fail> {
     let mut battle = two_tauros()?;
     let mut events = EventList::new();
     inflict(&mut battle, FOE, Kind::Burn, 0, &mut events);
-    tells(&rt, &events, &[Event::Status(battle.who(FOE), Kind::Burn)]);
+    assert_told(&rt, &events, &[Event::Status(battle.who(FOE), Kind::Burn)]);
     let growl = (FOE, Stat::Attack, -1);
     let falls = [Event::Unboost(battle.who(FOE), Stat::Attack, count(1)?)];
     shifts(&rt, &mut battle, growl, true, (5, 98), &falls);
@@ -110,14 +111,14 @@ fn ends_of_the_stages(rt: HostRuntime) -> Result<(), Fail> {
     let double_team = raise_stage(&mut battle, USER, USER, Stat::Evasion, 1, &mut events);
     let sand = lower_stage(&mut battle, USER, FOE, Stat::Accuracy, 1, &mut events);
     assert_same(&rt, (double_team, sand), (false, false));
-    tells(&rt, &events, &[]);
+    assert_told(&rt, &events, &[]);
     // From +5, a rise by 2 is one stage, to +6.
     battle.put_evasion(USER, 11);
     let double_team = raise_stage(&mut battle, USER, USER, Stat::Evasion, 2, &mut events);
     assert_same(&rt, double_team, true);
     has_stage(&rt, &battle, USER, Stat::Evasion, 12);
     let rises = Event::Boost(battle.who(USER), Stat::Evasion, count(1)?);
-    tells(&rt, &events, &[rises]);
+    assert_told(&rt, &events, &[rises]);
     Ok(())
 }
 
@@ -189,7 +190,7 @@ fn bad_poison_and_a_seed(rt: HostRuntime) -> Result<(), Fail> {
         hurt(user, 287, DamageSource::LeechSeed)?,
         Event::Heal(foe, health(344, None)?),
     ];
-    tells(&rt, &events, &told);
+    assert_told(&rt, &events, &told);
     Ok(())
 }
 

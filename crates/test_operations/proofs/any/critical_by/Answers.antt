@@ -1,0 +1,10 @@
+use Rattle.gen1_machine.specs.Moves.{move_at}
+use Rattle.test_operations.proofs.Begun.{begun-shown}
+use Rattle.test_operations.proofs.HitDraws.{critical-is}
+use Rattle.test_operations.proofs.any.critical_by.Goals as goal
+
+pub returns : goal.returns
+returns t c g f w =
+    let r = c.args.random.now in
+    critical-is t.R.Rolls.drawing r _ c.args.side (move_at c.args.id) g _ f _
+    (c.critical.ensures.shown _ _ _ _ (begun-shown t.R.Rolls.drawing r c.args.side _ w))
