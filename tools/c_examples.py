@@ -1,4 +1,4 @@
-"""The cases of tools/c_gate for each program of examples/c, for tests/c/names.c and tests/c/leaks.c, with the expected output."""
+"""The cases of tools/c_gate for each program of examples/c, and for those of tests/c that compare by themselves, with the expected output."""
 
 import json
 import math
@@ -80,8 +80,8 @@ def of_play(gate):
     yield Case("no species", (), given.replace(b"128", b"4294967424", 1), b"", b"error: input\n", 1)
 
 
-def of_names(_gate):
-    """It has no input, and compares by itself."""
+def of_comparison(_gate):
+    """A program that has no input, and compares by itself."""
     yield Case("status", (), b"", b"", b"")
 
 
@@ -296,7 +296,8 @@ def is_whole(case):
 
 EXAMPLES = (
     Example("play", ("examples/c/play.c",), of_play),
-    Example("names", ("tests/c/names.c",), of_names),
+    Example("names", ("tests/c/names.c",), of_comparison),
+    Example("the_theorem", ("tests/c/the_theorem.c",), of_comparison),
     Example("leaks", ("tests/c/leaks.c",), of_leaks),
     Example("look", ("examples/c/look.c",), of_look),
     Example("known", ("examples/c/known.c",), of_known),
