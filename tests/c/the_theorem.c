@@ -124,10 +124,10 @@ static void play_and_watch(bool is_reloaded)
     check(watch.sides[0].members[0].hp == 263 && watch.sides[1].members[0].hp == 0, "the HP that a spectator knows");
 }
 
-/* Rules that there are not make no battle, and a byte that is no tag is not of a log. */
+/* Rules above 3 are refused, and so is a byte of a log that isn't a tag. Neither changes anything. */
 static void refuse(void)
 {
-    static const uint8_t no_tag = 0xff;
+    static const uint8_t not_a_tag = 0xff;
     gen1_battle battle, as_it_was;
     gen1_spectator watch, knew;
     memset(&battle, FILL, sizeof battle);
@@ -136,8 +136,8 @@ static void refuse(void)
     check(memcmp(&battle, &as_it_was, sizeof battle) == 0, "the memory for a battle after rules above 3");
     check(gen1_spectator_begin(&watch, &tauros, &tauros) == 0 && gen1_spectator_feed(&watch, whole_log, 23) == 0, "a spectator of the first log");
     memcpy(&knew, &watch, sizeof watch);
-    check(gen1_spectator_feed(&watch, &no_tag, 1) == GEN1_ERROR_LOG_TAG, "a byte that is no tag");
-    check(memcmp(&watch, &knew, sizeof watch) == 0, "a spectator after a byte that is no tag");
+    check(gen1_spectator_feed(&watch, &not_a_tag, 1) == GEN1_ERROR_LOG_TAG, "a byte that isn't a tag");
+    check(memcmp(&watch, &knew, sizeof watch) == 0, "a spectator after a byte that isn't a tag");
 }
 
 int main(void)
