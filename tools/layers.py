@@ -24,7 +24,8 @@ WIDTH = 90
 # From the top down: the title, the contents, and the crates of a layer.
 LAYERS = (
     ("Tests and examples", "no crate of the product depends on these", (
-        "uses", "test_support", "test_numbers", "test_operations", "test_engine", "test_commands")),
+        "uses", "test_support", "test_numbers", "test_operations", "test_engine", "test_players",
+        "test_commands")),
     ("Programs and C", "what opens files, prints, or is called from another language", (
         "battle_tool", "battle_commands", "battle_input", "trace_tool", "layout_tool", "gen1_c")),
     ("Battle", "a turn, an update, all that it can lead to, playouts, a room of two players, what a player knows", (

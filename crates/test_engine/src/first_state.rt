@@ -1,7 +1,7 @@
 //! A battle before its first update (docs/LAYOUT.md, "The 384 bytes of a battle", "Turn, outcome and requests").
 use crate::comparing::{assert_same, bytes_of, stands_at};
-use crate::teams::{SEED, tauros};
-use crate::two_tauros::two_tauros;
+use crate::setting::SEED;
+use crate::two_tauros::{tauros, two_tauros};
 use gen1_engine::packed::{choice_at, count_of};
 use gen1_engine::{Battle, BattleResult};
 use gen1_machine::{Choice, Outcome, Request, Rules, Side, TurnLimit};

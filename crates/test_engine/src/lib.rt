@@ -1,6 +1,5 @@
-//! Tests of `gen1_offers`, `gen1_switching`, `gen1_turn`, `gen1_engine`, `gen1_events`, `gen1_printer`, `gen1_room` and
-//! `gen1_player`, through their public functions. They are in a crate of their own because a crate with tests is proved
-//! twice.
+//! Tests of `gen1_offers`, `gen1_switching`, `gen1_turn`, `gen1_engine`, `gen1_events` and `gen1_printer`, through their public
+//! functions. They are in a crate of their own because a crate with tests is proved twice.
 //!
 //! - `start`: the first update
 //! - `switching_in`: members that come out
@@ -18,20 +17,12 @@
 //! - `failing_writers`: the same run, replayed to writers that fail
 //! - `events`: codes, cuts and errors of log bytes
 //! - `lines`: lines, cuts and errors
-//! - `two_tauros`: the battle of the stored run, and its log
-//! - `battles`: views and bytes of whole battles
-//! - `own_sides`: what a side is shown of itself
-//! - `rooms`: rooms
-//! - `players`: what a player knows
-//! - `plain_rooms`: rooms that their caller keeps, and forfeits
-//! - `teams`: the teams of the tests of views and rooms
+//! - `two_tauros`: the battle of the stored run, its team, and its log
 //! - `comparing`: what the tests compare
 #![tactic(auto)]
 
 #[cfg(test)]
 mod action;
-#[cfg(test)]
-mod battles;
 #[cfg(test)]
 mod comparing;
 #[cfg(test)]
@@ -51,15 +42,7 @@ mod loading;
 #[cfg(test)]
 mod offered_choices;
 #[cfg(test)]
-mod own_sides;
-#[cfg(test)]
-mod plain_rooms;
-#[cfg(test)]
-mod players;
-#[cfg(test)]
 mod recorded;
-#[cfg(test)]
-mod rooms;
 #[cfg(test)]
 mod setting;
 #[cfg(test)]
@@ -68,8 +51,6 @@ mod start;
 mod stored_run;
 #[cfg(test)]
 mod switching_in;
-#[cfg(test)]
-mod teams;
 #[cfg(test)]
 mod turn_choices;
 #[cfg(test)]

@@ -1,0 +1,26 @@
+//! Tests of `gen1_spectator`, `gen1_player` and `gen1_room`, through their public functions: what those who play or watch a battle
+//! are told. They are in a crate of their own because a crate with tests is proved twice.
+//!
+//! - `battles`: views and bytes of whole battles
+//! - `own_sides`: what a side is shown of itself
+//! - `players`: what a player knows
+//! - `rooms`: rooms
+//! - `plain_rooms`: rooms that their caller keeps, and forfeits
+//! - `teams`: the teams of these tests
+//! - `comparing`: what the tests compare
+#![tactic(auto)]
+
+#[cfg(test)]
+mod battles;
+#[cfg(test)]
+mod comparing;
+#[cfg(test)]
+mod own_sides;
+#[cfg(test)]
+mod plain_rooms;
+#[cfg(test)]
+mod players;
+#[cfg(test)]
+mod rooms;
+#[cfg(test)]
+mod teams;
