@@ -14,7 +14,7 @@ from pathlib import Path
 from shutil import which
 
 AT_ONCE = 2
-# Otherwise the allocator of rattle returns freed memory to the system and soon takes it again: 3 % of the processor time of a check.
+# Otherwise the allocator of rattle returns freed memory to the system and soon takes it again: 2 % of the processor time of a check.
 os.environ.setdefault("MIMALLOC_PURGE_DELAY", "-1")
 
 
