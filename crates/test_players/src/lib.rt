@@ -1,5 +1,5 @@
-//! Tests of `gen1_spectator`, `gen1_player` and `gen1_room`, through their public functions: what those who play or watch a battle
-//! are told. They are in a crate of their own because a crate with tests is proved twice.
+//! Tests of `gen1_spectator`, `gen1_player` and `gen1_room`, through their public functions: what a spectator sees, what a player
+//! knows, and how a room passes choices on. They are in a crate of their own because a crate with tests is proved twice.
 //!
 //! - `battles`: views and bytes of whole battles
 //! - `own_sides`: what a side is shown of itself
