@@ -3,7 +3,7 @@ ghost use Rattle.std.specs.Prelude.{◌<◌, ◌≡◌, ◌≢◌, ◌≤◌, �
 ghost use Rattle.gen1_devices.specs.Output.{Sends};
 ghost use Rattle.clap.specs.Matches.{first_value, found_of};
 ghost use Rattle.clap.specs.Values.{kind_of};
-ghost use Rattle.clap.specs.Words.{Row, app_of};
+ghost use Rattle.clap.specs.Words.{Row, app_of, with_subcommand};
 ghost use Rattle.clap.specs.declared.builder.command.Command.TheViews.{out-Command as fields_of};
 ghost use Rattle.battle_commands.specs.CommandLine.{AskFor, faults, names_file, reading, tool_app};
 ghost use Rattle.battle_commands.specs.Answers.{Answers, Tells, is_read_fault, is_write_fault, sent_to};
@@ -63,6 +63,18 @@ fn reading<'a>(alloc: Global, name: &'a str) -> Result<Command<'a>, AllocError>
     Ok(filed.about(about).after_help(input))
 }
 
+/// Adds a subcommand that reads a FILE, or standard input if none is named.
+fn with_reading<'a>(
+    alloc: Global,
+    command: Command<'a>,
+    name: &'a str,
+) -> Result<Command<'a>, AllocError>
+    ensures { IfOk result (λ more. app_of more ≡ with_subcommand (app_of command.entry) (reading name.now).top) }
+{
+    let subcommand = reading(alloc, name)?;
+    command.subcommand(subcommand)
+}
+
 /// The command line.
 fn command<'a>(alloc: Global) -> Result<Command<'a>, AllocError>
     ensures { IfOk result (λ command. app_of command ≡ tool_app) }
@@ -71,17 +83,11 @@ fn command<'a>(alloc: Global) -> Result<Command<'a>, AllocError>
         .about(ABOUT)
         .after_help(STATUSES)
         .subcommand_required(true);
-    let run = reading(alloc, "run")?;
-    let with_run = top.subcommand(run)?;
-    let log = reading(alloc, "log")?;
-    let with_log = with_run.subcommand(log)?;
-    let print = reading(alloc, "print")?;
-    let with_print = with_log.subcommand(print)?;
-    let calc = reading(alloc, "calc")?;
-    let with_calc = with_print.subcommand(calc)?;
-    let room = reading(alloc, "room")?;
-    let with_room = with_calc.subcommand(room)?;
-    Ok(with_room)
+    let with_run = with_reading(alloc, top, "run")?;
+    let with_log = with_reading(alloc, with_run, "log")?;
+    let with_print = with_reading(alloc, with_log, "print")?;
+    let with_calc = with_reading(alloc, with_print, "calc")?;
+    with_reading(alloc, with_calc, "room")
 }
 
 /// Writes an error to standard error, with its explanation if `explains`, and returns its status, 1 to 4. If that stream fails,
