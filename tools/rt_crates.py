@@ -71,13 +71,14 @@ def prove(crate):
     return status
 
 
-def checked(crate, folder, *words):
+def checked(crate, folder, *words, gives_way=True):
     """Checks a crate whose texts are in a folder, over the libraries that are built; returns the status and what was printed.
 
-    The check takes the processor time that other work leaves. One that is killed, most likely for memory, is made once more.
+    A check that gives way takes the processor time that other work leaves. One that is killed, most likely for memory, is made once more.
     """
     rt = rt_module()
-    command = [*rt.guarded(), "nice", rt.RATTLE, "check", *crate.words(["--jobs", "1", *words], keeps=False)]
+    nice = ["nice"] if gives_way else []
+    command = [*rt.guarded(), *nice, rt.RATTLE, "check", *crate.words(["--jobs", "1", *words], keeps=False)]
     how = {"cwd": folder, "stdin": subprocess.DEVNULL, "stdout": subprocess.PIPE, "stderr": subprocess.STDOUT, "errors": "replace"}
     ran = subprocess.run(command, **how)
     if ran.returncode == -signal.SIGKILL:
