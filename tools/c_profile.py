@@ -7,6 +7,7 @@ cargo builds the plain library twice. For the proved one, `Module` keeps what ra
 compiles that module twice more.
 """
 
+import fcntl
 import os
 import re
 import shutil
@@ -80,12 +81,15 @@ def profile_of(folder, *library):
 
 
 def profiled_archive():
-    """Returns the archive of the plain sources that is built with the profile."""
+    """Returns the archive of the plain sources that is built with the profile. Processes that call this wait for each other."""
     want_profiler()
     folder = ROOT / "target" / "c_profiled"
-    shutil.rmtree(folder / "counts", ignore_errors=True)
-    counting = build(folder / "counting", f"-Cprofile-generate={folder / 'counts'}")
-    return build(folder / "by_profile", f"-Cprofile-use={profile_of(folder, counting)}", " with a profile")
+    folder.mkdir(parents=True, exist_ok=True)
+    with open(folder / "lock", "w") as held:
+        fcntl.flock(held, fcntl.LOCK_EX)
+        shutil.rmtree(folder / "counts", ignore_errors=True)
+        counting = build(folder / "counting", f"-Cprofile-generate={folder / 'counts'}")
+        return build(folder / "by_profile", f"-Cprofile-use={profile_of(folder, counting)}", " with a profile")
 
 
 class Module:
