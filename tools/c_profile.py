@@ -81,7 +81,7 @@ def profile_of(folder, *library):
 
 
 def profiled_archive():
-    """Returns the archive of the plain sources that is built with the profile. Processes that call this wait for each other."""
+    """Returns the archive of the plain sources that is built with the profile. Only one process at a time builds it."""
     want_profiler()
     folder = ROOT / "target" / "c_profiled"
     folder.mkdir(parents=True, exist_ok=True)
