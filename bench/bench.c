@@ -62,30 +62,26 @@ static size_t pair_count, pair_room;
 static uint64_t state;
 
 /* The next number of a xorshift, from 0 to below `bound`; all are equally likely, up to parts in 2^50. */
-static uint32_t below(uint32_t bound)
-{
+static uint32_t below(uint32_t bound) {
     state ^= state << 13;
     state ^= state >> 7;
     state ^= state << 17;
     return (uint32_t)((state >> 6) % bound);
 }
 
-static void fail(const char *what)
-{
+static void fail(const char *what) {
     fprintf(stderr, "bench: %s\n", what);
     exit(1);
 }
 
-static void *grown(void *memory, size_t size)
-{
+static void *grown(void *memory, size_t size) {
     memory = realloc(memory, size);
     if (memory == NULL)
         fail("no memory");
     return memory;
 }
 
-static gen1_battle new_battle(void)
-{
+static gen1_battle new_battle(void) {
     gen1_battle battle;
     uint8_t seed[10];
     const gen1_team *one = &TEAMS[below(TEAM_COUNT)], *two = &TEAMS[below(TEAM_COUNT)];
@@ -99,8 +95,7 @@ static gen1_battle new_battle(void)
 /* How often a side moves where it may also switch, in percent; 0 where each offered choice has the same chance. */
 static uint32_t move_percent;
 
-static uint8_t chosen(const gen1_battle *battle, uint8_t side)
-{
+static uint8_t chosen(const gen1_battle *battle, uint8_t side) {
     uint8_t choices[9];
     uint32_t count = gen1_choices(battle, side, choices), moves = 0;
     if (move_percent == 0)
@@ -112,14 +107,12 @@ static uint8_t chosen(const gen1_battle *battle, uint8_t side)
     return below(100) < move_percent ? choices[below(moves)] : choices[moves + below(count - moves)];
 }
 
-static bool is_going_on(const gen1_battle *battle)
-{
+static bool is_going_on(const gen1_battle *battle) {
     return GEN1_RESULT_OUTCOME(gen1_result(battle)) == GEN1_OUTCOME_ONGOING;
 }
 
 /* The number of draws between the link numbers before an update and those after it: fewer than the 2,304 states. */
-static unsigned draws_between(const gen1_battle *before, const gen1_battle *after)
-{
+static unsigned draws_between(const gen1_battle *before, const gen1_battle *after) {
     uint8_t ring[10];
     unsigned draws = 0;
     memcpy(ring, before->bytes + 5, 10);
@@ -135,8 +128,7 @@ static unsigned draws_between(const gen1_battle *before, const gen1_battle *afte
     return draws;
 }
 
-static void keep_pair(uint8_t one, uint8_t two)
-{
+static void keep_pair(uint8_t one, uint8_t two) {
     if (pair_count == pair_room) {
         pair_room = 2 * pair_room + 1024;
         pairs = grown(pairs, pair_room * sizeof *pairs);
@@ -150,8 +142,7 @@ static void keep_pair(uint8_t one, uint8_t two)
 static uint8_t log_bytes[GEN1_LOG_ROOM];
 
 /* Plays a new battle to its end, with or without log, and stores its start and its choices. Returns the number of draws. */
-static uint64_t play(game *game, bool with_log)
-{
+static uint64_t play(game *game, bool with_log) {
     gen1_battle battle = new_battle(), before;
     uint64_t draws = 0;
     size_t length;
@@ -160,7 +151,8 @@ static uint64_t play(game *game, bool with_log)
     while (is_going_on(&battle)) {
         uint8_t one = chosen(&battle, GEN1_ONE), two = chosen(&battle, GEN1_TWO);
         before = battle;
-        if (with_log ? gen1_update(&battle, one, two, log_bytes, sizeof log_bytes, &length) : gen1_update_silent(&battle, one, two))
+        if (with_log ? gen1_update(&battle, one, two, log_bytes, sizeof log_bytes, &length)
+                     : gen1_update_silent(&battle, one, two))
             fail("a choice that is offered was refused");
         draws += draws_between(&before, &battle);
         keep_pair(one, two);
@@ -170,15 +162,15 @@ static uint64_t play(game *game, bool with_log)
 }
 
 /* Plays all battles by the stored choices, with or without log. Returns the bytes of log. */
-static uint64_t replay(bool with_log)
-{
+static uint64_t replay(bool with_log) {
     size_t length = 0;
     uint64_t bytes = 0;
     for (size_t number = 0; number < game_count; number++) {
         gen1_battle battle = games[number].start;
         for (size_t pair = games[number].first; pair < games[number].end; pair++) {
             uint8_t one = pairs[pair][0], two = pairs[pair][1];
-            if (with_log ? gen1_update(&battle, one, two, log_bytes, sizeof log_bytes, &length) : gen1_update_silent(&battle, one, two))
+            if (with_log ? gen1_update(&battle, one, two, log_bytes, sizeof log_bytes, &length)
+                         : gen1_update_silent(&battle, one, two))
                 fail("a choice that was accepted is refused");
             bytes += length;
         }
@@ -187,8 +179,7 @@ static uint64_t replay(bool with_log)
 }
 
 /* Plays all battles by choices drawn on the way, as a random player does, and stores nothing. */
-__attribute__((noinline)) static uint64_t replay_choosing(void)
-{
+__attribute__((noinline)) static uint64_t replay_choosing(void) {
     uint64_t updates = 0;
     for (size_t number = 0; number < game_count; number++) {
         gen1_battle battle = games[number].start;
@@ -210,8 +201,7 @@ __attribute__((noinline)) static uint64_t replay_choosing(void)
 #endif
 
 /* A choice drawn from a mask of the offered ones: the one at the same place in the list. */
-COUNTING static uint8_t chosen_of_mask(const gen1_battle *battle, uint8_t side)
-{
+COUNTING static uint8_t chosen_of_mask(const gen1_battle *battle, uint8_t side) {
     uint32_t mask = gen1_offered(battle, side);
     for (uint32_t place = below((uint32_t)__builtin_popcount(mask)); place > 0; place--)
         mask &= mask - 1;
@@ -220,8 +210,7 @@ COUNTING static uint8_t chosen_of_mask(const gen1_battle *battle, uint8_t side)
 }
 
 /* The same playouts by masks. */
-COUNTING __attribute__((noinline)) static uint64_t replay_masked(void)
-{
+COUNTING __attribute__((noinline)) static uint64_t replay_masked(void) {
     uint64_t updates = 0;
     for (size_t number = 0; number < game_count; number++) {
         gen1_battle battle = games[number].start;
@@ -236,8 +225,7 @@ COUNTING __attribute__((noinline)) static uint64_t replay_masked(void)
 }
 
 /* The updates of a playout, by the numbers and choices that gen1_playout draws (include/gen1.h). */
-static uint64_t updates_of_playout(gen1_battle battle, uint64_t random)
-{
+static uint64_t updates_of_playout(gen1_battle battle, uint64_t random) {
     uint64_t updates = 0;
     uint8_t numbers[10];
     for (size_t at = 0; at < sizeof numbers; at++) {
@@ -260,16 +248,14 @@ static uint64_t updates_of_playout(gen1_battle battle, uint64_t random)
 }
 
 /* All battles in calls of gen1_playout, one round each. */
-static void replay_in_playouts(void)
-{
+static void replay_in_playouts(void) {
     gen1_playouts counts;
     for (size_t number = 0; number < game_count; number++)
-        if (gen1_playout(&games[number].start, &(gen1_playout_options){ .seed = number, .rounds = 1 }, &counts) != 0)
+        if (gen1_playout(&games[number].start, &(gen1_playout_options){.seed = number, .rounds = 1}, &counts) != 0)
             fail("a battle was refused");
 }
 
-static uint64_t updates_of_playouts(void)
-{
+static uint64_t updates_of_playouts(void) {
     uint64_t updates = 0;
     for (size_t number = 0; number < game_count; number++)
         updates += updates_of_playout(games[number].start, number);
@@ -282,8 +268,7 @@ static struct { size_t next, end; } to_come[BATCH];
 
 /* Plays all battles by the stored choices, BATCH at a time: an update of each in turn. The memory of all is more than what the
    processor holds next to it. */
-static void replay_in_turn(void)
-{
+static void replay_in_turn(void) {
     size_t begun = 0;
     for (size_t played = 0; played < pair_count;) {
         for (size_t at = 0; at < BATCH; at++) {
@@ -307,8 +292,7 @@ typedef struct {
     size_t first, end;
 } share;
 
-static void *replay_share(void *given)
-{
+static void *replay_share(void *given) {
     const share *mine = given;
     for (size_t number = mine->first; number < mine->end; number++) {
         _Alignas(GEN1_ALIGNMENT) gen1_battle battle = games[number].start;
@@ -320,12 +304,11 @@ static void *replay_share(void *given)
 }
 
 /* The same on several threads, each with battles of its own. */
-static void replay_on_threads(size_t count)
-{
+static void replay_on_threads(size_t count) {
     pthread_t threads[MOST_THREADS];
     share shares[MOST_THREADS];
     for (size_t number = 0; number < count; number++) {
-        shares[number] = (share){ number * game_count / count, (number + 1) * game_count / count };
+        shares[number] = (share){number * game_count / count, (number + 1) * game_count / count};
         if (pthread_create(&threads[number], NULL, replay_share, &shares[number]) != 0)
             fail("no thread");
     }
@@ -335,8 +318,7 @@ static void replay_on_threads(size_t count)
 
 #ifdef UNTESTED
 /* Plays all battles by the stored choices, which are all offered, without testing that again. */
-static void replay_trusted(void)
-{
+static void replay_trusted(void) {
     for (size_t number = 0; number < game_count; number++) {
         gen1_battle battle = games[number].start;
         for (size_t pair = games[number].first; pair < games[number].end; pair++)
@@ -345,8 +327,7 @@ static void replay_trusted(void)
 }
 
 /* The playouts by masks, without testing the choices again. */
-COUNTING __attribute__((noinline)) static uint64_t replay_masked_trusted(void)
-{
+COUNTING __attribute__((noinline)) static uint64_t replay_masked_trusted(void) {
     uint64_t updates = 0;
     for (size_t number = 0; number < game_count; number++) {
         gen1_battle battle = games[number].start;
@@ -359,38 +340,47 @@ COUNTING __attribute__((noinline)) static uint64_t replay_masked_trusted(void)
 }
 #endif
 
-static double seconds(void)
-{
+static double seconds(void) {
     struct timespec now;
     clock_gettime(CLOCK_MONOTONIC, &now);
     return (double)now.tv_sec + 1e-9 * (double)now.tv_nsec;
 }
 
-static void print_row(const char *what, double nanoseconds)
-{
+static void print_row(const char *what, double nanoseconds) {
     printf("%-38s %8.1f ns an update, %5.2f million updates a second\n", what, nanoseconds, 1000 / nanoseconds);
 }
 
 /* The ways to play all battles. A table has the first three. */
-typedef enum { QUIET, LOG, LISTED, MASKED, PLAYOUTS, IN_TURN, TWO_THREADS, FOUR_THREADS, TRUSTED, MASKED_TRUSTED, WAYS } way;
+typedef enum {
+    QUIET,
+    LOG,
+    LISTED,
+    MASKED,
+    PLAYOUTS,
+    IN_TURN,
+    TWO_THREADS,
+    FOUR_THREADS,
+    TRUSTED,
+    MASKED_TRUSTED,
+    WAYS
+} way;
 
 static const struct {
     const char *what, *key;
 } NAMES[WAYS] = {
-    [QUIET] = { "without log", "quiet" },
-    [LOG] = { "with log", "log" },
-    [LISTED] = { "without log, both sides' choices drawn", "listed" },
-    [MASKED] = { "the same, drawn by masks", "masked" },
-    [PLAYOUTS] = { "the same, in calls of gen1_playout", "playouts" },
-    [IN_TURN] = { "1,024 battles in turn", "in_turn" },
-    [TWO_THREADS] = { "on two threads", "two_threads" },
-    [FOUR_THREADS] = { "on four threads", "four_threads" },
-    [TRUSTED] = { "choices not tested again", "trusted" },
-    [MASKED_TRUSTED] = { "drawn by masks, not tested again", "masked_trusted" },
+    [QUIET] = {"without log", "quiet"},
+    [LOG] = {"with log", "log"},
+    [LISTED] = {"without log, both sides' choices drawn", "listed"},
+    [MASKED] = {"the same, drawn by masks", "masked"},
+    [PLAYOUTS] = {"the same, in calls of gen1_playout", "playouts"},
+    [IN_TURN] = {"1,024 battles in turn", "in_turn"},
+    [TWO_THREADS] = {"on two threads", "two_threads"},
+    [FOUR_THREADS] = {"on four threads", "four_threads"},
+    [TRUSTED] = {"choices not tested again", "trusted"},
+    [MASKED_TRUSTED] = {"drawn by masks, not tested again", "masked_trusted"},
 };
 
-static bool is_there(way way)
-{
+static bool is_there(way way) {
 #ifdef UNTESTED
     return way < WAYS;
 #else
@@ -399,29 +389,45 @@ static bool is_there(way way)
 }
 
 /* Plays all battles in one of these ways, and returns the number of updates. */
-static uint64_t played(way way)
-{
+static uint64_t played(way way) {
     switch (way) {
-    case QUIET: replay(false); break;
-    case LOG: replay(true); break;
-    case LISTED: return replay_choosing();
-    case MASKED: return replay_masked();
-    case PLAYOUTS: replay_in_playouts(); break;
-    case IN_TURN: replay_in_turn(); break;
-    case TWO_THREADS: replay_on_threads(2); break;
-    case FOUR_THREADS: replay_on_threads(4); break;
+    case QUIET:
+        replay(false);
+        break;
+    case LOG:
+        replay(true);
+        break;
+    case LISTED:
+        return replay_choosing();
+    case MASKED:
+        return replay_masked();
+    case PLAYOUTS:
+        replay_in_playouts();
+        break;
+    case IN_TURN:
+        replay_in_turn();
+        break;
+    case TWO_THREADS:
+        replay_on_threads(2);
+        break;
+    case FOUR_THREADS:
+        replay_on_threads(4);
+        break;
 #ifdef UNTESTED
-    case TRUSTED: replay_trusted(); break;
-    case MASKED_TRUSTED: return replay_masked_trusted();
+    case TRUSTED:
+        replay_trusted();
+        break;
+    case MASKED_TRUSTED:
+        return replay_masked_trusted();
 #endif
-    default: break;
+    default:
+        break;
     }
     return way == PLAYOUTS ? 0 : pair_count;
 }
 
 /* The least time of an update over some rounds; other work of the machine only adds to it. */
-static double least_time(way way)
-{
+static double least_time(way way) {
     double least = 1e9, known = way == PLAYOUTS ? (double)updates_of_playouts() : 0;
     for (int round = 0; round < ROUNDS; round++) {
         double begun = seconds();
@@ -432,8 +438,7 @@ static double least_time(way way)
     return least;
 }
 
-static void print_table(uint64_t draws)
-{
+static void print_table(uint64_t draws) {
     double count = (double)pair_count;
     printf("%zu battles, %zu updates, %.1f a battle\n", game_count, pair_count, count / (double)game_count);
     printf("%.2f draws an update, %.1f bytes of log\n", (double)draws / count, (double)replay(true) / count);
@@ -441,15 +446,13 @@ static void print_table(uint64_t draws)
         print_row(NAMES[way].what, least_time(way));
 }
 
-static void print_more(void)
-{
+static void print_more(void) {
     for (way way = MASKED; way < WAYS; way++)
         if (is_there(way))
             print_row(NAMES[way].what, least_time(way));
 }
 
-static void print_json(uint64_t draws)
-{
+static void print_json(uint64_t draws) {
     double count = (double)pair_count;
     printf("\"battles\":%zu,\"updates\":%zu,\"draws\":%.4f,\"log_bytes\":%.4f,\"ns\":{", game_count, pair_count,
            (double)draws / count, (double)replay(true) / count);
@@ -464,24 +467,21 @@ static void print_json(uint64_t draws)
    replaced, or the battle begins. */
 typedef enum { MOVES, MIXED, SWITCHES, REPLACEMENTS, KINDS } kind;
 
-static const char *const KIND_NAMES[KINDS] = { "moves", "mixed", "switches", "replacements" };
+static const char *const KIND_NAMES[KINDS] = {"moves", "mixed", "switches", "replacements"};
 
-static kind kind_of(const gen1_battle *battle, const uint8_t pair[2])
-{
+static kind kind_of(const gen1_battle *battle, const uint8_t pair[2]) {
     int result = gen1_result(battle);
     if (GEN1_RESULT_REQUEST_ONE(result) != GEN1_REQUEST_MOVE || GEN1_RESULT_REQUEST_TWO(result) != GEN1_REQUEST_MOVE)
         return REPLACEMENTS;
     return (kind)((pair[0] >= GEN1_CHOICE_SWITCH(1)) + (pair[1] >= GEN1_CHOICE_SWITCH(1)));
 }
 
-__attribute__((noinline)) static void counted_update(gen1_battle *battle, uint8_t one, uint8_t two)
-{
+__attribute__((noinline)) static void counted_update(gen1_battle *battle, uint8_t one, uint8_t two) {
     UNTESTED(battle, one, two);
 }
 
 /* Plays all battles, those updates that are of a kind by counted_update, and returns the number of these. */
-static uint64_t replay_kind(kind wanted)
-{
+static uint64_t replay_kind(kind wanted) {
     uint64_t updates = 0;
     for (size_t number = 0; number < game_count; number++) {
         gen1_battle battle = games[number].start;
@@ -498,23 +498,22 @@ static uint64_t replay_kind(kind wanted)
 }
 #endif
 
-static uint64_t mixed_in(uint64_t sum, const uint8_t *bytes, size_t length)
-{
+static uint64_t mixed_in(uint64_t sum, const uint8_t *bytes, size_t length) {
     for (size_t at = 0; at < length; at++)
         sum = (sum ^ bytes[at]) * 1099511628211;
     return sum;
 }
 
 /* Prints a checksum (FNV-1a) of the battle and the log after each update. The other ways to update have to give the same battles. */
-static void print_sum(void)
-{
+static void print_sum(void) {
     uint64_t sum = 14695981039346656037u;
     size_t length;
     for (size_t number = 0; number < game_count; number++) {
         gen1_battle battle = games[number].start, silent = battle, untested = battle;
         for (size_t pair = games[number].first; pair < games[number].end; pair++) {
             uint8_t one = pairs[pair][0], two = pairs[pair][1];
-            if (gen1_update(&battle, one, two, log_bytes, sizeof log_bytes, &length) || gen1_update_silent(&silent, one, two))
+            if (gen1_update(&battle, one, two, log_bytes, sizeof log_bytes, &length) ||
+                gen1_update_silent(&silent, one, two))
                 fail("a choice that was accepted is refused");
             sum = mixed_in(mixed_in(sum, battle.bytes, sizeof battle.bytes), log_bytes, length);
 #ifdef UNTESTED
@@ -530,8 +529,7 @@ static void print_sum(void)
 }
 
 /* What callgrind counts, after the first play of the battles; prints the number of updates. */
-static void print_counted(const char *mode)
-{
+static void print_counted(const char *mode) {
     uint64_t updates = pair_count;
     if (strcmp(mode, "listed") == 0)
         updates = replay_choosing();
@@ -552,8 +550,7 @@ static void print_counted(const char *mode)
     printf("%llu\n", (unsigned long long)updates);
 }
 
-int main(int count, char **words)
-{
+int main(int count, char **words) {
     uint64_t draws = 0;
     const char *mode = count > 3 ? words[3] : "table";
     game_count = count > 1 ? strtoull(words[1], NULL, 10) : 10000;

@@ -22,20 +22,17 @@ static size_t log_count;
 static volatile size_t kept;
 
 /* The choice of a side in an update: that at (7 * update + side) modulo the number offered. */
-static uint8_t chosen(const gen1_battle *of, uint8_t side, size_t update)
-{
+static uint8_t chosen(const gen1_battle *of, uint8_t side, size_t update) {
     uint8_t choices[9];
     size_t count = gen1_choices(of, side, choices);
     return choices[(7 * update + side) % count];
 }
 
-static uint8_t byte_of_bit(int bit)
-{
+static uint8_t byte_of_bit(int bit) {
     return (uint8_t)(bit == 0 ? GEN1_CHOICE_PASS : bit <= 5 ? GEN1_CHOICE_MOVE(bit - 1) : GEN1_CHOICE_SWITCH(bit - 5));
 }
 
-static void read_team(const char *path, gen1_team *team)
-{
+static void read_team(const char *path, gen1_team *team) {
     char text[4096];
     gen1_text_fault fault;
     FILE *file = fopen(path, "rb");
@@ -49,45 +46,39 @@ static void read_team(const char *path, gen1_team *team)
 
 static void new_battle(void) { gen1_new(&battle, &one, &two, SEED, 0, GEN1_LIMIT); }
 
-static void choices(void)
-{
+static void choices(void) {
     uint8_t listed[9];
     kept = gen1_choices(&middle, GEN1_ONE, listed);
 }
 
 static void copy(void) { memcpy(&battle, &middle, sizeof battle); }
 
-static void update(void)
-{
+static void update(void) {
     copy();
     gen1_update(&battle, pair[0], pair[1], log_bytes, sizeof log_bytes, &log_count);
 }
 
-static void events(void)
-{
+static void events(void) {
     gen1_event event;
     update();
     for (size_t at = 0; gen1_next_event(log_bytes, log_count, &at, &event) == 0;)
         kept = event.tag;
 }
 
-static void state(void)
-{
+static void state(void) {
     gen1_state written;
     gen1_get_state(&middle, &written);
     kept = written.turn;
 }
 
-static double seconds(void)
-{
+static double seconds(void) {
     struct timespec now;
     clock_gettime(CLOCK_MONOTONIC, &now);
     return (double)now.tv_sec + (double)now.tv_nsec / 1e9;
 }
 
 /* The nanoseconds of a call: the least of five runs of 50 ms or more. */
-static void time_of(const char *row, void (*call)(void))
-{
+static void time_of(const char *row, void (*call)(void)) {
     double least = 1e9;
     for (int run = 0; run < 5; run++) {
         size_t calls = 0;
@@ -110,8 +101,7 @@ static uint64_t generators[BATCH];
 static uint32_t lot = 1;
 
 /* A step of a batch in parts: the masks of both sides, a choice of each battle and side, and the updates. */
-static void step_by_parts(void)
-{
+static void step_by_parts(void) {
     static uint16_t masks[2][BATCH];
     for (uint8_t side = 0; side < 2; side++)
         gen1_offered_many(battles, BATCH, side + 1, masks[side], BATCH);
@@ -129,15 +119,13 @@ static void step_by_parts(void)
 }
 
 /* The same in one call. */
-static void step_in_one(void)
-{
+static void step_in_one(void) {
     size_t over;
     gen1_step_random_many(battles, BATCH, NULL, 0, generators, BATCH, updates, BATCH, &over);
 }
 
 /* The nanoseconds of a step of each battle: the least of five runs of sixty steps. */
-static void time_of_steps(const char *row, void (*step)(void))
-{
+static void time_of_steps(const char *row, void (*step)(void)) {
     double least = 1e9;
     for (int run = 0; run < 5; run++) {
         new_battle();
@@ -153,8 +141,7 @@ static void time_of_steps(const char *row, void (*step)(void))
     printf("%s\t%.1f\n", row, least * 1e9 / (BATCH * STEPS));
 }
 
-int main(int count, char **words)
-{
+int main(int count, char **words) {
     if (count != 3)
         return 2;
     read_team(words[1], &one);

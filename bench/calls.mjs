@@ -3,11 +3,11 @@
 //     node bench/calls.mjs MODULE TEAM_ONE TEAM_TWO
 //
 // MODULE is the folder that tools/plain_wasm writes.
-import { readFile } from "node:fs/promises";
-import { pathToFileURL } from "node:url";
+import {readFile} from "node:fs/promises";
+import {pathToFileURL} from "node:url";
 
 const [folder, ...paths] = process.argv.slice(2);
-const { byteOf, CHOICES, load } = await import(pathToFileURL(`${folder}/gen1.mjs`));
+const {byteOf, CHOICES, load} = await import(pathToFileURL(`${folder}/gen1.mjs`));
 const gen1 = await load();
 const BYTES = CHOICES.map((choice) => byteOf(choice));
 
@@ -46,7 +46,7 @@ function drawn(masks) {
 
 /** Prints the nanoseconds of a step of each battle: the least of five runs of sixty steps. */
 function timeOfSteps(row, battle, step) {
-  const battles = gen1.battleArray({ battle, count: BATCH });
+  const battles = gen1.battleArray({battle, count: BATCH});
   let least = Infinity;
   for (let run = 0; run < 5; run += 1) {
     battles.reset();
@@ -57,17 +57,24 @@ function timeOfSteps(row, battle, step) {
   console.log(`${row}\t${(least * 1e6 / (BATCH * STEPS)).toFixed(1)}`);
 }
 
-const [one, two] = await Promise.all(paths.map(async (path) => gen1.team(gen1.teamFromText(await readFile(path, "utf8")))));
-const start = gen1.battle({ one, two, seed: SEED });
+const [one, two] =
+    await Promise.all(paths.map(async (path) => gen1.team(gen1.teamFromText(await readFile(path, "utf8")))));
+const start = gen1.battle({one, two, seed: SEED});
 const middle = start.clone();
 for (let update = 0; update < BEFORE; update += 1) middle.update(chosen(middle, 1, update), chosen(middle, 2, update));
 const pair = [1, 2].map((side) => chosen(middle, side, BEFORE));
 const scratch = middle.clone();
-timeOf("new", () => gen1.battle({ one, two, seed: SEED }).free());
+timeOf("new", () => gen1.battle({one, two, seed: SEED}).free());
 timeOf("choices", () => middle.choices(1));
 timeOf("copy", () => scratch.copyFrom(middle));
-timeOf("update", () => { scratch.copyFrom(middle); scratch.update(...pair); });
-timeOf("events", () => { scratch.copyFrom(middle); scratch.update(...pair).events.length; });
+timeOf("update", () => {
+  scratch.copyFrom(middle);
+  scratch.update(...pair);
+});
+timeOf("events", () => {
+  scratch.copyFrom(middle);
+  scratch.update(...pair).events.length;
+});
 timeOf("state", () => middle.state.turn);
 timeOfSteps("batch", start, (battles) => battles.step(drawn(battles.masks(1)), drawn(battles.masks(2))));
 timeOfSteps("random", start, (battles) => battles.randomStep());

@@ -48,9 +48,11 @@ def braced(values):
 
 def member_text(member, species, moves):
     """A gen1_member as C writes it."""
-    return (f"{{{species[member['species']]}, {member['level']}, {braced(member['dvs'])}, "
-            f"{braced(moves[name] for name, _ in member['moves'])}, "
-            f"{braced(ups for _, ups in member['moves'])}, {braced(member['exp'])}}}")
+    return (
+        f"{{{species[member['species']]}, {member['level']}, {braced(member['dvs'])}, "
+        f"{braced(moves[name] for name, _ in member['moves'])}, "
+        f"{braced(ups for _, ups in member['moves'])}, {braced(member['exp'])}}}"
+    )
 
 
 def main():

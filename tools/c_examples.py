@@ -58,12 +58,30 @@ class Example:
 
 def recorded_case(case, words, given):
     """A recorded case for an example, which must print the same for these arguments and this input."""
-    return Case(case["name"], words, given, case["stdout"].encode(), in_codes(case.get("stderr", "")).encode(), case.get("status", 0))
+    return Case(
+        case["name"],
+        words,
+        given,
+        case["stdout"].encode(),
+        in_codes(case.get("stderr", "")).encode(),
+        case.get("status", 0),
+    )
 
 
 TAUROS, TAUROS_LINES = ROOT / "examples" / "tauros.txt", (ROOT / "crates" / "battle_tool" / "stdout").read_bytes()
 # Words that are not a number from 0 to 255; those past 2 to the power of 32 become 0 or 17 where their high bits are cut.
-NO_BYTES = (b"256", b"273", b"-1", b"-239", b"four", b"17x", b"4294967296", b"4294967313", b"18446744073709551633", b"0" * 30 + b"17")
+NO_BYTES = (
+    b"256",
+    b"273",
+    b"-1",
+    b"-239",
+    b"four",
+    b"17x",
+    b"4294967296",
+    b"4294967313",
+    b"18446744073709551633",
+    b"0" * 30 + b"17",
+)
 
 
 def of_play(gate):
@@ -72,7 +90,7 @@ def of_play(gate):
         for case in cases(recorded(f"{name}.jsonl", gate.cases)):
             yield recorded_case(case, (), as_numbers(json.loads(case["input"])).encode())
     given, lines = TAUROS.read_bytes(), TAUROS_LINES.splitlines(keepends=True)
-    begun, first = given[:given.index(b"17 17")], b"".join(lines[:lines.index(b"|turn|1\n") + 1])
+    begun, first = given[: given.index(b"17 17")], b"".join(lines[: lines.index(b"|turn|1\n") + 1])
     for word in NO_BYTES:
         yield Case(f"{word} for side 1", (), begun + word + b" 17\n", first, b"error: input\n", 1)
         yield Case(f"{word} for side 2", (), begun + b"17 " + word + b"\n", first, b"error: input\n", 1)
@@ -105,7 +123,10 @@ def of_known(_gate):
 
 def of_many(_gate):
     """It has no input, and compares by itself; all battles end. Body Slam misses with one byte of 256, and Tauros is critical with 55."""
-    playouts, outcomes = rb"\d+ wins of side 1, \d+ of side 2, \d+ ties\n", rb"\d+ outcomes, a miss with probability 0\.00390625\n"
+    playouts, outcomes = (
+        rb"\d+ wins of side 1, \d+ of side 2, \d+ ties\n",
+        rb"\d+ outcomes, a miss with probability 0\.00390625\n",
+    )
     ways, steps = rb"a critical hit with probability 0\.214005\n", rb"\d+ random steps to the end of all battles\n"
     yield Case("status", (), b"", re.compile(playouts + outcomes + ways + steps + rb"100 battles have ended\n"), b"")
 
@@ -138,7 +159,9 @@ def points_of(member, dv, exp, base):
 def hp_of(member):
     """A member's maximum HP (docs/MECHANICS.md, "Stats")."""
     dv = sum((value & 1) << bit for value, bit in zip(member["dvs"], (3, 2, 1, 0)))
-    return min(999, points_of(member, dv, member["exp"][0], int(SPECIES_ROWS[member["species"]][4])) + member["level"] + 10)
+    return min(
+        999, points_of(member, dv, member["exp"][0], int(SPECIES_ROWS[member["species"]][4])) + member["level"] + 10
+    )
 
 
 def speed_of(member):
@@ -161,8 +184,18 @@ def of_damage(gate):
             yield Case(case["name"], (), given, b"", case["stderr"].encode(), 1)
             continue
         head = "species %d at level %d on species %d at level %d, %d HP\n  move %3d: " % (
-            SPECIES[one["species"]], one["level"], SPECIES[two["species"]], two["level"], hp_of(two), MOVES[asked["move"]])
-        row = re.escape("no usual damage (code 48)") if case["stderr"] else damage_row(case["stdout"], hp_of(two), asked["critical"])
+            SPECIES[one["species"]],
+            one["level"],
+            SPECIES[two["species"]],
+            two["level"],
+            hp_of(two),
+            MOVES[asked["move"]],
+        )
+        row = (
+            re.escape("no usual damage (code 48)")
+            if case["stderr"]
+            else damage_row(case["stdout"], hp_of(two), asked["critical"])
+        )
         chances = chances_of(one, two, asked["move"], not case["stderr"])
         want = re.compile((re.escape(head) + row + re.escape(chances) + r"\n").encode())
         yield Case(case["name"], (), given, want, b"")
@@ -197,12 +230,26 @@ def damage_row(recorded_line, hp, is_critical):
     hits = r"no number of hits is enough|\d+ hits"
     if is_critical:
         return rf"{any_numbers}; critical {numbers}; ({hits})"
-    return rf"{numbers}; critical {any_numbers}; " + (re.escape(f"{-(-hp // least)} hits") if least else "no number of hits is enough")
+    return rf"{numbers}; critical {any_numbers}; " + (
+        re.escape(f"{-(-hp // least)} hits") if least else "no number of hits is enough"
+    )
 
 
 OFTEN_CRITICAL = ("Karate Chop", "Razor Leaf", "Crabhammer", "Slash")
 # Effects of docs/TABLES.md whose moves take no hit test (docs/MECHANICS.md, "Hit test").
-UNTESTED = ("AlwaysFails", "Bide", "Conversion", "FocusEnergy", "Haze", "Heal", "Mist", "Screen", "Splash", "StatUp", "Substitute")
+UNTESTED = (
+    "AlwaysFails",
+    "Bide",
+    "Conversion",
+    "FocusEnergy",
+    "Haze",
+    "Heal",
+    "Mist",
+    "Screen",
+    "Splash",
+    "StatUp",
+    "Substitute",
+)
 
 
 def hits_of(one, two, row):
@@ -212,7 +259,9 @@ def hits_of(one, two, row):
         return 256
     types = SPECIES_ROWS[two["species"]][2:4]
     by_types = effect not in ("FixedDamage", "SuperFang") and int(power) > 0
-    immune = by_types and any(factor == "0" and mover == kind and foe in types for mover, foe, factor in table(TABLES, "Type rows"))
+    immune = by_types and any(
+        factor == "0" and mover == kind and foe in types for mover, foe, factor in table(TABLES, "Type rows")
+    )
     slower = effect == "OneHitKnockOut" and speed_of(one) < speed_of(two)
     # No foe is asleep, and no damage was dealt that Counter could return.
     return 0 if immune or slower or effect in ("DreamEater", "Counter") else max(1, int(accuracy) * 255 // 100)
@@ -231,7 +280,9 @@ def chances_of(one, two, move, has_damage):
 
 def of_bot(_gate):
     """It wins at least 95 battles of 100."""
-    yield Case("100 battles", ("100", "1"), b"", re.compile(rb"bot (100|9[5-9]), random \d, ties \d\n"), b"", is_long=True)
+    yield Case(
+        "100 battles", ("100", "1"), b"", re.compile(rb"bot (100|9[5-9]), random \d, ties \d\n"), b"", is_long=True
+    )
 
 
 def choices_of(asked, side):
@@ -242,7 +293,10 @@ def choices_of(asked, side):
 def refused(side, choices):
     """The lines of the room that count the refusals of tests/c/rude_player.py as a side, by code."""
     rubbish = 7 * len(choices) + 3000
-    return "".join(f"side {side}: refused {code}: {times}\n" for code, times in ((52, len(choices)), (54, len(choices)), (255, rubbish)))
+    return "".join(
+        f"side {side}: refused {code}: {times}\n"
+        for code, times in ((52, len(choices)), (54, len(choices)), (255, rubbish))
+    )
 
 
 def of_room(gate):
@@ -252,7 +306,7 @@ def of_room(gate):
     ran("cc", "-O2", "-Wall", "-Wextra", "-Werror", "examples/c/room/player.c", "-o", player)
     rude = f"exec {sys.executable} {ROOT / 'tests' / 'c' / 'rude_player.py'}"
     played = [case for name in PLAYED for case in cases(recorded(f"{name}.jsonl", gate.cases)) if is_whole(case)]
-    for number, case in enumerate(played[::len(played) // ROOMS + 1]):
+    for number, case in enumerate(played[:: len(played) // ROOMS + 1]):
         asked = json.loads(case["input"])
         file = folder / f"{number}.txt"
         file.write_text(as_numbers(asked))
@@ -286,12 +340,22 @@ def of_room(gate):
 
 def of_player(_gate):
     """The choices of its arguments, then the first offered one; other lines are passed over."""
-    yield Case("asked thrice", ("18",), b"ask 7 17 18\nline |turn|2\ntaken\nask 8 34 35\nrefused 2\nask 9 0\n", b"7 18\n8 34\n9 0\n", b"")
+    yield Case(
+        "asked thrice",
+        ("18",),
+        b"ask 7 17 18\nline |turn|2\ntaken\nask 8 34 35\nrefused 2\nask 9 0\n",
+        b"7 18\n8 34\n9 0\n",
+        b"",
+    )
 
 
 def is_whole(case):
     """Whether a recorded battle was played to its end without a refused pair."""
-    return case.get("status", 0) == 0 and case["stdout"].splitlines()[-1:] and case["stdout"].splitlines()[-1].startswith(("|win|", "|tie"))
+    return (
+        case.get("status", 0) == 0
+        and case["stdout"].splitlines()[-1:]
+        and case["stdout"].splitlines()[-1].startswith(("|win|", "|tie"))
+    )
 
 
 EXAMPLES = (
@@ -307,7 +371,9 @@ EXAMPLES = (
     Example("bot", ("examples/c/bot/bot.c",), of_bot),
     Example("room", ROOM, of_room),
     Example("player", ("examples/c/room/player.c",), of_player),
-    Example("damage", ("-Iexamples/c/common", "examples/c/damage/damage.c", "examples/c/common/battle_file.c"), of_damage),
+    Example(
+        "damage", ("-Iexamples/c/common", "examples/c/damage/damage.c", "examples/c/common/battle_file.c"), of_damage
+    ),
 )
 
 
@@ -317,8 +383,11 @@ def fault_of_case(program, case):
         done = subprocess.run([program, *case.words], input=case.given, capture_output=True, timeout=300)
     except subprocess.TimeoutExpired:
         return "it did not end within 300 seconds"
-    for what, found, want in (("standard error", done.stderr, case.stderr), ("status", done.returncode, case.status),
-                              ("standard output", done.stdout, case.stdout)):
+    for what, found, want in (
+        ("standard error", done.stderr, case.stderr),
+        ("status", done.returncode, case.status),
+        ("standard output", done.stdout, case.stdout),
+    ):
         if not want.fullmatch(found) if isinstance(want, re.Pattern) else found != want:
             return f"{what} is {found!r:.600}, not {want!r:.600}"
     return None

@@ -8,7 +8,21 @@ import subprocess
 import sys
 
 sys.dont_write_bytecode = True
-from c_library import PROFILED, PROVED, Unbuilt, build_of, calls, kit_logic, needed, origin, ran, shown, version, with_build, write_record
+from c_library import (
+    PROFILED,
+    PROVED,
+    Unbuilt,
+    build_of,
+    calls,
+    kit_logic,
+    needed,
+    origin,
+    ran,
+    shown,
+    version,
+    with_build,
+    write_record,
+)
 from licenses import licenses, not_permitted, of_library, permitted
 from repository import ROOT
 
@@ -27,7 +41,9 @@ def installed(*words, library=None, **variables):
 
 def plays(program, folder):
     """What is wrong with the output of a program for the battle of two Tauros; the shared library is in a folder."""
-    done = subprocess.run([program], stdin=open(INPUT), capture_output=True, text=True, env={**os.environ, "LD_LIBRARY_PATH": str(folder)})
+    done = subprocess.run(
+        [program], stdin=open(INPUT), capture_output=True, text=True, env={**os.environ, "LD_LIBRARY_PATH": str(folder)}
+    )
     if done.returncode or done.stderr:
         return f"status {done.returncode}: {done.stderr}"
     return None if done.stdout == LINES.read_text() else f"it printed {done.stdout[:400]}"
@@ -55,9 +71,20 @@ class Tried:
         """Exactly the expected files are installed."""
         found = sorted(str(path.relative_to(self.prefix)) for path in self.prefix.rglob("*") if not path.is_dir())
         real = f"lib/libgen1.so.{'.'.join(version())}"
-        want = ["include/gen1.h", "lib/libgen1.a", "lib/libgen1.so", "lib/libgen1.so.1", real, "lib/libgen1_c.a",
-                "lib/pkgconfig/gen1.pc", "lib/cmake/gen1/gen1Config.cmake", "lib/cmake/gen1/gen1ConfigVersion.cmake",
-                "share/doc/gen1/LICENSE", "share/doc/gen1/LICENSES.txt", *(f"share/man/man3/{name}.3" for name in ["gen1", *calls()])]
+        want = [
+            "include/gen1.h",
+            "lib/libgen1.a",
+            "lib/libgen1.so",
+            "lib/libgen1.so.1",
+            real,
+            "lib/libgen1_c.a",
+            "lib/pkgconfig/gen1.pc",
+            "lib/cmake/gen1/gen1Config.cmake",
+            "lib/cmake/gen1/gen1ConfigVersion.cmake",
+            "share/doc/gen1/LICENSE",
+            "share/doc/gen1/LICENSES.txt",
+            *(f"share/man/man3/{name}.3" for name in ["gen1", *calls()]),
+        ]
         return None if found == sorted(want) else f"there are {found}"
 
     def names(self):
@@ -74,7 +101,11 @@ class Tried:
 
     def archive(self):
         """The static library is the one of the gate, which has gen1_build, to the byte."""
-        return None if (self.lib / "libgen1_c.a").read_bytes() == self.gate.library.read_bytes() else "it is another library"
+        return (
+            None
+            if (self.lib / "libgen1_c.a").read_bytes() == self.gate.library.read_bytes()
+            else "it is another library"
+        )
 
     def build(self):
         """gen1_build of both libraries returns the same. The text is added to a library without it, and is then not "plain"."""
@@ -118,7 +149,13 @@ class Tried:
 
     def licenses_refused(self):
         """License expressions: those that leave a permitted choice, and others."""
-        good = ("MIT", "Unlicense/MIT", "GPL-3.0 OR MIT", "(MIT OR Apache-2.0) AND Unicode-DFS-2016", "Apache-2.0 WITH LLVM-exception OR MIT")
+        good = (
+            "MIT",
+            "Unlicense/MIT",
+            "GPL-3.0 OR MIT",
+            "(MIT OR Apache-2.0) AND Unicode-DFS-2016",
+            "Apache-2.0 WITH LLVM-exception OR MIT",
+        )
         bad = ("GPL-3.0", "MIT AND GPL-3.0", "(MIT OR Apache-2.0) AND MPL-2.0", "none", "")
         wrong = [it for it in good if not permitted(it)] + [it for it in bad if permitted(it)]
         return f"{wrong} are taken wrongly" if wrong else None
@@ -129,7 +166,12 @@ class Tried:
         shutil.rmtree(prefix, ignore_errors=True)
         installed(library=self.gate.library, PREFIX=prefix)
         environment = {**os.environ, "PKG_CONFIG_PATH": f"{prefix}/lib/pkgconfig", "PROGRAM": str(prefix / "play")}
-        ran("sh", "-c", r'eval "cc examples/c/play.c $(pkg-config --cflags --libs gen1) -o \"\$PROGRAM\""', env=environment)
+        ran(
+            "sh",
+            "-c",
+            r'eval "cc examples/c/play.c $(pkg-config --cflags --libs gen1) -o \"\$PROGRAM\""',
+            env=environment,
+        )
         return plays(prefix / "play", prefix / "lib")
 
     def flags(self, *words):
@@ -147,11 +189,15 @@ class Tried:
         return fault or (None if "[libgen1.so.1]" in wants else "it does not want libgen1.so.1")
 
     def static(self):
-        fault = self.built("cc", "by_pkg_config_static", "-static", "examples/c/play.c", *self.flags("--static", "--cflags", "--libs"))
+        fault = self.built(
+            "cc", "by_pkg_config_static", "-static", "examples/c/play.c", *self.flags("--static", "--cflags", "--libs")
+        )
         return fault or plays(self.gate.work / "by_pkg_config_static", "/nowhere")
 
     def in_cpp(self, compiler):
-        return self.built(compiler, f"lines_{compiler}", "-std=c++17", "tests/c/lines.cpp", *self.flags("--cflags", "--libs"))
+        return self.built(
+            compiler, f"lines_{compiler}", "-std=c++17", "tests/c/lines.cpp", *self.flags("--cflags", "--libs")
+        )
 
     def as_their_readmes_say(self):
         """Each example is built by the line of its README, with the installed library."""
@@ -176,14 +222,23 @@ class Tried:
         shutil.rmtree(build, ignore_errors=True)
         ran("cmake", "-S", "tests/c/find_package", "-B", build, f"-DCMAKE_PREFIX_PATH={self.prefix}")
         ran("cmake", "--build", build)
-        return next((f"{name}: {fault}" for name in ("shared", "static", "lines") if (fault := plays(build / name, "/nowhere"))), None)
+        return next(
+            (
+                f"{name}: {fault}"
+                for name in ("shared", "static", "lines")
+                if (fault := plays(build / name, "/nowhere"))
+            ),
+            None,
+        )
 
     def cmake_refuses(self):
         """A project that wants another major version is refused with a message."""
         build = self.gate.work / "cmake_other"
         shutil.rmtree(build, ignore_errors=True)
         try:
-            ran("cmake", "-S", "tests/c/find_package", "-B", build, f"-DCMAKE_PREFIX_PATH={self.prefix}", "-DWANTED=2.0")
+            ran(
+                "cmake", "-S", "tests/c/find_package", "-B", build, f"-DCMAKE_PREFIX_PATH={self.prefix}", "-DWANTED=2.0"
+            )
         except Unbuilt as fault:
             return None if f"gen1Config.cmake, version: {'.'.join(version())}" in str(fault) else fault
         return "version 2.0 was found"
@@ -191,8 +246,12 @@ class Tried:
     def manual(self):
         """The manual pages give no warning, and name every call."""
         man = self.prefix / "share" / "man"
-        done = subprocess.run(["man", "--warnings", "-E", "ascii", "-l", man / "man3" / "gen1.3"], capture_output=True, text=True,
-                              env={**os.environ, "MANWIDTH": "100", "MANPAGER": "cat"})
+        done = subprocess.run(
+            ["man", "--warnings", "-E", "ascii", "-l", man / "man3" / "gen1.3"],
+            capture_output=True,
+            text=True,
+            env={**os.environ, "MANWIDTH": "100", "MANPAGER": "cat"},
+        )
         lacks = [name for name in calls() if f"{name}(" not in done.stdout]
         found = ran("man", "-M", man, "-w", "3", calls()[0]).strip()
         if done.stderr or lacks:
@@ -210,7 +269,11 @@ class Tried:
         shutil.rmtree(to, ignore_errors=True)
         given = {"PREFIX": "/opt/gen1", "LIBDIR": "/opt/gen1/lib/x86_64-linux-gnu", "DESTDIR": to}
         installed(library=self.gate.library, **given)
-        said = [path for path in to.rglob("*") if path.is_file() and not path.is_symlink() and str(to).encode() in path.read_bytes()]
+        said = [
+            path
+            for path in to.rglob("*")
+            if path.is_file() and not path.is_symlink() and str(to).encode() in path.read_bytes()
+        ]
         pc = (to / "opt/gen1/lib/x86_64-linux-gnu/pkgconfig/gen1.pc").read_text()
         installed("--uninstall", **given)
         left = [path for path in to.rglob("*") if not path.is_dir()]
@@ -221,7 +284,14 @@ class Tried:
         """A relative FILE is relative to the current folder, and arguments come in any order."""
         to = self.gate.work / "anywhere"
         shutil.rmtree(to, ignore_errors=True)
-        ran(ROOT / "tools" / "install", "PREFIX=/opt/gen1", "--library", self.gate.library.name, f"DESTDIR={to}", cwd=self.gate.library.parent)
+        ran(
+            ROOT / "tools" / "install",
+            "PREFIX=/opt/gen1",
+            "--library",
+            self.gate.library.name,
+            f"DESTDIR={to}",
+            cwd=self.gate.library.parent,
+        )
         return None if (to / "opt/gen1/lib/libgen1.so").is_file() else "there is no library"
 
     def older(self):
@@ -229,7 +299,12 @@ class Tried:
         prefix, major = self.gate.work / "older", version()[0]
         shutil.rmtree(prefix, ignore_errors=True)
         (prefix / "lib").mkdir(parents=True)
-        others = {f"libgen1.so.{int(major) + 1}.0.0", f"libgen1.so.{major}.0.0.kept", f"libgen1.so.{major}x0x0", f"libgen10.so.{major}.0.0"}
+        others = {
+            f"libgen1.so.{int(major) + 1}.0.0",
+            f"libgen1.so.{major}.0.0.kept",
+            f"libgen1.so.{major}x0x0",
+            f"libgen10.so.{major}.0.0",
+        }
         for name in (f"libgen1.so.{major}.0.250", f"libgen1.so.{major}.250.0", *others):
             (prefix / "lib" / name).touch()
         installed("--uninstall", PREFIX=prefix)
@@ -240,11 +315,29 @@ class Tried:
         """Without the kit tools/library prints one line that names a command that needs none; it has a help like the other tools."""
         nowhere = self.gate.work / "nowhere"
         nowhere.mkdir(exist_ok=True)
-        for words, status, said in ((), 1, "tools/install --plain"), (("--wasm64",), 1, "tools/install --plain"), (("--other",), 2, "--other"):
-            done = subprocess.run([sys.executable, ROOT / "tools" / "library", *words], capture_output=True, text=True, env={"PATH": str(nowhere)})
-            if done.returncode != status or said not in done.stderr or len(done.stderr.splitlines()) != 1 or done.stdout:
+        for words, status, said in (
+            ((), 1, "tools/install --plain"),
+            (("--wasm64",), 1, "tools/install --plain"),
+            (("--other",), 2, "--other"),
+        ):
+            done = subprocess.run(
+                [sys.executable, ROOT / "tools" / "library", *words],
+                capture_output=True,
+                text=True,
+                env={"PATH": str(nowhere)},
+            )
+            if (
+                done.returncode != status
+                or said not in done.stderr
+                or len(done.stderr.splitlines()) != 1
+                or done.stdout
+            ):
                 return f"{words}: status {done.returncode}: {done.stderr}"
-        return None if "tools/library --wasm64" in ran(sys.executable, ROOT / "tools" / "library", "--help") else "there is no help"
+        return (
+            None
+            if "tools/library --wasm64" in ran(sys.executable, ROOT / "tools" / "library", "--help")
+            else "there is no help"
+        )
 
     def refuses(self):
         """Wrong arguments are refused, and nothing is installed."""
@@ -258,7 +351,9 @@ class Tried:
     def taken_away(self):
         installed("--uninstall", PREFIX=self.prefix)
         left = [str(path) for path in self.prefix.rglob("*") if not path.is_dir()]
-        left += [str(path) for path in (self.lib / "cmake" / "gen1", self.prefix / "share" / "doc" / "gen1") if path.exists()]
+        left += [
+            str(path) for path in (self.lib / "cmake" / "gen1", self.prefix / "share" / "doc" / "gen1") if path.exists()
+        ]
         return f"{left} are left" if left else None
 
 
@@ -273,8 +368,17 @@ def compare_install(gate):
             installed(library=gate.library, PREFIX=it.prefix)
     except Unbuilt as fault:
         return gate.tell("install", fault)
-    for check in (it.files, it.archive, it.origins, it.licenses_refused, it.staged, it.from_anywhere, it.older, it.without_the_kit,
-                  it.refuses):
+    for check in (
+        it.files,
+        it.archive,
+        it.origins,
+        it.licenses_refused,
+        it.staged,
+        it.from_anywhere,
+        it.older,
+        it.without_the_kit,
+        it.refuses,
+    ):
         it.try_out(check.__name__, check)
     it.try_out("build", it.build, "objcopy")
     it.try_out("licenses", it.licenses, "cargo")

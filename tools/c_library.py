@@ -52,8 +52,16 @@ def version(header=HEADER):
 def ran(*words, cwd=ROOT, env=None):
     """What a command printed to standard output; Unbuilt where it could not be run or its status is not 0."""
     try:
-        done = subprocess.run([str(word) for word in words], cwd=cwd, env=env, stdin=subprocess.DEVNULL, stdout=subprocess.PIPE,
-                              stderr=subprocess.PIPE, text=True, errors="replace")
+        done = subprocess.run(
+            [str(word) for word in words],
+            cwd=cwd,
+            env=env,
+            stdin=subprocess.DEVNULL,
+            stdout=subprocess.PIPE,
+            stderr=subprocess.PIPE,
+            text=True,
+            errors="replace",
+        )
     except FileNotFoundError as fault:
         raise Missing(f"there is no {words[0]}") from fault
     if done.returncode:
@@ -65,7 +73,9 @@ def ran(*words, cwd=ROOT, env=None):
 def plain_build(profile):
     """Builds the C library of the plain sources with nothing of std, and returns the folder that it is in."""
     target, env = ROOT / "target" / "c", {**os.environ, "GEN1_BUILD": plain_origin()}
-    ran("cargo", "build", "-q", "--profile", profile, "-p", "gen1-ffi", *PLAIN_FEATURES, "--target-dir", target, env=env)
+    ran(
+        "cargo", "build", "-q", "--profile", profile, "-p", "gen1-ffi", *PLAIN_FEATURES, "--target-dir", target, env=env
+    )
     return target / profile
 
 
@@ -104,9 +114,22 @@ def link_shared(archive, to, soname):
     script.write_text("{ global: %s; local: *; };\n" % "; ".join(names))
     compiler = os.environ.get("CC", "cc").split()
     try:
-        ran(*compiler, "-shared", "-nostartfiles", "-o", to, f"-Wl,-soname,{soname}", f"-Wl,--version-script={script}",
-            *(f"-Wl,--undefined={name}" for name in names), archive,
-            "-Wl,-z,defs", "-Wl,-z,now", "-Wl,-z,relro", "-Wl,-z,noexecstack", "-Wl,--gc-sections")
+        ran(
+            *compiler,
+            "-shared",
+            "-nostartfiles",
+            "-o",
+            to,
+            f"-Wl,-soname,{soname}",
+            f"-Wl,--version-script={script}",
+            *(f"-Wl,--undefined={name}" for name in names),
+            archive,
+            "-Wl,-z,defs",
+            "-Wl,-z,now",
+            "-Wl,-z,relro",
+            "-Wl,-z,noexecstack",
+            "-Wl,--gc-sections",
+        )
     finally:
         script.unlink()
         shutil.rmtree(to.with_name(to.name + ".build"), ignore_errors=True)
@@ -122,7 +145,9 @@ def shown(shared):
 
 def needed(shared):
     """The names that a shared library needs from others."""
-    return {line.split()[-1].partition("@")[0] for line in ran("nm", "-D", "--undefined-only", shared).splitlines() if line}
+    return {
+        line.split()[-1].partition("@")[0] for line in ran("nm", "-D", "--undefined-only", shared).splitlines() if line
+    }
 
 
 def sum_of(path):
@@ -172,7 +197,17 @@ def with_build(archive, folder):
     source, copy = folder / "gen1_build.c", folder / "libgen1_c.a"
     source.write_text(SOURCE.format(text=origin(archive)))
     shutil.copyfile(archive, copy)
-    words = ("-std=c99", "-O2", "-fPIC", "-ffunction-sections", "-fdata-sections", "-c", source.name, "-o", "gen1_build.o")
+    words = (
+        "-std=c99",
+        "-O2",
+        "-fPIC",
+        "-ffunction-sections",
+        "-fdata-sections",
+        "-c",
+        source.name,
+        "-o",
+        "gen1_build.o",
+    )
     ran(*os.environ.get("CC", "cc").split(), *words, cwd=folder)
     ran("ar", "rcsD", copy, "gen1_build.o", cwd=folder)
     return copy
@@ -183,6 +218,8 @@ def build_of(archive, folder):
     folder = folder.resolve()
     folder.mkdir(parents=True, exist_ok=True)
     program, source = folder / "says", folder / "says.c"
-    source.write_text('#include <stdio.h>\nconst char *gen1_build(void);\nint main(void) { puts(gen1_build()); return 0; }\n')
+    source.write_text(
+        "#include <stdio.h>\nconst char *gen1_build(void);\nint main(void) { puts(gen1_build()); return 0; }\n"
+    )
     ran(*os.environ.get("CC", "cc").split(), source, archive.resolve(), "-o", program)
     return ran(program).strip()

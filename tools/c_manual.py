@@ -40,7 +40,9 @@ def code(text):
 
 def sections(text):
     """The header's sections by their titles, and what comes before the first."""
-    body = text[text.index('extern "C" {\n#endif\n') + len('extern "C" {\n#endif\n'):text.rindex("#ifdef __cplusplus")]
+    body = text[
+        text.index('extern "C" {\n#endif\n') + len('extern "C" {\n#endif\n') : text.rindex("#ifdef __cplusplus")
+    ]
     parts = SECTION.split(body)
     return [("types and numbers", parts[0]), *zip(parts[1::2], parts[2::2])]
 
@@ -49,7 +51,7 @@ def pieces(body):
     """Each comment of a section, and the code below it up to an empty line or the next comment; either may be empty."""
     for block in re.split(r"\n\n+(?=\S)", body.strip("\n")):
         comment = re.match(r"/\*.*?\*/[^\S\n]*(?:\n|$)", block, re.S)
-        yield (comment[0], block[comment.end():]) if comment else ("", block)
+        yield (comment[0], block[comment.end() :]) if comment else ("", block)
 
 
 def page(header=HEADER):
@@ -58,8 +60,15 @@ def page(header=HEADER):
     names = calls(header)
     lines = [
         f'.TH GEN1 3 "" "gen1 {".".join(version(header))}" "Library Functions"',
-        ".SH NAME", ", ".join(["gen1", *names]) + " \\- first\\-generation link battles",
-        ".SH SYNOPSIS", ".nf", "#include <gen1.h>", ".PP", "cc ... $(pkg\\-config \\-\\-cflags \\-\\-libs gen1)", ".fi", ".SH DESCRIPTION",
+        ".SH NAME",
+        ", ".join(["gen1", *names]) + " \\- first\\-generation link battles",
+        ".SH SYNOPSIS",
+        ".nf",
+        "#include <gen1.h>",
+        ".PP",
+        "cc ... $(pkg\\-config \\-\\-cflags \\-\\-libs gen1)",
+        ".fi",
+        ".SH DESCRIPTION",
         *list(paragraphs(text))[1:],
     ]
     for title, body in sections(text):

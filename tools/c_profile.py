@@ -64,18 +64,49 @@ def want_profiler():
 def build(target, flag, how=""):
     """Returns the archive that cargo builds with a flag for rustc. Build scripts don't get the flag."""
     env = {**os.environ, "GEN1_BUILD": plain_origin(how), "RUSTFLAGS": flag}
-    ran("cargo", "build", "-q", "--release", "-p", "gen1-ffi", *PLAIN_FEATURES, "--target", host(), "--target-dir", target, env=env)
+    ran(
+        "cargo",
+        "build",
+        "-q",
+        "--release",
+        "-p",
+        "gen1-ffi",
+        *PLAIN_FEATURES,
+        "--target",
+        host(),
+        "--target-dir",
+        target,
+        env=env,
+    )
     return target / host() / "release" / "libgen1_c.a"
 
 
 def profile_of(folder, *library):
     """Plays the battles with the files of a library that counts branches, and returns the file of their profile."""
     counts, program, profile = folder / "counts", folder / "counted", folder / "battles.profdata"
-    ran(*os.environ.get("CC", "cc").split(), "-std=c11", "-O2", "-pthread", "-DUNTESTED=gen1_update_offered_silent", f"-I{ROOT / 'include'}",
-        ROOT / "bench" / "bench.c", *library, "-Wl,-u,__llvm_profile_runtime", "-o", program)
+    ran(
+        *os.environ.get("CC", "cc").split(),
+        "-std=c11",
+        "-O2",
+        "-pthread",
+        "-DUNTESTED=gen1_update_offered_silent",
+        f"-I{ROOT / 'include'}",
+        ROOT / "bench" / "bench.c",
+        *library,
+        "-Wl,-u,__llvm_profile_runtime",
+        "-o",
+        program,
+    )
     for mode, percents in MODES.items():
         for percent in percents:
-            ran(program, BATTLES, SEED, mode, percent, env={**os.environ, "LLVM_PROFILE_FILE": f"{counts}/{mode}_{percent}.profraw"})
+            ran(
+                program,
+                BATTLES,
+                SEED,
+                mode,
+                percent,
+                env={**os.environ, "LLVM_PROFILE_FILE": f"{counts}/{mode}_{percent}.profraw"},
+            )
     ran(profiler(), "merge", "-o", profile, *sorted(counts.glob("*.profraw")))
     return profile
 

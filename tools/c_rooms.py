@@ -34,7 +34,7 @@ def shown(side):
 
 def known(side):
     """The same, from a spectator."""
-    members = [(it.hp, it.status) for it in side.members[:side.count]]
+    members = [(it.hp, it.status) for it in side.members[: side.count]]
     return members, side.place, list(side.stages), [side.substitute, side.confused, side.light_screen, side.reflect]
 
 
@@ -118,7 +118,9 @@ def compare_room_choices(library, battle_of, folder, count):
                     if not due[1]:
                         break
                 after = (bytes(room.held.battle).hex(), room.log.hex(), room.held.number)
-                count.tell(f"{name}, line {number}, pair {at}, after it", after, (update["bytes"], update["log"], at + 1))
+                count.tell(
+                    f"{name}, line {number}, pair {at}, after it", after, (update["bytes"], update["log"], at + 1)
+                )
 
 
 class Rules:
@@ -168,7 +170,11 @@ def compare_odds_of(rules, battle, side, move, name, count):
     mine, other = (it["members"][it["active"]["place"] - 1] for it in (user, foe))
     usual, critical = (damages_by(battle, side, move, is_critical) for is_critical in (False, True))
     draws = 0 if usual[2] == 48 else rules.critical(user["active"], mine["species"], move)
-    hits = rules.hits(user["active"], foe["active"], other["status"] == 1, move) if battle.calls.gen1_takes_hit_test(move) else 256
+    hits = (
+        rules.hits(user["active"], foe["active"], other["status"] == 1, move)
+        if battle.calls.gen1_takes_hit_test(move)
+        else 256
+    )
     got = (as_tuple(odds.usual), as_tuple(odds.critical), odds.critical_draws, odds.hit_draws)
     count.tell(f"{name}, the odds of move {move}", got, (usual, critical, draws, 0 if odds.reason else hits))
 
@@ -222,13 +228,22 @@ def compare_offered(library, folder, battle_of, count):
                 log, length = (c_uint8 * gen1.LOG_ROOM)(), c_size_t(0)
                 silent = copy(battle)
                 silent_code = library.calls.gen1_update_offered_silent(byref(silent.held), *update["pair"])
-                count.tell(f"{name}, line {number}, pair {at}, untested and silent", (silent_code, silent.bytes.hex()), (0, update["bytes"]))
-                code = library.calls.gen1_update_offered(byref(battle.held), *update["pair"], log, gen1.LOG_ROOM, byref(length))
-                got = (code, bytes(log[:length.value]).hex(), battle.bytes.hex())
+                count.tell(
+                    f"{name}, line {number}, pair {at}, untested and silent",
+                    (silent_code, silent.bytes.hex()),
+                    (0, update["bytes"]),
+                )
+                code = library.calls.gen1_update_offered(
+                    byref(battle.held), *update["pair"], log, gen1.LOG_ROOM, byref(length)
+                )
+                got = (code, bytes(log[: length.value]).hex(), battle.bytes.hex())
                 count.tell(f"{name}, line {number}, pair {at}, untested", got, (0, update["log"], update["bytes"]))
     before = battle.bytes
     calls = [(1, 0, gen1.LOG_ROOM), (0, 255, gen1.LOG_ROOM), (0, 0, 511), (0, 0, 0)]
-    codes = [library.calls.gen1_update_offered(byref(battle.held), one, two, log, room, byref(length)) for one, two, room in calls]
+    codes = [
+        library.calls.gen1_update_offered(byref(battle.held), one, two, log, room, byref(length))
+        for one, two, room in calls
+    ]
     count.tell("untested, no choices and a small log", (codes, battle.bytes), ([25, 26, 27, 27], before))
 
 

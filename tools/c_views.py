@@ -16,7 +16,11 @@ _spec = spec_from_file_location("gen1_structs", ROOT / "python" / "gen1" / "src"
 _structs = module_from_spec(_spec)
 _spec.loader.exec_module(_structs)
 
-StateStruct, PlayoutOptionsStruct, PlayoutsStruct = _structs.StateStruct, _structs.PlayoutOptionsStruct, _structs.PlayoutsStruct
+StateStruct, PlayoutOptionsStruct, PlayoutsStruct = (
+    _structs.StateStruct,
+    _structs.PlayoutOptionsStruct,
+    _structs.PlayoutsStruct,
+)
 ROOM, KEPT = 128, b"\x07" * 128
 OFTEN_CRITICAL = ("Karate Chop", "Razor Leaf", "Crabhammer", "Slash")
 
@@ -41,30 +45,60 @@ def member_read(given):
     byte = given[14]
     asleep = 1 <= byte <= 7
     return {
-        "species": given[0], "level": given[1], "status": 1 if asleep else {0: 0, 8: 2, 16: 3, 32: 4, 64: 5}.get(byte, 6),
-        "sleep": byte if asleep else 0, "marked": given[23], "moves": list(given[15:19]), "pp": list(given[19:23]),
-        "hp": word(given, 4), "max_hp": word(given, 2), "stats": words(given, 6, 4)}
+        "species": given[0],
+        "level": given[1],
+        "status": 1 if asleep else {0: 0, 8: 2, 16: 3, 32: 4, 64: 5}.get(byte, 6),
+        "sleep": byte if asleep else 0,
+        "marked": given[23],
+        "moves": list(given[15:19]),
+        "pp": list(given[19:23]),
+        "hp": word(given, 4),
+        "max_hp": word(given, 2),
+        "stats": words(given, 6, 4),
+    }
 
 
 def active_read(given):
     """An active block (docs/LAYOUT.md, "Active block")."""
     return {
-        "conditions": word(given, 17) + 65536 * word(given, 19), "stats": words(given, 9, 4), "energy": word(given, 27),
-        "place": given[0], "types": list(given[1:3]), "stages": list(given[3:9]), "current_move": given[29],
-        "picked_move": given[30], "kept_accuracy": given[31], "substitute": given[21], "confusion": given[22],
-        "disabled_slot": given[23], "disabled_turns": given[24], "bad_poison": given[25], "turns": given[26]}
+        "conditions": word(given, 17) + 65536 * word(given, 19),
+        "stats": words(given, 9, 4),
+        "energy": word(given, 27),
+        "place": given[0],
+        "types": list(given[1:3]),
+        "stages": list(given[3:9]),
+        "current_move": given[29],
+        "picked_move": given[30],
+        "kept_accuracy": given[31],
+        "substitute": given[21],
+        "confusion": given[22],
+        "disabled_slot": given[23],
+        "disabled_turns": given[24],
+        "bad_poison": given[25],
+        "turns": given[26],
+    }
 
 
 def side_read(given):
-    return {"members": [member_read(given[24 * place:24 * place + 24]) for place in range(6)], "active": active_read(given[144:])}
+    return {
+        "members": [member_read(given[24 * place : 24 * place + 24]) for place in range(6)],
+        "active": active_read(given[144:]),
+    }
 
 
 def state_read(given):
     """All 384 bytes."""
     return {
-        "sides": [side_read(given[24:204]), side_read(given[204:384])], "turn": word(given, 1), "limit": word(given, 20),
-        "last_damage": word(given, 3), "rules": given[19], "outcome": given[16], "requests": list(given[17:19]),
-        "index": given[5], "numbers": list(given[6:16])}
+        "sides": [side_read(given[24:204]), side_read(given[204:384])],
+        "turn": word(given, 1),
+        "limit": word(given, 20),
+        "last_damage": word(given, 3),
+        "rules": given[19],
+        "outcome": given[16],
+        "requests": list(given[17:19]),
+        "index": given[5],
+        "numbers": list(given[6:16]),
+    }
 
 
 def text_of(call, *arguments, room=ROOM):
@@ -159,7 +193,11 @@ def rows_of(call, last, length):
 def compare_chart(calls, document, elements, count):
     """Compares the type chart with the rows of docs/TABLES.md."""
     rows = {(attack, foe): int(tenths) for attack, foe, tenths in table(document, "Type rows")}
-    due = {(one, two): (0, rows.get((attack, foe), 10)) for one, attack in enumerate(elements) for two, foe in enumerate(elements)}
+    due = {
+        (one, two): (0, rows.get((attack, foe), 10))
+        for one, attack in enumerate(elements)
+        for two, foe in enumerate(elements)
+    }
     for one in range(256):
         got, tenths = [], c_uint8(7)
         for two in range(256):
@@ -177,13 +215,18 @@ def compare_tables(calls, count):
         names = [row[0] for row in rows]
         call = getattr(calls, f"gen1_{kind}_name")
         got = [text_of(call, number) for number in range(256)]
-        due = [(0, names[number - first]) if first <= number < first + len(names) else (42, "") for number in range(256)]
+        due = [
+            (0, names[number - first]) if first <= number < first + len(names) else (42, "") for number in range(256)
+        ]
         count.tell(f"names, {kind}", got, due)
         short = [text_of(call, number, room=len(name))[0] for number, name in enumerate(names, first)]
         count.tell(f"names, {kind}, small rooms", set(short), {41})
         if first:
             find = getattr(calls, f"gen1_{kind}_from_name")
-            forms = [[form(name).encode() for form in (str, str.lower, lambda it: re.sub("[^A-Za-z0-9]", "", it).upper())] for name in names]
+            forms = [
+                [form(name).encode() for form in (str, str.lower, lambda it: re.sub("[^A-Za-z0-9]", "", it).upper())]
+                for name in names
+            ]
             got = [[find(form, ctypes.c_size_t(len(form))) for form in each] for each in forms]
             count.tell(f"names, {kind}, found", got, [[number] * 3 for number in range(first, first + len(names))])
             count.tell(f"names, {kind}, not found", find(b"Missingno", ctypes.c_size_t(9)), 0)
@@ -191,8 +234,18 @@ def compare_tables(calls, count):
     base = [[*map(int, row[3:8]), number[row[1]], number[row[2]]] for row in species]
     count.tell("base stats", rows_of(calls.gen1_species_stats, 151, 7), (base, True))
     effects = effect_names(document)
-    data = [[number[row[1]], int(row[2]), int(row[3]) * 255 // 100, int(row[4]), effects.index(row[5].partition("(")[0]),
-             {"Quick Attack": 1, "Counter": 255}.get(row[0], 0), int(row[0] in OFTEN_CRITICAL)] for row in moves]
+    data = [
+        [
+            number[row[1]],
+            int(row[2]),
+            int(row[3]) * 255 // 100,
+            int(row[4]),
+            effects.index(row[5].partition("(")[0]),
+            {"Quick Attack": 1, "Counter": 255}.get(row[0], 0),
+            int(row[0] in OFTEN_CRITICAL),
+        ]
+        for row in moves
+    ]
     count.tell("moves", rows_of(calls.gen1_move_data, 165, 7), (data, True))
     compare_chart(calls, document, elements, count)
     return [row[0] for row in species], [row[0] for row in moves]
@@ -213,15 +266,31 @@ def compare_sentences(calls, count):
     got = [code for code in range(256) if text_of(calls.gen1_error_text, code)[0] == 0]
     count.tell("sentences", got, [0, *codes])
     tests = range(16, 23)
-    count.tell("tests of loading", [codes[code] for code in tests], [text_of(calls.gen1_error_text, code)[1] for code in tests])
+    count.tell(
+        "tests of loading", [codes[code] for code in tests], [text_of(calls.gen1_error_text, code)[1] for code in tests]
+    )
     version = re.search(r'GEN1_VERSION "(\d+)\.(\d+)\.(\d+)"', header).groups()
     count.tell("version", calls.gen1_version(), sum(int(n) << (16 - 8 * k) for k, n in enumerate(version)))
 
 
 def compare(calls, battles, count):
     """Compares everything above. `battles` yields a name and the 384 bytes of each."""
-    for name in ("species_name", "move_name", "type_name", "species_from_name", "move_from_name", "species_stats", "move_data", "effectiveness",
-                 "error_text", "choice_kind", "choice_slot", "choice_words", "reseed", "set_state"):
+    for name in (
+        "species_name",
+        "move_name",
+        "type_name",
+        "species_from_name",
+        "move_from_name",
+        "species_stats",
+        "move_data",
+        "effectiveness",
+        "error_text",
+        "choice_kind",
+        "choice_slot",
+        "choice_words",
+        "reseed",
+        "set_state",
+    ):
         getattr(calls, f"gen1_{name}").restype = c_uint8
     calls.gen1_version.restype, calls.gen1_get_state.restype, calls.gen1_build.restype = c_uint32, None, ctypes.c_char_p
     count.tell("build", calls.gen1_build().partition(b",")[0] in (b"proved", b"plain", b"unknown"), True)

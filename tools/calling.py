@@ -61,7 +61,10 @@ def parts_of(file):
 def parts():
     """The text of each part by its name."""
     found = {}
-    for file in [*sorted((ROOT / "crates" / "uses" / "src").rglob("*.rt")), ROOT / "crates" / "gen1_c" / "src" / "the_theorem.rt"]:
+    for file in [
+        *sorted((ROOT / "crates" / "uses" / "src").rglob("*.rt")),
+        ROOT / "crates" / "gen1_c" / "src" / "the_theorem.rt",
+    ]:
         for name, text in parts_of(file):
             found.setdefault(name, []).append(text)
     return {name: "\n\n".join(texts) for name, texts in found.items()}

@@ -18,12 +18,31 @@ import sys
 sys.dont_write_bytecode = True
 from repository import ROOT
 
-NUMBERS = {"u8": "uint8_t", "i8": "int8_t", "u16": "uint16_t", "u32": "uint32_t", "u64": "uint64_t", "usize": "size_t", "bool": "bool"}
+NUMBERS = {
+    "u8": "uint8_t",
+    "i8": "int8_t",
+    "u16": "uint16_t",
+    "u32": "uint32_t",
+    "u64": "uint64_t",
+    "usize": "size_t",
+    "bool": "bool",
+}
 # Names of the sources, each with the names that the header has for it.
-NAMES = {"number": ("move", "species", "type"), "id": ("move",), "kind": ("type",), "byte": ("choice",), "front": ("choices",),
-         "watch": ("spectator",), "written": ("length",), "public": ("known",)}
-PARTS = {"chosen": ("one", "two"), "sides": ("one", "two"),
-         "stages": ("attack", "defense", "speed", "special", "accuracy", "evasion")}
+NAMES = {
+    "number": ("move", "species", "type"),
+    "id": ("move",),
+    "kind": ("type",),
+    "byte": ("choice",),
+    "front": ("choices",),
+    "watch": ("spectator",),
+    "written": ("length",),
+    "public": ("known",),
+}
+PARTS = {
+    "chosen": ("one", "two"),
+    "sides": ("one", "two"),
+    "stages": ("attack", "defense", "speed", "special", "accuracy", "evasion"),
+}
 SIZES = {"GEN1_LOG_ROOM": "512"}
 RUST_STRUCT = re.compile(r"#\[repr\(C\)\]\n(?:#\[[^\n]*\]\n)*pub struct (\w+) \{\n(.*?)^\}", re.M | re.S)
 RUST_FIELD = re.compile(r"(?m)^    pub (\w+): (.+),$")

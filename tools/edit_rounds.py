@@ -33,7 +33,8 @@ ERROR = re.compile(r"(?:\./)?((?:src|specs|proofs)/\S+:\d+:\d+: error: .*)")
 # An error that says that a text cannot be read, and not that it is false.
 UNREAD = re.compile(
     r"(?:src|specs)/\S+?:\d+:\d+: error: "
-    r"(?!`[^`]*`: (?!.*(?:is not in scope|has no field|is no name|operand is missing|expected the end|cannot continue)))")
+    r"(?!`[^`]*`: (?!.*(?:is not in scope|has no field|is no name|operand is missing|expected the end|cannot continue)))"
+)
 # An error that says only that a name is gone, or that a proof rests on another one that is refused.
 NAMES = re.compile(r"has no field|is not in scope|has no `|was not admitted")
 LIMIT = re.compile(r"rattle: no verdict.*")
@@ -152,10 +153,16 @@ def try_in_rounds(crate, edits):
         while waiting:
             batch = together(waiting)
             said = check_together(crate, batch, kept)
-            goals = {edit: goal for edit, them in said.items() if (goal := next((it.goal for it in them if it.is_refused()), ""))}
+            goals = {
+                edit: goal
+                for edit, them in said.items()
+                if (goal := next((it.goal for it in them if it.is_refused()), ""))
+            }
             refused += [Tried(edit, "refused", goal) for edit, goal in goals.items()]
             # An edit that cannot be applied beside the others waits too. After a round that refuses none, the next would say the same.
-            again = [it for it in batch if goals and it not in goals and (it not in said or any(map(Said.waits, said[it])))]
+            again = [
+                it for it in batch if goals and it not in goals and (it not in said or any(map(Said.waits, said[it])))
+            ]
             left += [edit for edit in batch if edit not in goals and edit not in again]
             waiting = {edit: functions for edit, functions in waiting.items() if edit not in batch or edit in again}
     return refused, left
@@ -205,7 +212,10 @@ class Tally:
                 self.refused += 1
             else:
                 self.failed.append(line)
-        print(f"-- edits: {self.refused + len(self.failed)} of {self.total} after {clock(time.monotonic() - self.begun)}", flush=True)
+        print(
+            f"-- edits: {self.refused + len(self.failed)} of {self.total} after {clock(time.monotonic() - self.begun)}",
+            flush=True,
+        )
 
     def end(self):
         """Prints again what was not refused; returns how many edits were refused, and how many not."""

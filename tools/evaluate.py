@@ -81,7 +81,9 @@ def parsed():
     parts = parser.add_subparsers(dest="part", required=True)
     playing = parts.add_parser("play")
     playing.add_argument("places", nargs="+", metavar="PLACE")
-    playing.add_argument("--jobs", type=int, default=os.cpu_count(), help="how many processes play (default: one for each processor)")
+    playing.add_argument(
+        "--jobs", type=int, default=os.cpu_count(), help="how many processes play (default: one for each processor)"
+    )
     parts.add_parser("lemmas")
     writing = parts.add_parser("battles")
     writing.add_argument("traces")

@@ -24,7 +24,11 @@ WIDTH = 128
 DETAILS = (
     ("Why a member could not act: `detail` of GEN1_EVENT_CANT.", "REASON", "Reason of Cant"),
     ("What dealt damage: `detail` of GEN1_EVENT_DAMAGE.", "SOURCE", "Source of Damage"),
-    ("What began, ended or showed: `detail` of GEN1_EVENT_START, GEN1_EVENT_END and GEN1_EVENT_ACTIVATE.", "VOLATILE", "Volatile"),
+    (
+        "What began, ended or showed: `detail` of GEN1_EVENT_START, GEN1_EVENT_END and GEN1_EVENT_ACTIVATE.",
+        "VOLATILE",
+        "Volatile",
+    ),
 )
 
 
@@ -34,7 +38,9 @@ def enum(about, kind, first, names):
     if len(set(constants)) != len(constants):
         sys.exit(f"two names of {kind} are the same constant")
     constants[0] += f" = {first}"
-    body = textwrap.fill(", ".join(constants), WIDTH, initial_indent="    ", subsequent_indent="    ", break_long_words=False)
+    body = textwrap.fill(
+        ", ".join(constants), WIDTH, initial_indent="    ", subsequent_indent="    ", break_long_words=False
+    )
     return f"/* {about} */\nenum {{\n{body}\n}};\n"
 
 
@@ -51,12 +57,20 @@ def enums(document, rules):
     """All enums between the marks."""
     species = [name for name, *_ in numbered(table(document, "Species"))]
     moves = [name for name, *_ in numbered(table(document, "Moves"))]
-    return "\n".join([
-        enum("Types.", "TYPE", 0, element_names(document)),
-        enum("Species.", "SPECIES", 1, species),
-        enum("Moves.", "MOVE", 1, moves),
-        enum('What moves do besides their damage: `effect` of gen1_move (docs/TABLES.md, "Effects").', "EFFECT", 0, effect_names(document)),
-        *(detail_enum(rules, *detail) for detail in DETAILS)])
+    return "\n".join(
+        [
+            enum("Types.", "TYPE", 0, element_names(document)),
+            enum("Species.", "SPECIES", 1, species),
+            enum("Moves.", "MOVE", 1, moves),
+            enum(
+                'What moves do besides their damage: `effect` of gen1_move (docs/TABLES.md, "Effects").',
+                "EFFECT",
+                0,
+                effect_names(document),
+            ),
+            *(detail_enum(rules, *detail) for detail in DETAILS),
+        ]
+    )
 
 
 def main():

@@ -23,21 +23,41 @@ WIDTH = 90
 
 # From the top down: the title, the contents, and the crates of a layer.
 LAYERS = (
-    ("Tests and examples", "no crate of the product depends on these", (
-        "uses", "test_support", "test_numbers", "test_operations", "test_engine", "test_players",
-        "test_commands")),
-    ("Programs and C", "what opens files, prints, or is called from another language", (
-        "battle_tool", "battle_commands", "battle_input", "trace_tool", "layout_tool", "gen1_c")),
-    ("Battle", "a turn, an update, all that it can lead to, playouts, a room of two players, what a player knows", (
-        "gen1_player", "gen1_room", "gen1_playouts", "gen1_outcomes", "gen1_engine", "gen1_turn")),
-    ("Operations", "one phase of the machine each, over the 384 bytes", (
-        "gen1_switching", "gen1_offers", "gen1_multiturn", "gen1_effects", "gen1_status", "gen1_odds", "gen1_hits")),
-    ("Representations", "a state as 384 bytes and as plain structs; events as bytes, as lines, as a view", (
-        "gen1_states", "gen1_layout", "gen1_spectator", "gen1_printer", "gen1_events")),
-    ("Machine", "what a battle is, as definitions and laws; the public types; sinks and sources of bytes", (
-        "gen1_machine", "gen1_devices")),
-    ("Numbers", "teams, also from text, and stats; species, moves and types; draws", (
-        "gen1_text", "gen1_stats", "gen1_tables", "gen1_rolls")),
+    (
+        "Tests and examples",
+        "no crate of the product depends on these",
+        ("uses", "test_support", "test_numbers", "test_operations", "test_engine", "test_players", "test_commands"),
+    ),
+    (
+        "Programs and C",
+        "what opens files, prints, or is called from another language",
+        ("battle_tool", "battle_commands", "battle_input", "trace_tool", "layout_tool", "gen1_c"),
+    ),
+    (
+        "Battle",
+        "a turn, an update, all that it can lead to, playouts, a room of two players, what a player knows",
+        ("gen1_player", "gen1_room", "gen1_playouts", "gen1_outcomes", "gen1_engine", "gen1_turn"),
+    ),
+    (
+        "Operations",
+        "one phase of the machine each, over the 384 bytes",
+        ("gen1_switching", "gen1_offers", "gen1_multiturn", "gen1_effects", "gen1_status", "gen1_odds", "gen1_hits"),
+    ),
+    (
+        "Representations",
+        "a state as 384 bytes and as plain structs; events as bytes, as lines, as a view",
+        ("gen1_states", "gen1_layout", "gen1_spectator", "gen1_printer", "gen1_events"),
+    ),
+    (
+        "Machine",
+        "what a battle is, as definitions and laws; the public types; sinks and sources of bytes",
+        ("gen1_machine", "gen1_devices"),
+    ),
+    (
+        "Numbers",
+        "teams, also from text, and stats; species, moves and types; draws",
+        ("gen1_text", "gen1_stats", "gen1_tables", "gen1_rolls"),
+    ),
 )
 
 
@@ -56,7 +76,9 @@ def faults(known):
 
 def nearest(name, known):
     """The crates that a crate depends on, without those that it reaches through another of them."""
-    return [it for it in known[name] if not any(it in below([other], known)[:-1] for other in known[name] if other != it)]
+    return [
+        it for it in known[name] if not any(it in below([other], known)[:-1] for other in known[name] if other != it)
+    ]
 
 
 def rows(names, known):

@@ -23,7 +23,16 @@ from release_proved import said
 from repository import ROOT, below, crates, version
 
 PERMITTED = {
-    "MIT", "Apache-2.0", "Unlicense", "BSL-1.0", "Zlib", "Unicode-DFS-2016", "Unicode-3.0", "0BSD", "BSD-2-Clause", "BSD-3-Clause",
+    "MIT",
+    "Apache-2.0",
+    "Unlicense",
+    "BSL-1.0",
+    "Zlib",
+    "Unicode-DFS-2016",
+    "Unicode-3.0",
+    "0BSD",
+    "BSD-2-Clause",
+    "BSD-3-Clause",
 }
 # What is built for each artifact: its title, the package with its features, and what of rustc's library is linked.
 LIBRARY = ("gen1-ffi", *PLAIN_FEATURES)
@@ -38,7 +47,10 @@ OTHER = {
 }
 # The crates of the C library; the Rattle kit has ports of them. These are the licenses of the crates themselves.
 KNOWN = {
-    "arrayvec": "MIT OR Apache-2.0", "bitflags": "MIT OR Apache-2.0", "byteorder": "Unlicense OR MIT", "itoa": "MIT OR Apache-2.0",
+    "arrayvec": "MIT OR Apache-2.0",
+    "bitflags": "MIT OR Apache-2.0",
+    "byteorder": "Unlicense OR MIT",
+    "itoa": "MIT OR Apache-2.0",
     "thiserror": "MIT OR Apache-2.0",
 }
 OF_RUSTC = "MIT OR Apache-2.0"
@@ -75,7 +87,10 @@ def rows(artifact):
     if artifact == "unknown":
         return []
     if artifact == "proved":
-        return [("gen1", version(), "MIT", None), *((name, "of the kit", KNOWN.get(name, "none"), None) for name in of_the_kit())]
+        return [
+            ("gen1", version(), "MIT", None),
+            *((name, "of the kit", KNOWN.get(name, "none"), None) for name in of_the_kit()),
+        ]
     _, words, library = CARGO[artifact]
     rustc = re.match(r"rustc (\S+)", said("rustc", "--version") or "")
     own = (library, f"rustc {rustc[1]}" if rustc else "unknown", OF_RUSTC, None)
@@ -116,7 +131,9 @@ def of_library(build):
 def permitted(expression):
     """Whether a license expression leaves a choice of permitted licenses. AND is taken to bind last, which permits nothing more."""
     every = re.split(r"\s+AND\s+", expression.replace("/", " OR "))
-    return all(any(name.split(" WITH ")[0].strip("() ") in PERMITTED for name in re.split(r"\s+OR\s+", part)) for part in every)
+    return all(
+        any(name.split(" WITH ")[0].strip("() ") in PERMITTED for name in re.split(r"\s+OR\s+", part)) for part in every
+    )
 
 
 def not_permitted():

@@ -29,7 +29,13 @@ def told(fault, given):
 def main():
     parser = argparse.ArgumentParser(description=__doc__, formatter_class=argparse.RawDescriptionHelpFormatter)
     parser.add_argument("program", type=program)
-    parser.add_argument("file", nargs="?", type=Path, default=recorded("loads.txt"), help="byte strings (default: those of tests/battles)")
+    parser.add_argument(
+        "file",
+        nargs="?",
+        type=Path,
+        default=recorded("loads.txt"),
+        help="byte strings (default: those of tests/battles)",
+    )
     given = parser.parse_args()
     try:
         strings = loads(given.file)

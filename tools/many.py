@@ -23,7 +23,14 @@ FOUND, TABLE = ctypes.create_string_buffer(PLACES * SUCCESSOR.size), (c_uint32 *
 
 
 class TextFault(Structure):
-    _fields_ = [("line", c_size_t), ("member", c_size_t), ("field", c_size_t), ("code", c_uint8), ("rule", c_uint8), ("reserved", c_uint8 * 6)]
+    _fields_ = [
+        ("line", c_size_t),
+        ("member", c_size_t),
+        ("field", c_size_t),
+        ("code", c_uint8),
+        ("rule", c_uint8),
+        ("reserved", c_uint8 * 6),
+    ]
 
 
 class BatchUpdate(Structure):
@@ -39,8 +46,11 @@ class OutcomeList(Structure):
 
 
 class Way(Structure):
-    _fields_ = [("battle", c_uint8 * 384), *((name, c_uint64) for name in ("low", "high", "whole_low", "whole_high", "log_length")),
-                ("log", c_uint8 * 512)]
+    _fields_ = [
+        ("battle", c_uint8 * 384),
+        *((name, c_uint64) for name in ("low", "high", "whole_low", "whole_high", "log_length")),
+        ("log", c_uint8 * 512),
+    ]
 
 
 def declare(calls):
@@ -50,11 +60,27 @@ def declare(calls):
         ("gen1_offered", c_uint16, [battle, c_uint8]),
         ("gen1_offered_many", c_uint8, [battle, size, c_uint8, POINTER(c_uint16), size]),
         ("gen1_update_many", c_uint8, [battle, size, POINTER(BatchUpdate), size]),
-        ("gen1_step_random_many", c_uint8,
-         [battle, size, battle, size, POINTER(c_uint64), size, POINTER(BatchUpdate), size, POINTER(c_size_t)]),
+        (
+            "gen1_step_random_many",
+            c_uint8,
+            [battle, size, battle, size, POINTER(c_uint64), size, POINTER(BatchUpdate), size, POINTER(c_size_t)],
+        ),
         ("gen1_playout", c_uint8, [battle, POINTER(PlayoutOptionsStruct), POINTER(PlayoutsStruct)]),
-        ("gen1_outcomes", c_uint8,
-         [battle, c_uint8, c_uint8, POINTER(OutcomeOptions), ctypes.c_char_p, size, POINTER(c_uint32), size, POINTER(OutcomeList)]),
+        (
+            "gen1_outcomes",
+            c_uint8,
+            [
+                battle,
+                c_uint8,
+                c_uint8,
+                POINTER(OutcomeOptions),
+                ctypes.c_char_p,
+                size,
+                POINTER(c_uint32),
+                size,
+                POINTER(OutcomeList),
+            ],
+        ),
         ("gen1_walk_begin", c_uint8, [battle, c_uint8, c_uint8, c_uint8, ctypes.c_char_p]),
         ("gen1_walk_next", c_uint8, [ctypes.c_char_p, POINTER(Way)]),
         ("gen1_team_from_text", c_uint8, [ctypes.c_char_p, size, POINTER(gen1.Team), POINTER(TextFault)]),
@@ -91,12 +117,20 @@ def compare_masks(library, steps, count):
         masks = (c_uint16 * len(steps))(*[KEPT] * len(steps))
         code = library.calls.gen1_offered_many(battles, len(steps), side, masks, len(steps))
         count.tell(f"masks of side {side}", (code, list(masks)), (0, want))
-        count.tell(f"each mask of side {side}", [library.calls.gen1_offered(byref(battle), side) for battle in battles], want)
+        count.tell(
+            f"each mask of side {side}", [library.calls.gen1_offered(byref(battle), side) for battle in battles], want
+        )
     masks = (c_uint16 * 3)(*[KEPT] * 3)
     others = [side for side in range(256) if side not in (1, 2)]
     count.tell("no side's mask", {library.calls.gen1_offered(byref(battles[0]), side) for side in others}, {0})
-    count.tell("no side's masks", {library.calls.gen1_offered_many(battles, 3, side, masks, 3) for side in others}, {40})
-    count.tell("masks of another length", {library.calls.gen1_offered_many(battles, size, 1, masks, 3) for size in (0, 2, 4)}, {45})
+    count.tell(
+        "no side's masks", {library.calls.gen1_offered_many(battles, 3, side, masks, 3) for side in others}, {40}
+    )
+    count.tell(
+        "masks of another length",
+        {library.calls.gen1_offered_many(battles, size, 1, masks, 3) for size in (0, 2, 4)},
+        {45},
+    )
     count.tell("masks that were kept", list(masks), [KEPT] * 3)
 
 
@@ -113,7 +147,12 @@ def compare_batches(library, steps, count):
     for at, (_, update) in enumerate(steps):
         it = updates[at]
         result = [it.result & 7, it.result >> 3 & 3, it.result >> 5 & 3]
-        want = (update["pair"], update["refused"] + 23 if update["refused"] else 0, update["bytes"], update["result"] or result)
+        want = (
+            update["pair"],
+            update["refused"] + 23 if update["refused"] else 0,
+            update["bytes"],
+            update["result"] or result,
+        )
         count.tell(f"update {at} of a batch", ([it.one, it.two], it.code, bytes(battles[at]).hex(), result), want)
 
 
@@ -146,7 +185,9 @@ def random_step(library, given, start, seed):
 def compare_random_steps(library, steps, count):
     """Compares random steps of recorded states with single calls, without starts and with those before the updates; and in two parts."""
     size, step = len(steps), library.calls.gen1_step_random_many
-    given, seeds = [bytes.fromhex(update["bytes"]) for _, update in steps], [at * 0x9E3779B97F4A7C15 % 2**64 for at in range(size)]
+    given, seeds = [bytes.fromhex(update["bytes"]) for _, update in steps], [
+        at * 0x9E3779B97F4A7C15 % 2**64 for at in range(size)
+    ]
     for name, starts in ("without starts", []), ("with starts", [before for before, _ in steps]):
         battles, updates, over = array_of(given), (BatchUpdate * size)(), c_size_t(KEPT)
         generators, begins = (c_uint64 * size)(*seeds), array_of(starts)
@@ -163,18 +204,44 @@ def compare_random_steps(library, steps, count):
         for first, past in ((0, size // 3), (size // 3, size)):
             part, some = past - first, starts[first:past]
             held, done = array_of(given[first:past]), (BatchUpdate * part)()
-            step(held, part, array_of(some), len(some), (c_uint64 * part)(*seeds[first:past]), part, done, part, byref(over))
+            step(
+                held,
+                part,
+                array_of(some),
+                len(some),
+                (c_uint64 * part)(*seeds[first:past]),
+                part,
+                done,
+                part,
+                byref(over),
+            )
             found += [bytes(held), bytes(done)]
-        count.tell(f"random steps {name}, in parts", (found[0] + found[2], found[1] + found[3]), (bytes(battles), bytes(updates)))
+        count.tell(
+            f"random steps {name}, in parts",
+            (found[0] + found[2], found[1] + found[3]),
+            (bytes(battles), bytes(updates)),
+        )
     kept = bytes(battles), bytes(generators), bytes(updates), over.value
-    for lengths in ((size, size - 1, size, size), (size, size, size - 1, size), (size, size, size, size - 1), (size - 1, size, size, size)):
+    for lengths in (
+        (size, size - 1, size, size),
+        (size, size, size - 1, size),
+        (size, size, size, size - 1),
+        (size - 1, size, size, size),
+    ):
         code = step(battles, lengths[0], begins, lengths[1], generators, lengths[2], updates, lengths[3], byref(over))
-        count.tell(f"random steps of other lengths, {lengths}", (code, bytes(battles), bytes(generators), bytes(updates), over.value), (45, *kept))
+        count.tell(
+            f"random steps of other lengths, {lengths}",
+            (code, bytes(battles), bytes(generators), bytes(updates), over.value),
+            (45, *kept),
+        )
 
 
 def leader(battle):
     """The outcome by the shares of the HP left, from the bytes of the members (docs/LAYOUT.md, "Member")."""
-    words = [[int.from_bytes(battle[at + 24 * place:][:2], "little") for place in range(6)] for at in (24 + 2, 24 + 4, 204 + 2, 204 + 4)]
+    words = [
+        [int.from_bytes(battle[at + 24 * place :][:2], "little") for place in range(6)]
+        for at in (24 + 2, 24 + 4, 204 + 2, 204 + 4)
+    ]
     one, two = Fraction(sum(words[1]), sum(words[0])), Fraction(sum(words[3]), sum(words[2]))
     return 1 if one > two else 2 if two > one else 3
 
@@ -183,7 +250,7 @@ def copies(battle, side, weights):
     """The offered choices of a side, each as often as its weight says."""
     start = 24 if side == 1 else 204
     # The place of the member that is out is the first byte of the active block, and its moves are bytes 15 to 18 of its own (docs/LAYOUT.md).
-    moves = battle.bytes[start + 24 * (battle.bytes[start + 144] - 1) + 15:][:4]
+    moves = battle.bytes[start + 24 * (battle.bytes[start + 144] - 1) + 15 :][:4]
     number = {0x10: 165, **{0x11 + slot: move for slot, move in enumerate(moves)}}
     offered = battle.choices(side)
     return [choice for choice in offered for _ in range(weights[number.get(choice, 0)])] or offered
@@ -224,8 +291,12 @@ def compare_playouts(library, steps, folder, count):
     for number, (test, given) in enumerate(loads(recorded("loads.txt", folder)), 1):
         if test and len(given) == 384:
             counts = PlayoutsStruct(KEPT, KEPT, KEPT, KEPT)
-            code = library.calls.gen1_playout(byref(array_of([given])[0]), byref(PlayoutOptionsStruct(1, 3, 0)), byref(counts))
-            count.tell(f"playouts of byte string {number}", (code, counts.wins_one, counts.faults), (test + 15, KEPT, KEPT))
+            code = library.calls.gen1_playout(
+                byref(array_of([given])[0]), byref(PlayoutOptionsStruct(1, 3, 0)), byref(counts)
+            )
+            count.tell(
+                f"playouts of byte string {number}", (code, counts.wins_one, counts.faults), (test + 15, KEPT, KEPT)
+            )
 
 
 def compare_outcomes(library, steps, count):
@@ -233,7 +304,11 @@ def compare_outcomes(library, steps, count):
     for at, (before, update) in enumerate(steps):
         code, of, weights = listed(library, before, update["pair"], 0)
         if update["refused"]:
-            count.tell(f"outcomes of update {at}", (code, of.low, of.left_high, of.count), (update["refused"] + 23, KEPT, KEPT, KEPT))
+            count.tell(
+                f"outcomes of update {at}",
+                (code, of.low, of.left_high, of.count),
+                (update["refused"] + 23, KEPT, KEPT, KEPT),
+            )
             continue
         after = bytes.fromhex(update["bytes"])
         # The numbers to draw are those from before (docs/LAYOUT.md, "Header").
@@ -256,7 +331,9 @@ def compare_outcomes(library, steps, count):
 def listed(library, before, pair, least):
     """Lists the outcomes that are not left out: the code, the struct of the list, and the weights of the battles."""
     of = OutcomeList(KEPT, KEPT, KEPT, KEPT, KEPT)
-    code = library.calls.gen1_outcomes(array_of([before]), *pair, byref(OutcomeOptions(least)), FOUND, PLACES, TABLE, 2 * PLACES, byref(of))
+    code = library.calls.gen1_outcomes(
+        array_of([before]), *pair, byref(OutcomeOptions(least)), FOUND, PLACES, TABLE, 2 * PLACES, byref(of)
+    )
     rows = SUCCESSOR.iter_unpack(ctypes.string_at(FOUND, of.count * SUCCESSOR.size)) if code == 0 else ()
     return code, of, {battle: high << 64 | low for battle, low, high in rows}
 
@@ -270,7 +347,7 @@ def walked(library, before, pair, after):
         if code == 0:
             battle, chance = bytes(way.battle), Fraction(way.high << 64 | way.low, way.whole_high << 64 | way.whole_low)
             sums[battle] = sums.get(battle, 0) + chance
-            logs += [bytes(way.log[:way.log_length])] * (battle == after)
+            logs += [bytes(way.log[: way.log_length])] * (battle == after)
     return (sums, logs) if code == WALK_END else (code, logs)
 
 
@@ -281,7 +358,11 @@ def export_text(members):
         dvs = it["dvs"]
         ivs = zip(("Atk", "Def", "Spe", "SpA", "SpD"), [*dvs, dvs[3]])
         lines += [it["species"], f"Level: {it['level']}", "IVs: " + " / ".join(f"{2 * dv} {stat}" for stat, dv in ivs)]
-        lines += ["EVs: 252 HP / 252 Atk / 252 Def / 252 SpA / 252 SpD / 252 Spe", *(f"- {name}" for name, _ in it["moves"]), ""]
+        lines += [
+            "EVs: 252 HP / 252 Atk / 252 Def / 252 SpA / 252 SpD / 252 Spe",
+            *(f"- {name}" for name, _ in it["moves"]),
+            "",
+        ]
     return "\r\n".join(lines).encode()
 
 
@@ -298,14 +379,20 @@ def compare_texts(library, member, folder, count):
     """Compares the recorded teams, read from text, with the experience and the PP ups that a team builder gives."""
     for case in cases(recorded("battles.jsonl", folder)):
         members = json.loads(case["input"])["one"]
-        want = gen1.team([member({**it, "exp": [252 * 252] * 5, "moves": [(name, 3) for name, _ in it["moves"]]}) for it in members])
+        want = gen1.team(
+            [member({**it, "exp": [252 * 252] * 5, "moves": [(name, 3) for name, _ in it["moves"]]}) for it in members]
+        )
         for form, text, call in (
             ("text", export_text(members), library.calls.gen1_team_from_text),
             ("packed", packed_line(members), library.calls.gen1_team_from_packed),
         ):
             team, fault = gen1.Team(count=KEPT), TextFault(KEPT, KEPT, KEPT, KEPT, KEPT)
             code = call(text, len(text), byref(team), byref(fault))
-            count.tell(f"{form} of {case['name']}", (code, bytes(team).hex(), fault.line, fault.code), (0, bytes(want).hex(), KEPT, KEPT))
+            count.tell(
+                f"{form} of {case['name']}",
+                (code, bytes(team).hex(), fault.line, fault.code),
+                (0, bytes(want).hex(), KEPT, KEPT),
+            )
 
 
 def compare_text_faults(library, count):
@@ -339,22 +426,35 @@ def compare_text_faults(library, count):
 
 def compare_stats(library, member, folder, count):
     """Compares the stats of the members of `calc` with the formulas of docs/MECHANICS.md, "Stats"; and a member that is refused."""
-    rows = {name: [int(base) for base in stats] for name, _, _, *stats in numbered(table((ROOT / "docs" / "TABLES.md").read_text(), "Species"))}
+    rows = {
+        name: [int(base) for base in stats]
+        for name, _, _, *stats in numbered(table((ROOT / "docs" / "TABLES.md").read_text(), "Species"))
+    }
     for case in cases(recorded("calc.jsonl", folder)):
         if case.get("stderr", "").startswith(("error: json", "error: team")):
             continue
         it = json.loads(case["input"])["attacker"]
         attack, defense, speed, special = it["dvs"]
         dvs = [attack % 2 * 8 + defense % 2 * 4 + speed % 2 * 2 + special % 2, *it["dvs"]]
-        points = [((base + dv) * 2 + min(255, isqrt(exp - 1) + 1 if exp else 0) // 4) * it["level"] // 100
-                  for base, dv, exp in zip(rows[it["species"]], dvs, it["exp"])]
+        points = [
+            ((base + dv) * 2 + min(255, isqrt(exp - 1) + 1 if exp else 0) // 4) * it["level"] // 100
+            for base, dv, exp in zip(rows[it["species"]], dvs, it["exp"])
+        ]
         due = [min(999, points[0] + it["level"] + 10), *(min(999, number + 5) for number in points[1:])]
         stats = (c_uint16 * 5)()
         code = library.calls.gen1_member_stats(byref(member(it)), stats)
         count.tell(f"the stats of {case['name']}", (code, list(stats)), (0, due))
     stats = (c_uint16 * 5)(*[KEPT] * 5)
-    codes = [library.calls.gen1_member_stats(byref(gen1.member(*it, [15] * 4, [0] * 5, moves)), stats)
-             for *it, moves in ((128, 0, [(70, 0)]), (0, 50, [(70, 0)]), (128, 50, [(166, 0)]), (128, 50, []), (128, 50, [(165, 0)]))]
+    codes = [
+        library.calls.gen1_member_stats(byref(gen1.member(*it, [15] * 4, [0] * 5, moves)), stats)
+        for *it, moves in (
+            (128, 0, [(70, 0)]),
+            (0, 50, [(70, 0)]),
+            (128, 50, [(166, 0)]),
+            (128, 50, []),
+            (128, 50, [(165, 0)]),
+        )
+    ]
     count.tell("the stats of no member", (codes, list(stats)), ([3, 10, 11, 5, 7], [KEPT] * 5))
 
 

@@ -8,13 +8,34 @@ from plain_tokens import Unknown, partners, tokens_of
 
 DERIVES = {"Clone", "Copy", "Debug", "Default", "PartialEq", "Eq", "PartialOrd", "Ord", "Hash"}
 ATTRIBUTES = {"inline", "repr", "test", "cfg", "unsafe", "default", "error", "must_use", "cold"}
-MACROS = {"assert", "assert_eq", "assert_ne", "debug_assert", "format_in", "macro_rules", "matches", "unreachable", "write"}
+MACROS = {
+    "assert",
+    "assert_eq",
+    "assert_ne",
+    "debug_assert",
+    "format_in",
+    "macro_rules",
+    "matches",
+    "unreachable",
+    "write",
+}
 PRELUDE = ("Vec", "String")
 
 # The public types of which any value is valid, so that serde's data may be derived. All others have it in additions/.
 WITH_SERDE = {
     "gen1_engine": {"BattleResult"},
-    "gen1_machine": {"CantReason", "DamageSource", "DisabledSlot", "Event", "Kind", "Outcome", "Request", "UsedMove", "Volatile", "Who"},
+    "gen1_machine": {
+        "CantReason",
+        "DamageSource",
+        "DisabledSlot",
+        "Event",
+        "Kind",
+        "Outcome",
+        "Request",
+        "UsedMove",
+        "Volatile",
+        "Who",
+    },
     "gen1_playouts": {"Playouts"},
     "gen1_stats": {"KnownMove"},
     "gen1_tables": {"Element", "Stat"},
@@ -112,7 +133,11 @@ def begin_of_item(source, place):
     while place > 0:
         if code[place - 1].text in ("pub", "const", "unsafe"):
             place -= 1
-        elif code[place - 1].text == ")" and source.is_at(place - 4, "pub (") and code[place - 2].text in ("crate", "super"):
+        elif (
+            code[place - 1].text == ")"
+            and source.is_at(place - 4, "pub (")
+            and code[place - 2].text in ("crate", "super")
+        ):
             place -= 4
         elif code[place - 1].text == "]":
             opening = next(begin for begin, end in source.ends.items() if end == place - 1)
@@ -410,7 +435,9 @@ def take_uses(source):
         if not kept:
             source.drop(begin_of_item(source, place), end)
         elif is_kits:
-            shown = "".join(token.text + " " * (token.text == "pub") for token in source.code[begin_of_item(source, place) : place])
+            shown = "".join(
+                token.text + " " * (token.text == "pub") for token in source.code[begin_of_item(source, place) : place]
+            )
             place = begin_of_item(source, place)
             source.put(place, end, " ".join(f"{shown}use {path};" for path in sorted(kept)))
     source.refresh()
@@ -474,7 +501,9 @@ def c_parameter(source, name, kind):
         pointer = "*mut" if slice_of[1] else "*const"
         borrowed = "slice_mut" if slice_of[1] else "slice"
         return f"{name}: {pointer} {slice_of[2]}, {name}_len: usize", f"unsafe {{ {borrowed}({name}, {name}_len) }}"
-    if not re.fullmatch(r"&(mut )?(\[[A-Za-z_0-9]+; ?[0-9]+\]|[A-Z]\w*|usize|u8|u16)|[ui](8|16|32|64)|usize|bool", kind):
+    if not re.fullmatch(
+        r"&(mut )?(\[[A-Za-z_0-9]+; ?[0-9]+\]|[A-Z]\w*|usize|u8|u16)|[ui](8|16|32|64)|usize|bool", kind
+    ):
         raise Unknown(f"{source.path}: an argument for C of an unknown kind, {name}: {kind}")
     return f"{name}: {kind}", name
 

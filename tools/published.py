@@ -25,7 +25,9 @@ def fault_of(crate, room):
     if (ROOT / ".cargo").is_dir():
         shutil.copytree(ROOT / ".cargo", project / ".cargo", dirs_exist_ok=True)
     ran("cargo", "add", "-q", "--offline", "--path", room / f"gen1-{version()}", cwd=project)
-    program = re.sub(r"(?m)^//! ?(?:# )?", "", EXAMPLE.search((ROOT / "rust" / "gen1" / "src" / "lib.rs").read_text())[1])
+    program = re.sub(
+        r"(?m)^//! ?(?:# )?", "", EXAMPLE.search((ROOT / "rust" / "gen1" / "src" / "lib.rs").read_text())[1]
+    )
     (project / "src" / "main.rs").write_text(program if "fn main" in program else f"fn main() {{\n{program}}}\n")
     told = ran("cargo", "run", "-q", "--offline", cwd=project)
     return None if "|turn|1" in told and ("|win|" in told or "|tie" in told) else f"it printed {told[-300:]!r}"

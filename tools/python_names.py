@@ -66,22 +66,81 @@ class Named(IntEnum, metaclass=NamedType):
 # the names that it has otherwise.
 CODES = (
     ("Outcome", "How a battle stands, of `Result.outcome`.", "OUTCOME_ONGOING", "OUTCOME_FAULT_TWO", "OUTCOME_", {}),
-    ("Request", "What a side is asked for the next update, of `Result.requests`.", "REQUEST_NOTHING", "REQUEST_SWITCH", "REQUEST_", {}),
-    ("NewFault", "Why teams or terms are refused, of `BadTeam.code`.", "ERROR_TEAM_EMPTY", "ERROR_TURN_LIMIT", "ERROR_",
-     {"TEAM_EMPTY": "EMPTY", "TEAM_TOO_LONG": "TOO_MANY", "SPECIES": "NO_SUCH_SPECIES", "MOVE": "NO_SUCH_MOVE"}),
-    ("LoadFault", 'The first test that bytes fail (docs/LAYOUT.md, "Loading"), of `BadBytes.code`.', "ERROR_LOAD_LENGTH",
-     "ERROR_LOAD_REQUEST", "ERROR_LOAD_", {}),
+    (
+        "Request",
+        "What a side is asked for the next update, of `Result.requests`.",
+        "REQUEST_NOTHING",
+        "REQUEST_SWITCH",
+        "REQUEST_",
+        {},
+    ),
+    (
+        "NewFault",
+        "Why teams or terms are refused, of `BadTeam.code`.",
+        "ERROR_TEAM_EMPTY",
+        "ERROR_TURN_LIMIT",
+        "ERROR_",
+        {"TEAM_EMPTY": "EMPTY", "TEAM_TOO_LONG": "TOO_MANY", "SPECIES": "NO_SUCH_SPECIES", "MOVE": "NO_SUCH_MOVE"},
+    ),
+    (
+        "LoadFault",
+        'The first test that bytes fail (docs/LAYOUT.md, "Loading"), of `BadBytes.code`.',
+        "ERROR_LOAD_LENGTH",
+        "ERROR_LOAD_REQUEST",
+        "ERROR_LOAD_",
+        {},
+    ),
     ("Refusal", "Why an update was refused, of `Refused.code`.", "ERROR_OVER", "ERROR_NOT_OFFERED_TWO", "ERROR_", {}),
-    ("RoomRefusal", "Why a room refused a choice, of `RoomRefused.code`.", "ERROR_STALE", "ERROR_NOT_OFFERED", "ERROR_", {}),
-    ("EventKind", "Which event of a log, of `Event.kind`.", "EVENT_TURN", "EVENT_FAULT", "EVENT_",
-     {"SWITCH": "SWITCHED", "MOVE": "MOVED", "ONE_HIT_KNOCK_OUT": "ONE_HIT", "TIE": "TIED"}),
+    (
+        "RoomRefusal",
+        "Why a room refused a choice, of `RoomRefused.code`.",
+        "ERROR_STALE",
+        "ERROR_NOT_OFFERED",
+        "ERROR_",
+        {},
+    ),
+    (
+        "EventKind",
+        "Which event of a log, of `Event.kind`.",
+        "EVENT_TURN",
+        "EVENT_FAULT",
+        "EVENT_",
+        {"SWITCH": "SWITCHED", "MOVE": "MOVED", "ONE_HIT_KNOCK_OUT": "ONE_HIT", "TIE": "TIED"},
+    ),
     ("LogFault", "Why bytes are not a log, of `BadLog.code`.", "ERROR_LOG_TAG", "ERROR_LOG_CUT", "ERROR_LOG_", {}),
-    ("TextFault", "What was expected in a text of a team, of `BadText.code`.", "ERROR_TEXT_SPECIES", "ERROR_TEXT_TEAM", "ERROR_TEXT_", {}),
-    ("DamageFault", "Why there is no damage, of `NoDamage.code`.", "ERROR_UNUSUAL", "ERROR_NOBODY_OUT", "ERROR_", {"NOBODY_OUT": "NOBODY"}),
-    ("Effect", 'What a move does besides its damage (docs/TABLES.md, "Effects"), of `MoveData.effect`.', "EFFECT_DAMAGE_ONLY",
-     "EFFECT_STAT_DOWN", "EFFECT_", {}),
+    (
+        "TextFault",
+        "What was expected in a text of a team, of `BadText.code`.",
+        "ERROR_TEXT_SPECIES",
+        "ERROR_TEXT_TEAM",
+        "ERROR_TEXT_",
+        {},
+    ),
+    (
+        "DamageFault",
+        "Why there is no damage, of `NoDamage.code`.",
+        "ERROR_UNUSUAL",
+        "ERROR_NOBODY_OUT",
+        "ERROR_",
+        {"NOBODY_OUT": "NOBODY"},
+    ),
+    (
+        "Effect",
+        'What a move does besides its damage (docs/TABLES.md, "Effects"), of `MoveData.effect`.',
+        "EFFECT_DAMAGE_ONLY",
+        "EFFECT_STAT_DOWN",
+        "EFFECT_",
+        {},
+    ),
     ("OddsReason", "Why a use of a move cannot hit, of `Odds.reason`.", "ODDS_FALLEN", "ODDS_HEALTH", "ODDS_", {}),
-    ("StateField", "Which field of a state is wrong, of `BadState.code`.", "FIELD_UNNAMED", "FIELD_CURRENT_STAT", "FIELD_", {}),
+    (
+        "StateField",
+        "Which field of a state is wrong, of `BadState.code`.",
+        "FIELD_UNNAMED",
+        "FIELD_CURRENT_STAT",
+        "FIELD_",
+        {},
+    ),
 )
 # Codes that a class has besides those, before them.
 SHARED = {"RoomRefusal": ("ERROR_OVER",), "DamageFault": ("ERROR_SIDE", "ERROR_MOVE")}
@@ -137,7 +196,9 @@ def code_classes(text):
         if len(found) != 1:
             sys.exit(f"include/gen1.h: {len(found)} enums with GEN1_{first}")
         names = [it for _, it, _ in found[0]]
-        rows = [found[0][names.index(it)] for it in SHARED.get(name, ())] + found[0][names.index(first):names.index(last) + 1]
+        rows = [found[0][names.index(it)] for it in SHARED.get(name, ())] + found[0][
+            names.index(first) : names.index(last) + 1
+        ]
         shorter = [(number, it.removeprefix(start), label) for number, it, label in rows]
         named = [(number, others.get(it, it), "" if name in NAMED_ONLY else label) for number, it, label in shorter]
         yield enum_class(name, doc, [(number, it, label or words(it)) for number, it, label in named])
@@ -155,7 +216,11 @@ def flags(layout):
 def row_lists(text):
     """The rows of species and moves, by their numbers from 1 on."""
     for name, doc, rows in (
-        ("SPECIES_ROWS", "Of each species both types, and base HP, Attack, Defense, Speed, Special.", species_rows(text)),
+        (
+            "SPECIES_ROWS",
+            "Of each species both types, and base HP, Attack, Defense, Speed, Special.",
+            species_rows(text),
+        ),
         ("MOVE_ROWS", "Of each move its type, power, accuracy in percent, and PP.", move_rows(text)),
     ):
         yield f"\n# {doc}\n{name} = (\n" + "".join(f"    {row},\n" for row in rows) + ")\n"
@@ -188,21 +253,30 @@ def names():
     ):
         rows = [(int(number), it, it) for number, it, *_ in table(tables, heading)]
         parts.append(enum_class(name, doc, rows))
-    parts.append(enum_class("Type", "A type, 0 to 14.", [(number, it, it) for number, it in enumerate(element_names(tables))]))
+    parts.append(
+        enum_class("Type", "A type, 0 to 14.", [(number, it, it) for number, it in enumerate(element_names(tables))])
+    )
     kinds = sorted(kind_rows(rules, "Kind"))
     statuses = [(0, "None", "none"), *((number, it, it.lower()) for number, it in kinds)]
     parts.append(enum_class("Status", "What ails a member; 0 is nothing.", statuses))
     for name, doc, heading in KINDS:
-        rows = [(number, it, re.sub(r"(?<=[a-z])(?=[A-Z])", " ", it)) for number, it in sorted(kind_rows(rules, heading))]
+        rows = [
+            (number, it, re.sub(r"(?<=[a-z])(?=[A-Z])", " ", it)) for number, it in sorted(kind_rows(rules, heading))
+        ]
         parts.append(enum_class(name, doc, rows))
-    parts += [flags((ROOT / "docs" / "LAYOUT.md").read_text()), *code_classes((ROOT / "include" / "gen1.h").read_text())]
+    parts += [
+        flags((ROOT / "docs" / "LAYOUT.md").read_text()),
+        *code_classes((ROOT / "include" / "gen1.h").read_text()),
+    ]
     parts.append(header_version())
     return "".join(parts)
 
 
 def header_version():
     """The version of the header, as three numbers."""
-    number = int(re.search(r"(?m)^#define GEN1_VERSION_NUMBER (0x[0-9a-f]+)$", (ROOT / "include" / "gen1.h").read_text())[1], 16)
+    number = int(
+        re.search(r"(?m)^#define GEN1_VERSION_NUMBER (0x[0-9a-f]+)$", (ROOT / "include" / "gen1.h").read_text())[1], 16
+    )
     numbers = number >> 16, number >> 8 & 0xFF, number & 0xFF
     return f"\n\n# The version of include/gen1.h that these are made of: its major, its minor and its third number.\nHEADER_VERSION = {numbers}\n"
 
@@ -223,7 +297,11 @@ def main():
     parser = argparse.ArgumentParser(description=__doc__, formatter_class=argparse.RawDescriptionHelpFormatter)
     parser.add_argument("--check", action="store_true")
     check = parser.parse_args().check
-    stale = {OUT / name: text for name, text in made().items() if not (OUT / name).exists() or (OUT / name).read_text() != text}
+    stale = {
+        OUT / name: text
+        for name, text in made().items()
+        if not (OUT / name).exists() or (OUT / name).read_text() != text
+    }
     for path, text in stale.items():
         if not check:
             path.write_text(text)

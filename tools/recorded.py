@@ -82,7 +82,13 @@ def member(name, given):
     """A function of its own, so that none is long, and each is proved apart."""
     moves = ", ".join('("%s", %d)' % (move, ups) for move, ups in given["moves"])
     return 'fn %s() -> Result<MemberSpec, Fail> {\n    member_of("%s", %d, %s, %s, &[%s])\n}\n\n' % (
-        name, given["species"], given["level"], a_list(given["dvs"]), a_list(given["exp"]), moves)
+        name,
+        given["species"],
+        given["level"],
+        a_list(given["dvs"]),
+        a_list(given["exp"]),
+        moves,
+    )
 
 
 def called(names):
@@ -92,7 +98,7 @@ def called(names):
 def update(given):
     """The bytes in seven lines: the header, and three lines for each side."""
     text = given["bytes"]
-    lines = [text[:48]] + [text[at:at + 120] for at in range(48, 768, 120)]
+    lines = [text[:48]] + [text[at : at + 120] for at in range(48, 768, 120)]
     return (
         "    Update {\n"
         "        choices: (0x%02x, 0x%02x),\n"
@@ -106,16 +112,20 @@ def module(battle):
     given, updates = battle["object"], battle["updates"]
     teams = [" and ".join(member["species"] for member in given[side]) for side in SIDES]
     names = member_names(given)
-    return HEAD.format(
-        species=" against ".join(teams),
-        seed=a_list(given["seed"]),
-        members="".join("".join(map(member, names[side], given[side])) for side in SIDES),
-        one=called(names["one"]),
-        two=called(names["two"]),
-        rules=given.get("rules", 0),
-        limit=given.get("limit", 1000),
-        count=len(updates),
-    ) + "".join(map(update, updates)) + "];\n"
+    return (
+        HEAD.format(
+            species=" against ".join(teams),
+            seed=a_list(given["seed"]),
+            members="".join("".join(map(member, names[side], given[side])) for side in SIDES),
+            one=called(names["one"]),
+            two=called(names["two"]),
+            rules=given.get("rules", 0),
+            limit=given.get("limit", 1000),
+            count=len(updates),
+        )
+        + "".join(map(update, updates))
+        + "];\n"
+    )
 
 
 def laid_out(text):
@@ -125,7 +135,9 @@ def laid_out(text):
 
 def main():
     parser = argparse.ArgumentParser(description=__doc__, formatter_class=argparse.RawDescriptionHelpFormatter)
-    parser.add_argument("traces", nargs="?", default=recorded("traces.jsonl"), help="recorded battles (default: of tests/battles)")
+    parser.add_argument(
+        "traces", nargs="?", default=recorded("traces.jsonl"), help="recorded battles (default: of tests/battles)"
+    )
     parser.add_argument("--check", action="store_true", help="write nothing; fail where a file differs")
     given = parser.parse_args()
     try:

@@ -51,7 +51,9 @@ def write_packed(entries, to):
     with tarfile.open(fileobj=plain, mode="w", format=tarfile.GNU_FORMAT) as archive:
         for entry, data in sorted(entries, key=lambda it: it[0].name):
             archive.addfile(told_nothing_of_its_maker(entry), io.BytesIO(data) if data is not None else None)
-    with open(to, "wb") as file, gzip.GzipFile(filename="", mode="wb", compresslevel=9, fileobj=file, mtime=0) as packed:
+    with open(to, "wb") as file, gzip.GzipFile(
+        filename="", mode="wb", compresslevel=9, fileobj=file, mtime=0
+    ) as packed:
         packed.write(plain.getvalue())
 
 

@@ -24,8 +24,16 @@ PLACEHOLDER = '<script id="battle" type="application/json">null</script>'
 def ran(*words, cwd, env=None, given=None):
     """What a command printed; Unbuilt where its status is not 0."""
     try:
-        done = subprocess.run([str(word) for word in words], cwd=cwd, env={**os.environ, **(env or {})}, stdout=subprocess.PIPE,
-                              stderr=subprocess.PIPE, input=given, text=True, errors="replace")
+        done = subprocess.run(
+            [str(word) for word in words],
+            cwd=cwd,
+            env={**os.environ, **(env or {})},
+            stdout=subprocess.PIPE,
+            stderr=subprocess.PIPE,
+            input=given,
+            text=True,
+            errors="replace",
+        )
     except FileNotFoundError as fault:
         raise Missing(f"there is no {words[0]}") from fault
     if done.returncode:
@@ -81,7 +89,11 @@ class Trial:
         return due(lines, "".join(f"{hashlib.sha256(path.read_bytes()).hexdigest()}  {path.name}\n" for path in found))
 
     def same(self, name):
-        return None if (self.first / name).read_bytes() == (self.out / name).read_bytes() else "it came out otherwise the second time"
+        return (
+            None
+            if (self.first / name).read_bytes() == (self.out / name).read_bytes()
+            else "it came out otherwise the second time"
+        )
 
     def rust(self):
         """The crate, used by a new project."""
@@ -112,7 +124,15 @@ class Trial:
 
     def cmake(self):
         folder = next(self.unpacked(path.name) for path in self.out.glob("gen1-*-c-*.tar.gz"))
-        ran("cmake", "-S", ROOT / "tests" / "c" / "find_package", "-B", folder / "build", f"-DCMAKE_PREFIX_PATH={folder}", cwd=folder)
+        ran(
+            "cmake",
+            "-S",
+            ROOT / "tests" / "c" / "find_package",
+            "-B",
+            folder / "build",
+            f"-DCMAKE_PREFIX_PATH={folder}",
+            cwd=folder,
+        )
         ran("cmake", "--build", folder / "build", cwd=folder)
         return plays(folder / "build" / "shared", "/nowhere") or plays(folder / "build" / "static", "/nowhere")
 
@@ -126,18 +146,37 @@ class Trial:
         if not found:
             raise Missing("there is no Python with venv, setuptools and wheel, which tools/setup python installs")
         ran(found[0], "-m", "venv", "--system-site-packages", place, cwd=self.room)
-        words = ("install", "-q", "--no-index", "--no-deps", "--no-build-isolation", "--no-cache-dir", "--disable-pip-version-check")
+        words = (
+            "install",
+            "-q",
+            "--no-index",
+            "--no-deps",
+            "--no-build-isolation",
+            "--no-cache-dir",
+            "--disable-pip-version-check",
+        )
         python = place / "bin" / "python"
         ran(python, "-m", "pip", *words, archive, cwd=place)
         told = ran(python, "-c", "import gen1; print(gen1.__version__)", cwd=place)
-        return due(told, f"{version()}\n") or due(ran(python, "-m", "gen1", "run", STORED, cwd=place), LINES.read_text())
+        return due(told, f"{version()}\n") or due(
+            ran(python, "-m", "gen1", "run", STORED, cwd=place), LINES.read_text()
+        )
 
     def npm(self):
         """The package, installed by npm without a network, plays the stored run."""
         place = self.room / "npm"
         shutil.rmtree(place, ignore_errors=True)
         place.mkdir()
-        ran("npm", "install", "--silent", "--offline", "--no-audit", "--no-fund", self.out / f"gen1-{version()}.tgz", cwd=place)
+        ran(
+            "npm",
+            "install",
+            "--silent",
+            "--offline",
+            "--no-audit",
+            "--no-fund",
+            self.out / f"gen1-{version()}.tgz",
+            cwd=place,
+        )
         shutil.copy(ROOT / "examples" / "javascript" / "two_tauros.mjs", place)
         return due(ran("node", "two_tauros.mjs", cwd=place), LINES.read_text())
 
@@ -156,9 +195,15 @@ class Trial:
     def proved(self):
         """PROVED.txt names this version and commit, the library of the C archive, and what its gen1_build returns."""
         text = (self.out / "PROVED.txt").read_text()
-        library = next((self.unpacked(path.name) / "lib" / "libgen1_c.a" for path in self.out.glob("gen1-*-c-*.tar.gz")), None)
+        library = next(
+            (self.unpacked(path.name) / "lib" / "libgen1_c.a" for path in self.out.glob("gen1-*-c-*.tar.gz")), None
+        )
         wanted = [f"gen1 {version()}", "commit     ", "toolchain  "]
-        wanted += [hashlib.sha256(library.read_bytes()).hexdigest(), build_of(library, self.room / "build_of")] if library else []
+        wanted += (
+            [hashlib.sha256(library.read_bytes()).hexdigest(), build_of(library, self.room / "build_of")]
+            if library
+            else []
+        )
         return next((f"it has no {words!r}" for words in wanted if words not in text), None)
 
     def licenses(self):
@@ -184,8 +229,10 @@ class Trial:
                 self.tell(f"{path.name}, twice the same", self.same, path.name)
         self.tell("SHA256SUMS", self.sums)
         parts = {
-            "rust": [("rust", self.rust), ("docs/DIFFERENCES.md", self.differences)], "c": [("c", self.c), ("c, by CMake", self.cmake)],
-            "page": [("page", self.page)], "npm": [("npm", self.npm)],
+            "rust": [("rust", self.rust), ("docs/DIFFERENCES.md", self.differences)],
+            "c": [("c", self.c), ("c, by CMake", self.cmake)],
+            "page": [("page", self.page)],
+            "npm": [("npm", self.npm)],
             "python": [("wheel", self.python, "*.whl"), ("source archive", self.python, f"gen1-{version()}.tar.gz")],
         }
         for part, checks in parts.items():

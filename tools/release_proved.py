@@ -6,7 +6,9 @@ import subprocess
 
 from repository import ROOT, crates, version
 
-VERDICT = re.compile(r"(?m)^crate (\w+): modules loaded=\d+ checked=(\d+)\n(?:(?!^crate ).*\n)*?logic=(\w+)((?: \S+)*)$")
+VERDICT = re.compile(
+    r"(?m)^crate (\w+): modules loaded=\d+ checked=(\d+)\n(?:(?!^crate ).*\n)*?logic=(\w+)((?: \S+)*)$"
+)
 PROVED_FUNCTIONS = re.compile(r" functions=(\d+)")
 FUNCTION = re.compile(r"(?m)^\s*(?:pub(?:\([a-z]+\))? )?(?:const |extern \"C\" )*fn \w+")
 CLAUSE = re.compile(r"(?m)^\s*(?:ensures|requires)\b")
@@ -41,7 +43,11 @@ functions: those of src, with tests and laws; clauses: `requires` and `ensures`,
 def said(*words):
     """The one line that a command prints; None where it cannot be run."""
     try:
-        return subprocess.run(words, cwd=ROOT, capture_output=True, text=True, check=True).stdout.strip().partition("\n")[0]
+        return (
+            subprocess.run(words, cwd=ROOT, capture_output=True, text=True, check=True)
+            .stdout.strip()
+            .partition("\n")[0]
+        )
     except (OSError, subprocess.CalledProcessError):
         return None
 
@@ -49,7 +55,9 @@ def said(*words):
 def sum_of_sources():
     """One sum of all files that a proof reads."""
     whole = hashlib.sha256()
-    for path in sorted(path for folder in ("src", "specs", "proofs") for path in ROOT.glob(f"crates/*/{folder}/**/*") if path.is_file()):
+    for path in sorted(
+        path for folder in ("src", "specs", "proofs") for path in ROOT.glob(f"crates/*/{folder}/**/*") if path.is_file()
+    ):
         whole.update(f"{hashlib.sha256(path.read_bytes()).hexdigest()}  {path.relative_to(ROOT)}\n".encode())
     return whole.hexdigest()
 

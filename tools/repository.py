@@ -74,11 +74,11 @@ class Edit(NamedTuple):
 
 
 def edits(name, folder="must-fail"):
-    """The edits of a crate by name: those that every gate tries, or with `planted` those of planted/CRATE.edits."""
+    """The edits of a crate by name: those that every gate tries, or with `planted` those of its planted.edits."""
     if folder == "must-fail":
         files = sorted((ROOT / "crates" / name / "must-fail").glob("*.edit"))
         return [Edit(file.stem, file, file.read_text()) for file in files]
-    file = ROOT / folder / f"{name}.edits"
+    file = ROOT / "crates" / name / "planted.edits"
     if not file.is_file():
         return []
     before, *parts = re.split(r"(?m)^\[([\w-]+)\]\n", file.read_text())
@@ -132,7 +132,9 @@ def work_folder(path):
 def run(words, folder):
     """Runs a command in a folder; returns its status and what it printed."""
     with tempfile.TemporaryFile("w+", errors="replace") as said:
-        status = subprocess.run(words, cwd=folder, stdin=subprocess.DEVNULL, stdout=said, stderr=subprocess.STDOUT).returncode
+        status = subprocess.run(
+            words, cwd=folder, stdin=subprocess.DEVNULL, stdout=said, stderr=subprocess.STDOUT
+        ).returncode
         said.seek(0)
         return status, said.read()
 

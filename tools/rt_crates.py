@@ -79,7 +79,13 @@ def checked(crate, folder, *words, gives_way=True):
     rt = rt_module()
     nice = ["nice"] if gives_way else []
     command = [*rt.guarded(), *nice, rt.RATTLE, "check", *crate.words(["--jobs", "1", *words], keeps=False)]
-    how = {"cwd": folder, "stdin": subprocess.DEVNULL, "stdout": subprocess.PIPE, "stderr": subprocess.STDOUT, "errors": "replace"}
+    how = {
+        "cwd": folder,
+        "stdin": subprocess.DEVNULL,
+        "stdout": subprocess.PIPE,
+        "stderr": subprocess.STDOUT,
+        "errors": "replace",
+    }
     ran = subprocess.run(command, **how)
     if ran.returncode == -signal.SIGKILL:
         ran = subprocess.run(command, **how)

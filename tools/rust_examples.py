@@ -19,7 +19,7 @@ TRACES = ("traces", "corners")
 ROOMS, WRONG = 60, 60
 # A player for the room that stores all that it receives, and chooses as recorded. A rude one sends rubbish before each choice: seven lines
 # that are not a choice, the first time 3,000 more, a choice for the next pair, and one that is never offered.
-PLAYER = '''
+PLAYER = """
 import sys
 kept, is_rude, choices = open(sys.argv[1], "wb", 0), sys.argv[2] == "rude", iter(sys.argv[3:])
 flood = 3000
@@ -35,14 +35,14 @@ for line in iter(sys.stdin.buffer.readline, b""):
         flood = 0
     sys.stdout.buffer.write(b"%d %s\\n" % (number, next(choices).encode()))
     sys.stdout.flush()
-'''
+"""
 # A spectator that stores all that it receives.
-SPECTATOR = '''
+SPECTATOR = """
 import sys
 with open(sys.argv[1], "wb", 0) as kept:
     for bytes in iter(lambda: sys.stdin.buffer.read1(), b""):
         kept.write(bytes)
-'''
+"""
 
 
 class Examples:
@@ -129,8 +129,15 @@ class Examples:
         mode = "rude" if number % 2 else "quiet"
         choices = [[str(it["pair"][side]) for it, asked in asked_of(row, side)] for side in (0, 1)]
         player = f"{sys.executable} {self.work / 'player.py'}"
-        words = [f"--{who}={player} {file} {mode} {' '.join(own)}" for who, file, own in zip(("one", "two"), files[1:], choices)]
-        words += [f"--spectator={sys.executable} {self.work / 'spectator.py'} {files[3]}", "--patience=120", "--refusals=100000"]
+        words = [
+            f"--{who}={player} {file} {mode} {' '.join(own)}"
+            for who, file, own in zip(("one", "two"), files[1:], choices)
+        ]
+        words += [
+            f"--spectator={sys.executable} {self.work / 'spectator.py'} {files[3]}",
+            "--patience=120",
+            "--refusals=100000",
+        ]
         ended = self.run("room", "host", files[0], *words)
         return ended, [file.read_bytes() for file in files[1:]]
 

@@ -51,13 +51,19 @@ def effect_names(document):
 def species_rows(document):
     """The types of each species as numbers, and its base HP, Attack, Defense, Speed and Special."""
     elements = element_names(document)
-    return [(elements.index(one), elements.index(two), *map(int, stats)) for one, two, *stats in (row[1:] for row in numbered(table(document, "Species")))]
+    return [
+        (elements.index(one), elements.index(two), *map(int, stats))
+        for one, two, *stats in (row[1:] for row in numbered(table(document, "Species")))
+    ]
 
 
 def move_rows(document):
     """The type of each move as a number, and its power, accuracy in percent, and PP."""
     elements = element_names(document)
-    return [(elements.index(kind), *map(int, more)) for kind, *more, _ in (row[1:] for row in numbered(table(document, "Moves")))]
+    return [
+        (elements.index(kind), *map(int, more))
+        for kind, *more, _ in (row[1:] for row in numbered(table(document, "Moves")))
+    ]
 
 
 def factors(elements, types):
@@ -93,17 +99,22 @@ def all_lists(document):
     yield code_list("types.rt", "FACTORS", list(factors(element_names(document), types)))
 
     species = numbered(table(document, "Species"))
-    yield code_list("species.rt", "SPECIES_ROWS", [
-        f"({first}, {second}, [{', '.join(base)}]), // {name}"
-        for name, first, second, *base in species])
-    yield spec_list("Species.antt", "species_rows", [
-        f"row {' '.join(row)} ∷  -- {name}" for name, *row in species])
+    yield code_list(
+        "species.rt",
+        "SPECIES_ROWS",
+        [f"({first}, {second}, [{', '.join(base)}]), // {name}" for name, first, second, *base in species],
+    )
+    yield spec_list("Species.antt", "species_rows", [f"row {' '.join(row)} ∷  -- {name}" for name, *row in species])
 
     moves = numbered(table(document, "Moves"))
-    yield code_list("moves.rt", "MOVE_ROWS", [
-        f"({', '.join(row)}, {int(row[2]) * 255 // 100}), // {name}" for name, *row in moves])
-    yield spec_list("Moves.antt", "move_rows", [
-        f"row {' '.join(row)} {applied(effect)} ∷  -- {name}" for name, *row, effect in moves])
+    yield code_list(
+        "moves.rt", "MOVE_ROWS", [f"({', '.join(row)}, {int(row[2]) * 255 // 100}), // {name}" for name, *row in moves]
+    )
+    yield spec_list(
+        "Moves.antt",
+        "move_rows",
+        [f"row {' '.join(row)} {applied(effect)} ∷  -- {name}" for name, *row, effect in moves],
+    )
 
     for what, rows in ("species", species), ("move", moves):
         yield code_list("names.rt", f"{what.upper()}_NAMES", [f'"{name}",' for name, *_ in rows])

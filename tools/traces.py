@@ -34,7 +34,14 @@ def told(update):
     """An update as the program prints it."""
     refused = "-" if update["refused"] is None else str(update["refused"])
     offered = [word(choices) for choices in update["offered"]]
-    return [refused, word(update["result"] or []), *offered, str(update["draws"]), update["log"] or "-", update["bytes"]]
+    return [
+        refused,
+        word(update["result"] or []),
+        *offered,
+        str(update["draws"]),
+        update["log"] or "-",
+        update["bytes"],
+    ]
 
 
 def difference(got, want):
@@ -44,7 +51,7 @@ def difference(got, want):
             continue
         if name != "bytes" or len(one) != len(other):
             return f"{name} {one}, not {other}"
-        at = next(at for at in range(0, len(one), 2) if one[at:at + 2] != other[at:at + 2])
+        at = next(at for at in range(0, len(one), 2) if one[at : at + 2] != other[at : at + 2])
         return f"byte {at // 2} is {one[at:at + 2]}, not {other[at:at + 2]}"
     return ""
 

@@ -21,11 +21,20 @@ from repository import ROOT, version
 PLACES = (
     ("include/gen1.h", r'#define GEN1_VERSION "', r'"\n', lambda text, a, b, c: text),
     ("include/gen1.h", r"#define GEN1_VERSION_NUMBER ", r"\n", lambda text, a, b, c: f"0x{a:02x}{b:02x}{c:02x}"),
-    ("crates/gen1_c/src/names.rt", r"const VERSION: u32 = ", r";\n", lambda text, a, b, c: str(65536 * a + 256 * b + c)),
-    ("crates/gen1_c/src/names.rt", r"gen1_version\(\) -> u32\n    ensures \{ result ≡ ", r" \}\n",
-     lambda text, a, b, c: f"65536 * {a} + 256 * {b} + {c}"),
+    (
+        "crates/gen1_c/src/names.rt",
+        r"const VERSION: u32 = ",
+        r";\n",
+        lambda text, a, b, c: str(65536 * a + 256 * b + c),
+    ),
+    (
+        "crates/gen1_c/src/names.rt",
+        r"gen1_version\(\) -> u32\n    ensures \{ result ≡ ",
+        r" \}\n",
+        lambda text, a, b, c: f"65536 * {a} + 256 * {b} + {c}",
+    ),
     ("packaging/README.md", r"`libgen1\.so\.1`, `libgen1\.so\.", r"` \|", lambda text, a, b, c: text),
-    ("rust/gen1-wasm/package.json", r'"version": "', r'",\n', lambda text, a, b, c: text),
+    ("js/package.json", r'"version": "', r'",\n', lambda text, a, b, c: text),
     ("CITATION.cff", r"\nversion: ", r"\n", lambda text, a, b, c: text),
 )
 DAY = ("CITATION.cff", r'\ndate-released: "', r'"\n')
@@ -42,10 +51,14 @@ def changed():
         return {}, ["VERSION: a number above 255 has no byte in GEN1_VERSION_NUMBER"]
     first = FIRST.search((ROOT / "CHANGELOG.md").read_text())
     if not first or first[1] != text:
-        return {}, [f"CHANGELOG.md begins with {first[1] if first else 'no version and its day'}, and VERSION has {text}"]
+        return {}, [
+            f"CHANGELOG.md begins with {first[1] if first else 'no version and its day'}, and VERSION has {text}"
+        ]
     for path, before, behind, form in (*PLACES, (*DAY, lambda *_: first[2])):
         old = texts.get(path) or (ROOT / path).read_text()
-        texts[path], count = re.subn(f"({before})[^\n]*?(?={behind})", lambda found: found[1] + form(text, *numbers), old)
+        texts[path], count = re.subn(
+            f"({before})[^\n]*?(?={behind})", lambda found: found[1] + form(text, *numbers), old
+        )
         if count != 1:
             wrong.append(f"{path} has the place of its version {count} times")
     return texts, wrong

@@ -18,24 +18,24 @@ import os
 import re
 import sys
 
-CRATE = os.path.join(os.path.dirname(os.path.abspath(__file__)), '..', 'crates', 'gen1_machine')
+CRATE = os.path.join(os.path.dirname(os.path.abspath(__file__)), "..", "crates", "gen1_machine")
 WORD = r"[A-Za-z_][\w]*"
 
 
 def lines_of(name):
-    with open(os.path.join(CRATE, 'specs', name + '.antt'), encoding='utf-8') as file:
-        return [line for line in file.read().split('\n') if not line.strip().startswith('--')]
+    with open(os.path.join(CRATE, "specs", name + ".antt"), encoding="utf-8") as file:
+        return [line for line in file.read().split("\n") if not line.strip().startswith("--")]
 
 
 def imports_of(name):
     """Each imported word of a specification with its module; and the aliases of modules."""
     words, aliases = {}, {}
     for line in lines_of(name):
-        found = re.match(r'use ([\w.+]+)\.\{(.*)\}$', line)
+        found = re.match(r"use ([\w.+]+)\.\{(.*)\}$", line)
         if found:
-            for word in found.group(2).split(','):
+            for word in found.group(2).split(","):
                 words[word.strip()] = found.group(1)
-        found = re.match(r'use ([\w.+]+) as (\w+)$', line)
+        found = re.match(r"use ([\w.+]+) as (\w+)$", line)
         if found:
             aliases[found.group(2)] = found.group(1)
     return words, aliases
@@ -43,42 +43,44 @@ def imports_of(name):
 
 def phases_of(name):
     """The phases of a specification: word, argument types, and clauses as (patterns, body)."""
-    text = '\n'.join(line for line in lines_of(name) if not line.startswith('use ')) + '\n'
+    text = "\n".join(line for line in lines_of(name) if not line.startswith("use ")) + "\n"
     result = []
-    for found in re.finditer(r'^unfoldable pub (%s) : (.*)\n((?:(?!unfoldable|abbrev|pub|infix).*\n)*)' % WORD, text, re.M):
+    for found in re.finditer(
+        r"^unfoldable pub (%s) : (.*)\n((?:(?!unfoldable|abbrev|pub|infix).*\n)*)" % WORD, text, re.M
+    ):
         word, kind, body = found.groups()
         arguments = split_arrows(kind)
-        if arguments.pop() != 'Phase':
+        if arguments.pop() != "Phase":
             continue
-        heads = list(re.finditer(r'^%s\b((?: [^=\n]*?)?) =(?= |$)' % word, body, re.M))
+        heads = list(re.finditer(r"^%s\b((?: [^=\n]*?)?) =(?= |$)" % word, body, re.M))
         clauses = []
         for at, head in enumerate(heads):
             end = heads[at + 1].start() if at + 1 < len(heads) else len(body)
-            clauses.append((split_words(head.group(1)), body[head.end():end]))
+            clauses.append((split_words(head.group(1)), body[head.end() : end]))
         result.append((word, arguments, clauses))
     return result
 
 
 def split_arrows(kind):
-    parts, depth, part = [], 0, ''
+    parts, depth, part = [], 0, ""
     for letter in kind:
-        depth += (letter in '({') - (letter in ')}')
-        if letter == '→' and depth == 0:
+        depth += (letter in "({") - (letter in ")}")
+        if letter == "→" and depth == 0:
             parts.append(part.strip())
-            part = ''
+            part = ""
         else:
             part += letter
     return parts + [part.strip()]
 
 
 def split_words(text):
-    words, depth, word = [], 0, ''
-    for letter in text + ' ':
-        depth += (letter == '(') - (letter == ')')
-        if letter == ' ' and depth == 0:
+    words, depth, word = [], 0, ""
+    for letter in text + " ":
+        depth += (letter == "(") - (letter == ")")
+        if letter == " " and depth == 0:
             if word:
                 words.append(word)
-            word = ''
+            word = ""
         else:
             word += letter
     return words
@@ -87,48 +89,62 @@ def split_words(text):
 def names_for(arguments, clauses):
     names = []
     for place, kind in enumerate(arguments):
-        known = [patterns[place] for patterns, _ in clauses if place < len(patterns) and re.fullmatch(r'[a-z]\w*', patterns[place])]
-        known = [word for word in known if word not in ('zero', 'true', 'false')]
-        default = {'Side': 's', 'Move': 'move', 'Effect': 'effect', 'Pick': 'pick', 'ℕ': 'n', 'Ruling': 'r'}
-        name = known[0] if known else default.get(kind, 'x')
+        known = [
+            patterns[place]
+            for patterns, _ in clauses
+            if place < len(patterns) and re.fullmatch(r"[a-z]\w*", patterns[place])
+        ]
+        known = [word for word in known if word not in ("zero", "true", "false")]
+        default = {"Side": "s", "Move": "move", "Effect": "effect", "Pick": "pick", "ℕ": "n", "Ruling": "r"}
+        name = known[0] if known else default.get(kind, "x")
         while name in names:
-            name += '2'
+            name += "2"
         names.append(name)
     return names
 
 
 def premises_for(word, arguments, names, fact, extra):
-    premises = [('fits', premise) for premise in extra.get(word, [])]
+    premises = [("fits", premise) for premise in extra.get(word, [])]
     for name, kind in zip(names, arguments):
-        if kind == 'Phase':
-            premises.append((name + '-%s' % fact, 'Keeps P %s' % name))
-        of = re.fullmatch(r'\((\S+) → Phase\)', kind)
+        if kind == "Phase":
+            premises.append((name + "-%s" % fact, "Keeps P %s" % name))
+        of = re.fullmatch(r"\((\S+) → Phase\)", kind)
         if of:
-            premises.append((name + '-%s' % fact, '((x : %s) → Keeps P (%s x))' % (of.group(1), name)))
-        if kind == 'Ruling':
-            premises.append(('ruling', 'KeepsRuling P %s' % name))
-        if kind == 'Move' and 'Move' in extra:
-            premises.append(('is', 'IsMove %s' % name))
+            premises.append((name + "-%s" % fact, "((x : %s) → Keeps P (%s x))" % (of.group(1), name)))
+        if kind == "Ruling":
+            premises.append(("ruling", "KeepsRuling P %s" % name))
+        if kind == "Move" and "Move" in extra:
+            premises.append(("is", "IsMove %s" % name))
     return premises
 
 
 def lemma(word, arguments, clauses, fact, known, rules, depth, extra, asked=()):
     names = names_for(arguments, clauses)
     premises = premises_for(word, arguments, names, fact, extra) + list(asked)
-    binders = ['(%s : %s)' % (name, kind.strip('()') if '→' not in kind else kind[1:-1]) for name, kind in zip(names, arguments)]
-    whole = word if not names else '(%s %s)' % (word, ' '.join(names))
-    kind = ''.join(' '.join(binders) + ' → ' if binders else '') + ''.join(p + ' → ' for _, p in premises) + 'Keeps P ' + whole
-    result = ['  pub %s-%s : %s' % (word, fact, kind), '  unfolding %s' % word]
+    binders = [
+        "(%s : %s)" % (name, kind.strip("()") if "→" not in kind else kind[1:-1])
+        for name, kind in zip(names, arguments)
+    ]
+    whole = word if not names else "(%s %s)" % (word, " ".join(names))
+    kind = (
+        "".join(" ".join(binders) + " → " if binders else "")
+        + "".join(p + " → " for _, p in premises)
+        + "Keeps P "
+        + whole
+    )
+    result = ["  pub %s-%s : %s" % (word, fact, kind), "  unfolding %s" % word]
     for patterns, body in clauses:
         used = [w for w in dict.fromkeys(re.findall(WORD, body)) if w in known and w != word]
-        listed = rules + ['%s-%s' % (w, fact) for w in used]
+        listed = rules + ["%s-%s" % (w, fact) for w in used]
         for premise, fact_of in premises:
-            if premise == 'ruling':
-                listed += [premise + field for field in ('.sleeps', '.freezes') if field in body]
-            elif '→' in fact_of:
+            if premise == "ruling":
+                listed += [premise + field for field in (".sleeps", ".freezes") if field in body]
+            elif "→" in fact_of:
                 listed.append(premise)
-        left = list(patterns) + names[len(patterns):] + [p for p, _ in premises]
-        result.append('  %s = search (%s) depth %d' % (' '.join(['%s-%s' % (word, fact)] + left), ', '.join(listed), depth))
+        left = list(patterns) + names[len(patterns) :] + [p for p, _ in premises]
+        result.append(
+            "  %s = search (%s) depth %d" % (" ".join(["%s-%s" % (word, fact)] + left), ", ".join(listed), depth)
+        )
     return result
 
 
@@ -142,26 +158,26 @@ def walk(files, fact, rules, left_out, by_hand, extra={}, depth=14):
             if word in left_out:
                 continue
             known.add(word)
-            places[word] = 'Rattle.gen1_machine.specs.' + name
+            places[word] = "Rattle.gen1_machine.specs." + name
             if word in by_hand:
                 lines = by_hand[word]
             else:
                 lines = lemma(word, arguments, clauses, fact, known, rules, depth, extra)
             result += lines
-            for token in re.findall(r'%s|\[\]|∷' % WORD, '\n'.join(lines)):
+            for token in re.findall(r"%s|\[\]|∷" % WORD, "\n".join(lines)):
                 if token in words:
                     places.setdefault(token, words[token])
                 needed.add(token)
     return result, needed, places, aliases
 
 
-FILES = '''Progress CriticalHits Damage HitTest Landing HitOnItself Gate ResidualDamage StageShift Ruling EarlyEffects LateEffects
-SideEffects GoingOn Charging FixedDamage Counter HitEffects ManyHits Action'''.split()
+FILES = """Progress CriticalHits Damage HitTest Landing HitOnItself Gate ResidualDamage StageShift Ruling EarlyEffects LateEffects
+SideEffects GoingOn Charging FixedDamage Counter HitEffects ManyHits Action""".split()
 
-COMBINATORS = '''stay unless_stopped choose given stop draw draw_until on_field note told on_active on_conditions on_member
-set_last_damage starts lasts ends on_action set_missed'''.split()
+COMBINATORS = """stay unless_stopped choose given stop draw draw_until on_field note told on_active on_conditions on_member
+set_last_damage starts lasts ends on_action set_missed""".split()
 
-FREE_HEAD = '''-- What no phase of an action touches: turn number, places, members that aren't out, and the length of a party. A fact about
+FREE_HEAD = """-- What no phase of an action touches: turn number, places, members that aren't out, and the length of a party. A fact about
 -- these alone is free, and every phase of an action keeps it. tools/walk.py writes this file.
 %s
 use Rattle.gen1_machine.proofs.Keeps.{choose-keeps, keeps_rules, stay-keeps, then-keeps, Keeps, KeepsRuling, Spares, SparesAction}
@@ -243,53 +259,66 @@ module _ {P : Field → Action → Stream → Type 0} (free : Free P) where
 
   ruleset free_rules = (keeps_rules, action-spared, place_rules, conditions-spared, member-spared, active-spared, damage-spared, outcome-spared)
 
-'''
+"""
 
-FREE_WORDS = '''changed_member changed_active changed_conditions with_last_damage with_outcome with_types_of with_current_move with_picked_move
-with_kept_accuracy at_new_stage recomputed_at with_penalty_of with_levelled_stats'''.split()
+FREE_WORDS = """changed_member changed_active changed_conditions with_last_damage with_outcome with_types_of with_current_move with_picked_move
+with_kept_accuracy at_new_stage recomputed_at with_penalty_of with_levelled_stats""".split()
 
 FREE_BY_HAND = {
-    'hit_again': ['  pub hit_again-free : (n : ℕ) (s : Side) (move : Move) → Keeps P (hit_again n s move)', '  unfolding hit_again',
-                  '  hit_again-free zero s move = stay-keeps',
-                  '  hit_again-free (suc k) s move = choose-keeps _ stay-keeps (then-keeps (hit_once-free s move) (hit_again-free k s move))'],
-    'set_skips': ['  pub set_skips-free : (skips : Bool) → Keeps P (set_skips skips)', '  unfolding set_skips',
-                  '  set_skips-free skips = record { kept = λ p h. h }'],
-    'resume': ['  pub resume-free : Keeps P resume', '  unfolding resume', '  resume-free = record { kept = λ p h. h }'],
-    'act': ['  pub act-free : (r : Ruling) (s : Side) (pick : Pick) → KeepsRuling P r → Keeps P (act r s pick)', '  unfolding act',
-            '  act-free r s pick ruling = record {',
-            '      kept = λ p h. resume-free.kept _ ((keep_accuracy-free s).kept _ ((action_parts-free r s pick ruling).kept _ ((begin-free s).kept p h)));',
-            '    }'],
+    "hit_again": [
+        "  pub hit_again-free : (n : ℕ) (s : Side) (move : Move) → Keeps P (hit_again n s move)",
+        "  unfolding hit_again",
+        "  hit_again-free zero s move = stay-keeps",
+        "  hit_again-free (suc k) s move = choose-keeps _ stay-keeps (then-keeps (hit_once-free s move) (hit_again-free k s move))",
+    ],
+    "set_skips": [
+        "  pub set_skips-free : (skips : Bool) → Keeps P (set_skips skips)",
+        "  unfolding set_skips",
+        "  set_skips-free skips = record { kept = λ p h. h }",
+    ],
+    "resume": [
+        "  pub resume-free : Keeps P resume",
+        "  unfolding resume",
+        "  resume-free = record { kept = λ p h. h }",
+    ],
+    "act": [
+        "  pub act-free : (r : Ruling) (s : Side) (pick : Pick) → KeepsRuling P r → Keeps P (act r s pick)",
+        "  unfolding act",
+        "  act-free r s pick ruling = record {",
+        "      kept = λ p h. resume-free.kept _ ((keep_accuracy-free s).kept _ ((action_parts-free r s pick ruling).kept _ ((begin-free s).kept p h)));",
+        "    }",
+    ],
 }
 
-FREE_TAIL = '''  pub ruling-free : (terms : Terms) → KeepsRuling P (ruling_of terms)
+FREE_TAIL = """  pub ruling-free : (terms : Terms) → KeepsRuling P (ruling_of terms)
   ruling-free terms = record { sleeps = sleeps_under-free terms.rules.sleep_clause; freezes = freezes_under-free terms.rules.freeze_clause }
-'''
+"""
 
 
 def written_imports(text, places, aliases, extra):
     """The `use` lines for the words of a text."""
     places = dict(places, **extra)
     by_module = {}
-    code = '\n'.join(line.split('--')[0] for line in text.split('\n'))
-    tokens = set(re.findall(r'%s|\[\]|∷|≡|≤|<|\+|ℕ|ltb-true' % WORD, code))
-    marks = {'∷': '◌∷◌', '≡': '◌≡◌', '≤': '◌≤◌', '<': '◌<◌', '+': '◌+◌'}
+    code = "\n".join(line.split("--")[0] for line in text.split("\n"))
+    tokens = set(re.findall(r"%s|\[\]|∷|≡|≤|<|\+|ℕ|ltb-true" % WORD, code))
+    marks = {"∷": "◌∷◌", "≡": "◌≡◌", "≤": "◌≤◌", "<": "◌<◌", "+": "◌+◌"}
     for token in tokens:
         token = marks.get(token, token)
         if token in places and places[token]:
             by_module.setdefault(places[token], set()).add(token)
     lines = []
     for module in sorted(by_module):
-        lines.append('use %s.{%s}' % (module, ', '.join(sorted(by_module[module], key=lambda w: (w[0].isupper(), w)))))
+        lines.append("use %s.{%s}" % (module, ", ".join(sorted(by_module[module], key=lambda w: (w[0].isupper(), w)))))
     for alias, module in sorted(aliases.items()):
-        if re.search(r'\b%s\.' % alias, code):
-            lines.append('use %s as %s' % (module, alias))
+        if re.search(r"\b%s\." % alias, code):
+            lines.append("use %s as %s" % (module, alias))
     return lines
 
 
 def vocabulary(places, aliases):
     """The module of each word of a walk."""
     words = {}
-    names = FILES + ['Conditions', 'State', 'CurrentStats', 'Picks', 'Moves', 'Valid', 'SwitchingIn', 'Turn']
+    names = FILES + ["Conditions", "State", "CurrentStats", "Picks", "Moves", "Valid", "SwitchingIn", "Turn"]
     for name in names:
         found, named = imports_of(name)
         aliases.update(named)
@@ -297,39 +326,55 @@ def vocabulary(places, aliases):
             words.setdefault(word, module)
     for name in names:
         for line in lines_of(name):
-            found = re.match(r'(?:unfoldable pub|abbrev pub|pub record|pub data) (%s)' % WORD, line)
+            found = re.match(r"(?:unfoldable pub|abbrev pub|pub record|pub data) (%s)" % WORD, line)
             if found:
-                words[found.group(1)] = 'Rattle.gen1_machine.specs.' + name
+                words[found.group(1)] = "Rattle.gen1_machine.specs." + name
     for word, module in places.items():
         words.setdefault(word, module)
-    common = 'Rattle.std.proofs.Common'
-    words.update({'◌≡◌': common, 'refl': common, '◌∷◌': common, '◌≤◌': common, '◌<◌': common, '◌+◌': common, 'arith': common,
-                  'absurd': None, 'sym': common, 'ltb-true': common, 'subst': common})
-    for word in ('stat', 'active', 'conditions', 'member', 'free'):
+    common = "Rattle.std.proofs.Common"
+    words.update(
+        {
+            "◌≡◌": common,
+            "refl": common,
+            "◌∷◌": common,
+            "◌≤◌": common,
+            "◌<◌": common,
+            "◌+◌": common,
+            "arith": common,
+            "absurd": None,
+            "sym": common,
+            "ltb-true": common,
+            "subst": common,
+        }
+    )
+    for word in ("stat", "active", "conditions", "member", "free"):
         words.pop(word, None)
     return words
 
 
 def written(name, body, uses):
     """The file of a walk, and its text with its imports."""
-    return os.path.join(CRATE, 'proofs', name + '.antt'), body.replace('%s', '\n'.join(uses), 1)
+    return os.path.join(CRATE, "proofs", name + ".antt"), body.replace("%s", "\n".join(uses), 1)
 
 
 def free():
-    lines, _, places, aliases = walk(FILES, 'free', ['free_rules'], COMBINATORS, FREE_BY_HAND)
+    lines, _, places, aliases = walk(FILES, "free", ["free_rules"], COMBINATORS, FREE_BY_HAND)
     words = vocabulary(places, aliases)
-    for word in ('Free', 'LeavesPlace'):
+    for word in ("Free", "LeavesPlace"):
         words.pop(word, None)
-    body = FREE_HEAD + '\n'.join(lines) + '\n' + FREE_TAIL
-    return written('Free', body, written_imports(body, words, aliases, {}))
+    body = FREE_HEAD + "\n".join(lines) + "\n" + FREE_TAIL
+    return written("Free", body, written_imports(body, words, aliases, {}))
 
 
-SOUND_LEFT_OUT = COMBINATORS + '''start_bide bide_for late_effect trap_for trap thrash_less thrash_for thrash_about prelude
+SOUND_LEFT_OUT = (
+    COMBINATORS
+    + """start_bide bide_for late_effect trap_for trap thrash_less thrash_for thrash_about prelude
 must_recharge side_effect start_rage hit_effect hit_once hit_again other_hits hits strike begin_charge charge make_current use_move
 lead_up carry_out action_parts act let_energy_go store_energy bide_on bide_goes_on set_letting_go spend_pp keep_accuracy begin
-resume'''.split()
+resume""".split()
+)
 
-SOUND_HEAD = '''-- The phases of an action that touch nothing that the current move explains keep a valid field. tools/walk.py writes this
+SOUND_HEAD = """-- The phases of an action that touch nothing that the current move explains keep a valid field. tools/walk.py writes this
 -- file, with the lemmas of tools/sound_lemmas.txt.
 %s
 use Rattle.std.proofs.lemmas.Bool.{false≢true, ltb-true}
@@ -360,30 +405,30 @@ module _ {terms : Terms} {P : Field → Action → Stream → Type 0} (sound : S
 
   ruleset sound_rules = (keeps_rules, tame_rules, member-spared, active-spared, conditions-spared, zero-spared, missed-spared, one-least)
 
-'''
+"""
 
-SOUND_TAIL = '''  pub ruling-sound : KeepsRuling P (ruling_of terms)
+SOUND_TAIL = """  pub ruling-sound : KeepsRuling P (ruling_of terms)
   ruling-sound = record { sleeps = λ user. sleeps_under-sound terms.rules.sleep_clause user (λ e. e); freezes = λ user. freezes_under-sound terms.rules.freeze_clause user }
-'''
+"""
 
 
 def sound():
     by_hand = {}
-    with open(os.path.join(os.path.dirname(os.path.abspath(__file__)), 'sound_lemmas.txt'), encoding='utf-8') as file:
-        for block in file.read().strip('\n').split('\n\n'):
-            by_hand[re.match(r'  pub (%s)-sound :' % WORD, block).group(1)] = block.split('\n')
-    extra = {'Move': True, 'inflict': ['IsStatus terms.rules status'], 'lower_foes_stat': ['1 ≤ by']}
-    lines, _, places, aliases = walk(FILES, 'sound', ['sound_rules'], SOUND_LEFT_OUT, by_hand, extra)
+    with open(os.path.join(os.path.dirname(os.path.abspath(__file__)), "sound_lemmas.txt"), encoding="utf-8") as file:
+        for block in file.read().strip("\n").split("\n\n"):
+            by_hand[re.match(r"  pub (%s)-sound :" % WORD, block).group(1)] = block.split("\n")
+    extra = {"Move": True, "inflict": ["IsStatus terms.rules status"], "lower_foes_stat": ["1 ≤ by"]}
+    lines, _, places, aliases = walk(FILES, "sound", ["sound_rules"], SOUND_LEFT_OUT, by_hand, extra)
     words = vocabulary(places, aliases)
-    body = SOUND_HEAD + '\n'.join(lines) + '\n' + SOUND_TAIL
-    return written('SoundWalk', body, written_imports(body, words, aliases, {}))
+    body = SOUND_HEAD + "\n".join(lines) + "\n" + SOUND_TAIL
+    return written("SoundWalk", body, written_imports(body, words, aliases, {}))
 
 
 # What a phase needs of a fact besides, by what it may do: it hurts, it faults, it breaks off a move that goes on, it changes
 # rage or thrashing of the side that acts, or it changes what is known of the action.
-ASKED = {'hurts': 'Hurts P', 'faults': 'Faults P', 'broken': 'Breaks P %s', 'own': 'Own P %s', 'acts': 'Acts P'}
+ASKED = {"hurts": "Hurts P", "faults": "Faults P", "broken": "Breaks P %s", "own": "Own P %s", "acts": "Acts P"}
 
-STEADY_HEAD = '''-- What phases leave as it is: rage, thrashing and their kept accuracy, the health of a member that falls, and the outcome.
+STEADY_HEAD = """-- What phases leave as it is: rage, thrashing and their kept accuracy, the health of a member that falls, and the outcome.
 -- A further need of a phase is a premise of its lemma. tools/walk.py writes this file, with the lemmas of
 -- tools/steady_lemmas.txt.
 %s
@@ -473,39 +518,77 @@ module _ {P : Field → Action → Stream → Type 0} (steady : Steady P) where
 
   ruleset steady_rules = (keeps_rules, leaves_rules, member-spared, active-spared, conditions-spared, damage-spared, missed-spared)
 
-'''
+"""
 
-STEADY_TAIL = '''  pub ruling-steady : (terms : Terms) → Hurts P → KeepsRuling P (ruling_of terms)
+STEADY_TAIL = """  pub ruling-steady : (terms : Terms) → Hurts P → KeepsRuling P (ruling_of terms)
   ruling-steady terms hurts = record { sleeps = λ user. sleeps_under-steady terms.rules.sleep_clause user hurts; freezes = λ user. freezes_under-steady terms.rules.freeze_clause user hurts }
-'''
+"""
 
 # Changes of a member that is out, with their arguments, and changes of conditions.
-LEFT_ACTIVES = ['with_types_of (foe : Active)', 'with_current_move (used : UsedMove)', 'with_picked_move (used : UsedMove)', 'at_new_stage (stat : Stat) (n : ℕ)',
-                'with_levelled_stats']
-LEFT_CONDITIONS = ['with_bide (turns : ℕ)', 'with_bide_storing (damage : ℕ)', 'without_bide', 'with_trapping (turns : ℕ)', 'with_trapping_one_less',
-                   'without_trapping', 'with_charging', 'without_charging', 'with_invulnerability', 'without_invulnerability', 'with_recharge',
-                   'without_recharge', 'with_flinch', 'without_flinch', 'with_confusion (turns : ℕ)', 'with_confusion_one_less', 'without_confusion',
-                   'with_mist', 'with_focus_energy', 'with_light_screen', 'with_reflect', 'with_substitute (hp : ℕ)', 'with_substitute_hurt (damage : ℕ)',
-                   'without_substitute', 'with_seed', 'without_seed', 'with_bad_poison', 'with_worse_poison', 'with_disabled (slot turns : ℕ)',
-                   'with_disable_one_less', 'without_disable', 'after_haze']
+LEFT_ACTIVES = [
+    "with_types_of (foe : Active)",
+    "with_current_move (used : UsedMove)",
+    "with_picked_move (used : UsedMove)",
+    "at_new_stage (stat : Stat) (n : ℕ)",
+    "with_levelled_stats",
+]
+LEFT_CONDITIONS = [
+    "with_bide (turns : ℕ)",
+    "with_bide_storing (damage : ℕ)",
+    "without_bide",
+    "with_trapping (turns : ℕ)",
+    "with_trapping_one_less",
+    "without_trapping",
+    "with_charging",
+    "without_charging",
+    "with_invulnerability",
+    "without_invulnerability",
+    "with_recharge",
+    "without_recharge",
+    "with_flinch",
+    "without_flinch",
+    "with_confusion (turns : ℕ)",
+    "with_confusion_one_less",
+    "without_confusion",
+    "with_mist",
+    "with_focus_energy",
+    "with_light_screen",
+    "with_reflect",
+    "with_substitute (hp : ℕ)",
+    "with_substitute_hurt (damage : ℕ)",
+    "without_substitute",
+    "with_seed",
+    "without_seed",
+    "with_bad_poison",
+    "with_worse_poison",
+    "with_disabled (slot turns : ℕ)",
+    "with_disable_one_less",
+    "without_disable",
+    "after_haze",
+]
 
 
 def leaving(change, record, proof):
-    word, binders = (change.split(' ', 1) + [''])[:2]
-    names = ' '.join(name for group in re.findall(r'\(([^:]*) :', binders) for name in group.split())
-    whole = '(%s %s)' % (word, names) if names else word
-    kind = (binders + ' → ' if binders else '') + '%s %s' % (record, whole)
-    return ['pub %s-leaves : %s' % (word, kind), 'unfolding %s' % word, '%s-leaves%s = record { %s }' % (word, ' ' + names if names else '', proof), '']
+    word, binders = (change.split(" ", 1) + [""])[:2]
+    names = " ".join(name for group in re.findall(r"\(([^:]*) :", binders) for name in group.split())
+    whole = "(%s %s)" % (word, names) if names else word
+    kind = (binders + " → " if binders else "") + "%s %s" % (record, whole)
+    return [
+        "pub %s-leaves : %s" % (word, kind),
+        "unfolding %s" % word,
+        "%s-leaves%s = record { %s }" % (word, " " + names if names else "", proof),
+        "",
+    ]
 
 
 def stored_lemmas():
     """The lemmas of steady_lemmas.txt by phase, and what each needs of a fact."""
     lemmas, asked = {}, {}
-    with open(os.path.join(os.path.dirname(os.path.abspath(__file__)), 'steady_lemmas.txt'), encoding='utf-8') as file:
-        for block in file.read().strip('\n').split('\n\n'):
-            word = re.match(r'  pub (%s)-steady :' % WORD, block).group(1)
-            lemmas[word] = block.split('\n')
-            asked[word] = {name for name, kind in ASKED.items() if kind.split(' %')[0] in block.split('\n')[0]}
+    with open(os.path.join(os.path.dirname(os.path.abspath(__file__)), "steady_lemmas.txt"), encoding="utf-8") as file:
+        for block in file.read().strip("\n").split("\n\n"):
+            word = re.match(r"  pub (%s)-steady :" % WORD, block).group(1)
+            lemmas[word] = block.split("\n")
+            asked[word] = {name for name, kind in ASKED.items() if kind.split(" %")[0] in block.split("\n")[0]}
     return lemmas, asked
 
 
@@ -520,67 +603,89 @@ def steady():
             if word in COMBINATORS:
                 continue
             known.add(word)
-            places[word] = 'Rattle.gen1_machine.specs.' + name
+            places[word] = "Rattle.gen1_machine.specs." + name
             if word in stored:
                 result += stored[word]
                 continue
             used = {w for _, body in clauses for w in re.findall(WORD, body) if w in known and w != word}
             asked[word] = set().union(*[asked[w] for w in used]) if used else set()
             names = names_for(arguments, clauses)
-            sides = [n for n, kind in zip(names, arguments) if kind == 'Side']
-            premises = [(n, ASKED[n] % sides[0] if '%' in ASKED[n] else ASKED[n]) for n in order if n in asked[word]]
-            result += lemma(word, arguments, clauses, 'steady', known, ['steady_rules'], 14, {}, premises)
+            sides = [n for n, kind in zip(names, arguments) if kind == "Side"]
+            premises = [(n, ASKED[n] % sides[0] if "%" in ASKED[n] else ASKED[n]) for n in order if n in asked[word]]
+            result += lemma(word, arguments, clauses, "steady", known, ["steady_rules"], 14, {}, premises)
     leaves = []
     for change in LEFT_ACTIVES:
-        leaves += leaving(change, 'LeavesKept', 'kept = λ a. refl; conditions = λ a. refl; place = λ a. refl')
-    for word, binder, cases in (('recomputed_at', '(n : ℕ) ', 'Attack Defense Speed Special Accuracy Evasion'), ('with_penalty_of', '', 'Healthy (Asleep_turns_marked) Poisoned Burned Frozen Paralysed')):
-        leaves += ['pub %s-leaves : (x : %s) %s→ LeavesKept (%s x%s)' % (word, 'Stat' if binder else 'Status', binder, word, ' n' if binder else ''), 'unfolding %s' % word]
-        leaves += ['%s-leaves %s%s = record { kept = λ a. refl; conditions = λ a. refl; place = λ a. refl }' % (word, case.replace('_', ' '), ' n' if binder else '') for case in cases.split()] + ['']
+        leaves += leaving(change, "LeavesKept", "kept = λ a. refl; conditions = λ a. refl; place = λ a. refl")
+    for word, binder, cases in (
+        ("recomputed_at", "(n : ℕ) ", "Attack Defense Speed Special Accuracy Evasion"),
+        ("with_penalty_of", "", "Healthy (Asleep_turns_marked) Poisoned Burned Frozen Paralysed"),
+    ):
+        leaves += [
+            "pub %s-leaves : (x : %s) %s→ LeavesKept (%s x%s)"
+            % (word, "Stat" if binder else "Status", binder, word, " n" if binder else ""),
+            "unfolding %s" % word,
+        ]
+        leaves += [
+            "%s-leaves %s%s = record { kept = λ a. refl; conditions = λ a. refl; place = λ a. refl }"
+            % (word, case.replace("_", " "), " n" if binder else "")
+            for case in cases.split()
+        ] + [""]
     for change in LEFT_CONDITIONS:
-        leaves += leaving(change, 'Leaves', 'left = λ c. refl')
-    rules = ', '.join(line.split(' ')[1] for line in leaves if line.startswith('pub '))
+        leaves += leaving(change, "Leaves", "left = λ c. refl")
+    rules = ", ".join(line.split(" ")[1] for line in leaves if line.startswith("pub "))
     words = vocabulary(places, aliases)
-    aliases['outcomes'] = 'Rattle.gen1_machine.specs.declared.terms.Outcome.TheVariants'
-    for word in ('Acts', 'Leaves', 'hurt', 'own', 'acts'):
+    aliases["outcomes"] = "Rattle.gen1_machine.specs.declared.terms.Outcome.TheVariants"
+    for word in ("Acts", "Leaves", "hurt", "own", "acts"):
         words.pop(word, None)
-    body = STEADY_HEAD.replace('%LEAVES', '\n'.join(leaves).rstrip('\n')).replace('%RULES', rules) + '\n'.join(result) + '\n' + STEADY_TAIL
-    return written('Steady', body, written_imports(body, words, aliases, {}))
+    body = (
+        STEADY_HEAD.replace("%LEAVES", "\n".join(leaves).rstrip("\n")).replace("%RULES", rules)
+        + "\n".join(result)
+        + "\n"
+        + STEADY_TAIL
+    )
+    return written("Steady", body, written_imports(body, words, aliases, {}))
 
 
 def imported(text):
     """Each import of a text: a module with one of its words, or with its alias."""
     found = set()
-    for line in re.findall(r'^use (.*)$', text, re.M):
-        module, _, words = line.partition('.{')
-        found.update((module, word.strip()) for word in words.rstrip('}').split(','))
+    for line in re.findall(r"^use (.*)$", text, re.M):
+        module, _, words = line.partition(".{")
+        found.update((module, word.strip()) for word in words.rstrip("}").split(","))
     return found
 
 
 def is_made_so(file, text):
     """Whether a file is this text, apart from unused imports and layout."""
-    with open(file, encoding='utf-8') as it:
+    with open(file, encoding="utf-8") as it:
         there = it.read()
-    lemmas = [[line.split() for line in of.split('\n') if line.strip() and not line.startswith('use ')] for of in (there, text)]
+    lemmas = [
+        [line.split() for line in of.split("\n") if line.strip() and not line.startswith("use ")]
+        for of in (there, text)
+    ]
     return lemmas[0] == lemmas[1] and imported(there) <= imported(text)
 
 
-WALKS = {'free': free, 'sound': sound, 'steady': steady}
+WALKS = {"free": free, "sound": sound, "steady": steady}
 
 
 def main():
     words = sys.argv[1:]
-    if words == ['--check']:
+    if words == ["--check"]:
         differing = [name for name, make in WALKS.items() if not is_made_so(*make())]
         if differing:
-            sys.exit('not what tools/walk.py writes: %s; run it, and then `rt tidy` in crates/gen1_machine' % ', '.join(differing))
+            sys.exit(
+                "not what tools/walk.py writes: %s; run it, and then `rt tidy` in crates/gen1_machine"
+                % ", ".join(differing)
+            )
     elif len(words) == 1 and words[0] in WALKS:
         file, text = WALKS[words[0]]()
-        with open(file, 'w', encoding='utf-8') as it:
+        with open(file, "w", encoding="utf-8") as it:
             it.write(text)
     else:
         print(__doc__, file=sys.stderr)
         sys.exit(2)
 
 
-if __name__ == '__main__':
+if __name__ == "__main__":
     main()

@@ -1,4 +1,4 @@
-"""Bundling the page's scripts, with the JavaScript package that they import as `gen1` (rust/gen1-wasm)."""
+"""Bundling the page's scripts, with the JavaScript package that they import as `gen1` (js)."""
 import shutil
 import subprocess
 import sys
@@ -7,7 +7,7 @@ from contextlib import contextmanager
 from pathlib import Path
 
 ROOT = Path(__file__).resolve().parent.parent
-PACKAGE = ROOT / "rust" / "gen1-wasm"
+PACKAGE = ROOT / "js"
 
 
 @contextmanager
@@ -23,7 +23,16 @@ def javascript_package():
 
 def bundle(script, package, *options):
     """A script with all its imports, bundled by esbuild; `package` is the folder of the package's modules."""
-    words = ["esbuild", script, "--bundle", f"--alias:gen1={package / 'gen1.mjs'}", "--external:node:*", "--log-override:empty-import-meta=silent", "--target=es2022", "--charset=utf8"]
+    words = [
+        "esbuild",
+        script,
+        "--bundle",
+        f"--alias:gen1={package / 'gen1.mjs'}",
+        "--external:node:*",
+        "--log-override:empty-import-meta=silent",
+        "--target=es2022",
+        "--charset=utf8",
+    ]
     made = subprocess.run([*words, *options], capture_output=True, text=True)
     if made.returncode:
         sys.exit(f"web: {made.stderr}")

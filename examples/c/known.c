@@ -13,22 +13,20 @@ static const char one_text[] = "Tauros\n- Splash\n";
 static const char two_text[] = "Chansey\n- Soft-Boiled\n\nAlakazam\n- Reflect\n- Psychic\n";
 
 /* Plays an update as the host of a battle does, and passes to the player what its side may know. */
-static bool played(gen1_battle *battle, uint8_t one, uint8_t two, gen1_teller *teller, gen1_player *player)
-{
+static bool played(gen1_battle *battle, uint8_t one, uint8_t two, gen1_teller *teller, gen1_player *player) {
     uint8_t log[GEN1_LOG_ROOM], told[GEN1_LOG_ROOM];
     size_t length, count;
     gen1_own_side own;
-    if (gen1_update(battle, one, two, log, sizeof log, &length) != 0
-        || gen1_tell(teller, log, length, told, sizeof told, &count) != 0
-        || gen1_get_own_side(battle, player->side, &own) != 0)
+    if (gen1_update(battle, one, two, log, sizeof log, &length) != 0 ||
+        gen1_tell(teller, log, length, told, sizeof told, &count) != 0 ||
+        gen1_get_own_side(battle, player->side, &own) != 0)
         return false;
     gen1_player_show(player, &own, gen1_offered(battle, player->side));
     return gen1_player_feed(player, told, count) == 0;
 }
 
 /* Prints each member of the foe that has appeared, with the moves that it was seen to use. */
-static void print_foe(const gen1_player *player)
-{
+static void print_foe(const gen1_player *player) {
     const gen1_public_side *foe = &player->known.sides[2 - player->side];
     char name[GEN1_NAME_ROOM];
     size_t length;
@@ -45,8 +43,7 @@ static void print_foe(const gen1_player *player)
     }
 }
 
-int main(void)
-{
+int main(void) {
     static const uint8_t seed[10] = {1, 36, 255, 7, 31, 100, 179, 254, 127, 10};
     gen1_team one, two;
     gen1_text_fault fault;
@@ -54,18 +51,17 @@ int main(void)
     gen1_teller teller;
     gen1_player player;
 
-    if (gen1_team_from_text(one_text, strlen(one_text), &one, &fault) != 0
-        || gen1_team_from_text(two_text, strlen(two_text), &two, &fault) != 0
-        || gen1_new(&battle, &one, &two, seed, 0, GEN1_LIMIT) != 0
-        || gen1_teller_begin(&teller, GEN1_ONE, 1) != 0
-        || gen1_player_begin(&player, GEN1_ONE, &one, 0) != 0)
+    if (gen1_team_from_text(one_text, strlen(one_text), &one, &fault) != 0 ||
+        gen1_team_from_text(two_text, strlen(two_text), &two, &fault) != 0 ||
+        gen1_new(&battle, &one, &two, seed, 0, GEN1_LIMIT) != 0 || gen1_teller_begin(&teller, GEN1_ONE, 1) != 0 ||
+        gen1_player_begin(&player, GEN1_ONE, &one, 0) != 0)
         return 1;
     if (!played(&battle, GEN1_CHOICE_PASS, GEN1_CHOICE_PASS, &teller, &player))
         return 1;
     print_foe(&player);
     /* Side 2 sends out its second member, which then puts up Reflect. Splash does nothing. */
-    if (!played(&battle, GEN1_CHOICE_MOVE(1), GEN1_CHOICE_SWITCH(2), &teller, &player)
-        || !played(&battle, GEN1_CHOICE_MOVE(1), GEN1_CHOICE_MOVE(1), &teller, &player))
+    if (!played(&battle, GEN1_CHOICE_MOVE(1), GEN1_CHOICE_SWITCH(2), &teller, &player) ||
+        !played(&battle, GEN1_CHOICE_MOVE(1), GEN1_CHOICE_MOVE(1), &teller, &player))
         return 1;
     print_foe(&player);
     return 0;

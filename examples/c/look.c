@@ -21,8 +21,7 @@ static const gen1_member tauros = {
 };
 
 /* Prints the least and the most damage of a move of side 1. */
-static void show_damage(const gen1_battle *battle, uint8_t move)
-{
+static void show_damage(const gen1_battle *battle, uint8_t move) {
     uint16_t damages[39];
     uint8_t code = gen1_damage(battle, GEN1_ONE, move, false, damages);
     char name[GEN1_NAME_ROOM], why[GEN1_SENTENCE_ROOM];
@@ -36,12 +35,12 @@ static void show_damage(const gen1_battle *battle, uint8_t move)
 }
 
 /* Prints the odds of a move of side 1: in the current state, and between two Tauros that have just been sent out. */
-static bool show_odds(const gen1_battle *battle, uint8_t move)
-{
+static bool show_odds(const gen1_battle *battle, uint8_t move) {
     gen1_odds now, fresh;
     if (gen1_odds_now(battle, GEN1_ONE, move, &now) != 0 || gen1_odds_between(&tauros, &tauros, move, &fresh) != 0)
         return false;
-    printf("%d of 256 hit, %d of 256 are critical; at first %d and %d\n", now.hit_draws, now.critical_draws, fresh.hit_draws, fresh.critical_draws);
+    printf("%d of 256 hit, %d of 256 are critical; at first %d and %d\n", now.hit_draws, now.critical_draws,
+           fresh.hit_draws, fresh.critical_draws);
     return now.critical.count == 0 || now.critical.numbers[0] > now.usual.numbers[0];
 }
 
@@ -49,24 +48,22 @@ static bool show_odds(const gen1_battle *battle, uint8_t move)
  * Whether side 1 wins by this pair of choices, tried on a copy. The copy gets other numbers to draw, so this is a guess, as any
  * player's is.
  */
-static bool may_win_at_once(const gen1_battle *battle, uint8_t one, uint8_t two)
-{
+static bool may_win_at_once(const gen1_battle *battle, uint8_t one, uint8_t two) {
     static const uint8_t other[10] = {9, 8, 7, 6, 5, 4, 3, 2, 1, 0};
     gen1_battle copy = *battle;
-    return gen1_reseed(&copy, other, 0) == 0 && gen1_update_silent(&copy, one, two) == 0 && GEN1_RESULT_OUTCOME(gen1_result(&copy)) == GEN1_OUTCOME_WIN_ONE;
+    return gen1_reseed(&copy, other, 0) == 0 && gen1_update_silent(&copy, one, two) == 0 &&
+           GEN1_RESULT_OUTCOME(gen1_result(&copy)) == GEN1_OUTCOME_WIN_ONE;
 }
 
 /* The first choice of a side. */
-static uint8_t first_choice(const gen1_battle *battle, uint8_t side)
-{
+static uint8_t first_choice(const gen1_battle *battle, uint8_t side) {
     uint8_t choices[9];
     uint8_t count = gen1_choices(battle, side, choices);
     return count == 0 ? GEN1_CHOICE_PASS : choices[0];
 }
 
 /* Prints a choice of side 1 in words. */
-static void show_choice(const gen1_battle *battle, uint8_t choice)
-{
+static void show_choice(const gen1_battle *battle, uint8_t choice) {
     char words[GEN1_WORDS_ROOM];
     size_t length;
     if (gen1_choice_words(battle, GEN1_ONE, choice, words, sizeof words, &length) == 0)
@@ -74,23 +71,23 @@ static void show_choice(const gen1_battle *battle, uint8_t choice)
 }
 
 /* Prints the rows of a species and of a move, by their names; returns whether both were found. */
-static bool show_tables(const char *species, const char *move)
-{
-    uint8_t of_species = gen1_species_from_name(species, strlen(species)), of_move = gen1_move_from_name(move, strlen(move));
+static bool show_tables(const char *species, const char *move) {
+    uint8_t of_species = gen1_species_from_name(species, strlen(species)),
+            of_move = gen1_move_from_name(move, strlen(move));
     char first[GEN1_NAME_ROOM], name[GEN1_NAME_ROOM];
     size_t length, count;
     gen1_base base;
     gen1_move row;
     if (gen1_species_stats(of_species, &base) != 0 || gen1_move_data(of_move, &row) != 0 ||
-        gen1_species_name(of_species, name, sizeof name, &length) != 0 || gen1_type_name(base.types[0], first, sizeof first, &count) != 0)
+        gen1_species_name(of_species, name, sizeof name, &length) != 0 ||
+        gen1_type_name(base.types[0], first, sizeof first, &count) != 0)
         return false;
     printf("%s is %s, with base Speed %d; %s has power %d\n", name, first, base.stats[3], move, row.power);
     return true;
 }
 
 /* Prints the current HP and PP. */
-static void show_state(const gen1_battle *battle)
-{
+static void show_state(const gen1_battle *battle) {
     gen1_state state;
     gen1_get_state(battle, &state);
     for (int side = 0; side < 2; side++) {
@@ -100,8 +97,7 @@ static void show_state(const gen1_battle *battle)
 }
 
 /* Prints the turns, the damage and the paralysis in the events of a log. */
-static void show_events(const uint8_t *log, size_t count)
-{
+static void show_events(const uint8_t *log, size_t count) {
     gen1_event event;
     for (size_t at = 0; gen1_next_event(log, count, &at, &event) == 0;) {
         if (event.tag == GEN1_EVENT_TURN)
@@ -114,11 +110,11 @@ static void show_events(const uint8_t *log, size_t count)
 }
 
 /* Plays a battle in a room, where each player makes its first choice, with a spectator that is fed the log byte by byte. */
-static bool play_in_room(const gen1_team *team, const uint8_t seed[10])
-{
+static bool play_in_room(const gen1_team *team, const uint8_t seed[10]) {
     gen1_room room;
     gen1_spectator spectator;
-    if (gen1_new(&room.battle, team, team, seed, 0, GEN1_LIMIT) != 0 || gen1_spectator_begin(&spectator, team, team) != 0)
+    if (gen1_new(&room.battle, team, team, seed, 0, GEN1_LIMIT) != 0 ||
+        gen1_spectator_begin(&spectator, team, team) != 0)
         return false;
     gen1_room_begin(&room);
     for (;;) {
@@ -134,13 +130,12 @@ static bool play_in_room(const gen1_team *team, const uint8_t seed[10])
                 return false;
         }
     }
-    printf("in a room, as a spectator knows: outcome %d in turn %d, and side 1 has %d HP\n", spectator.outcome, spectator.turn,
-           spectator.sides[0].members[0].hp);
+    printf("in a room, as a spectator knows: outcome %d in turn %d, and side 1 has %d HP\n", spectator.outcome,
+           spectator.turn, spectator.sides[0].members[0].hp);
     return true;
 }
 
-int main(void)
-{
+int main(void) {
     static const uint8_t seed[10] = {1, 36, 255, 7, 31, 100, 179, 254, 127, 10};
     gen1_team team = {.members = {tauros}, .count = 1};
     gen1_battle battle, loaded;

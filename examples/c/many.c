@@ -13,11 +13,11 @@
 enum { BATTLES = 100, ROUNDS = 1000, PLACES = 4096 };
 
 /* A team as a packed line (see also text.c). */
-static const char packed[] = "Tauros||||BodySlam,HyperBeam,Blizzard,Earthquake|||||||]Chansey||||IceBeam,Thunderbolt|||||||";
+static const char packed[] =
+    "Tauros||||BodySlam,HyperBeam,Blizzard,Earthquake|||||||]Chansey||||IceBeam,Thunderbolt|||||||";
 
 /* The choice of the lowest bit. */
-static uint8_t first_choice(uint16_t mask)
-{
+static uint8_t first_choice(uint16_t mask) {
     int bit = 0;
     while (bit < 11 && !(mask >> bit & 1))
         bit++;
@@ -25,8 +25,7 @@ static uint8_t first_choice(uint16_t mask)
 }
 
 /* Updates all battles with the first choice of each side. Returns how many were updated, or -1 if one that isn't over was refused. */
-static int step(gen1_battle battles[BATTLES])
-{
+static int step(gen1_battle battles[BATTLES]) {
     uint16_t masks[2][BATTLES];
     gen1_batch_update updates[BATTLES];
     int went_on = 0;
@@ -48,8 +47,7 @@ static int step(gen1_battle battles[BATTLES])
 }
 
 /* Plays all battles to their end by random choices. Returns after how many steps none is left, or -1 if a call failed. */
-static int play_at_random(gen1_battle battles[BATTLES])
-{
+static int play_at_random(gen1_battle battles[BATTLES]) {
     gen1_batch_update updates[BATTLES];
     uint64_t generators[BATTLES];
     size_t over = 0;
@@ -63,8 +61,7 @@ static int play_at_random(gen1_battle battles[BATTLES])
 }
 
 /* Creates the battles, each with a different seed. */
-static bool begin(gen1_battle battles[BATTLES])
-{
+static bool begin(gen1_battle battles[BATTLES]) {
     gen1_team team;
     gen1_text_fault fault;
     bool are_made = gen1_team_from_packed(packed, strlen(packed), &team, &fault) == 0;
@@ -76,15 +73,15 @@ static bool begin(gen1_battle battles[BATTLES])
 }
 
 /* Prints how many outcomes it has that side 1 uses Body Slam while side 2 sends out Chansey, and the chance of a miss. */
-static bool list_outcomes(gen1_battle battle)
-{
+static bool list_outcomes(gen1_battle battle) {
     static gen1_successor found[PLACES];
     static uint32_t table[2 * PLACES];
     const gen1_outcome_options options = {0};
     gen1_outcome_list list;
     double missed = 0;
     if (gen1_update_silent(&battle, GEN1_CHOICE_PASS, GEN1_CHOICE_PASS) != 0 ||
-        gen1_outcomes(&battle, GEN1_CHOICE_MOVE(1), GEN1_CHOICE_SWITCH(2), &options, found, PLACES, table, 2 * PLACES, &list) != 0)
+        gen1_outcomes(&battle, GEN1_CHOICE_MOVE(1), GEN1_CHOICE_SWITCH(2), &options, found, PLACES, table, 2 * PLACES,
+                      &list) != 0)
         return false;
     for (uint64_t at = 0; at < list.count; at++) {
         gen1_state state;
@@ -97,8 +94,7 @@ static bool list_outcomes(gen1_battle battle)
 }
 
 /* Prints the chance that a way of the same update has a critical hit. */
-static bool walk_ways(gen1_battle battle)
-{
+static bool walk_ways(gen1_battle battle) {
     gen1_walk walk;
     gen1_way way;
     double critical = 0;
@@ -116,16 +112,16 @@ static bool walk_ways(gen1_battle battle)
     return true;
 }
 
-int main(void)
-{
+int main(void) {
     gen1_battle battles[BATTLES];
-    const gen1_playout_options options = { .seed = 1, .rounds = ROUNDS };
+    const gen1_playout_options options = {.seed = 1, .rounds = ROUNDS};
     gen1_playouts counts;
     int went_on, ended = 0, steps;
 
     if (!begin(battles) || gen1_playout(&battles[0], &options, &counts) != 0)
         return 1;
-    printf("%u wins of side 1, %u of side 2, %u ties\n", (unsigned)counts.wins_one, (unsigned)counts.wins_two, (unsigned)counts.ties);
+    printf("%u wins of side 1, %u of side 2, %u ties\n", (unsigned)counts.wins_one, (unsigned)counts.wins_two,
+           (unsigned)counts.ties);
     if (!list_outcomes(battles[0]) || !walk_ways(battles[0]))
         return 1;
     steps = play_at_random(battles);

@@ -15,15 +15,13 @@
 #include <string.h>
 
 /* Ends the program, because its input is not a battle. */
-static void stop_at_input(void)
-{
+static void stop_at_input(void) {
     fputs("error: input\n", stderr);
     exit(1);
 }
 
 /* The next number of standard input, from 0 up to `most`; or -1 at the end of the input. At anything else the program ends. */
-static int number_or_end(int most)
-{
+static int number_or_end(int most) {
     char word[12];
     if (scanf("%11s", word) != 1) {
         if (ferror(stdin))
@@ -37,16 +35,14 @@ static int number_or_end(int most)
 }
 
 /* The next number, which is required. */
-static int number_up_to(int most)
-{
+static int number_up_to(int most) {
     int value = number_or_end(most);
     if (value < 0)
         stop_at_input();
     return value;
 }
 
-static void read_member(gen1_member *member)
-{
+static void read_member(gen1_member *member) {
     member->species = (uint8_t)number_up_to(255);
     member->level = (uint8_t)number_up_to(255);
     for (int at = 0; at < 4; at++)
@@ -59,16 +55,14 @@ static void read_member(gen1_member *member)
     }
 }
 
-static void read_team(gen1_team *team)
-{
+static void read_team(gen1_team *team) {
     team->count = (uint8_t)number_up_to(6);
     for (int at = 0; at < team->count; at++)
         read_member(&team->members[at]);
 }
 
 /* Creates the battle that standard input describes. */
-static void begin(gen1_battle *battle)
-{
+static void begin(gen1_battle *battle) {
     gen1_team one = {0}, two = {0};
     uint8_t seed[10];
     uint8_t rules = (uint8_t)number_up_to(255);
@@ -79,23 +73,21 @@ static void begin(gen1_battle *battle)
     read_team(&two);
     uint32_t fault = gen1_new(battle, &one, &two, seed, rules, limit);
     if (fault != 0) {
-        fprintf(stderr, "error: team %u place %u refusal %u\n", (unsigned)GEN1_SIDE_OF(fault), (unsigned)GEN1_PLACE_OF(fault),
-                (unsigned)GEN1_CODE_OF(fault));
+        fprintf(stderr, "error: team %u place %u refusal %u\n", (unsigned)GEN1_SIDE_OF(fault),
+                (unsigned)GEN1_PLACE_OF(fault), (unsigned)GEN1_CODE_OF(fault));
         exit(1);
     }
 }
 
 /* Prints the lines of the log of an update. */
-static void print_log(const uint8_t *log, size_t count)
-{
+static void print_log(const uint8_t *log, size_t count) {
     char line[GEN1_LINE_ROOM];
     size_t at = 0, length = 0;
     while (gen1_next_line(log, count, &at, line, sizeof line, &length) == 0)
         fputs(line, stdout);
 }
 
-int main(void)
-{
+int main(void) {
     gen1_battle battle;
     uint8_t log[GEN1_LOG_ROOM];
     size_t length = 0;

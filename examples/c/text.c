@@ -9,15 +9,15 @@
 #include <stdio.h>
 #include <string.h>
 
-static const char text[] = "Tauros\n- Body Slam\n- Hyper Beam\n- Blizzard\n- Earthquake\n\nChansey\n- Ice Beam\n- Thunderbolt\n";
+static const char text[] =
+    "Tauros\n- Body Slam\n- Hyper Beam\n- Blizzard\n- Earthquake\n\nChansey\n- Ice Beam\n- Thunderbolt\n";
 static const char misspelt[] = "Tauros\n- Body Slm\n";
 static const char misspelt_packed[] = "Tauros||||BodySlam|||||||]Chansey||||IceBeem|||||||";
 
 typedef uint8_t reading(const char *text, size_t count, gen1_team *team, gen1_text_fault *fault);
 
 /* Prints where a text has an error; returns whether it has one. */
-static bool show_fault(reading *read, const char *of)
-{
+static bool show_fault(reading *read, const char *of) {
     gen1_team team;
     gen1_text_fault fault;
     uint8_t code = read(of, strlen(of), &team, &fault);
@@ -27,15 +27,13 @@ static bool show_fault(reading *read, const char *of)
 }
 
 /* The first choice that a side is offered, while the battle goes on. */
-static uint8_t first_choice(const gen1_battle *battle, uint8_t side)
-{
+static uint8_t first_choice(const gen1_battle *battle, uint8_t side) {
     uint8_t choices[9] = {GEN1_CHOICE_PASS};
     gen1_choices(battle, side, choices);
     return choices[0];
 }
 
-int main(void)
-{
+int main(void) {
     static const uint8_t seed[10] = {1, 36, 255, 7, 31, 100, 179, 254, 127, 10};
     gen1_team team;
     gen1_text_fault fault;
@@ -43,7 +41,8 @@ int main(void)
 
     if (!show_fault(gen1_team_from_text, misspelt) || !show_fault(gen1_team_from_packed, misspelt_packed))
         return 1;
-    if (gen1_team_from_text(text, strlen(text), &team, &fault) != 0 || gen1_new(&battle, &team, &team, seed, 0, GEN1_LIMIT) != 0)
+    if (gen1_team_from_text(text, strlen(text), &team, &fault) != 0 ||
+        gen1_new(&battle, &team, &team, seed, 0, GEN1_LIMIT) != 0)
         return 1;
     while (GEN1_RESULT_OUTCOME(gen1_result(&battle)) == GEN1_OUTCOME_ONGOING)
         if (gen1_update_silent(&battle, first_choice(&battle, GEN1_ONE), first_choice(&battle, GEN1_TWO)) != 0)

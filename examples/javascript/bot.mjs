@@ -1,5 +1,5 @@
 // A bot with playouts against a player that chooses at random, both with the same team. Prints each battle's end, and how many it won.
-import { load } from "gen1";
+import {load} from "gen1";
 
 const BATTLES = 20;
 const FORKS = 32;
@@ -33,7 +33,7 @@ function random(count) {
   return Math.floor((drawn / 2 ** 32) * count);
 }
 
-const seed = () => Array.from({ length: 10 }, () => random(256));
+const seed = () => Array.from({length: 10}, () => random(256));
 
 /** @template T @param {readonly T[]} list */
 const any = (list) => list[random(list.length)];
@@ -55,13 +55,13 @@ function wins(battle, choice) {
 
 /** @param {import("gen1").Battle} battle */
 function best(battle) {
-  const tried = battle.choices(1).map((choice) => ({ choice, won: wins(battle, choice) }));
+  const tried = battle.choices(1).map((choice) => ({choice, won: wins(battle, choice)}));
   return tried.reduce((one, two) => (two.won > one.won ? two : one)).choice;
 }
 
 let won = 0;
 for (let number = 1; number <= BATTLES; number++) {
-  const battle = gen1.battle({ one: team, two: team, seed: seed(), rules: 3 });
+  const battle = gen1.battle({one: team, two: team, seed: seed(), rules: 3});
   while (!battle.isOver) battle.updateSilent(best(battle), any(battle.choices(2)));
   console.log(`battle ${number}: ${battle.result.outcome} in turn ${battle.state.turn}`);
   won += battle.result.outcome === "win one" ? 1 : 0;

@@ -18,7 +18,11 @@ class BattleBytes(Structure):
 
 class Member(Structure):
     _fields_ = [
-        ("species", c_uint8), ("level", c_uint8), ("dvs", c_uint8 * 4), ("moves", c_uint8 * 4), ("pp_ups", c_uint8 * 4),
+        ("species", c_uint8),
+        ("level", c_uint8),
+        ("dvs", c_uint8 * 4),
+        ("moves", c_uint8 * 4),
+        ("pp_ups", c_uint8 * 4),
         ("exp", c_uint16 * 5),
     ]
 
@@ -31,8 +35,19 @@ class Event(Structure):
     _fields_ = [
         (name, c_uint8)
         for name in (
-            "tag", "side", "species", "move", "target_side", "target_species", "place", "level", "status", "detail", "amount",
-            "reserved")
+            "tag",
+            "side",
+            "species",
+            "move",
+            "target_side",
+            "target_species",
+            "place",
+            "level",
+            "status",
+            "detail",
+            "amount",
+            "reserved",
+        )
     ] + [("hp", c_uint16), ("max_hp", c_uint16), ("turn", c_uint16)]
 
 
@@ -42,15 +57,27 @@ class Damages(Structure):
 
 class Odds(Structure):
     _fields_ = [
-        ("usual", Damages), ("critical", Damages), ("critical_draws", c_uint16), ("hit_draws", c_uint16), ("least", c_uint16),
-        ("most", c_uint16), ("hits", c_uint8 * 6), ("reason", c_uint8), ("charges_first", c_uint8),
+        ("usual", Damages),
+        ("critical", Damages),
+        ("critical_draws", c_uint16),
+        ("hit_draws", c_uint16),
+        ("least", c_uint16),
+        ("most", c_uint16),
+        ("hits", c_uint8 * 6),
+        ("reason", c_uint8),
+        ("charges_first", c_uint8),
     ]
 
 
 class RoomBytes(Structure):
     _fields_ = [
-        ("battle", BattleBytes), ("number", c_uint32), ("log_length", c_uint16), ("chosen", c_uint8 * 2), ("forfeit", c_uint8),
-        ("unused", c_uint8 * 3), ("log", c_uint8 * LOG_ROOM),
+        ("battle", BattleBytes),
+        ("number", c_uint32),
+        ("log_length", c_uint16),
+        ("chosen", c_uint8 * 2),
+        ("forfeit", c_uint8),
+        ("unused", c_uint8 * 3),
+        ("log", c_uint8 * LOG_ROOM),
     ]
 
 
@@ -60,12 +87,17 @@ class ShownMember(Structure):
 
 class ShownSide(Structure):
     _fields_ = [("members", ShownMember * 6), ("count", c_uint8), ("place", c_uint8), ("stages", c_uint8 * 6)] + [
-        (name, c_uint8) for name in ("substitute", "confused", "light_screen", "reflect")]
+        (name, c_uint8) for name in ("substitute", "confused", "light_screen", "reflect")
+    ]
 
 
 class SpectatorBytes(Structure):
     _fields_ = [
-        ("sides", ShownSide * 2), ("turn", c_uint16), ("outcome", c_uint8), ("held_count", c_uint8), ("held", c_uint8 * 10),
+        ("sides", ShownSide * 2),
+        ("turn", c_uint16),
+        ("outcome", c_uint8),
+        ("held_count", c_uint8),
+        ("held", c_uint8 * 10),
     ]
 
 
@@ -155,7 +187,7 @@ class Library:
         terms = within(rules, 255), within(limit, 65535)
         fault = self.calls.gen1_new(byref(made.held), byref(one), byref(two), numbers, *terms)
         if fault:
-            raise TeamFault(fault >> 16, fault >> 8 & 0xff, fault & 0xff)
+            raise TeamFault(fault >> 16, fault >> 8 & 0xFF, fault & 0xFF)
         return made
 
     def load(self, given):
@@ -173,7 +205,7 @@ class Library:
         while True:
             code = self.calls.gen1_next_line(log, len(log), byref(at), text, LINE_ROOM, byref(length))
             if code == 0:
-                lines.append(text.raw[:length.value])
+                lines.append(text.raw[: length.value])
             elif code == LOG_END:
                 return b"".join(lines)
             else:
@@ -192,14 +224,13 @@ class Library:
             else:
                 raise LogFault(code)
 
-
     def event_bytes(self, event):
         """The bytes that an event has in a log."""
         code, length = (c_uint8 * 10)(), c_size_t(0)
         fault = self.calls.gen1_event_bytes(byref(event), code, byref(length))
         if fault:
             raise LogFault(fault)
-        return bytes(code[:length.value])
+        return bytes(code[: length.value])
 
 
 class Battle:
@@ -226,10 +257,12 @@ class Battle:
     def update(self, one, two):
         """Updates the battle with a choice of each side, and returns the log."""
         log, length = (c_uint8 * LOG_ROOM)(), c_size_t(0)
-        refused = self.calls.gen1_update(byref(self.held), within(one, 255), within(two, 255), log, LOG_ROOM, byref(length))
+        refused = self.calls.gen1_update(
+            byref(self.held), within(one, 255), within(two, 255), log, LOG_ROOM, byref(length)
+        )
         if refused:
             raise Refused(refused)
-        return bytes(log[:length.value])
+        return bytes(log[: length.value])
 
     def result(self):
         """The outcome, and what is asked of each side."""
@@ -263,7 +296,7 @@ class Room:
     @property
     def log(self):
         """The log of the last pair that ended; before the first, of the battle's start."""
-        return bytes(self.held.log[:self.held.log_length])
+        return bytes(self.held.log[: self.held.log_length])
 
     def choices(self, side):
         """The choices that a side, 1 or 2, may submit."""
@@ -273,7 +306,9 @@ class Room:
 
     def submit(self, side, number, choice):
         """Submits a side's choice for the pair with this number."""
-        refused = self.calls.gen1_room_submit(byref(self.held), within(side, 255), within(number, 2**32 - 1), within(choice, 255))
+        refused = self.calls.gen1_room_submit(
+            byref(self.held), within(side, 255), within(number, 2**32 - 1), within(choice, 255)
+        )
         if refused:
             raise Refused(refused)
 
@@ -285,7 +320,7 @@ class Spectator:
         self.calls, self.held = library.calls, SpectatorBytes()
         fault = self.calls.gen1_spectator_begin(byref(self.held), byref(one), byref(two))
         if fault:
-            raise TeamFault(fault >> 16, fault >> 8 & 0xff, fault & 0xff)
+            raise TeamFault(fault >> 16, fault >> 8 & 0xFF, fault & 0xFF)
 
     def feed(self, log):
         """Reads the next bytes of the log, in pieces of any size."""

@@ -103,10 +103,24 @@ pub struct Spectator {
 
 #[link(name = "gen1_c", kind = "static")]
 unsafe extern "C" {
-    safe fn gen1_new(battle: &mut Battle, one: &Team, two: &Team, seed: &[u8; 10], rules: u8, limit: u16) -> u32;
+    safe fn gen1_new(
+        battle: &mut Battle,
+        one: &Team,
+        two: &Team,
+        seed: &[u8; 10],
+        rules: u8,
+        limit: u16,
+    ) -> u32;
     fn gen1_load(battle: &mut Battle, bytes: *const u8, count: usize) -> u8;
     safe fn gen1_choices(battle: &Battle, side: u8, choices: &mut [u8; 9]) -> u8;
-    fn gen1_update(battle: &mut Battle, one: u8, two: u8, log: *mut u8, room: usize, length: &mut usize) -> u8;
+    fn gen1_update(
+        battle: &mut Battle,
+        one: u8,
+        two: u8,
+        log: *mut u8,
+        room: usize,
+        length: &mut usize,
+    ) -> u8;
     safe fn gen1_result(battle: &Battle) -> u8;
     fn gen1_next_line(
         log: *const u8,
@@ -183,7 +197,13 @@ pub struct Log {
 }
 
 impl Battle {
-    pub fn new(one: &Team, two: &Team, seed: &[u8; 10], rules: u8, limit: u16) -> Result<Battle, TeamFault> {
+    pub fn new(
+        one: &Team,
+        two: &Team,
+        seed: &[u8; 10],
+        rules: u8,
+        limit: u16,
+    ) -> Result<Battle, TeamFault> {
         let mut battle = Battle { bytes: [0; 384] };
         match gen1_new(&mut battle, one, two, seed, rules, limit) {
             0 => Ok(battle),
@@ -215,7 +235,16 @@ impl Battle {
             length: 0,
         };
         // The pointer and the length are those of one array, which does not overlap the battle or the length.
-        let refused = unsafe { gen1_update(self, one, two, log.bytes.as_mut_ptr(), log.bytes.len(), &mut log.length) };
+        let refused = unsafe {
+            gen1_update(
+                self,
+                one,
+                two,
+                log.bytes.as_mut_ptr(),
+                log.bytes.len(),
+                &mut log.length,
+            )
+        };
         match refused {
             0 => Ok(log),
             number => Err(Refused(number)),

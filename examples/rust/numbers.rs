@@ -28,7 +28,12 @@ impl<'a> Numbers<'a> {
     fn member(&mut self) -> Option<Member> {
         let (species, level) = (self.next()?, self.next()?);
         let (dvs, exp) = (self.array()?, self.array()?);
-        let [(a, b), (c, d), (e, f), (g, h)] = [self.chosen()?, self.chosen()?, self.chosen()?, self.chosen()?];
+        let [(a, b), (c, d), (e, f), (g, h)] = [
+            self.chosen()?,
+            self.chosen()?,
+            self.chosen()?,
+            self.chosen()?,
+        ];
         Some(Member {
             species,
             level,

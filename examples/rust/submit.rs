@@ -57,9 +57,15 @@ fn run_room(input: &str, out: &mut impl Write) -> Result<(), String> {
         let current = room.number;
         let offered = room.choices(side);
         match room.submit(side, number, choice) {
-            Err(refused) => write!(out, "{}", refusal(refused.0, current)).expect("standard output"),
-            Ok(()) if !offered.contains(&choice) => return Err("a choice was taken that is not offered".to_string()),
-            Ok(()) if room.number == current => writeln!(out, "|room|waiting").expect("standard output"),
+            Err(refused) => {
+                write!(out, "{}", refusal(refused.0, current)).expect("standard output")
+            }
+            Ok(()) if !offered.contains(&choice) => {
+                return Err("a choice was taken that is not offered".to_string());
+            }
+            Ok(()) if room.number == current => {
+                writeln!(out, "|room|waiting").expect("standard output")
+            }
             Ok(()) => {
                 writeln!(out, "|room|advanced").expect("standard output");
                 report(&room.log(), &mut spectator, out)?;

@@ -36,8 +36,7 @@ static long differences, updates;
 static gen1_battle met[256];
 static uint8_t met_log[256][512];
 
-static void *call_of(void *from, const char *name)
-{
+static void *call_of(void *from, const char *name) {
     void *found = dlsym(from, name);
     if (!found) {
         fprintf(stderr, "compare: %s\n", dlerror());
@@ -46,38 +45,33 @@ static void *call_of(void *from, const char *name)
     return found;
 }
 
-static library opened(const char *path)
-{
+static library opened(const char *path) {
     void *from = dlopen(path, RTLD_NOW | RTLD_LOCAL);
     if (!from) {
         fprintf(stderr, "compare: %s\n", dlerror());
         exit(2);
     }
-    library it = { call_of(from, "gen1_new"), call_of(from, "gen1_load"), call_of(from, "gen1_choices"), call_of(from, "gen1_update"),
-                   call_of(from, "gen1_update_silent"),
-                   call_of(from, "gen1_result"), call_of(from, "gen1_next_event"), call_of(from, "gen1_next_line"),
-                   call_of(from, "gen1_damage") };
+    library it = {call_of(from, "gen1_new"),        call_of(from, "gen1_load"),          call_of(from, "gen1_choices"),
+                  call_of(from, "gen1_update"),     call_of(from, "gen1_update_silent"), call_of(from, "gen1_result"),
+                  call_of(from, "gen1_next_event"), call_of(from, "gen1_next_line"),     call_of(from, "gen1_damage")};
     return it;
 }
 
-static uint32_t draw(uint32_t bound)
-{
+static uint32_t draw(uint32_t bound) {
     state ^= state << 13;
     state ^= state >> 7;
     state ^= state << 17;
     return (uint32_t)(state >> 32) % bound;
 }
 
-static void same(const char *what, const void *one, const void *two, size_t size)
-{
+static void same(const char *what, const void *one, const void *two, size_t size) {
     if (memcmp(one, two, size) && ++differences <= 10)
         printf("difference in %s, at draw state %llx\n", what, (unsigned long long)state);
 }
 
 /* A team, mostly a lawful one. */
-static gen1_team a_team(void)
-{
-    static const uint8_t left_out[] = { 102, 118, 119, 144, 165 };
+static gen1_team a_team(void) {
+    static const uint8_t left_out[] = {102, 118, 119, 144, 165};
     gen1_team team;
     memset(&team, 0, sizeof team);
     team.count = (uint8_t)(draw(200) ? 1 + draw(6) : draw(9));
@@ -102,13 +96,12 @@ static gen1_team a_team(void)
     return team;
 }
 
-static void compare_log(const uint8_t *log, size_t size)
-{
-    size_t at[2] = { 0, 0 };
+static void compare_log(const uint8_t *log, size_t size) {
+    size_t at[2] = {0, 0};
     for (int n = 0; n < 200; n++) {
         gen1_event events[2];
         char lines[2][GEN1_LINE_ROOM];
-        size_t lengths[2] = { 0, 0 }, behind[2] = { at[0], at[1] };
+        size_t lengths[2] = {0, 0}, behind[2] = {at[0], at[1]};
         uint8_t codes[2], text_codes[2];
         memset(events, 0, sizeof events);
         memset(lines, 0, sizeof lines);
@@ -128,8 +121,7 @@ static void compare_log(const uint8_t *log, size_t size)
 }
 
 /* Compares what both libraries return for one battle; the choices of each side are left in place. */
-static uint8_t looked(gen1_battle battles[2], uint8_t choices[2][9], uint8_t counts[2])
-{
+static uint8_t looked(gen1_battle battles[2], uint8_t choices[2][9], uint8_t counts[2]) {
     uint8_t results[2], side = (uint8_t)(draw(50) ? 1 + draw(2) : draw(256)), move = (uint8_t)draw(170);
     uint8_t codes[2], answers[2][9];
     uint16_t damages[2][39];
@@ -154,14 +146,14 @@ static uint8_t looked(gen1_battle battles[2], uint8_t choices[2][9], uint8_t cou
 }
 
 /* Updates with both libraries; returns whether the update was accepted. */
-static bool updated(gen1_battle battles[2], uint8_t one, uint8_t two)
-{
+static bool updated(gen1_battle battles[2], uint8_t one, uint8_t two) {
     uint8_t logs[2][GEN1_LOG_ROOM], answers[2];
-    size_t lengths[2] = { 0, 0 }, room = draw(64) ? GEN1_LOG_ROOM : 100;
+    size_t lengths[2] = {0, 0}, room = draw(64) ? GEN1_LOG_ROOM : 100;
     bool is_silent = !draw(64);
     memset(logs, 0, sizeof logs);
     for (int k = 0; k < 2; k++)
-        answers[k] = is_silent ? both[k].update_silent(&battles[k], one, two) : both[k].update(&battles[k], one, two, logs[k], room, &lengths[k]);
+        answers[k] = is_silent ? both[k].update_silent(&battles[k], one, two)
+                               : both[k].update(&battles[k], one, two, logs[k], room, &lengths[k]);
     updates++;
     same("an update's answer", &answers[0], &answers[1], 1);
     same("a battle's bytes", &battles[0], &battles[1], sizeof battles[0]);
@@ -177,14 +169,12 @@ static bool updated(gen1_battle battles[2], uint8_t one, uint8_t two)
     return !answers[0];
 }
 
-static uint8_t chosen(const uint8_t choices[9], uint8_t count)
-{
+static uint8_t chosen(const uint8_t choices[9], uint8_t count) {
     return count && draw(50) ? choices[draw(count)] : (uint8_t)draw(48);
 }
 
-static bool battle_played(void)
-{
-    gen1_team teams[2] = { a_team(), a_team() };
+static bool battle_played(void) {
+    gen1_team teams[2] = {a_team(), a_team()};
     gen1_battle battles[2];
     uint8_t seed[10], choices[2][9], counts[2], rules = (uint8_t)(draw(200) ? draw(4) : draw(256));
     uint16_t limit = (uint16_t)(draw(2) ? 1000 : draw(20) ? 1 + draw(300) : draw(65536));
@@ -205,8 +195,7 @@ static bool battle_played(void)
 }
 
 /* A string: a played battle with some bytes changed, or random bytes. */
-static size_t a_string(uint8_t bytes[400])
-{
+static size_t a_string(uint8_t bytes[400]) {
     size_t size = draw(100) ? 384 : draw(401);
     if (draw(20))
         memcpy(bytes, met[draw(256)].bytes, 384);
@@ -218,9 +207,8 @@ static size_t a_string(uint8_t bytes[400])
     return size;
 }
 
-static void string_compared(void)
-{
-    uint8_t bytes[400] = { 0 }, choices[2][9], counts[2], codes[2];
+static void string_compared(void) {
+    uint8_t bytes[400] = {0}, choices[2][9], counts[2], codes[2];
     gen1_battle battles[2];
     size_t size = a_string(bytes);
     memset(battles, 0, sizeof battles);
@@ -239,8 +227,7 @@ static void string_compared(void)
     compare_log(log, draw(513));
 }
 
-int main(int count, char **words)
-{
+int main(int count, char **words) {
     if (count != 6) {
         fprintf(stderr, "usage: compare FIRST.so SECOND.so BATTLES STRINGS SEED\n");
         return 2;
@@ -256,6 +243,7 @@ int main(int count, char **words)
             refused++;
     for (long n = 0; n < strings; n++)
         string_compared();
-    printf("%ld battles, %ld teams refused, %ld strings, %ld updates, %ld differences\n", battles, refused, strings, updates, differences);
+    printf("%ld battles, %ld teams refused, %ld strings, %ld updates, %ld differences\n", battles, refused, strings,
+           updates, differences);
     return differences > 0;
 }

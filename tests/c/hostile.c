@@ -15,14 +15,15 @@
 #include <stdlib.h>
 
 /* The functions that each try one call, by file; each list ends with NULL. */
-extern try_call *const tries_of_battles[], *const tries_of_batches[], *const tries_of_texts[], *const tries_of_views[],
-    *const tries_of_rooms[], *const tries_of_odds[], *const tries_of_players[];
+extern try_call *const tries_of_battles[],
+    *const tries_of_batches[], *const tries_of_texts[], *const tries_of_views[], *const tries_of_rooms[],
+                                                                                     *const tries_of_odds[],
+                                                                                         *const tries_of_players[];
 
-static try_call *const *const tries[] = {tries_of_battles, tries_of_batches, tries_of_texts, tries_of_views,
-    tries_of_rooms, tries_of_odds, tries_of_players};
+static try_call *const *const tries[] = {tries_of_battles, tries_of_batches, tries_of_texts,  tries_of_views,
+                                         tries_of_rooms,   tries_of_odds,    tries_of_players};
 
-int main(int count, char **words)
-{
+int main(int count, char **words) {
     if (count != 3) {
         fprintf(stderr, "usage: hostile CALLS SEED\n");
         return 2;

@@ -6,8 +6,7 @@
 enum { MANY = 8 };
 
 /* The mask of a list of choices. */
-static uint16_t mask_of(const gen1_battle *battle, uint8_t side)
-{
+static uint16_t mask_of(const gen1_battle *battle, uint8_t side) {
     uint8_t choices[9];
     uint8_t count = gen1_choices(battle, side, choices);
     uint16_t mask = 0;
@@ -16,8 +15,7 @@ static uint16_t mask_of(const gen1_battle *battle, uint8_t side)
     return mask;
 }
 
-static void try_offered(void)
-{
+static void try_offered(void) {
     bool is_valid;
     gen1_battle from = some_battle(&is_valid);
     uint8_t side = one_in(2) ? (uint8_t)(1 + draw(2)) : any_byte();
@@ -30,8 +28,7 @@ static void try_offered(void)
 }
 
 /* Some battles, in the block of this number; whether all are valid. */
-static gen1_battle *some_battles(int number, size_t count, bool *are_valid)
-{
+static gen1_battle *some_battles(int number, size_t count, bool *are_valid) {
     gen1_battle *battles = block(number, count * sizeof *battles);
     *are_valid = true;
     for (size_t at = 0; at < count; at++) {
@@ -43,13 +40,9 @@ static gen1_battle *some_battles(int number, size_t count, bool *are_valid)
 }
 
 /* As many, or mostly as many. */
-static size_t near_count(size_t count)
-{
-    return one_in(6) ? draw(MANY + 2) : count;
-}
+static size_t near_count(size_t count) { return one_in(6) ? draw(MANY + 2) : count; }
 
-static void try_offered_many(void)
-{
+static void try_offered_many(void) {
     bool are_valid;
     size_t count = draw(MANY + 1), mask_count = near_count(count);
     uint8_t side = one_in(4) ? any_byte() : (uint8_t)(1 + draw(2));
@@ -57,15 +50,16 @@ static void try_offered_many(void)
     uint16_t *masks = block(1, mask_count * sizeof *masks);
     note();
     uint8_t got = gen1_offered_many(battles, count, side, masks, mask_count);
-    uint8_t want = side != GEN1_ONE && side != GEN1_TWO ? GEN1_ERROR_SIDE : mask_count != count ? GEN1_ERROR_LENGTHS : 0;
+    uint8_t want = side != GEN1_ONE && side != GEN1_TWO ? GEN1_ERROR_SIDE
+                   : mask_count != count                ? GEN1_ERROR_LENGTHS
+                                                        : 0;
     bool is_kept = got != 0 ? unchanged() : changed_only(1, count * sizeof *masks);
     for (size_t at = 0; got == 0 && at < count; at++)
         is_kept &= masks[at] == gen1_offered(&battles[at], side);
     tell("gen1_offered_many", got == want && is_kept, got, want);
 }
 
-static void try_update_many(void)
-{
+static void try_update_many(void) {
     bool are_valid;
     size_t count = draw(MANY + 1), update_count = near_count(count), sizes[BLOCKS] = {0};
     gen1_battle *battles = some_battles(0, count, &are_valid), before[MANY];
@@ -77,7 +71,8 @@ static void try_update_many(void)
     }
     memcpy(asked, updates, (update_count < 2 * MANY ? update_count : 2 * MANY) * sizeof *updates);
     note();
-    uint8_t got = gen1_update_many(battles, count, updates, update_count), want = update_count == count ? 0 : GEN1_ERROR_LENGTHS;
+    uint8_t got = gen1_update_many(battles, count, updates, update_count),
+            want = update_count == count ? 0 : GEN1_ERROR_LENGTHS;
     sizes[0] = got == 0 ? count * sizeof *battles : 0;
     sizes[1] = got == 0 ? count * sizeof *updates : 0;
     bool is_kept = changed_only_these(sizes);
@@ -92,15 +87,13 @@ static void try_update_many(void)
 }
 
 /* A draw of a generator. */
-static uint32_t drawn(uint64_t *generator)
-{
+static uint32_t drawn(uint64_t *generator) {
     *generator = *generator * 6364136223846793005u + 1442695040888963407u;
     return (uint32_t)(*generator >> 32);
 }
 
 /* A random step by a call for each part of it. */
-static gen1_batch_update stepped(gen1_battle *battle, const gen1_battle *start, uint64_t *generator)
-{
+static gen1_batch_update stepped(gen1_battle *battle, const gen1_battle *start, uint64_t *generator) {
     uint8_t pair[2] = {GEN1_CHOICE_PASS, GEN1_CHOICE_PASS}, numbers[10], choices[9];
     if (start != NULL && GEN1_RESULT_OUTCOME(gen1_result(battle)) != GEN1_OUTCOME_ONGOING) {
         for (size_t at = 0; at < sizeof numbers; at++)
@@ -114,11 +107,10 @@ static gen1_batch_update stepped(gen1_battle *battle, const gen1_battle *start, 
             pair[side - 1] = choices[drawn(generator) % count];
     }
     uint8_t code = gen1_update_silent(battle, pair[0], pair[1]);
-    return (gen1_batch_update){ .one = pair[0], .two = pair[1], .result = gen1_result(battle), .code = code };
+    return (gen1_batch_update){.one = pair[0], .two = pair[1], .result = gen1_result(battle), .code = code};
 }
 
-static void try_step_random_many(void)
-{
+static void try_step_random_many(void) {
     bool are_valid, are_starts_valid;
     size_t count = draw(MANY + 1), start_count = one_in(3) ? 0 : near_count(count), over_now = 0;
     size_t generator_count = near_count(count), update_count = near_count(count);
@@ -130,9 +122,11 @@ static void try_step_random_many(void)
     memcpy(before, battles, count * sizeof *battles);
     memcpy(seeds, generators, generator_count * sizeof *generators);
     note();
-    uint8_t got = gen1_step_random_many(battles, count, starts, start_count, generators, generator_count, updates, update_count, over);
+    uint8_t got = gen1_step_random_many(battles, count, starts, start_count, generators, generator_count, updates,
+                                        update_count, over);
     bool fit = generator_count == count && update_count == count && (start_count == 0 || start_count == count);
-    size_t sizes[BLOCKS] = {count * sizeof *battles, 0, count * sizeof *generators, count * sizeof *updates, sizeof *over};
+    size_t sizes[BLOCKS] = {count * sizeof *battles, 0, count * sizeof *generators, count * sizeof *updates,
+                            sizeof *over};
     bool is_kept = got != 0 ? unchanged() : changed_only_these(sizes);
     for (size_t at = 0; got == 0 && at < count; at++)
         over_now += GEN1_RESULT_OUTCOME(updates[at].result) != GEN1_OUTCOME_ONGOING;
@@ -145,12 +139,11 @@ static void try_step_random_many(void)
     tell("gen1_step_random_many", got == (fit ? 0 : GEN1_ERROR_LENGTHS) && is_kept, got, fit ? 0 : GEN1_ERROR_LENGTHS);
 }
 
-static void try_playout(void)
-{
+static void try_playout(void) {
     bool is_valid;
     gen1_battle from = some_battle(&is_valid), loaded;
     uint32_t rounds = draw(3);
-    gen1_playout_options asked = { .seed = draw(UINT32_MAX), .rounds = rounds, .depth = draw(2) * draw(9) };
+    gen1_playout_options asked = {.seed = draw(UINT32_MAX), .rounds = rounds, .depth = draw(2) * draw(9)};
     for (size_t at = 0; at < sizeof asked.weights && rounds != 0; at++)
         asked.weights[at] = one_in(2) ? 0 : any_byte();
     const gen1_battle *battle = block_of(0, &from, sizeof from);
@@ -159,14 +152,14 @@ static void try_playout(void)
     note();
     uint8_t got = gen1_playout(battle, options, counts), want = gen1_load(&loaded, from.bytes, sizeof from.bytes);
     bool is_kept = got != 0 ? unchanged()
-        : changed_only(1, sizeof *counts) && counts->wins_one + counts->wins_two + counts->ties + counts->faults == rounds;
+                            : changed_only(1, sizeof *counts) &&
+                                  counts->wins_one + counts->wins_two + counts->ties + counts->faults == rounds;
     tell("gen1_playout", got == want && is_kept, got, want);
 }
 
 /* Whether the weights and what is left out sum to what the list says. Without options an ordinary update leads to one of the outcomes. */
-static bool is_whole(const gen1_battle *from, const gen1_batch_update *by, const gen1_outcome_options *options, const gen1_successor *found,
-                     const gen1_outcome_list *list)
-{
+static bool is_whole(const gen1_battle *from, const gen1_batch_update *by, const gen1_outcome_options *options,
+                     const gen1_successor *found, const gen1_outcome_list *list) {
     uint64_t low = list->left_low, high = list->left_high;
     gen1_battle next = *from;
     bool is_there = options->damage_classes != 0 || options->least != 0;
@@ -182,13 +175,14 @@ static bool is_whole(const gen1_battle *from, const gen1_batch_update *by, const
     return low == list->low && high == list->high && is_there;
 }
 
-static void try_outcomes(void)
-{
+static void try_outcomes(void) {
     bool is_valid;
     gen1_battle from = some_battle(&is_valid), next = from;
-    uint8_t one = one_in(8) ? any_byte() : offered(&from, GEN1_ONE), two = one_in(8) ? any_byte() : offered(&from, GEN1_TWO);
+    uint8_t one = one_in(8) ? any_byte() : offered(&from, GEN1_ONE),
+            two = one_in(8) ? any_byte() : offered(&from, GEN1_TWO);
     gen1_batch_update by = {.one = one, .two = two};
-    gen1_outcome_options asked = {.least = one_in(2) ? 0 : (uint32_t)1 << draw(32), .damage_classes = one_in(2) ? 0 : any_byte()};
+    gen1_outcome_options asked = {.least = one_in(2) ? 0 : (uint32_t)1 << draw(32),
+                                  .damage_classes = one_in(2) ? 0 : any_byte()};
     size_t capacity = draw(GUARDED_ROOM / sizeof(gen1_successor) + 1), places = draw(2) * draw(2 * MANY) + draw(2) * 64;
     const gen1_battle *battle = block_of(0, &from, sizeof from);
     gen1_successor *found = block(1, capacity * sizeof *found);
@@ -210,23 +204,23 @@ static void try_outcomes(void)
     tell("gen1_outcomes", is_right, got, want);
 }
 
-static void try_walk_begin(void)
-{
+static void try_walk_begin(void) {
     bool is_valid;
     gen1_battle from = some_battle(&is_valid), next = from;
-    uint8_t one = one_in(8) ? any_byte() : offered(&from, GEN1_ONE), two = one_in(8) ? any_byte() : offered(&from, GEN1_TWO);
+    uint8_t one = one_in(8) ? any_byte() : offered(&from, GEN1_ONE),
+            two = one_in(8) ? any_byte() : offered(&from, GEN1_TWO);
     const gen1_battle *battle = block_of(0, &from, sizeof from);
     gen1_walk *walk = block(1, sizeof *walk);
     note();
     uint8_t got = gen1_walk_begin(battle, one, two, any_byte(), walk);
     uint8_t want = is_valid ? gen1_update_silent(&next, one, two) : got;
-    bool is_right = got == 0 ? changed_only(1, sizeof *walk) && memcmp(&walk->battle, &from, sizeof from) == 0 : unchanged();
+    bool is_right =
+        got == 0 ? changed_only(1, sizeof *walk) && memcmp(&walk->battle, &from, sizeof from) == 0 : unchanged();
     tell("gen1_walk_begin", got == want && is_right, got, want);
 }
 
 /* Whether a way has a probability above 0 and up to 1, a log that ends after an event, and zeros after it. */
-static bool is_way(const gen1_way *way)
-{
+static bool is_way(const gen1_way *way) {
     size_t at = 0, left = sizeof way->log;
     gen1_event event;
     if (way->log_length > sizeof way->log || (way->low == 0 && way->high == 0))
@@ -240,13 +234,13 @@ static bool is_way(const gen1_way *way)
 }
 
 /* A walk of lawful play after some ways; or one with some other bytes. */
-static gen1_walk some_walk(bool *is_valid)
-{
+static gen1_walk some_walk(bool *is_valid) {
     gen1_walk walk;
     gen1_way way;
     gen1_battle from = some_battle(is_valid);
     uint8_t *bytes = (uint8_t *)&walk;
-    while (gen1_walk_begin(&from, offered(&from, GEN1_ONE), offered(&from, GEN1_TWO), one_in(2) ? 0 : any_byte(), &walk) != 0)
+    while (gen1_walk_begin(&from, offered(&from, GEN1_ONE), offered(&from, GEN1_TWO), one_in(2) ? 0 : any_byte(),
+                           &walk) != 0)
         from = some_battle(is_valid);
     for (uint32_t ways = draw(40); ways > 0; ways--)
         gen1_walk_next(&walk, &way);
@@ -258,8 +252,7 @@ static gen1_walk some_walk(bool *is_valid)
     return walk;
 }
 
-static void try_walk_next(void)
-{
+static void try_walk_next(void) {
     bool is_valid;
     gen1_walk from = some_walk(&is_valid), copy = from;
     gen1_way other;
@@ -275,5 +268,6 @@ static void try_walk_next(void)
     tell("gen1_walk_next", got == again && is_right, got, again);
 }
 
-try_call *const tries_of_batches[] = {try_offered, try_offered_many, try_update_many, try_step_random_many, try_playout, try_outcomes,
-                                      try_walk_begin, try_walk_next, NULL};
+try_call *const tries_of_batches[] = {try_offered,          try_offered_many, try_update_many,
+                                      try_step_random_many, try_playout,      try_outcomes,
+                                      try_walk_begin,       try_walk_next,    NULL};

@@ -3,38 +3,34 @@
 
 #include <string.h>
 
-static bool is_side(uint8_t side)
-{
-    return side == GEN1_ONE || side == GEN1_TWO;
-}
+static bool is_side(uint8_t side) { return side == GEN1_ONE || side == GEN1_TWO; }
 
-static uint8_t some_side(void)
-{
-    return one_in(4) ? any_byte() : (uint8_t)(1 + draw(2));
-}
+static uint8_t some_side(void) { return one_in(4) ? any_byte() : (uint8_t)(1 + draw(2)); }
 
 /* ---- players ---- */
 
-static void try_player_begin(void)
-{
+static void try_player_begin(void) {
     gen1_team of = lawful_team(), other = lawful_team();
     for (uint32_t times = draw(3); times > 0; times--)
         spoil(&of);
     uint8_t side = some_side(), foes = one_in(4) ? any_byte() : (uint8_t)draw(7);
-    uint32_t want = !is_side(side) ? GEN1_ERROR_SIDE : foes > 6 ? GEN1_ERROR_FOES : fault_of_new(&of, &other, 0, GEN1_LIMIT) & 0xffff;
+    uint32_t want = !is_side(side) ? GEN1_ERROR_SIDE
+                    : foes > 6     ? GEN1_ERROR_FOES
+                                   : fault_of_new(&of, &other, 0, GEN1_LIMIT) & 0xffff;
     gen1_player *player = block(0, sizeof *player);
     const gen1_team *team = block_of(1, &of, sizeof of);
     note();
     uint32_t got = gen1_player_begin(player, side, team, foes);
     bool is_right = got != 0 ? unchanged()
-        : changed_only(0, sizeof *player) && player->side == side && player->foes == foes && player->held_count == 0 && player->offered == 0
-            && player->known.sides[side - 1].members[0].species == of.members[0].species && player->known.sides[2 - side].members[0].species == 0;
+                             : changed_only(0, sizeof *player) && player->side == side && player->foes == foes &&
+                                   player->held_count == 0 && player->offered == 0 &&
+                                   player->known.sides[side - 1].members[0].species == of.members[0].species &&
+                                   player->known.sides[2 - side].members[0].species == 0;
     tell("gen1_player_begin", got == want && is_right, (long)got, (long)want);
 }
 
 /* A player before its battle, or any bytes. */
-static gen1_player some_player(bool *is_valid)
-{
+static gen1_player some_player(bool *is_valid) {
     gen1_player player;
     gen1_team team = lawful_team();
     memset(&player, 0, sizeof player);
@@ -46,8 +42,7 @@ static gen1_player some_player(bool *is_valid)
 }
 
 /* A lawful log is taken in; other bytes return a code, and change nothing. */
-static void try_player_feed(void)
-{
+static void try_player_feed(void) {
     bool is_valid;
     gen1_player from = some_player(&is_valid);
     size_t count;
@@ -55,27 +50,26 @@ static void try_player_feed(void)
     gen1_player *player = block_of(1, &from, sizeof from);
     note();
     uint8_t got = gen1_player_feed(player, count == 0 ? NULL : log, count);
-    bool is_right = got != 0 ? unchanged() && (got == GEN1_ERROR_LOG_TAG || got == GEN1_ERROR_LOG_FIELD) : changed_only(1, sizeof *player);
+    bool is_right = got != 0 ? unchanged() && (got == GEN1_ERROR_LOG_TAG || got == GEN1_ERROR_LOG_FIELD)
+                             : changed_only(1, sizeof *player);
     tell("gen1_player_feed", is_right, got, 0);
 }
 
 /* What is shown is what gen1_get_state writes of the side. */
-static bool is_own(const gen1_own_side *own, const gen1_side_state *side)
-{
-    bool is_right = own->place == side->active.place && own->disabled_slot == side->active.disabled_slot
-        && own->conditions == (side->active.conditions & ~(uint32_t)GEN1_CONDITION_FLINCH)
-        && memcmp(own->stats, side->active.stats, sizeof own->stats) == 0;
+static bool is_own(const gen1_own_side *own, const gen1_side_state *side) {
+    bool is_right = own->place == side->active.place && own->disabled_slot == side->active.disabled_slot &&
+                    own->conditions == (side->active.conditions & ~(uint32_t)GEN1_CONDITION_FLINCH) &&
+                    memcmp(own->stats, side->active.stats, sizeof own->stats) == 0;
     for (int at = 0; at < 6; at++) {
         const gen1_own_member *member = &own->members[at];
         const gen1_member_state *it = &side->members[at];
-        is_right &= member->species == it->species && member->hp == it->hp && member->status == it->status
-            && memcmp(member->pp, it->pp, sizeof it->pp) == 0 && (it->species != 0) == (at < own->count);
+        is_right &= member->species == it->species && member->hp == it->hp && member->status == it->status &&
+                    memcmp(member->pp, it->pp, sizeof it->pp) == 0 && (it->species != 0) == (at < own->count);
     }
     return is_right;
 }
 
-static void try_get_own_side(void)
-{
+static void try_get_own_side(void) {
     bool is_valid;
     gen1_battle from = some_battle(&is_valid);
     uint8_t side = some_side();
@@ -87,13 +81,13 @@ static void try_get_own_side(void)
     if (got == 0 && want == 0 && is_valid) {
         gen1_state state;
         gen1_get_state(&from, &state);
-        is_right &= own->turn == state.turn && own->request == state.requests[side - 1] && is_own(own, &state.sides[side - 1]);
+        is_right &=
+            own->turn == state.turn && own->request == state.requests[side - 1] && is_own(own, &state.sides[side - 1]);
     }
     tell("gen1_get_own_side", got == want && is_right, got, want);
 }
 
-static void try_player_show(void)
-{
+static void try_player_show(void) {
     bool is_valid;
     gen1_player from = some_player(&is_valid);
     gen1_player *player = block_of(0, &from, sizeof from);
@@ -101,24 +95,25 @@ static void try_player_show(void)
     uint16_t offered = (uint16_t)draw(65536);
     note();
     gen1_player_show(player, own, offered);
-    bool is_right = changed_only(0, sizeof *player) && player->offered == offered && memcmp(&player->own, own, sizeof *own) == 0
-        && memcmp(&player->known, &from.known, sizeof from.known) == 0;
+    bool is_right = changed_only(0, sizeof *player) && player->offered == offered &&
+                    memcmp(&player->own, own, sizeof *own) == 0 &&
+                    memcmp(&player->known, &from.known, sizeof from.known) == 0;
     tell("gen1_player_show", is_right, 0, 0);
 }
 
-static void try_teller_begin(void)
-{
+static void try_teller_begin(void) {
     uint8_t side = some_side(), pixels = any_byte();
     gen1_teller *teller = block(0, sizeof *teller);
     note();
     uint8_t got = gen1_teller_begin(teller, side, pixels), want = is_side(side) ? 0 : GEN1_ERROR_SIDE;
-    bool is_right = got != 0 ? unchanged() : changed_only(0, sizeof *teller) && teller->side == side && teller->pixels == (pixels != 0);
+    bool is_right = got != 0
+                        ? unchanged()
+                        : changed_only(0, sizeof *teller) && teller->side == side && teller->pixels == (pixels != 0);
     tell("gen1_teller_begin", got == want && is_right, got, want);
 }
 
 /* What is told has as many bytes as the log; without pixels it differs from it in places of the foe's members alone. */
-static void try_tell(void)
-{
+static void try_tell(void) {
     size_t count, room = draw(GUARDED_ROOM / 4);
     const uint8_t *log = some_log(&count);
     gen1_teller from;
@@ -133,8 +128,8 @@ static void try_tell(void)
     const size_t sizes[BLOCKS] = {0, sizeof *teller, count, sizeof *length};
     bool is_code = got == GEN1_ERROR_LOG_TAG || got == GEN1_ERROR_LOG_FIELD || got == GEN1_ERROR_LOG_CUT;
     bool is_right = count > GEN1_LOG_ROOM ? got == GEN1_ERROR_LONG_LOG && unchanged()
-        : room < count                    ? got == GEN1_ERROR_SMALL_LOG && unchanged()
-        : got != 0                        ? is_code && unchanged()
+                    : room < count        ? got == GEN1_ERROR_SMALL_LOG && unchanged()
+                    : got != 0            ? is_code && unchanged()
                                           : changed_only_these(sizes) && *length == count;
     tell("gen1_tell", is_right, got, 0);
 }
@@ -142,8 +137,7 @@ static void try_tell(void)
 /* ---- states and chances ---- */
 
 /* A state of lawful play gives its battle again. One in which bytes were changed is refused, or gives a battle that gen1_load takes. */
-static void try_set_state(void)
-{
+static void try_set_state(void) {
     gen1_battle of = met[draw(MET)];
     gen1_state from;
     gen1_get_state(&of, &from);
@@ -156,15 +150,15 @@ static void try_set_state(void)
     note();
     uint8_t got = gen1_set_state(battle, state, fault);
     gen1_battle loaded;
-    bool is_right = got == 0 ? changed_only(0, sizeof *battle) && gen1_load(&loaded, battle->bytes, sizeof battle->bytes) == 0
-                             : got == GEN1_ERROR_STATE && !is_lawful && changed_only(2, sizeof *fault) && fault->field != 0;
+    bool is_right =
+        got == 0 ? changed_only(0, sizeof *battle) && gen1_load(&loaded, battle->bytes, sizeof battle->bytes) == 0
+                 : got == GEN1_ERROR_STATE && !is_lawful && changed_only(2, sizeof *fault) && fault->field != 0;
     if (is_lawful)
         is_right &= memcmp(battle, &of, sizeof of) == 0;
     tell("gen1_set_state", is_right, got, is_lawful ? 0 : got);
 }
 
-static void try_knock_out(void)
-{
+static void try_knock_out(void) {
     bool is_valid;
     gen1_battle from = some_battle(&is_valid);
     uint8_t side = some_side(), move = one_in(4) ? any_byte() : (uint8_t)(1 + draw(165));
@@ -174,30 +168,31 @@ static void try_knock_out(void)
     gen1_get_state(&from, &state);
     note();
     uint8_t got = gen1_knock_out(battle, side, move, chances);
-    uint8_t want = !is_side(side) ? GEN1_ERROR_SIDE : move < 1 || move > 165 ? GEN1_ERROR_MOVE : state.turn == 0 ? GEN1_ERROR_NOBODY_OUT : 0;
+    uint8_t want = !is_side(side)           ? GEN1_ERROR_SIDE
+                   : move < 1 || move > 165 ? GEN1_ERROR_MOVE
+                   : state.turn == 0        ? GEN1_ERROR_NOBODY_OUT
+                                            : 0;
     bool is_right = got != 0 ? unchanged() : changed_only(1, sizeof *chances);
     if (got == 0 && is_valid)
-        is_right &= chances->once <= chances->once_of && chances->twice <= chances->twice_of && chances->once_of <= 20447232
-            && chances->twice_of == chances->once_of * chances->once_of && chances->breaks_substitute <= 1 && chances->zeros[6] == 0;
+        is_right &= chances->once <= chances->once_of && chances->twice <= chances->twice_of &&
+                    chances->once_of <= 20447232 && chances->twice_of == chances->once_of * chances->once_of &&
+                    chances->breaks_substitute <= 1 && chances->zeros[6] == 0;
     tell("gen1_knock_out", got == want && is_right, got, want);
 }
 
-static gen1_hp_change some_change(void)
-{
-    return (gen1_hp_change){ (uint16_t)(one_in(2) ? 0 : draw(65536)), (uint16_t)(one_in(2) ? draw(100) : draw(65536)) };
+static gen1_hp_change some_change(void) {
+    return (gen1_hp_change){(uint16_t)(one_in(2) ? 0 : draw(65536)), (uint16_t)(one_in(2) ? draw(100) : draw(65536))};
 }
 
-static bool is_less(gen1_wide one, gen1_wide two)
-{
+static bool is_less(gen1_wide one, gen1_wide two) {
     return one.high < two.high || (one.high == two.high && one.low < two.low);
 }
 
-static void try_knock_out_in_three(void)
-{
+static void try_knock_out_in_three(void) {
     bool is_valid;
     gen1_battle from = some_battle(&is_valid);
     uint8_t side = some_side(), move = one_in(4) ? any_byte() : (uint8_t)(1 + draw(165));
-    gen1_between changes = { some_change(), some_change() };
+    gen1_between changes = {some_change(), some_change()};
     const gen1_battle *battle = block_of(0, &from, sizeof from);
     const gen1_between *between = block_of(1, &changes, sizeof changes);
     gen1_three_chances *chances = block(2, sizeof *chances);
@@ -207,30 +202,26 @@ static void try_knock_out_in_three(void)
     uint8_t got = gen1_knock_out_in_three(battle, side, move, between, chances);
     bool is_right = got != 0 ? unchanged() : changed_only(2, sizeof *chances);
     if (got == 0)
-        is_right &= chances->once == two.once && chances->once_of == two.once_of && chances->twice_of == two.twice_of
-            && chances->breaks_substitute == two.breaks_substitute && chances->zeros[6] == 0;
+        is_right &= chances->once == two.once && chances->once_of == two.once_of && chances->twice_of == two.twice_of &&
+                    chances->breaks_substitute == two.breaks_substitute && chances->zeros[6] == 0;
     if (got == 0 && is_valid)
         is_right &= chances->twice <= chances->twice_of && !is_less(chances->thrice_of, chances->thrice);
     tell("gen1_knock_out_in_three", got == want && is_right, got, want);
 }
 
-static uint16_t at_least_1(uint16_t number)
-{
-    return number == 0 ? 1 : number;
-}
+static uint16_t at_least_1(uint16_t number) { return number == 0 ? 1 : number; }
 
-static void try_drained(void)
-{
+static void try_drained(void) {
     uint8_t move = one_in(2) ? GEN1_MOVE_ABSORB : any_byte();
     uint16_t damage = (uint16_t)draw(65536);
-    bool drains = move == GEN1_MOVE_ABSORB || move == GEN1_MOVE_MEGA_DRAIN || move == GEN1_MOVE_LEECH_LIFE || move == GEN1_MOVE_DREAM_EATER;
+    bool drains = move == GEN1_MOVE_ABSORB || move == GEN1_MOVE_MEGA_DRAIN || move == GEN1_MOVE_LEECH_LIFE ||
+                  move == GEN1_MOVE_DREAM_EATER;
     note();
     uint16_t got = gen1_drained(move, damage), want = drains ? at_least_1(damage / 2) : 0;
     tell("gen1_drained", got == want && unchanged(), got, want);
 }
 
-static void try_recoil(void)
-{
+static void try_recoil(void) {
     uint8_t move = one_in(2) ? (one_in(2) ? GEN1_MOVE_STRUGGLE : GEN1_MOVE_TAKE_DOWN) : any_byte();
     uint16_t damage = (uint16_t)draw(65536);
     bool recoils = move == GEN1_MOVE_TAKE_DOWN || move == GEN1_MOVE_DOUBLE_EDGE || move == GEN1_MOVE_SUBMISSION;
@@ -240,7 +231,6 @@ static void try_recoil(void)
     tell("gen1_recoil", got == want && unchanged(), got, want);
 }
 
-try_call *const tries_of_players[] = {
-    try_player_begin, try_player_feed, try_get_own_side, try_player_show, try_teller_begin, try_tell, try_set_state, try_knock_out,
-    try_knock_out_in_three, try_drained, try_recoil, NULL
-};
+try_call *const tries_of_players[] = {try_player_begin,       try_player_feed, try_get_own_side, try_player_show,
+                                      try_teller_begin,       try_tell,        try_set_state,    try_knock_out,
+                                      try_knock_out_in_three, try_drained,     try_recoil,       NULL};

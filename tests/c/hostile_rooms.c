@@ -5,38 +5,33 @@
 
 /* ---- rooms ---- */
 
-static bool is_side(uint8_t side)
-{
-    return side == GEN1_ONE || side == GEN1_TWO;
-}
+static bool is_side(uint8_t side) { return side == GEN1_ONE || side == GEN1_TWO; }
 
 /* What is asked of a side, by gen1_result. */
-static uint8_t request_of(uint8_t result, uint8_t side)
-{
+static uint8_t request_of(uint8_t result, uint8_t side) {
     return side == GEN1_ONE ? GEN1_RESULT_REQUEST_ONE(result) : GEN1_RESULT_REQUEST_TWO(result);
 }
 
 /* A room before a pair of choices: a side of which nothing is asked has its Pass. */
-static bool is_fresh(const gen1_room *room, uint32_t number)
-{
+static bool is_fresh(const gen1_room *room, uint32_t number) {
     uint8_t result = gen1_result(&room->battle);
     bool is_right = room->number == number;
     for (uint8_t side = GEN1_ONE; side <= GEN1_TWO; side++)
-        is_right &= room->chosen[side - 1] == (request_of(result, side) == GEN1_REQUEST_NOTHING ? GEN1_CHOICE_PASS : GEN1_DUE);
+        is_right &=
+            room->chosen[side - 1] == (request_of(result, side) == GEN1_REQUEST_NOTHING ? GEN1_CHOICE_PASS : GEN1_DUE);
     return is_right;
 }
 
 /* Whether the battle and the log are those of an update by these choices. */
-static bool is_updated(const gen1_room *room, gen1_battle from, uint8_t one, uint8_t two)
-{
+static bool is_updated(const gen1_room *room, gen1_battle from, uint8_t one, uint8_t two) {
     uint8_t log[GEN1_LOG_ROOM];
     size_t length = 0;
-    return gen1_update(&from, one, two, log, sizeof log, &length) == 0 && memcmp(&room->battle, &from, sizeof from) == 0
-        && room->log_length == length && memcmp(room->log, log, length) == 0;
+    return gen1_update(&from, one, two, log, sizeof log, &length) == 0 &&
+           memcmp(&room->battle, &from, sizeof from) == 0 && room->log_length == length &&
+           memcmp(room->log, log, length) == 0;
 }
 
-static void try_room_begin(void)
-{
+static void try_room_begin(void) {
     bool is_valid;
     gen1_battle from = some_battle(&is_valid);
     gen1_room *room = block(0, sizeof *room);
@@ -55,8 +50,7 @@ static void try_room_begin(void)
 }
 
 /* A room of lawful play, perhaps with one of the choices; or any bytes. */
-static gen1_room some_room(bool *is_valid)
-{
+static gen1_room some_room(bool *is_valid) {
     gen1_room room;
     memset(&room, 0, sizeof room);
     room.battle = met[draw(MET)];
@@ -72,8 +66,7 @@ static gen1_room some_room(bool *is_valid)
     return room;
 }
 
-static void try_room_choices(void)
-{
+static void try_room_choices(void) {
     bool is_valid;
     gen1_room from = some_room(&is_valid);
     uint8_t side = one_in(4) ? any_byte() : (uint8_t)(1 + draw(2)), due[9] = {0};
@@ -89,27 +82,24 @@ static void try_room_choices(void)
 }
 
 /* The code of a submission to a lawful room. */
-static uint8_t fault_of_submission(const gen1_room *room, uint8_t side, uint32_t number, uint8_t choice)
-{
-    return !is_side(side)                                             ? GEN1_ERROR_SIDE
-        : GEN1_RESULT_OUTCOME(gen1_result(&room->battle)) != GEN1_OUTCOME_ONGOING    ? GEN1_ERROR_OVER
-        : number != room->number                                      ? GEN1_ERROR_STALE
-        : room->chosen[side - 1] != GEN1_DUE                          ? GEN1_ERROR_CHOSEN
-        : !is_offered(&room->battle, side, choice)                    ? GEN1_ERROR_NOT_OFFERED
-                                                                      : 0;
+static uint8_t fault_of_submission(const gen1_room *room, uint8_t side, uint32_t number, uint8_t choice) {
+    return !is_side(side)                                                            ? GEN1_ERROR_SIDE
+           : GEN1_RESULT_OUTCOME(gen1_result(&room->battle)) != GEN1_OUTCOME_ONGOING ? GEN1_ERROR_OVER
+           : number != room->number                                                  ? GEN1_ERROR_STALE
+           : room->chosen[side - 1] != GEN1_DUE                                      ? GEN1_ERROR_CHOSEN
+           : !is_offered(&room->battle, side, choice)                                ? GEN1_ERROR_NOT_OFFERED
+                                                                                     : 0;
 }
 
 /* What an accepted choice makes of a lawful room. */
-static bool is_taken(const gen1_room *room, gen1_room from, uint8_t side, uint8_t choice)
-{
+static bool is_taken(const gen1_room *room, gen1_room from, uint8_t side, uint8_t choice) {
     from.chosen[side - 1] = choice;
     if (from.chosen[0] == GEN1_DUE || from.chosen[1] == GEN1_DUE)
         return memcmp(room, &from, sizeof from) == 0;
     return is_fresh(room, from.number + 1) && is_updated(room, from.battle, from.chosen[0], from.chosen[1]);
 }
 
-static void try_room_submit(void)
-{
+static void try_room_submit(void) {
     bool is_valid;
     gen1_room from = some_room(&is_valid);
     uint8_t side = one_in(4) ? any_byte() : (uint8_t)(1 + draw(2));
@@ -127,8 +117,7 @@ static void try_room_submit(void)
 }
 
 /* A forfeit drops the choices of the pair, leaves the battle alone, and refuses what comes after it. */
-static void try_room_forfeit(void)
-{
+static void try_room_forfeit(void) {
     bool is_valid;
     gen1_room from = some_room(&is_valid);
     uint8_t side = one_in(4) ? any_byte() : (uint8_t)(1 + draw(2));
@@ -140,29 +129,30 @@ static void try_room_forfeit(void)
     bool is_kept = got != 0 ? unchanged() : changed_only(0, sizeof *room);
     if (is_valid && got == 0 && want == 0) {
         const uint8_t won[2] = {GEN1_EVENT_WIN, (uint8_t)(3 - side)};
-        is_kept &= room->forfeit == side && room->number == from.number + 1 && room->log_length == 2 && memcmp(room->log, won, 2) == 0
-            && memcmp(&room->battle, &from.battle, sizeof from.battle) == 0;
+        is_kept &= room->forfeit == side && room->number == from.number + 1 && room->log_length == 2 &&
+                   memcmp(room->log, won, 2) == 0 && memcmp(&room->battle, &from.battle, sizeof from.battle) == 0;
     }
     tell("gen1_room_forfeit", got == want && is_kept, got, want);
 }
 
-static void try_room_result(void)
-{
+static void try_room_result(void) {
     bool is_valid;
     gen1_room from = some_room(&is_valid);
     uint8_t result = gen1_result(&from.battle), lost = (uint8_t)(1 + draw(2));
-    bool is_lost = is_valid && GEN1_RESULT_OUTCOME(result) == GEN1_OUTCOME_ONGOING && one_in(2) && gen1_room_forfeit(&from, lost) == 0;
+    bool is_lost = is_valid && GEN1_RESULT_OUTCOME(result) == GEN1_OUTCOME_ONGOING && one_in(2) &&
+                   gen1_room_forfeit(&from, lost) == 0;
     const gen1_room *room = block_of(0, &from, sizeof from);
     note();
     uint8_t got = gen1_room_result(room);
-    uint8_t want = !is_valid ? got : is_lost ? (lost == GEN1_ONE ? GEN1_OUTCOME_WIN_TWO : GEN1_OUTCOME_WIN_ONE) : result;
+    uint8_t want = !is_valid ? got
+                   : is_lost ? (lost == GEN1_ONE ? GEN1_OUTCOME_WIN_TWO : GEN1_OUTCOME_WIN_ONE)
+                             : result;
     tell("gen1_room_result", got == want && unchanged(), got, want);
 }
 
 /* ---- watching ---- */
 
-static void try_spectator_begin(void)
-{
+static void try_spectator_begin(void) {
     gen1_team one = lawful_team(), two = lawful_team();
     for (uint32_t times = draw(3); times > 0; times--)
         spoil(one_in(2) ? &one : &two);
@@ -172,32 +162,32 @@ static void try_spectator_begin(void)
     note();
     uint32_t got = gen1_spectator_begin(spectator, first, second);
     bool is_kept = got != 0 ? unchanged()
-        : changed_only(0, sizeof *spectator) && spectator->held_count == 0 && spectator->turn == 0
-            && spectator->sides[0].count == one.count && spectator->sides[1].count == two.count && spectator->sides[0].place == 0;
+                            : changed_only(0, sizeof *spectator) && spectator->held_count == 0 &&
+                                  spectator->turn == 0 && spectator->sides[0].count == one.count &&
+                                  spectator->sides[1].count == two.count && spectator->sides[0].place == 0;
     tell("gen1_spectator_begin", got == want && is_kept, got, want);
 }
 
 /* Whether a spectator knows of a side what gen1_get_state says that it shows. */
-static bool is_shown(const gen1_shown_side *shown, const gen1_side_state *side)
-{
+static bool is_shown(const gen1_shown_side *shown, const gen1_side_state *side) {
     const gen1_active_state *out = &side->active;
     bool is_right = shown->place == out->place;
     for (int at = 0; at < 6 && shown->count <= 6; at++) {
         const gen1_shown_member *member = &shown->members[at];
-        is_right &= at >= shown->count ? member->hp == 0 && member->status == 0 && side->members[at].species == 0
-                                       : member->hp == side->members[at].hp && member->status == side->members[at].status;
+        is_right &= at >= shown->count
+                        ? member->hp == 0 && member->status == 0 && side->members[at].species == 0
+                        : member->hp == side->members[at].hp && member->status == side->members[at].status;
     }
     if (out->place != 0)
         is_right &= memcmp(shown->stages, out->stages, sizeof shown->stages) == 0;
-    return is_right && shown->substitute == ((out->conditions & GEN1_CONDITION_SUBSTITUTE) != 0)
-        && shown->confused == ((out->conditions & GEN1_CONDITION_CONFUSED) != 0)
-        && shown->light_screen == ((out->conditions & GEN1_CONDITION_LIGHT_SCREEN) != 0)
-        && shown->reflect == ((out->conditions & GEN1_CONDITION_REFLECT) != 0);
+    return is_right && shown->substitute == ((out->conditions & GEN1_CONDITION_SUBSTITUTE) != 0) &&
+           shown->confused == ((out->conditions & GEN1_CONDITION_CONFUSED) != 0) &&
+           shown->light_screen == ((out->conditions & GEN1_CONDITION_LIGHT_SCREEN) != 0) &&
+           shown->reflect == ((out->conditions & GEN1_CONDITION_REFLECT) != 0);
 }
 
 /* A battle from its beginning, and a spectator of it that lacks the log of the last update. */
-static void watch(gen1_battle *battle, gen1_spectator *spectator, uint8_t log[GEN1_LOG_ROOM], size_t *length)
-{
+static void watch(gen1_battle *battle, gen1_spectator *spectator, uint8_t log[GEN1_LOG_ROOM], size_t *length) {
     gen1_team one = lawful_team(), two = lawful_team();
     uint8_t seed[10];
     for (int at = 0; at < 10; at++)
@@ -217,8 +207,7 @@ static void watch(gen1_battle *battle, gen1_spectator *spectator, uint8_t log[GE
 }
 
 /* Feeds the log of an update, cut anywhere; bytes that are not a log, or not a spectator, return a code and change nothing else. */
-static void try_spectator_feed(void)
-{
+static void try_spectator_feed(void) {
     gen1_battle battle;
     gen1_spectator from;
     uint8_t log[GEN1_LOG_ROOM];
@@ -237,16 +226,17 @@ static void try_spectator_feed(void)
         memcpy(bytes, log, count < length ? count : length);
     note();
     uint8_t got = gen1_spectator_feed(spectator, count == 0 ? NULL : bytes, count);
-    bool is_right = got != 0 ? unchanged() && (got == GEN1_ERROR_LOG_TAG || got == GEN1_ERROR_LOG_FIELD) && !is_lawful : changed_only(0, sizeof *spectator);
+    bool is_right = got != 0 ? unchanged() && (got == GEN1_ERROR_LOG_TAG || got == GEN1_ERROR_LOG_FIELD) && !is_lawful
+                             : changed_only(0, sizeof *spectator);
     if (is_lawful && got == 0) {
         gen1_state state;
         gen1_get_state(&battle, &state);
-        is_right &= spectator->turn == state.turn && spectator->outcome == state.outcome && spectator->held_count == 0
-            && is_shown(&spectator->sides[0], &state.sides[0]) && is_shown(&spectator->sides[1], &state.sides[1]);
+        is_right &= spectator->turn == state.turn && spectator->outcome == state.outcome &&
+                    spectator->held_count == 0 && is_shown(&spectator->sides[0], &state.sides[0]) &&
+                    is_shown(&spectator->sides[1], &state.sides[1]);
     }
     tell("gen1_spectator_feed", is_right, got, is_lawful ? 0 : got);
 }
 
-try_call *const tries_of_rooms[] = {
-    try_room_begin, try_room_choices, try_room_submit, try_room_forfeit, try_room_result, try_spectator_begin, try_spectator_feed, NULL
-};
+try_call *const tries_of_rooms[] = {try_room_begin,  try_room_choices,    try_room_submit,    try_room_forfeit,
+                                    try_room_result, try_spectator_begin, try_spectator_feed, NULL};

@@ -9,8 +9,7 @@ static const char team_packed[] = "Tauros||||BodySlam,HyperBeam||252,4,,,,||,0,,
 
 typedef uint8_t reading(const char *text, size_t count, gen1_team *team, gen1_text_fault *fault);
 
-static void try_team(const char *call, reading *read, const char *lawful, size_t length)
-{
+static void try_team(const char *call, reading *read, const char *lawful, size_t length) {
     char text[256];
     size_t count = one_in(4) ? draw(sizeof text) : length;
     for (size_t at = 0; at < sizeof text; at++)
@@ -28,18 +27,16 @@ static void try_team(const char *call, reading *read, const char *lawful, size_t
     note();
     uint8_t got = read(count == 0 ? NULL : given, count, team, fault), want = is_lawful ? 0 : got;
     bool is_kept = got == 0 ? changed_only(1, sizeof *team) && fault_of_new(team, team, 0, 1) == 0
-                            : changed_only(2, sizeof *fault) && fault->code == got && GEN1_ERROR_TEXT_SPECIES <= got && got <= GEN1_ERROR_TEXT_TEAM
-            && (fault->rule != 0) == (got == GEN1_ERROR_TEXT_TEAM);
+                            : changed_only(2, sizeof *fault) && fault->code == got && GEN1_ERROR_TEXT_SPECIES <= got &&
+                                  got <= GEN1_ERROR_TEXT_TEAM && (fault->rule != 0) == (got == GEN1_ERROR_TEXT_TEAM);
     tell(call, got == want && is_kept, got, want);
 }
 
-static void try_team_from_text(void)
-{
+static void try_team_from_text(void) {
     try_team("gen1_team_from_text", gen1_team_from_text, team_text, sizeof team_text - 1);
 }
 
-static void try_team_from_packed(void)
-{
+static void try_team_from_packed(void) {
     try_team("gen1_team_from_packed", gen1_team_from_packed, team_packed, sizeof team_packed - 1);
 }
 

@@ -3,15 +3,13 @@
 
 #include <string.h>
 
-static void try_version(void)
-{
+static void try_version(void) {
     note();
     uint32_t got = gen1_version();
     tell("gen1_version", got == GEN1_VERSION_NUMBER && unchanged(), got, GEN1_VERSION_NUMBER);
 }
 
-static void try_build(void)
-{
+static void try_build(void) {
     note();
     const char *text = gen1_build();
     bool known = strncmp(text, "proved, ", 8) == 0 || strncmp(text, "plain, ", 7) == 0 || strcmp(text, "unknown") == 0;
@@ -20,8 +18,7 @@ static void try_build(void)
 }
 
 /* A name of the tables, or bytes that are not a name. */
-static const char *some_name(const char *name, size_t *count, bool *is_name)
-{
+static const char *some_name(const char *name, size_t *count, bool *is_name) {
     *is_name = one_in(2);
     *count = *is_name ? strlen(name) : draw(40);
     char *text = block(0, *count);
@@ -32,8 +29,7 @@ static const char *some_name(const char *name, size_t *count, bool *is_name)
     return text;
 }
 
-static void try_species_from_name(void)
-{
+static void try_species_from_name(void) {
     size_t count;
     bool is_name;
     const char *text = some_name("Mr. Mime", &count, &is_name);
@@ -42,8 +38,7 @@ static void try_species_from_name(void)
     tell("gen1_species_from_name", got == want && unchanged(), got, want);
 }
 
-static void try_move_from_name(void)
-{
+static void try_move_from_name(void) {
     size_t count;
     bool is_name;
     const char *text = some_name("Hi Jump Kick", &count, &is_name);
@@ -53,8 +48,7 @@ static void try_move_from_name(void)
 }
 
 /* Whether the state agrees with what other calls return. */
-static void try_view(void)
-{
+static void try_view(void) {
     bool is_valid;
     gen1_battle from = some_battle(&is_valid);
     const gen1_battle *battle = block_of(0, &from, sizeof from);
@@ -64,26 +58,25 @@ static void try_view(void)
     bool is_right = changed_only(1, sizeof *state);
     uint32_t result = gen1_result(&from);
     if (is_valid)
-        is_right = is_right && state->outcome == GEN1_RESULT_OUTCOME(result) && state->requests[0] == GEN1_RESULT_REQUEST_ONE(result) &&
+        is_right = is_right && state->outcome == GEN1_RESULT_OUTCOME(result) &&
+                   state->requests[0] == GEN1_RESULT_REQUEST_ONE(result) &&
                    state->requests[1] == GEN1_RESULT_REQUEST_TWO(result) && state->index <= 8;
     tell("gen1_get_state", is_right, state->outcome, GEN1_RESULT_OUTCOME(result));
 }
 
-static bool is_choice(uint8_t byte)
-{
-    return byte == GEN1_CHOICE_PASS || (GEN1_CHOICE_MOVE(0) <= byte && byte <= GEN1_CHOICE_MOVE(4)) || (GEN1_CHOICE_SWITCH(1) <= byte && byte <= GEN1_CHOICE_SWITCH(6));
+static bool is_choice(uint8_t byte) {
+    return byte == GEN1_CHOICE_PASS || (GEN1_CHOICE_MOVE(0) <= byte && byte <= GEN1_CHOICE_MOVE(4)) ||
+           (GEN1_CHOICE_SWITCH(1) <= byte && byte <= GEN1_CHOICE_SWITCH(6));
 }
 
-static void try_choice_kind(void)
-{
+static void try_choice_kind(void) {
     uint8_t byte = any_byte();
     note();
     uint8_t got = gen1_choice_kind(byte), want = is_choice(byte) ? (uint8_t)(byte / 16 + 1) : GEN1_KIND_NONE;
     tell("gen1_choice_kind", got == want && unchanged(), got, want);
 }
 
-static void try_choice_slot(void)
-{
+static void try_choice_slot(void) {
     uint8_t byte = any_byte();
     note();
     uint8_t got = gen1_choice_slot(byte), want = is_choice(byte) ? byte % 16 : 0;
@@ -91,8 +84,7 @@ static void try_choice_slot(void)
 }
 
 /* Where the code is 0, the numbers are the given ones, and nothing else has changed. */
-static void try_reseed(void)
-{
+static void try_reseed(void) {
     bool is_valid;
     gen1_battle from = some_battle(&is_valid);
     gen1_battle *battle = block_of(0, &from, sizeof from);
@@ -110,17 +102,18 @@ static void try_reseed(void)
 }
 
 /* Whether a call has written its text to blocks 1 and 2 as it must; `due` is the code where there is room. */
-static void tell_text(const char *name, uint8_t got, uint8_t due, const char *text, const size_t *length, size_t room)
-{
+static void tell_text(const char *name, uint8_t got, uint8_t due, const char *text, const size_t *length, size_t room) {
     if (got != 0)
         tell(name, unchanged() && got == (due != 0 ? due : GEN1_ERROR_SMALL_TEXT), got, due);
     else
-        tell(name, due == 0 && 0 < *length && *length < room && text[*length] == '\0' && changed_only_two(1, *length + 1, 2, sizeof *length),
+        tell(name,
+             due == 0 && 0 < *length && *length < room && text[*length] == '\0' &&
+                 changed_only_two(1, *length + 1, 2, sizeof *length),
              got, due);
 }
 
-static void try_name(const char *name, uint8_t (*call)(uint8_t, char *, size_t, size_t *), uint8_t first, uint8_t last)
-{
+static void try_name(const char *name, uint8_t (*call)(uint8_t, char *, size_t, size_t *), uint8_t first,
+                     uint8_t last) {
     size_t room = draw(40);
     uint8_t number = any_byte();
     char *text = block(1, room);
@@ -134,13 +127,17 @@ static void try_species_name(void) { try_name("gen1_species_name", gen1_species_
 static void try_move_name(void) { try_name("gen1_move_name", gen1_move_name, 1, 165); }
 static void try_type_name(void) { try_name("gen1_type_name", gen1_type_name, 0, 14); }
 
-static void try_error_text(void)
-{
+static void try_error_text(void) {
     /* The first and the last code of each family. */
     static const uint8_t families[][2] = {
-        {0, GEN1_ERROR_FOES}, {GEN1_ERROR_LOAD_LENGTH, GEN1_ERROR_STATE}, {GEN1_ERROR_OVER, GEN1_ERROR_DRAWS},
-        {GEN1_ERROR_LOG_TAG, GEN1_ERROR_WALK_END}, {GEN1_ERROR_SIDE, GEN1_ERROR_PLACE}, {GEN1_ERROR_UNUSUAL, GEN1_ERROR_NOBODY_OUT},
-        {GEN1_ERROR_STALE, GEN1_ERROR_NOT_OFFERED}, {GEN1_ERROR_TEXT_SPECIES, GEN1_ERROR_TEXT_TEAM},
+        {0, GEN1_ERROR_FOES},
+        {GEN1_ERROR_LOAD_LENGTH, GEN1_ERROR_STATE},
+        {GEN1_ERROR_OVER, GEN1_ERROR_DRAWS},
+        {GEN1_ERROR_LOG_TAG, GEN1_ERROR_WALK_END},
+        {GEN1_ERROR_SIDE, GEN1_ERROR_PLACE},
+        {GEN1_ERROR_UNUSUAL, GEN1_ERROR_NOBODY_OUT},
+        {GEN1_ERROR_STALE, GEN1_ERROR_NOT_OFFERED},
+        {GEN1_ERROR_TEXT_SPECIES, GEN1_ERROR_TEXT_TEAM},
     };
     size_t room = draw(140);
     uint8_t code = any_byte();
@@ -154,8 +151,7 @@ static void try_error_text(void)
     tell_text("gen1_error_text", got, is_code ? 0 : GEN1_ERROR_UNKNOWN, text, length, room);
 }
 
-static void try_species_stats(void)
-{
+static void try_species_stats(void) {
     uint8_t species = any_byte();
     gen1_base *base = block(0, sizeof *base);
     note();
@@ -163,8 +159,7 @@ static void try_species_stats(void)
     tell("gen1_species_stats", got == want && (got == 0 ? changed_only(0, sizeof *base) : unchanged()), got, want);
 }
 
-static void try_move_data(void)
-{
+static void try_move_data(void) {
     uint8_t move = any_byte();
     gen1_move *row = block(0, sizeof *row);
     note();
@@ -172,8 +167,7 @@ static void try_move_data(void)
     tell("gen1_move_data", got == want && (got == 0 ? changed_only(0, sizeof *row) : unchanged()), got, want);
 }
 
-static void try_effectiveness(void)
-{
+static void try_effectiveness(void) {
     uint8_t attack = one_in(2) ? (uint8_t)draw(16) : any_byte(), foe = one_in(2) ? (uint8_t)draw(16) : any_byte();
     uint8_t *tenths = block(0, 1);
     note();
@@ -183,8 +177,7 @@ static void try_effectiveness(void)
 }
 
 /* Where a valid battle returns GEN1_ERROR_NOBODY is not computed here. */
-static void try_choice_words(void)
-{
+static void try_choice_words(void) {
     bool is_valid;
     gen1_battle from = some_battle(&is_valid);
     const gen1_battle *battle = block_of(0, &from, sizeof from);
@@ -201,7 +194,6 @@ static void try_choice_words(void)
 }
 
 try_call *const tries_of_views[] = {
-    try_version, try_build, try_species_from_name, try_move_from_name, try_view, try_choice_kind, try_choice_slot, try_reseed,
-    try_species_name, try_move_name, try_type_name, try_error_text, try_species_stats, try_move_data, try_effectiveness, try_choice_words,
-    NULL
-};
+    try_version,       try_build,     try_species_from_name, try_move_from_name, try_view,      try_choice_kind,
+    try_choice_slot,   try_reseed,    try_species_name,      try_move_name,      try_type_name, try_error_text,
+    try_species_stats, try_move_data, try_effectiveness,     try_choice_words,   NULL};

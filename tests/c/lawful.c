@@ -8,8 +8,7 @@ gen1_battle met[MET];
 uint8_t met_log[MET][GEN1_LOG_ROOM];
 size_t met_length[MET];
 
-static gen1_member lawful_member(void)
-{
+static gen1_member lawful_member(void) {
     gen1_member it;
     memset(&it, 0, sizeof it);
     it.species = (uint8_t)(1 + draw(151));
@@ -24,8 +23,7 @@ static gen1_member lawful_member(void)
     return it;
 }
 
-gen1_team lawful_team(void)
-{
+gen1_team lawful_team(void) {
     gen1_team team;
     memset(&team, 0, sizeof team);
     team.count = (uint8_t)(1 + draw(6));
@@ -34,15 +32,13 @@ gen1_team lawful_team(void)
     return team;
 }
 
-uint8_t offered(const gen1_battle *battle, uint8_t side)
-{
+uint8_t offered(const gen1_battle *battle, uint8_t side) {
     uint8_t choices[9];
     uint8_t count = gen1_choices(battle, side, choices);
     return count == 0 ? GEN1_CHOICE_PASS : choices[draw(count)];
 }
 
-void meet(int place)
-{
+void meet(int place) {
     gen1_team one = lawful_team(), two = lawful_team();
     uint8_t seed[10];
     size_t length = 0;
@@ -59,8 +55,7 @@ void meet(int place)
     }
 }
 
-gen1_battle some_battle(bool *is_valid)
-{
+gen1_battle some_battle(bool *is_valid) {
     gen1_battle battle = met[draw(MET)];
     *is_valid = !one_in(4);
     for (uint32_t changes = *is_valid ? 0 : 1 + draw(one_in(2) ? 4 : 400); changes > 0; changes--)
@@ -68,8 +63,7 @@ gen1_battle some_battle(bool *is_valid)
     return battle;
 }
 
-bool is_offered(const gen1_battle *battle, uint8_t side, uint8_t choice)
-{
+bool is_offered(const gen1_battle *battle, uint8_t side, uint8_t choice) {
     uint8_t choices[9];
     uint8_t count = gen1_choices(battle, side, choices);
     return count <= 9 && memchr(choices, choice, count) != NULL;

@@ -15,14 +15,14 @@
 #include <stdlib.h>
 #include <string.h>
 
-_Static_assert(sizeof(gen1_own_side) == GEN1_OWN_SIDE_SIZE && _Alignof(gen1_own_side) == 4, "the size of what a side is shown");
+_Static_assert(sizeof(gen1_own_side) == GEN1_OWN_SIDE_SIZE && _Alignof(gen1_own_side) == 4,
+               "the size of what a side is shown");
 
 enum { CHANGES = 100000, SIDE_START = 24, SIDE_SIZE = 180, MEMBER_SIZE = 24, ACTIVE = 144, BYTES = 384 };
 
 static uint64_t state;
 
-static uint32_t draw(uint32_t below)
-{
+static uint32_t draw(uint32_t below) {
     uint64_t it = state += 0x9e3779b97f4a7c15u;
     it = (it ^ (it >> 30)) * 0xbf58476d1ce4e5b9u;
     it = (it ^ (it >> 27)) * 0x94d049bb133111ebu;
@@ -31,8 +31,7 @@ static uint32_t draw(uint32_t below)
 
 /* Teams and play */
 
-static uint8_t any_move(void)
-{
+static uint8_t any_move(void) {
     for (;;) {
         uint8_t it = (uint8_t)(1 + draw(164));
         if (it != 102 && it != 118 && it != 119 && it != 144)
@@ -40,8 +39,7 @@ static uint8_t any_move(void)
     }
 }
 
-static gen1_team any_team(void)
-{
+static gen1_team any_team(void) {
     gen1_team team;
     memset(&team, 0, sizeof team);
     team.count = (uint8_t)(1 + draw(6));
@@ -59,8 +57,7 @@ static gen1_team any_team(void)
     return team;
 }
 
-static uint8_t any_choice(const gen1_battle *battle, uint8_t side)
-{
+static uint8_t any_choice(const gen1_battle *battle, uint8_t side) {
     uint8_t choices[9], count = gen1_choices(battle, side, choices);
     return count == 0 ? GEN1_CHOICE_PASS : choices[draw(count)];
 }
@@ -72,8 +69,7 @@ typedef struct sight {
     uint8_t choices[9], count;
 } sight;
 
-static sight seen(const gen1_battle *battle, uint8_t side)
-{
+static sight seen(const gen1_battle *battle, uint8_t side) {
     sight it;
     memset(&it, 0, sizeof it);
     if (gen1_get_own_side(battle, side, &it.own) != 0)
@@ -84,18 +80,13 @@ static sight seen(const gen1_battle *battle, uint8_t side)
 
 /* Which bits of a byte are hidden from a side. Of the own status the count of a sleep is, if it stays above 0. */
 
-static uint8_t hidden_of_member(int at, uint8_t byte)
-{
-    return at == 23 ? 0xff : at == 14 && (byte & 7) != 0 ? 7 : 0;
-}
+static uint8_t hidden_of_member(int at, uint8_t byte) { return at == 23 ? 0xff : at == 14 && (byte & 7) != 0 ? 7 : 0; }
 
-static uint8_t hidden_of_active(int at)
-{
+static uint8_t hidden_of_active(int at) {
     return at == 17 ? GEN1_CONDITION_FLINCH : at == 21 || at == 22 || at >= 24 ? 0xff : 0;
 }
 
-static uint8_t hidden(uint8_t side, int at, uint8_t byte)
-{
+static uint8_t hidden(uint8_t side, int at, uint8_t byte) {
     if (at < SIDE_START) {
         bool other_request = at == (side == GEN1_ONE ? 18 : 17);
         return (at >= 3 && at <= 15) || other_request ? 0xff : 0;
@@ -108,18 +99,17 @@ static uint8_t hidden(uint8_t side, int at, uint8_t byte)
 }
 
 /* The version, the rules, the limit and unused bytes are neither shown nor hidden: both sides know them from the beginning. */
-static uint8_t shown(uint8_t side, int at, uint8_t byte)
-{
+static uint8_t shown(uint8_t side, int at, uint8_t byte) {
     bool known = at == 0 || (at >= 19 && at < SIDE_START);
     bool own_or_header = at < SIDE_START || (at < SIDE_START + SIDE_SIZE) == (side == GEN1_ONE);
     return known || !own_or_header ? 0 : (uint8_t)~hidden(side, at, byte);
 }
 
 /* Changes some of these bits of a byte. Returns whether the bytes are another battle; if not, nothing has changed. */
-static bool change(gen1_battle *battle, int at, uint8_t bits)
-{
+static bool change(gen1_battle *battle, int at, uint8_t bits) {
     uint8_t old = battle->bytes[at], new = (uint8_t)((old & ~bits) | (draw(256) & bits));
-    bool sleeps = at >= SIDE_START && (at - SIDE_START) % SIDE_SIZE < ACTIVE && (at - SIDE_START) % SIDE_SIZE % MEMBER_SIZE == 14;
+    bool sleeps =
+        at >= SIDE_START && (at - SIDE_START) % SIDE_SIZE < ACTIVE && (at - SIDE_START) % SIDE_SIZE % MEMBER_SIZE == 14;
     if (new == old || (sleeps && bits == 7 && (new & 7) == 0))
         return false;
     gen1_battle loaded;
@@ -132,15 +122,13 @@ static bool change(gen1_battle *battle, int at, uint8_t bits)
 
 static long hidden_changes, shown_changes, bench_changes;
 
-static int wrong(const char *what, uint8_t side, int at)
-{
+static int wrong(const char *what, uint8_t side, int at) {
     printf("side %d, byte %d: %s\n", side, at, what);
     return 1;
 }
 
 /* Some changes of hidden bits, one after the other, and one of shown bits. Returns how many were wrong. */
-static int look(const gen1_battle *battle, uint8_t side)
-{
+static int look(const gen1_battle *battle, uint8_t side) {
     gen1_battle other = *battle;
     sight before = seen(battle, side);
     for (int tries = 0; tries < 24; tries++) {
@@ -167,28 +155,27 @@ static int look(const gen1_battle *battle, uint8_t side)
 }
 
 /* Whether a byte says only what a member of the foe that stays on the bench is, and not whether it lives or has a status. */
-static bool of_bench(uint8_t side, int at, const gen1_battle *battle)
-{
-    int foe_start = SIDE_START + (side == GEN1_ONE ? SIDE_SIZE : 0), in_foe = at - foe_start, in_member = in_foe % MEMBER_SIZE;
+static bool of_bench(uint8_t side, int at, const gen1_battle *battle) {
+    int foe_start = SIDE_START + (side == GEN1_ONE ? SIDE_SIZE : 0), in_foe = at - foe_start,
+        in_member = in_foe % MEMBER_SIZE;
     bool is_out = in_foe / MEMBER_SIZE + 1 == battle->bytes[foe_start + ACTIVE];
     return in_foe >= 0 && in_foe < ACTIVE && !is_out && in_member != 14 && in_member != 23;
 }
 
-static bool lives(const gen1_battle *battle, int at)
-{
+static bool lives(const gen1_battle *battle, int at) {
     const uint8_t *member = &battle->bytes[at - (at - SIDE_START) % SIDE_SIZE % MEMBER_SIZE];
     return member[4] + member[5] > 0;
 }
 
 /* Changes the bench of a foe that doesn't switch: the log of the update, and what is seen after it, stay the same. */
-static int look_ahead(const gen1_battle *battle, uint8_t side, uint8_t one, uint8_t two)
-{
+static int look_ahead(const gen1_battle *battle, uint8_t side, uint8_t one, uint8_t two) {
     gen1_battle now = *battle, other = *battle;
     uint8_t log[GEN1_LOG_ROOM], other_log[GEN1_LOG_ROOM];
     size_t length = 0, other_length = 0;
     int at = (int)draw(BYTES);
     bool lived = at >= SIDE_START && lives(battle, at);
-    if ((side == GEN1_ONE ? two : one) > 0x20 || !of_bench(side, at, battle) || !change(&other, at, 0xff) || lives(&other, at) != lived)
+    if ((side == GEN1_ONE ? two : one) > 0x20 || !of_bench(side, at, battle) || !change(&other, at, 0xff) ||
+        lives(&other, at) != lived)
         return 0;
     if (gen1_update(&now, one, two, log, sizeof log, &length) != 0)
         return 0; /* the battle is over */
@@ -201,8 +188,7 @@ static int look_ahead(const gen1_battle *battle, uint8_t side, uint8_t one, uint
     return 0;
 }
 
-static int play(void)
-{
+static int play(void) {
     gen1_battle battle;
     gen1_team one = any_team(), two = any_team();
     uint8_t seed[10], log[GEN1_LOG_ROOM];
@@ -223,12 +209,12 @@ static int play(void)
     return faults;
 }
 
-int main(int argc, char **argv)
-{
+int main(int argc, char **argv) {
     state = argc > 1 ? strtoull(argv[1], NULL, 0) : 1;
     int faults = 0;
     while (hidden_changes < CHANGES && faults == 0)
         faults += play();
-    printf("%ld changes of hidden bits, %ld of shown bits, %ld of a foe's bench, %d wrong\n", hidden_changes, shown_changes, bench_changes, faults);
+    printf("%ld changes of hidden bits, %ld of shown bits, %ld of a foe's bench, %d wrong\n", hidden_changes,
+           shown_changes, bench_changes, faults);
     return faults != 0;
 }

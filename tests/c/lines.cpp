@@ -20,16 +20,14 @@ static_assert(sizeof(gen1_room) == GEN1_ROOM_SIZE && sizeof(gen1_spectator) == G
 namespace {
 
 class Battle {
-public:
-    Battle(const gen1_team &one, const gen1_team &two, const std::array<std::uint8_t, 10> &seed)
-    {
+  public:
+    Battle(const gen1_team &one, const gen1_team &two, const std::array<std::uint8_t, 10> &seed) {
         if (const auto fault = gen1_new(&battle, &one, &two, seed.data(), 0, GEN1_LIMIT); fault != 0)
             throw std::invalid_argument("team " + std::to_string(GEN1_SIDE_OF(fault)));
     }
 
     /* The lines of an update. */
-    std::string update(std::uint8_t one, std::uint8_t two)
-    {
+    std::string update(std::uint8_t one, std::uint8_t two) {
         std::array<std::uint8_t, GEN1_LOG_ROOM> log;
         std::size_t length = 0;
         if (const auto refusal = gen1_update(&battle, one, two, log.data(), log.size(), &length); refusal != 0)
@@ -42,12 +40,11 @@ public:
         return lines;
     }
 
-private:
+  private:
     gen1_battle battle;
 };
 
-gen1_member tauros()
-{
+gen1_member tauros() {
     gen1_member it = {};
     it.species = 128;
     it.level = 100;
@@ -62,8 +59,7 @@ gen1_member tauros()
 
 } // namespace
 
-int main()
-{
+int main() {
     gen1_team team = {};
     team.members[0] = tauros();
     team.count = 1;

@@ -13,14 +13,14 @@
 
 _Static_assert(sizeof(gen1_battle) == 384 && _Alignof(gen1_battle) == 1, "a battle is its bytes");
 _Static_assert(sizeof(gen1_room) == GEN1_ROOM_SIZE && _Alignof(gen1_room) == 4, "the size of a room");
-_Static_assert(sizeof(gen1_spectator) == GEN1_SPECTATOR_SIZE && _Alignof(gen1_spectator) == 2, "the size of a spectator");
+_Static_assert(sizeof(gen1_spectator) == GEN1_SPECTATOR_SIZE && _Alignof(gen1_spectator) == 2,
+               "the size of a spectator");
 
 /* "Offered choices": Pass, Move 0 to 4, Switch 1 to 6, by their bytes. */
 static const int choices[12] = {0x00, 0x10, 0x11, 0x12, 0x13, 0x14, 0x21, 0x22, 0x23, 0x24, 0x25, 0x26};
 
 /* How many bytes and bits differ from `choices`. */
-static int wrong_bits(void)
-{
+static int wrong_bits(void) {
     int wrong = 0, bits[256];
     for (int byte = 0; byte < 256; byte++)
         bits[byte] = 12;
@@ -43,7 +43,8 @@ typedef struct told {
 } told;
 
 #define CANT(reason) {GEN1_EVENT_CANT, GEN1_ONE, GEN1_SPECIES_TAUROS, reason}, reason
-#define DAMAGED(source) {GEN1_EVENT_DAMAGE, GEN1_ONE, GEN1_SPECIES_TAUROS, 97, 0, 97, 1, GEN1_STATUS_NONE, source}, source
+#define DAMAGED(source)                                                                                                \
+    {GEN1_EVENT_DAMAGE, GEN1_ONE, GEN1_SPECIES_TAUROS, 97, 0, 97, 1, GEN1_STATUS_NONE, source}, source
 #define OF_VOLATILE(tag, it) {tag, GEN1_ONE, GEN1_SPECIES_TAUROS, it}, it
 
 static const told events[] = {
@@ -78,20 +79,19 @@ static const told events[] = {
 };
 
 /* Whether an event has its detail as a struct, its line, and its bytes. */
-static bool is_told(const told *it)
-{
+static bool is_told(const told *it) {
     gen1_event event;
     char line[GEN1_LINE_ROOM];
     uint8_t bytes[10];
     size_t as_struct = 0, as_line = 0, length = 0, count = 0;
-    return gen1_next_event(it->bytes, sizeof it->bytes, &as_struct, &event) == 0 && event.tag == it->bytes[0] && event.detail == it->detail
-        && gen1_next_line(it->bytes, sizeof it->bytes, &as_line, line, sizeof line, &length) == 0 && length == strlen(it->line)
-        && strcmp(line, it->line) == 0 && gen1_event_bytes(&event, bytes, &count) == 0 && count == as_struct
-        && memcmp(bytes, it->bytes, count) == 0;
+    return gen1_next_event(it->bytes, sizeof it->bytes, &as_struct, &event) == 0 && event.tag == it->bytes[0] &&
+           event.detail == it->detail &&
+           gen1_next_line(it->bytes, sizeof it->bytes, &as_line, line, sizeof line, &length) == 0 &&
+           length == strlen(it->line) && strcmp(line, it->line) == 0 && gen1_event_bytes(&event, bytes, &count) == 0 &&
+           count == as_struct && memcmp(bytes, it->bytes, count) == 0;
 }
 
-int main(void)
-{
+int main(void) {
     int wrong = wrong_bits();
     if (wrong > 0)
         printf("%d bits and choices are wrong\n", wrong);

@@ -26,15 +26,13 @@ static uint32_t table[2 * PLACES], seen[PLACES], slots[2 * PLACES];
 static gen1_outcome_list list;
 
 /* Whether a byte passes the test of the search that this many bytes pass. */
-static bool passes(uint16_t total, uint8_t byte)
-{
+static bool passes(uint16_t total, uint8_t byte) {
     uint8_t rotated = (uint8_t)(byte >> 1 | byte << 7);
     return total == EACH || (total == OF_DAMAGE && rotated >= 217) || (total == OF_SLEEP && (byte & 7) != 0);
 }
 
 /* Plays an update with bytes that are drawn here. Returns false if it has another search, or too many draws. */
-static bool play(const gen1_walk *begun, gen1_way *way)
-{
+static bool play(const gen1_walk *begun, gen1_way *way) {
     gen1_draw set[DRAWS];
     for (uint8_t count = 0; count < DRAWS; count++) {
         gen1_walk walk = *begun;
@@ -47,7 +45,8 @@ static bool play(const gen1_walk *begun, gen1_way *way)
         uint16_t total = walk.draws[count].total;
         if (total != EACH && total != OF_DAMAGE && total != OF_SLEEP)
             return false;
-        gen1_draw it = {.num = {1, 0}, .whole = {1, 0}, .total = 1, .count = 1, .look = {EACH, 0}, .kind = LOOKS_AT_ALL};
+        gen1_draw it = {
+            .num = {1, 0}, .whole = {1, 0}, .total = 1, .count = 1, .look = {EACH, 0}, .kind = LOOKS_AT_ALL};
         do
             it.byte = (uint8_t)draw(EACH);
         while (!passes(total, it.byte));
@@ -56,8 +55,7 @@ static bool play(const gen1_walk *begun, gen1_way *way)
     return false;
 }
 
-static size_t hash(const gen1_battle *battle)
-{
+static size_t hash(const gen1_battle *battle) {
     uint64_t hash = 0;
     for (size_t at = 0; at < sizeof battle->bytes; at += 8) {
         uint64_t word;
@@ -69,8 +67,7 @@ static size_t hash(const gen1_battle *battle)
 }
 
 /* The slot that has the number of an outcome, counted from 1, or a free one. */
-static uint32_t *slot_of(const gen1_battle *battle)
-{
+static uint32_t *slot_of(const gen1_battle *battle) {
     size_t at = hash(battle);
     while (slots[at] != 0 && memcmp(&found[slots[at] - 1].battle, battle, sizeof *battle) != 0)
         at = (at + 1) % (2 * PLACES);
@@ -78,15 +75,13 @@ static uint32_t *slot_of(const gen1_battle *battle)
 }
 
 /* The upper tail of chi-square, by Wilson and Hilferty. */
-static double tail(double chi, double free)
-{
+static double tail(double chi, double free) {
     double x = cbrt(chi / free), z = (x - (1 - 2 / (9 * free))) / sqrt(2 / (9 * free));
     return 0.5 * erfc(z / sqrt(2));
 }
 
 /* The tail of the samples that were seen. All outcomes that are expected fewer than eight times are one cell. -1 if there is only one. */
-static double tail_of_seen(uint32_t samples)
-{
+static double tail_of_seen(uint32_t samples) {
     double chi = 0, rare = 0, rarely = 0;
     int cells = 0;
     for (uint64_t at = 0; at < list.count; at++) {
@@ -105,8 +100,7 @@ static double tail_of_seen(uint32_t samples)
 }
 
 /* Samples a position. Returns the tail, or -1 if it has one cell or is left out. Ends the program if a sample is not in the list. */
-static double sampled(const gen1_battle *battle, uint8_t one, uint8_t two, uint32_t samples)
-{
+static double sampled(const gen1_battle *battle, uint8_t one, uint8_t two, uint32_t samples) {
     gen1_walk begun;
     gen1_way way;
     const gen1_outcome_options all = {0};
@@ -130,14 +124,12 @@ static double sampled(const gen1_battle *battle, uint8_t one, uint8_t two, uint3
     return tail_of_seen(samples);
 }
 
-static int by_size(const void *one, const void *two)
-{
+static int by_size(const void *one, const void *two) {
     double a = *(const double *)one, b = *(const double *)two;
     return (a > b) - (a < b);
 }
 
-int main(int count, char **words)
-{
+int main(int count, char **words) {
     size_t positions = count > 1 ? strtoul(words[1], NULL, 10) : 200, got = 0;
     uint32_t samples = count > 2 ? (uint32_t)strtoul(words[2], NULL, 10) : 200000;
     double *tails = malloc((positions + 1) * sizeof *tails), error = 4 / sqrt((double)positions);
@@ -150,7 +142,8 @@ int main(int count, char **words)
     }
     qsort(tails, got, sizeof *tails, by_size);
     int failed = tails[0] <= 0.01 / (double)positions;
-    printf("%lu positions, %lu samples of each, all listed; least tail %.5f", (unsigned long)got, (unsigned long)samples, tails[0]);
+    printf("%lu positions, %lu samples of each, all listed; least tail %.5f", (unsigned long)got,
+           (unsigned long)samples, tails[0]);
     for (int tenths = 1; tenths < 10; tenths += 4) {
         double bound = tenths / 10.0;
         size_t under = 0;

@@ -32,10 +32,10 @@ static const gen1_team tauros = {
 
 /* Both come out. The first turn hits each, and the second makes side 2 fall. */
 static const uint8_t whole_log[82] = {
-    0x02, 1, 128, 1, 100, 97, 1, 97, 1, 0, 0x02, 2, 128, 1, 100, 97, 1, 97, 1, 0, 0x01, 1, 0,
-    0x03, 1, 128, 70, 2, 128, 0x07, 2, 128, 0x05, 2, 128, 149, 0, 97, 1, 0, 0, 0x03, 2, 128,
-    70, 1, 128, 0x05, 1, 128, 7, 1, 97, 1, 0, 0, 0x01, 2, 0, 0x03, 1, 128, 70, 2, 128, 0x07, 2,
-    128, 0x05, 2, 128, 0, 0, 97, 1, 0, 0, 0x19, 2, 128, 0x1A, 1,
+    0x02, 1,   128,  1, 100, 97,   1, 97,  1,    0, 0x02, 2,    128, 1,   100,  97, 1,   97,   1, 0,   0x01,
+    1,    0,   0x03, 1, 128, 70,   2, 128, 0x07, 2, 128,  0x05, 2,   128, 149,  0,  97,  1,    0, 0,   0x03,
+    2,    128, 70,   1, 128, 0x05, 1, 128, 7,    1, 97,   1,    0,   0,   0x01, 2,  0,   0x03, 1, 128, 70,
+    2,    128, 0x07, 2, 128, 0x05, 2, 128, 0,    0, 97,   1,    0,   0,   0x19, 2,  128, 0x1A, 1,
 };
 
 /* An update: the choices, what gen1_update returns, where its log begins in `whole_log` and how long it is, the turn before it, and the
@@ -58,16 +58,14 @@ static const update updates[] = {
 
 static int wrong;
 
-static void check(bool is_right, const char *what)
-{
+static void check(bool is_right, const char *what) {
     if (!is_right) {
         printf("wrong: %s\n", what);
         wrong++;
     }
 }
 
-static bool is_filled(const uint8_t *bytes, size_t count)
-{
+static bool is_filled(const uint8_t *bytes, size_t count) {
     for (size_t at = 0; at < count; at++)
         if (bytes[at] != FILL)
             return false;
@@ -75,17 +73,16 @@ static bool is_filled(const uint8_t *bytes, size_t count)
 }
 
 /* Each side is offered one choice before each update. */
-static void check_choices(const gen1_battle *battle, uint8_t side, const update *it)
-{
+static void check_choices(const gen1_battle *battle, uint8_t side, const update *it) {
     uint8_t choices[9];
     memset(choices, FILL, sizeof choices);
     uint8_t want = it->turn == 0 ? GEN1_CHOICE_PASS : STRENGTH;
-    check(gen1_choices(battle, side, choices) == 1 && choices[0] == want && is_filled(choices + 1, 8), "the choices of a side");
+    check(gen1_choices(battle, side, choices) == 1 && choices[0] == want && is_filled(choices + 1, 8),
+          "the choices of a side");
 }
 
 /* The calls of one update. Its log is appended to `log`, which has `length` bytes so far. */
-static void play(gen1_battle *battle, const update *it, bool is_reloaded, uint8_t *log, size_t *length)
-{
+static void play(gen1_battle *battle, const update *it, bool is_reloaded, uint8_t *log, size_t *length) {
     uint8_t own[GEN1_LOG_ROOM], stored[sizeof *battle];
     size_t count = 0;
     check(gen1_result(battle) == it->result, "the result before an update");
@@ -105,8 +102,7 @@ static void play(gen1_battle *battle, const update *it, bool is_reloaded, uint8_
 }
 
 /* The whole battle, stored and loaded before each update or not, and its spectator, who gets the log in three pieces. */
-static void play_and_watch(bool is_reloaded)
-{
+static void play_and_watch(bool is_reloaded) {
     gen1_battle battle;
     gen1_spectator watch;
     uint8_t log[sizeof whole_log];
@@ -117,16 +113,16 @@ static void play_and_watch(bool is_reloaded)
         play(&battle, &updates[at], is_reloaded, log, &length);
     check(GEN1_RESULT_OUTCOME(gen1_result(&battle)) == GEN1_OUTCOME_WIN_ONE, "the result in the end");
     check(length == sizeof log, "the length of all logs");
-    check(gen1_spectator_feed(&watch, log, 30) == 0 && gen1_spectator_feed(&watch, log + 30, 1) == 0
-              && gen1_spectator_feed(&watch, log + 31, sizeof log - 31) == 0,
+    check(gen1_spectator_feed(&watch, log, 30) == 0 && gen1_spectator_feed(&watch, log + 30, 1) == 0 &&
+              gen1_spectator_feed(&watch, log + 31, sizeof log - 31) == 0,
           "the pieces of the log");
-    check(watch.turn == 2 && watch.outcome == GEN1_OUTCOME_WIN_ONE && watch.held_count == 0, "what a spectator knows of the battle");
+    check(watch.turn == 2 && watch.outcome == GEN1_OUTCOME_WIN_ONE && watch.held_count == 0,
+          "what a spectator knows of the battle");
     check(watch.sides[0].members[0].hp == 263 && watch.sides[1].members[0].hp == 0, "the HP that a spectator knows");
 }
 
 /* Rules above 3 are refused, and so is a byte of a log that isn't a tag. Neither changes anything. */
-static void refuse(void)
-{
+static void refuse(void) {
     static const uint8_t not_a_tag = 0xff;
     gen1_battle battle, as_it_was;
     gen1_spectator watch, knew;
@@ -134,14 +130,14 @@ static void refuse(void)
     as_it_was = battle;
     check(gen1_new(&battle, &tauros, &tauros, seed, 4, GEN1_LIMIT) == GEN1_ERROR_RULES, "rules above 3");
     check(memcmp(&battle, &as_it_was, sizeof battle) == 0, "the memory for a battle after rules above 3");
-    check(gen1_spectator_begin(&watch, &tauros, &tauros) == 0 && gen1_spectator_feed(&watch, whole_log, 23) == 0, "a spectator of the first log");
+    check(gen1_spectator_begin(&watch, &tauros, &tauros) == 0 && gen1_spectator_feed(&watch, whole_log, 23) == 0,
+          "a spectator of the first log");
     memcpy(&knew, &watch, sizeof watch);
     check(gen1_spectator_feed(&watch, &not_a_tag, 1) == GEN1_ERROR_LOG_TAG, "a byte that isn't a tag");
     check(memcmp(&watch, &knew, sizeof watch) == 0, "a spectator after a byte that isn't a tag");
 }
 
-int main(void)
-{
+int main(void) {
     play_and_watch(false);
     play_and_watch(true);
     refuse();

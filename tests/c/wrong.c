@@ -21,13 +21,12 @@ uint8_t __real_gen1_odds_now(const gen1_battle *, uint8_t, uint8_t, gen1_odds *)
 uint32_t __real_gen1_odds_between(const gen1_member *, const gen1_member *, uint8_t, gen1_odds *);
 uint8_t __real_gen1_walk_begin(const gen1_battle *, uint8_t, uint8_t, uint8_t, gen1_walk *);
 uint8_t __real_gen1_walk_next(gen1_walk *, gen1_way *);
-uint8_t __real_gen1_outcomes(const gen1_battle *, uint8_t, uint8_t, const gen1_outcome_options *, gen1_successor *, size_t, uint32_t *,
-                             size_t, gen1_outcome_list *);
+uint8_t __real_gen1_outcomes(const gen1_battle *, uint8_t, uint8_t, const gen1_outcome_options *, gen1_successor *,
+                             size_t, uint32_t *, size_t, gen1_outcome_list *);
 
 /* 1: a DV of 16 is taken as 15, so that its team is accepted. 2: a refused battle is emptied. */
-uint32_t __wrap_gen1_new(gen1_battle *battle, const gen1_team *one, const gen1_team *two, const uint8_t seed[10], uint8_t rules,
-                         uint16_t limit)
-{
+uint32_t __wrap_gen1_new(gen1_battle *battle, const gen1_team *one, const gen1_team *two, const uint8_t seed[10],
+                         uint8_t rules, uint16_t limit) {
     gen1_team lenient = *one;
     for (int at = 0; at < 6; at++)
         if (lenient.members[at].dvs[0] == 16)
@@ -39,14 +38,12 @@ uint32_t __wrap_gen1_new(gen1_battle *battle, const gen1_team *one, const gen1_t
 }
 
 /* 3: one byte more than a battle has is allowed. */
-uint8_t __wrap_gen1_load(gen1_battle *battle, const uint8_t *bytes, size_t count)
-{
+uint8_t __wrap_gen1_load(gen1_battle *battle, const uint8_t *bytes, size_t count) {
     return __real_gen1_load(battle, bytes, WRONG == 3 && count > 384 ? 384 : count);
 }
 
 /* 4: a choice is written after the last. */
-uint8_t __wrap_gen1_choices(const gen1_battle *battle, uint8_t side, uint8_t choices[9])
-{
+uint8_t __wrap_gen1_choices(const gen1_battle *battle, uint8_t side, uint8_t choices[9]) {
     uint8_t count = __real_gen1_choices(battle, side, choices);
     if (WRONG == 4 && count < 9)
         choices[count] ^= 1;
@@ -54,8 +51,7 @@ uint8_t __wrap_gen1_choices(const gen1_battle *battle, uint8_t side, uint8_t cho
 }
 
 /* 5: a byte is written after the log. 6: the length is set at a refusal. 7: a finished battle returns choices that are not offered. */
-uint8_t __wrap_gen1_update(gen1_battle *battle, uint8_t one, uint8_t two, uint8_t *log, size_t room, size_t *length)
-{
+uint8_t __wrap_gen1_update(gen1_battle *battle, uint8_t one, uint8_t two, uint8_t *log, size_t room, size_t *length) {
     uint8_t answer = __real_gen1_update(battle, one, two, log, room, length);
     if (WRONG == 5 && answer == 0 && *length < room)
         log[*length] ^= 1;
@@ -65,8 +61,7 @@ uint8_t __wrap_gen1_update(gen1_battle *battle, uint8_t one, uint8_t two, uint8_
 }
 
 /* 8: the byte after the log is read. 9: the offset moves at a fault. */
-uint8_t __wrap_gen1_next_event(const uint8_t *log, size_t count, size_t *at, gen1_event *event)
-{
+uint8_t __wrap_gen1_next_event(const uint8_t *log, size_t count, size_t *at, gen1_event *event) {
     if (WRONG == 8 && count > 0 && *(const volatile uint8_t *)(log + count) == 0)
         return __real_gen1_next_event(log, count, at, event);
     uint8_t answer = __real_gen1_next_event(log, count, at, event);
@@ -76,8 +71,7 @@ uint8_t __wrap_gen1_next_event(const uint8_t *log, size_t count, size_t *at, gen
 }
 
 /* 10: the line does not end in NUL. */
-uint8_t __wrap_gen1_next_line(const uint8_t *log, size_t count, size_t *at, char *text, size_t room, size_t *length)
-{
+uint8_t __wrap_gen1_next_line(const uint8_t *log, size_t count, size_t *at, char *text, size_t room, size_t *length) {
     uint8_t answer = __real_gen1_next_line(log, count, at, text, room, length);
     if (WRONG == 10 && answer == 0)
         text[*length] = '\n';
@@ -85,16 +79,15 @@ uint8_t __wrap_gen1_next_line(const uint8_t *log, size_t count, size_t *at, char
 }
 
 /* 11: side 3 is taken as side 1. */
-uint8_t __wrap_gen1_damage(const gen1_battle *battle, uint8_t side, uint8_t move, bool critical, uint16_t damages[39])
-{
+uint8_t __wrap_gen1_damage(const gen1_battle *battle, uint8_t side, uint8_t move, bool critical, uint16_t damages[39]) {
     return __real_gen1_damage(battle, WRONG == 11 && side == 3 ? 1 : side, move, critical, damages);
 }
 
 /* 12: a side is refused since the other has chosen. 13: a choice that is not offered is kept. 14: the old log stays. */
-uint8_t __wrap_gen1_room_submit(gen1_room *room, uint8_t side, uint32_t number, uint8_t choice)
-{
+uint8_t __wrap_gen1_room_submit(gen1_room *room, uint8_t side, uint32_t number, uint8_t choice) {
     uint32_t before = room->number;
-    if (WRONG == 12 && (side == GEN1_ONE || side == GEN1_TWO) && room->chosen[2 - side] > GEN1_CHOICE_PASS && room->chosen[2 - side] != GEN1_DUE)
+    if (WRONG == 12 && (side == GEN1_ONE || side == GEN1_TWO) && room->chosen[2 - side] > GEN1_CHOICE_PASS &&
+        room->chosen[2 - side] != GEN1_DUE)
         return GEN1_ERROR_CHOSEN;
     uint8_t answer = __real_gen1_room_submit(room, side, number, choice);
     if (WRONG == 13 && answer == GEN1_ERROR_NOT_OFFERED)
@@ -105,8 +98,7 @@ uint8_t __wrap_gen1_room_submit(gen1_room *room, uint8_t side, uint32_t number, 
 }
 
 /* 15: the held part of an event is dropped. 16: the prefix of a log with a fault is read. */
-uint8_t __wrap_gen1_spectator_feed(gen1_spectator *spectator, const uint8_t *log, size_t count)
-{
+uint8_t __wrap_gen1_spectator_feed(gen1_spectator *spectator, const uint8_t *log, size_t count) {
     if (WRONG == 15)
         spectator->held_count = 0;
     uint8_t answer = __real_gen1_spectator_feed(spectator, log, count);
@@ -117,8 +109,7 @@ uint8_t __wrap_gen1_spectator_feed(gen1_spectator *spectator, const uint8_t *log
 }
 
 /* 17: one draw more hits. 18: one draw less is critical. */
-uint8_t __wrap_gen1_odds_now(const gen1_battle *battle, uint8_t side, uint8_t move, gen1_odds *odds)
-{
+uint8_t __wrap_gen1_odds_now(const gen1_battle *battle, uint8_t side, uint8_t move, gen1_odds *odds) {
     uint8_t answer = __real_gen1_odds_now(battle, side, move, odds);
     if (WRONG == 17 && answer == 0 && odds->hit_draws > 0 && odds->hit_draws < 256)
         odds->hit_draws++;
@@ -128,16 +119,15 @@ uint8_t __wrap_gen1_odds_now(const gen1_battle *battle, uint8_t side, uint8_t mo
 }
 
 /* 19: the user's member is its own foe. */
-uint32_t __wrap_gen1_odds_between(const gen1_member *user, const gen1_member *foe, uint8_t move, gen1_odds *odds)
-{
+uint32_t __wrap_gen1_odds_between(const gen1_member *user, const gen1_member *foe, uint8_t move, gen1_odds *odds) {
     uint32_t answer = __real_gen1_odds_between(user, foe, move, odds);
     return WRONG == 19 && answer == 0 ? __real_gen1_odds_between(user, user, move, odds) : answer;
 }
 
 /* 20: an outcome is missing. 21: the list is written at a refusal. 27: what is left out has no weight. */
 uint8_t __wrap_gen1_outcomes(const gen1_battle *battle, uint8_t one, uint8_t two, const gen1_outcome_options *options,
-                             gen1_successor *successors, size_t capacity, uint32_t *table, size_t table_size, gen1_outcome_list *list)
-{
+                             gen1_successor *successors, size_t capacity, uint32_t *table, size_t table_size,
+                             gen1_outcome_list *list) {
     uint8_t answer = __real_gen1_outcomes(battle, one, two, options, successors, capacity, table, table_size, list);
     if (WRONG == 20 && answer == 0 && list->count > 1)
         list->count--;
@@ -148,22 +138,19 @@ uint8_t __wrap_gen1_outcomes(const gen1_battle *battle, uint8_t one, uint8_t two
     return answer;
 }
 
-static bool is_battle(const gen1_battle *battle)
-{
+static bool is_battle(const gen1_battle *battle) {
     gen1_battle copy;
     return __real_gen1_load(&copy, battle->bytes, sizeof battle->bytes) == 0;
 }
 
 /* 22: a mask of bytes that are not a battle has a thirteenth bit. */
-uint16_t __wrap_gen1_offered(const gen1_battle *battle, uint8_t side)
-{
+uint16_t __wrap_gen1_offered(const gen1_battle *battle, uint8_t side) {
     uint16_t mask = __real_gen1_offered(battle, side);
     return (uint16_t)(WRONG == 22 && mask != 0 && !is_battle(battle) ? mask | 4096 : mask);
 }
 
 /* 23: a room of bytes that are not a battle has a log that is longer than its buffer. */
-void __wrap_gen1_room_begin(gen1_room *room)
-{
+void __wrap_gen1_room_begin(gen1_room *room) {
     bool is_one = is_battle(&room->battle);
     __real_gen1_room_begin(room);
     if (WRONG == 23 && !is_one)
@@ -171,8 +158,8 @@ void __wrap_gen1_room_begin(gen1_room *room)
 }
 
 /* 24: a walk has the battle after the update. */
-uint8_t __wrap_gen1_walk_begin(const gen1_battle *battle, uint8_t one, uint8_t two, uint8_t damage_classes, gen1_walk *walk)
-{
+uint8_t __wrap_gen1_walk_begin(const gen1_battle *battle, uint8_t one, uint8_t two, uint8_t damage_classes,
+                               gen1_walk *walk) {
     uint8_t answer = __real_gen1_walk_begin(battle, one, two, damage_classes, walk);
     if (WRONG == 24 && answer == 0)
         gen1_update_silent(&walk->battle, one, two);
@@ -180,8 +167,7 @@ uint8_t __wrap_gen1_walk_begin(const gen1_battle *battle, uint8_t one, uint8_t t
 }
 
 /* 25: a byte is written after the log. 26: a way is written after the last. */
-uint8_t __wrap_gen1_walk_next(gen1_walk *walk, gen1_way *way)
-{
+uint8_t __wrap_gen1_walk_next(gen1_walk *walk, gen1_way *way) {
     uint8_t answer = __real_gen1_walk_next(walk, way);
     if (WRONG == 25 && answer == 0 && way->log_length < sizeof way->log)
         way->log[way->log_length] ^= 1;

@@ -15,7 +15,7 @@ class Branch:
         self.definition, self.start, self.end, self.what = definition, start, end, what
 
     def text(self):
-        return " ".join(self.definition.module.text[self.start:self.end].split())
+        return " ".join(self.definition.module.text[self.start : self.end].split())
 
     def is_place_of(self, definition, start, end):
         """Whether it is a branch of a definition around a part of the text, other than a result of a test."""
@@ -107,7 +107,9 @@ class Branches:
         if isinstance(body, Elim):
             head, arguments = spine(body.value)
             chooses = {spine(pattern)[0].word for pattern, _ in body.cases} == {"true", "false"}
-            return (places[head.word], True) if chooses and arguments and head.word in places and not head.fields else None
+            return (
+                (places[head.word], True) if chooses and arguments and head.word in places and not head.fields else None
+            )
         head, arguments = spine(body)
         if not isinstance(head, Name) or head.word in places:
             return None

@@ -204,7 +204,7 @@ class Compiler:
             if not text.isidentifier():
                 names[name] = self.variable()
                 lines.append(f"{indent}{names[name]} = {text}")
-        extra = [Made(text) for text in given[len(patterns):]]
+        extra = [Made(text) for text in given[len(patterns) :]]
         return lines + self.statements(body, extra, scope.with_names(names), indent)
 
     def match(self, scope, pattern, text, conditions, names):
@@ -362,7 +362,10 @@ class Compiler:
             return self.called(fields_of(scope.names[head.word], head.fields), arguments, scope)
         if head.word == reading.CONDITIONAL:
             test, first, second, *more = arguments
-            chosen = [self.branch(Apply(head, arguments[:3]), at, each, more, scope) for at, each in enumerate((first, second))]
+            chosen = [
+                self.branch(Apply(head, arguments[:3]), at, each, more, scope)
+                for at, each in enumerate((first, second))
+            ]
             return f"({chosen[0]} if {self.python(test, scope)} else {chosen[1]})"
         found, fields = scope.module.look_up(head.word, head.fields)
         if isinstance(found, Definition):

@@ -103,7 +103,9 @@ class Coverage:
         """The numbers of the branches of the step's definitions, by module and place."""
         own = {(each.module.path, each.name) for each in self.definitions}
         numbers = [number for number, branch in enumerate(self.branches.all) if branch.key()[:2] in own]
-        return sorted(numbers, key=lambda number: (self.branches.all[number].key()[0], self.branches.all[number].start, number))
+        return sorted(
+            numbers, key=lambda number: (self.branches.all[number].key()[0], self.branches.all[number].start, number)
+        )
 
     def unentered(self):
         """A line for each branch of the step's definitions that nothing enters."""
@@ -122,6 +124,11 @@ class Coverage:
         """The innermost branches around the edits of a mutant."""
         found = set()
         for start, end, _ in mutant.edits:
-            found.add(min((branch.end - branch.start, number) for number, branch in enumerate(self.branches.all)
-                          if branch.is_place_of(mutant.definition, start, end))[1])
+            found.add(
+                min(
+                    (branch.end - branch.start, number)
+                    for number, branch in enumerate(self.branches.all)
+                    if branch.is_place_of(mutant.definition, start, end)
+                )[1]
+            )
         return found

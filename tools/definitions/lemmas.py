@@ -20,7 +20,9 @@ class Lemma:
         scope = Scope(self.definition, {})
         texts = [(compiler.python(left, scope), compiler.python(right, scope)) for left, right in self.equations]
         compiler.make_waiting()
-        return [(eval(f"lambda: {left}", compiler.space), eval(f"lambda: {right}", compiler.space)) for left, right in texts]
+        return [
+            (eval(f"lambda: {left}", compiler.space), eval(f"lambda: {right}", compiler.space)) for left, right in texts
+        ]
 
 
 def equations_of(kind):

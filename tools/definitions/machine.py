@@ -57,8 +57,13 @@ class Machine:
 
     def sheet(self, member):
         moves = tuple((self.numbers["move"][name], ups) for name, ups in member["moves"])
-        return self.record(species=self.numbers["species"][member["species"]], level=member["level"],
-                           dvs=tuple(member["dvs"]), exp=tuple(member["exp"]), moves=moves)
+        return self.record(
+            species=self.numbers["species"][member["species"]],
+            level=member["level"],
+            dvs=tuple(member["dvs"]),
+            exp=tuple(member["exp"]),
+            moves=moves,
+        )
 
     def begin(self, battle):
         """The state before a recorded battle's first update."""
@@ -119,7 +124,7 @@ def difference(update, made):
     """The first part of a report that differs from the recorded one, in words."""
     at = 0
     for name, part in recorded_parts(update):
-        if made[at:at + len(part)] != tuple(part):
+        if made[at : at + len(part)] != tuple(part):
             return f"{name}: {part.hex() or 'nothing'} was recorded, not {bytes(made[at:at + len(part)]).hex() or 'nothing'}"
         at += len(part)
     return f"{len(made) - at} bytes too many"
@@ -153,7 +158,7 @@ def play_run(machine, battle):
         lines = bytes(machine.lines(events_of(stepped.answer)))
         if not left.startswith(lines):
             return f"pair {number}, lines: {left[:len(lines)]!r} was recorded, not {lines!r}"
-        left, state = left[len(lines):], stepped.state
+        left, state = left[len(lines) :], stepped.state
     return f"behind the last pair: {left!r} was recorded" if left or refused else None
 
 

@@ -14,8 +14,14 @@ CONSTRUCTOR = re.compile(r"^  (\S+) : (.*)$", re.M)
 
 # The constructors of the kit's own types, each with the number of its arguments.
 STANDARD = {
-    "true": ("Bool", []), "false": ("Bool", []), "None": ("Option", []), "Some": ("Option", ["A"]),
-    "Ok": ("Result", ["A"]), "Err": ("Result", ["E"]), "pos": ("ℤ", ["ℕ"]), "negsuc": ("ℤ", ["ℕ"]),
+    "true": ("Bool", []),
+    "false": ("Bool", []),
+    "None": ("Option", []),
+    "Some": ("Option", ["A"]),
+    "Ok": ("Result", ["A"]),
+    "Err": ("Result", ["E"]),
+    "pos": ("ℤ", ["ℕ"]),
+    "negsuc": ("ℤ", ["ℕ"]),
 }
 
 
@@ -82,8 +88,10 @@ def declared_in_code(crate):
     found = {}
     for file in sorted((ROOT / "crates" / crate / "src").rglob("*.rt")):
         for name, body in ENUMERATION.findall(file.read_text(encoding="utf-8")):
-            holding = [(variant, [part.strip() for part in (fields or named).split(",") if part.strip()])
-                       for variant, fields, named in VARIANT.findall(body)]
+            holding = [
+                (variant, [part.strip() for part in (fields or named).split(",") if part.strip()])
+                for variant, fields, named in VARIANT.findall(body)
+            ]
             found[name] = constructors_of(name, holding)
     return found
 
@@ -101,7 +109,7 @@ def held_by(kind):
     """The argument types of a constructor of this type, as texts."""
     held, term = [], reading.type_of(kind)
     while isinstance(term, Arrow):
-        held.append(kind[term.left.start:term.left.end])
+        held.append(kind[term.left.start : term.left.end])
         term = term.right
     return held
 
@@ -182,8 +190,11 @@ class Library:
     def where(self, name, folder="specs", crates=None):
         """The one module of these crates that declares a name."""
         declared = re.compile(rf"^(?:unfoldable |abbrev )?pub {re.escape(name)} : ", re.M)
-        found = [path for path in self.paths(folder) if (crates is None or path.split(".")[1] in crates)
-                 and declared.search(self.file_text(path))]
+        found = [
+            path
+            for path in self.paths(folder)
+            if (crates is None or path.split(".")[1] in crates) and declared.search(self.file_text(path))
+        ]
         if len(found) != 1:
             raise LookupError(f"{name} is declared in {len(found)} modules: {', '.join(found) or 'none'}")
         return self.module(found[0])

@@ -30,7 +30,7 @@ class Mutant:
     def line(self):
         """The number of the line in which it begins, from 1, and the line's text."""
         whole, start = self.definition.module.text, self.edits[0][0]
-        return whole.count("\n", 0, start) + 1, whole[whole.rfind("\n", 0, start) + 1:].partition("\n")[0].strip()
+        return whole.count("\n", 0, start) + 1, whole[whole.rfind("\n", 0, start) + 1 :].partition("\n")[0].strip()
 
     def clauses(self):
         """The clauses of its definition, changed."""
@@ -38,7 +38,7 @@ class Mutant:
         for at, text in self.definition.declared.clauses:
             for start, end, new in sorted(self.edits, reverse=True):
                 if at <= start and end <= at + len(text):
-                    text = text[:start - at] + new + text[end - at:]
+                    text = text[: start - at] + new + text[end - at :]
             if text.strip():
                 made.append(reading.clause_of(text, at, self.definition.name))
         return made
@@ -56,7 +56,7 @@ class Finder:
         self.found.append(Mutant(self.definition, family, [(term.start, term.end, text)], said))
 
     def of(self, term):
-        return self.module.text[term.start:term.end]
+        return self.module.text[term.start : term.end]
 
     def plain(self, term):
         """A term's text on one line."""
@@ -206,8 +206,11 @@ def bound_by(module, patterns):
 
 def takes_anything(module, patterns):
     """Whether patterns are only names."""
-    return all(isinstance(pattern, Name) and not isinstance(module.look_up(pattern.word, pattern.fields)[0], (Constructor, Word))
-               for pattern in patterns)
+    return all(
+        isinstance(pattern, Name)
+        and not isinstance(module.look_up(pattern.word, pattern.fields)[0], (Constructor, Word))
+        for pattern in patterns
+    )
 
 
 def mutants_of(definitions):

@@ -10,8 +10,25 @@ TELLING = "Rattle.gen1_player.specs.Telling"
 LAYOUT = "Rattle.gen1_machine.specs.Layout"
 STAGES = ("attack", "defense", "speed", "special", "accuracy", "evasion")
 # The conditions of a state in the order of its bits; those that no event announces are None.
-CONDITIONS = ("bide", None, None, None, "charging", None, "confused", "mist", "focus_energy", "substitute", "recharging", "rage",
-              "seeded", "toxic", "light_screen", "reflect", "disabled")
+CONDITIONS = (
+    "bide",
+    None,
+    None,
+    None,
+    "charging",
+    None,
+    "confused",
+    "mist",
+    "focus_energy",
+    "substitute",
+    "recharging",
+    "rage",
+    "seeded",
+    "toxic",
+    "light_screen",
+    "reflect",
+    "disabled",
+)
 STATUSES = ("Healthy", "Asleep", "Poisoned", "Burned", "Frozen", "Paralysed")
 STRUGGLE = 165
 
@@ -102,7 +119,7 @@ class Told:
         foe = "two" if self.teller.side == 1 else "one"
         side, order = getattr(public, foe), [place for place in self.teller.places if place]
         members = [self.seen(side.members[place - 1]) for place in order]
-        members += self.players.first.one.members[len(order):]
+        members += self.players.first.one.members[len(order) :]
         number = order.index(side.place) + 1 if side.place else 0
         return public._replace(**{foe: side._replace(place=number, members=tuple(members))})
 

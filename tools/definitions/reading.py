@@ -6,18 +6,37 @@ from definitions.terms import Apply, Arrow, Elim, Lambda, Let, Name, Number, Pro
 
 # How an operator groups: its strength, and to which side (antt's library; "How a term groups" in its guide to contracts).
 FIXITIES = {
-    "^": (75, "right"), "*": (70, "left"), "/": (70, "left"), "%": (70, "left"), "∷": (67, "right"), "++": (65, "left"),
-    "+": (65, "left"), "-": (65, "left"), "<": (50, "none"), "≤": (50, "none"), "==": (40, "none"), "&&": (35, "left"),
-    "||": (30, "left"), "▸": (20, "right"), "≡": (4, "none"), "≢": (4, "none"), "×": (2, "right"), "⊎": (1, "right"),
+    "^": (75, "right"),
+    "*": (70, "left"),
+    "/": (70, "left"),
+    "%": (70, "left"),
+    "∷": (67, "right"),
+    "++": (65, "left"),
+    "+": (65, "left"),
+    "-": (65, "left"),
+    "<": (50, "none"),
+    "≤": (50, "none"),
+    "==": (40, "none"),
+    "&&": (35, "left"),
+    "||": (30, "left"),
+    "▸": (20, "right"),
+    "≡": (4, "none"),
+    "≢": (4, "none"),
+    "×": (2, "right"),
+    "⊎": (1, "right"),
     "→": (-1, "right"),
 }
 CONDITIONAL = "if◌then◌else◌"
 IF_STRENGTH = 5
 
-WORDS = re.compile(r'--[^\n]*|"(?:[^"\\]|\\.)*"|[(){};,@]|\.(?=\s)|\.[^\s(){}.;,@"«»]+(?:\.[^\s(){}.;,@"«»]+)*'
-                   r'|[^\s(){}.;,@"«»]+(?:\.[^\s(){}.;,@"«»]+)*|\S')
+WORDS = re.compile(
+    r'--[^\n]*|"(?:[^"\\]|\\.)*"|[(){};,@]|\.(?=\s)|\.[^\s(){}.;,@"«»]+(?:\.[^\s(){}.;,@"«»]+)*'
+    r'|[^\s(){}.;,@"«»]+(?:\.[^\s(){}.;,@"«»]+)*|\S'
+)
 ENDS = {")", "}", "]", "|", "then", "else", "in", ";", ",", "↦", "=", ":", None}
-DECLARATION = re.compile(r"(?:(?:pattern|unfoldable|abbrev|axiom|pub) )*(?P<name>[^\s(){}]+)(?: \{[^}]*\})? :\s(?P<type>.*)", re.S)
+DECLARATION = re.compile(
+    r"(?:(?:pattern|unfoldable|abbrev|axiom|pub) )*(?P<name>[^\s(){}]+)(?: \{[^}]*\})? :\s(?P<type>.*)", re.S
+)
 USE = re.compile(r"(?:pub )?use ([^\s{]+?)(?:\.\{(.*)\}| as (\S+))?$", re.S)
 
 
@@ -39,7 +58,7 @@ def blocks(text):
         if line.strip() and not line.startswith("--"):
             if line[0] in " \t)}]" and found:
                 at, block = found[-1]
-                found[-1] = (at, text[at:offset + len(line)])
+                found[-1] = (at, text[at : offset + len(line)])
             else:
                 found.append((offset, line))
         offset += len(line)
@@ -64,8 +83,11 @@ def outline(text):
 
 def words_of(text, offset):
     """The words of a text, each with its beginning and end."""
-    return [(found[0], offset + found.start(), offset + found.end())
-            for found in WORDS.finditer(text) if not found[0].startswith("--")]
+    return [
+        (found[0], offset + found.start(), offset + found.end())
+        for found in WORDS.finditer(text)
+        if not found[0].startswith("--")
+    ]
 
 
 class Reader:

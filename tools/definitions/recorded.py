@@ -42,8 +42,11 @@ def files_in(places):
 
 def is_battle(line):
     """Whether a line is a battle: a trace, or a run of the program that read a whole battle."""
-    return "updates" in line or line.get("args") == ["run"] and (
-        line["status"] == 0 or re.fullmatch(r"error: pair \d+ refused \d+\n", line["stderr"]) is not None)
+    return (
+        "updates" in line
+        or line.get("args") == ["run"]
+        and (line["status"] == 0 or re.fullmatch(r"error: pair \d+ refused \d+\n", line["stderr"]) is not None)
+    )
 
 
 def battles_in(places):

@@ -31,7 +31,7 @@ def item_or(items, place, otherwise):
 
 def with_item(items, place, item):
     """A list with an item replaced; a place past its end changes nothing."""
-    return items[:place] + (item,) + items[place + 1:] if place < len(items) else items
+    return items[:place] + (item,) + items[place + 1 :] if place < len(items) else items
 
 
 def place_of(test, items):
@@ -103,5 +103,7 @@ def option_or(option, otherwise):
 
 
 # What the texts above name.
-SPACE = {each.__name__: each for each in (
-    minus, quotient, remainder, item_or, with_item, place_of, flattened, unwrapped, option_map, option_or)}
+SPACE = {
+    each.__name__: each
+    for each in (minus, quotient, remainder, item_or, with_item, place_of, flattened, unwrapped, option_map, option_or)
+}

@@ -46,15 +46,26 @@ class Written:
         choice, state = (self.reports.names[kind][0] for kind in ("Choice", "State"))
         rules, team = (self.library.where(name, "specs", self.crates).path for name in ("rules_of", "team_of"))
         computing = self.library.where("computing", "proofs").path
-        uses = [f"{choice}.{{Choice}}", f"{choice}.TheVariants as choices", f"{rules}.{{rules_of}}", f"{team}.{{team_of}}",
-                f"{state}.{{first_state, State}}", f"{computing}.{{computing}}", f"{self.reports.path}.{{reports_of}}"]
+        uses = [
+            f"{choice}.{{Choice}}",
+            f"{choice}.TheVariants as choices",
+            f"{rules}.{{rules_of}}",
+            f"{team}.{{team_of}}",
+            f"{state}.{{first_state, State}}",
+            f"{computing}.{{computing}}",
+            f"{self.reports.path}.{{reports_of}}",
+        ]
         return HEAD % "\n".join(f"use Rattle.{use.removeprefix('Rattle.')}" for use in uses)
 
     def sheet(self, member):
         moves = a_list(f"({self.moves[name]}, {ups})" for name, ups in member["moves"])
         return "(record { species = %d; level = %d; dvs = %s; exp = %s; moves = %s })" % (
-            self.species[member["species"]], member["level"],
-            a_list(map(str, member["dvs"])), a_list(map(str, member["exp"])), moves)
+            self.species[member["species"]],
+            member["level"],
+            a_list(map(str, member["dvs"])),
+            a_list(map(str, member["exp"])),
+            moves,
+        )
 
     def start(self, battle):
         terms = "(record { rules = rules_of %d; limit = %d })" % (battle.rules, battle.limit)
@@ -108,10 +119,12 @@ def write_battles(traces, wanted):
         old.unlink()
     head, updates, modules = written.head(), 0, []
     for at in range(0, len(numbers), PER_MODULE):
-        battles = [(number, Battle(traces, number, lines[number])) for number in numbers[at:at + PER_MODULE]]
+        battles = [(number, Battle(traces, number, lines[number])) for number in numbers[at : at + PER_MODULE]]
         updates += sum(len(battle.pairs) for _, battle in battles)
         modules.append(f"Battles{len(modules) + 1}")
-        (folder / f"{modules[-1]}.antt").write_text(head + "\n".join(written.lemma(*each) for each in battles), encoding="utf-8")
+        (folder / f"{modules[-1]}.antt").write_text(
+            head + "\n".join(written.lemma(*each) for each in battles), encoding="utf-8"
+        )
     lib.write_text("\n".join([*kept, *("mod " + module for module in modules)]) + "\n", encoding="utf-8")
     print(f"{len(numbers)} battles, {updates} updates, {len(modules)} modules")
 

@@ -36,10 +36,16 @@ def blocks(text):
             at += 1
             while at < len(lines) and lines[at].strip() != fence[1]:
                 at += 1
-            found.append(Block(begins + 2, fence[2], joined(lines[begins + 1:at]), said_above(lines, begins), heading))
+            found.append(
+                Block(begins + 2, fence[2], joined(lines[begins + 1 : at]), said_above(lines, begins), heading)
+            )
         elif begins_indented(lines, at):
             at = end_of_indented(lines, at)
-            found.append(Block(begins + 1, "sh", joined(line[4:] for line in lines[begins:at]), said_above(lines, begins), heading))
+            found.append(
+                Block(
+                    begins + 1, "sh", joined(line[4:] for line in lines[begins:at]), said_above(lines, begins), heading
+                )
+            )
             continue
         elif named := HEADING.fullmatch(lines[at]):
             heading = named[1]
@@ -54,7 +60,11 @@ def joined(lines):
 def begins_indented(lines, at):
     """Whether an indented block begins here: after an empty line or a comment, and not within a list."""
     above = lines[at - 1] if at else ""
-    return lines[at].startswith("    ") and bool(lines[at].strip()) and (not above.strip() or bool(COMMENT.fullmatch(above)))
+    return (
+        lines[at].startswith("    ")
+        and bool(lines[at].strip())
+        and (not above.strip() or bool(COMMENT.fullmatch(above)))
+    )
 
 
 def end_of_indented(lines, at):

@@ -13,10 +13,23 @@ from typing import NamedTuple
 from repository import ROOT
 
 # The documents whose sections files implement, in the order of tools/map.
-DOCUMENTS = ("docs/MECHANICS.md", "docs/TABLES.md", "docs/LAYOUT.md", "docs/TEAM_TEXT.md", "docs/PROGRAM.md",
-             "include/gen1.h")
+DOCUMENTS = (
+    "docs/MECHANICS.md",
+    "docs/TABLES.md",
+    "docs/LAYOUT.md",
+    "docs/TEAM_TEXT.md",
+    "docs/PROGRAM.md",
+    "include/gen1.h",
+)
 # Titles, and sections that explain words or summarize others.
-CARRIED_BY_NONE = ("The rules of battle", "What is modelled", "Words", "A battle in ten sentences", "Tables", "Teams as text")
+CARRIED_BY_NONE = (
+    "The rules of battle",
+    "What is modelled",
+    "Words",
+    "A battle in ten sentences",
+    "Tables",
+    "Teams as text",
+)
 HEADINGS = {".md": r"(?m)^(#+) (.*)$", ".h": r"(?m)^/\* (--)-- (.*) ---- \*/$"}
 CITED = re.compile(rf'({"|".join(map(re.escape, DOCUMENTS))})((?:(?:,| and| to|, and)? ?"[^"]+")+)')
 COMMENT = re.compile(r"\s*(?://[/!]?|--)\s?(.*)")
@@ -50,7 +63,7 @@ def cited(comment):
             if section not in order and name not in CARRIED_BY_NONE:
                 sys.exit(f'a comment cites {document}, "{name}", which is not a section of it')
             if link and last:
-                found += order[order.index(last) + 1:order.index(section)]
+                found += order[order.index(last) + 1 : order.index(section)]
             found.append(section)
             last = section
     return [section for section in found if section.name not in CARRIED_BY_NONE]
@@ -91,7 +104,7 @@ class Source:
 
     def documented(self, at):
         """The comment of an item, with the item's own line."""
-        return "\n".join([*self.comment_above(at), *self.lines[at:at + 2]])
+        return "\n".join([*self.comment_above(at), *self.lines[at : at + 2]])
 
     def paragraph(self, at):
         """The lines of antt from a line up to the next empty one, with the comment right above."""
@@ -137,7 +150,9 @@ class Source:
             return []
         above = next((line for line in reversed(self.lines[:at]) if line.startswith("impl")), "")
         name = re.search(r"(\w+)(?:<[^{]*>)?(?: \{)?$", above)
-        places = [at for at, line in enumerate(self.lines) if name and re.match(rf"pub (?:struct|enum) {name[1]}\b", line)]
+        places = [
+            at for at, line in enumerate(self.lines) if name and re.match(rf"pub (?:struct|enum) {name[1]}\b", line)
+        ]
         return self.sections_of(self.comment_above(places[0])) if places else []
 
     def block(self, at):

@@ -29,7 +29,8 @@ HEADING = re.compile(r"(?m)^#{1,6} +(.*?) *$")
 WEB = re.compile(r"[a-z]+:")
 # A document, by a link, its path or its name in capitals, and then headings of it in quotes.
 QUOTED = re.compile(
-    r'(?:\[[^\]\n]*\]\(([^)\s#]+\.md)\)|\b(docs/\w+\.md|\w+\.md|[A-Z]{4,}))((?:,(?: and)? "[^"\n]+"(?: (?:and|to) "[^"\n]+")*)+)')
+    r'(?:\[[^\]\n]*\]\(([^)\s#]+\.md)\)|\b(docs/\w+\.md|\w+\.md|[A-Z]{4,}))((?:,(?: and)? "[^"\n]+"(?: (?:and|to) "[^"\n]+")*)+)'
+)
 # A path from the top of the repository, a file of code by its name alone, and a name of the engine.
 PATH = re.compile(r"(?<![\w/.*-])\.?[\w-]+(?:/[\w.*-]+)+/?")
 FILE = re.compile(r"(?<![\w/.*-])\w[\w.-]*\.(?:rt|antt|py|rs|c|h|edit)(?![\w/.(*-])")
@@ -47,9 +48,25 @@ def documents():
 
 def sources():
     """The files whose comments may cite a document."""
-    patterns = ("crates/*/src/**/*.rt", "crates/*/specs/*.antt", "crates/*/proofs/**/*.antt", "tools/*", "include/*.h", "bench/*",
-                "examples/**/*", "tests/c/**/*", "packaging/*", "rust/gen1/src/*", "rust/gen1/src/*/*",
-                "rust/gen1-cli/**/*", "rust/gen1-wasm/*", "rust/gen1-ffi/src/*", "fuzz/src/*", "fuzz/run", ".ci/run")
+    patterns = (
+        "crates/*/src/**/*.rt",
+        "crates/*/specs/*.antt",
+        "crates/*/proofs/**/*.antt",
+        "tools/*",
+        "include/*.h",
+        "bench/*",
+        "examples/**/*",
+        "tests/c/**/*",
+        "packaging/*",
+        "rust/gen1/src/*",
+        "rust/gen1/src/*/*",
+        "rust/gen1-cli/**/*",
+        "js/*",
+        "rust/gen1-ffi/src/*",
+        "fuzz/src/*",
+        "fuzz/run",
+        ".ci/run",
+    )
     return [file for where in patterns for file in sorted(ROOT.glob(where)) if file.is_file()]
 
 
@@ -151,7 +168,11 @@ def names_of_the_engine():
     """Crates, words of the header and of plain/, and names of files without their extensions."""
     manifests = [*ROOT.glob("plain/*/Cargo.toml"), *ROOT.glob("python/gen1/src/gen1/*.py"), ROOT / "include" / "gen1.h"]
     words = {word for file in manifests for word in NAME.findall(file.read_text())}
-    return words | {path.name for path in (ROOT / "crates").iterdir()} | {name.partition(".")[0] for name in names_of_files()}
+    return (
+        words
+        | {path.name for path in (ROOT / "crates").iterdir()}
+        | {name.partition(".")[0] for name in names_of_files()}
+    )
 
 
 def is_there(path, beside):

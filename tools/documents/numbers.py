@@ -24,7 +24,9 @@ def counted():
     coverage = Coverage([])
     same = indented(ROOT / "tools" / "definitions" / "same_meaning.txt")
     yield "recorded battles that are lemmas", sum(
-        len(LEMMA.findall(file.read_text())) for file in (ROOT / "crates" / "test_support" / "proofs").glob("Battles*.antt"))
+        len(LEMMA.findall(file.read_text()))
+        for file in (ROOT / "crates" / "test_support" / "proofs").glob("Battles*.antt")
+    )
     yield "worked examples", len(coverage.lemmas)
     yield "definitions that the step uses", len(coverage.definitions)
     yield "branches of these definitions", len(coverage.own_branches())
@@ -34,7 +36,8 @@ def counted():
     yield "named wrong bodies, tried by some of these", len(named())
     yield "planted wrong bodies", sum(len(edits(name, "planted")) for name in crates())
     yield "tests in the crates", sum(
-        file.read_text().count("#[test]") for file in (ROOT / "crates").glob("*/src/**/*.rt"))
+        file.read_text().count("#[test]") for file in (ROOT / "crates").glob("*/src/**/*.rt")
+    )
 
 
 def table(rows):
@@ -55,7 +58,13 @@ def check(write=False):
     if inside == table(rows):
         return len(rows), 0
     there = dict(ROW.findall(inside))
-    wrong = [f"docs/TESTING.md: {what}: {there.get(what, 'missing')}, not {count:,}" for what, count in rows
-             if there.get(what) != f"{count:,}"]
-    print("\n".join(wrong or ["docs/TESTING.md: its table of numbers has rows of nothing"]) + "\nwrite it by `tools/docs numbers --write`")
+    wrong = [
+        f"docs/TESTING.md: {what}: {there.get(what, 'missing')}, not {count:,}"
+        for what, count in rows
+        if there.get(what) != f"{count:,}"
+    ]
+    print(
+        "\n".join(wrong or ["docs/TESTING.md: its table of numbers has rows of nothing"])
+        + "\nwrite it by `tools/docs numbers --write`"
+    )
     return len(rows) - len(wrong), max(len(wrong), 1)

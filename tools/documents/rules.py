@@ -19,19 +19,27 @@ OWED = dict(zip(DOCUMENTS, (OF_RULES, *[OF_OTHERS] * 5)))
 # The kinds that a section lacks, and where they are instead.
 WITHOUT = {
     Section("docs/PROGRAM.md", "The program battle_tool"): {
-        "definition": "none: clap reads the words, and the contract of `tool` says which statuses there are"},
+        "definition": "none: clap reads the words, and the contract of `tool` says which statuses there are"
+    },
     Section("docs/PROGRAM.md", "gen1, the same program by cargo"): {
-        "definition": "none: nothing of it is proved", "code": "rust/gen1-cli/src/main.rs", "edits": "none",
-        "tests": "rust/gen1-cli/tests/recorded.rs, explained.rs and replay.rs"},
+        "definition": "none: nothing of it is proved",
+        "code": "rust/gen1-cli/src/main.rs",
+        "edits": "none",
+        "tests": "rust/gen1-cli/tests/recorded.rs, explained.rs and replay.rs",
+    },
     Section("include/gen1.h", "searching"): {"definition": "crates/gen1_engine/specs/Reseed.antt: reseeded"},
-    Section("include/gen1.h", "watching"): {"definition": "crates/gen1_spectator/specs/Plain.antt: view_of, reading_of"},
+    Section("include/gen1.h", "watching"): {
+        "definition": "crates/gen1_spectator/specs/Plain.antt: view_of, reading_of"
+    },
 }
 # The table from twelve rules to their files.
 ARCHITECTURE = ROOT / "docs" / "ARCHITECTURE.md"
 WALKS = "| Rule | Definition | Code | Test |\n"
 LINK = re.compile(r"\[[^\]]*\]\(([^)]+)\)")
 DEFINITION = re.compile(r"(?:unfoldable |abbrev |opaque )*pub (\S+) : ")
-OPERATION = re.compile(r"\s*pub(?:\((?:crate|super)\))? (?:const |extern \"C\" )?(?:fn|struct|enum|trait|type) (\w+)|fn (main)\(")
+OPERATION = re.compile(
+    r"\s*pub(?:\((?:crate|super)\))? (?:const |extern \"C\" )?(?:fn|struct|enum|trait|type) (\w+)|fn (main)\("
+)
 FIELD = re.compile(r"    pub(?:\((?:crate|super)\))? (\w+): ")
 LEMMA = re.compile(r"([A-Za-z_][\w-]*) : ")
 FOR_TESTS = re.compile(r"#\[cfg\(test\)\]\s*(?:pub(?:\([a-z]+\))? )?mod (\w+);")
@@ -96,7 +104,10 @@ class Rules:
                     self.add(source.own(at), Item("tests", file, at + 2, name, source.documented(at)))
 
     def examples(self):
-        for file in [*sorted((ROOT / "crates").glob("*/proofs/Worked*.antt")), ROOT / "crates/gen1_machine/proofs/Rows.antt"]:
+        for file in [
+            *sorted((ROOT / "crates").glob("*/proofs/Worked*.antt")),
+            ROOT / "crates/gen1_machine/proofs/Rows.antt",
+        ]:
             source = Source(file)
             for at, line in enumerate(source.lines):
                 if found := LEMMA.match(line):
@@ -106,7 +117,9 @@ class Rules:
         crate = ROOT / "crates" / name
         for edit in edits(name, folder):
             if edited(crate, edit) is None:
-                self.faults.append(f"{edit}: it cannot be applied: its file is not there, or an old text is not once in it")
+                self.faults.append(
+                    f"{edit}: it cannot be applied: its file is not there, or an old text is not once in it"
+                )
                 continue
             file = re.search(r"(?m)^file: (.*)$", edit.text)[1]
             source = Source(crate / file)
@@ -130,7 +143,9 @@ def of_code(crate):
     files = sorted((crate / "src").rglob("*.rt"))
     for_tests = [
         (file.parent if file.stem in ("lib", "main") else file.with_suffix("")) / name
-        for file in files for name in FOR_TESTS.findall(file.read_text())]
+        for file in files
+        for name in FOR_TESTS.findall(file.read_text())
+    ]
     return [file for file in files if not any(file.with_suffix("").is_relative_to(it) for it in for_tests)]
 
 
@@ -168,20 +183,15 @@ def unreached(rules):
 
 def without_a_line():
     """Files whose first line does not say what they are, and roots that do not name each of their modules."""
-    for file in sorted(it for glob in ("src/**/*.rt", "specs/*.antt", "proofs/*.antt") for it in (ROOT / "crates").glob(f"*/{glob}")):
+    for file in sorted(
+        it for glob in ("src/**/*.rt", "specs/*.antt", "proofs/*.antt") for it in (ROOT / "crates").glob(f"*/{glob}")
+    ):
         text = file.read_text()
         if not text.startswith("//! " if file.suffix == ".rt" else "-- "):
             yield f"{file.relative_to(ROOT)}: its first line does not say what it is"
         for name in MODULE.findall(text) if file.name == "lib.rt" else ():
             if f"//! - `{name}`: " not in text:
                 yield f"{file.relative_to(ROOT)}: its head does not say what `{name}` is for"
-
-
-def stray_edits():
-    """Files of planted edits of no crate."""
-    for file in sorted((ROOT / "planted").iterdir()):
-        if file.suffix != ".edits" or file.stem not in crates():
-            yield f"{file.relative_to(ROOT)}: it is not the file CRATE.edits of a crate"
 
 
 def walks():
@@ -193,7 +203,9 @@ def walks():
         rule, *cells = line.strip("| ").split(" | ")
         section = re.search(r"\(([^)]*)\)$", rule)
         links = [LINK.search(cell) for cell in cells]
-        yield rule, section[1] if section else rule, [(ARCHITECTURE.parent / link[1]).resolve() for link in links if link]
+        yield rule, section[1] if section else rule, [
+            (ARCHITECTURE.parent / link[1]).resolve() for link in links if link
+        ]
 
 
 def wrong_walks(rules):

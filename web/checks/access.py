@@ -4,15 +4,37 @@ from selenium.webdriver.common.keys import Keys
 from checks.browser import SIZES
 
 # Roles of elements that a person uses or that have a value; each needs a name.
-NAMED = {"button", "checkbox", "combobox", "group", "image", "link", "log", "meter", "region", "slider", "spinbutton", "tab", "tablist", "tabpanel", "textbox"}
+NAMED = {
+    "button",
+    "checkbox",
+    "combobox",
+    "group",
+    "image",
+    "link",
+    "log",
+    "meter",
+    "region",
+    "slider",
+    "spinbutton",
+    "tab",
+    "tablist",
+    "tabpanel",
+    "textbox",
+}
 PLACES = {
     "home": ("#home", ""),
-    "replay": ("#replay", "document.getElementById('replay-example').click(); for (let i = 0; i < 8; i++) document.getElementById('replay-forward').click();"
-               "document.getElementById('replay-whole').open = true"),
+    "replay": (
+        "#replay",
+        "document.getElementById('replay-example').click(); for (let i = 0; i < 8; i++) document.getElementById('replay-forward').click();"
+        "document.getElementById('replay-whole').open = true",
+    ),
     "teams": ("#play", ""),
     "play": ("#play", "document.getElementById('play-start').click()"),
-    "calculator": ("#calculator", "document.querySelectorAll('#panel-calculator details').forEach((it) => (it.open = true));"
-                   "document.querySelectorAll('#calc-results .move')[1].click()"),
+    "calculator": (
+        "#calculator",
+        "document.querySelectorAll('#panel-calculator details').forEach((it) => (it.open = true));"
+        "document.querySelectorAll('#calc-results .move')[1].click()",
+    ),
     "builder": ("#teams", "document.querySelectorAll('#panel-teams details').forEach((it) => (it.open = true))"),
     "message": ("#replay?b=zzzz", ""),
 }
@@ -64,11 +86,17 @@ def all_has_a_name(browser):
         assert len(nodes) > 20, nodes
         lacking = [role for role, text in nodes if role in NAMED and not text.strip() and role != "group"]
         assert not lacking, (name, lacking)
-        assert browser.run("const ids = [...document.querySelectorAll('[id]')].map((it) => it.id); return ids.length === new Set(ids).size")
+        assert browser.run(
+            "const ids = [...document.querySelectorAll('[id]')].map((it) => it.id); return ids.length === new Set(ids).size"
+        )
         # Items are in lists, and rows in tables; an explicit role would override that of a list.
-        assert browser.run("return [...document.querySelectorAll('li')].every((it) => it.parentElement.matches('ol:not([role]), ul:not([role])'))"), name
-        assert browser.run("return [...document.querySelectorAll('[aria-controls], [aria-labelledby]')].every((it) =>"
-                           "document.getElementById(it.getAttribute('aria-controls') ?? it.getAttribute('aria-labelledby')))"), name
+        assert browser.run(
+            "return [...document.querySelectorAll('li')].every((it) => it.parentElement.matches('ol:not([role]), ul:not([role])'))"
+        ), name
+        assert browser.run(
+            "return [...document.querySelectorAll('[aria-controls], [aria-labelledby]')].every((it) =>"
+            "document.getElementById(it.getAttribute('aria-controls') ?? it.getAttribute('aria-labelledby')))"
+        ), name
         assert browser.run("return [...document.querySelectorAll('label')].every((it) => it.control)"), name
 
 
@@ -76,7 +104,10 @@ def lines_are_read_out(browser):
     go(browser, "replay")
     roles = [role for role, _ in browser.tree()]
     assert "log" in roles and "meter" in roles and "tabpanel" in roles
-    assert browser.run("return document.getElementById('replay-lines').closest('[role=log]').getAttribute('aria-live')") == "polite"
+    assert (
+        browser.run("return document.getElementById('replay-lines').closest('[role=log]').getAttribute('aria-live')")
+        == "polite"
+    )
     go(browser, "message")
     assert "alert" in [role for role, _ in browser.tree()]
 
@@ -111,7 +142,9 @@ def keys_alone_reach_all(browser):
         wanted, reached = browser.run(REACHED), set()
         for _ in range(wanted + 12):
             browser.press(Keys.TAB)
-            mark = browser.run("const it = document.activeElement; if (it === document.body) return ''; it.dataset.reached ??= String(Math.random()); return it.dataset.reached")
+            mark = browser.run(
+                "const it = document.activeElement; if (it === document.body) return ''; it.dataset.reached ??= String(Math.random()); return it.dataset.reached"
+            )
             if mark in reached and len(reached) >= wanted:
                 break
             reached.add(mark)
@@ -148,7 +181,9 @@ def the_focus_goes_to_a_heading(browser):
     browser.open()
     browser.click("#replay-example")
     assert browser.run(at) == "replay-now"
-    browser.run("document.getElementById('replay-open').open = true; document.getElementById('replay-text').closest('details').open = true")
+    browser.run(
+        "document.getElementById('replay-open').open = true; document.getElementById('replay-text').closest('details').open = true"
+    )
     browser.fill("#replay-text", browser.run("return document.getElementById('example').text"))
     browser.click("#replay-read")
     assert browser.run(at) == "replay-now"
@@ -173,6 +208,12 @@ def the_focus_goes_to_a_heading(browser):
 
 
 CHECKS = [
-    the_focus_goes_to_a_heading, all_has_a_name, lines_are_read_out, contrast_is_enough, a_theme_can_be_chosen, keys_alone_reach_all, a_phone_is_wide_enough,
+    the_focus_goes_to_a_heading,
+    all_has_a_name,
+    lines_are_read_out,
+    contrast_is_enough,
+    a_theme_can_be_chosen,
+    keys_alone_reach_all,
+    a_phone_is_wide_enough,
     it_is_painted_within_a_second,
 ]

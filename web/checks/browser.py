@@ -18,7 +18,13 @@ class Browser:
     def __init__(self, page, folder, program=None):
         self.page, self.folder, self.program = Path(page).resolve().as_uri(), folder, program
         options = webdriver.ChromeOptions()
-        for word in ("--headless=new", "--no-sandbox", "--disable-gpu", "--disable-dev-shm-usage", "--window-size=1280,960"):
+        for word in (
+            "--headless=new",
+            "--no-sandbox",
+            "--disable-gpu",
+            "--disable-dev-shm-usage",
+            "--window-size=1280,960",
+        ):
             options.add_argument(word)
         options.binary_location = "/usr/bin/chromium"
         options.set_capability("goog:loggingPrefs", {"browser": "ALL", "performance": "ALL"})
@@ -60,7 +66,10 @@ class Browser:
 
     def tap(self, selector):
         """Touches an element."""
-        x, y = self.run("const it = document.querySelector(arguments[0]).getBoundingClientRect(); return [it.x + it.width / 2, it.y + it.height / 2]", selector)
+        x, y = self.run(
+            "const it = document.querySelector(arguments[0]).getBoundingClientRect(); return [it.x + it.width / 2, it.y + it.height / 2]",
+            selector,
+        )
         for kind, points in (("touchStart", [{"x": x, "y": y}]), ("touchEnd", [])):
             self.driver.execute_cdp_cmd("Input.dispatchTouchEvent", {"type": kind, "touchPoints": points})
 
@@ -72,14 +81,16 @@ class Browser:
         self.run(
             "const it = document.querySelector(arguments[0]); it.value = arguments[1];"
             "it.dispatchEvent(new Event('input', {bubbles: true})); it.dispatchEvent(new Event('change', {bubbles: true}));",
-            selector, value,
+            selector,
+            value,
         )
 
     def fill_all(self, values):
         """Writes to many fields, each by its selector."""
         self.run(
             "for (const [selector, value] of Object.entries(arguments[0])) {"
-            "  const it = document.querySelector(selector); it.value = value; it.dispatchEvent(new Event('input', {bubbles: true})); }", values,
+            "  const it = document.querySelector(selector); it.value = value; it.dispatchEvent(new Event('input', {bubbles: true})); }",
+            values,
         )
 
     def file(self, name, content):
@@ -100,7 +111,10 @@ class Browser:
 
     def lines(self, selector):
         """The lines of a list, as the program prints them."""
-        return self.run("return [...document.querySelectorAll(arguments[0] + ' [data-line]')].map((it) => it.dataset.line)", selector)
+        return self.run(
+            "return [...document.querySelectorAll(arguments[0] + ' [data-line]')].map((it) => it.dataset.line)",
+            selector,
+        )
 
     def words(self, selector):
         """The texts of elements, as a person reads them."""
@@ -108,7 +122,9 @@ class Browser:
 
     def notice(self):
         """The message that is shown; empty if there is none."""
-        return self.run("const it = document.getElementById('notice'); return it.hidden ? '' : document.getElementById('notice-text').textContent")
+        return self.run(
+            "const it = document.getElementById('notice'); return it.hidden ? '' : document.getElementById('notice-text').textContent"
+        )
 
     def saved(self, selector, name):
         """The bytes of the file that a button saves."""
@@ -125,10 +141,19 @@ class Browser:
     def look(self, width, height, scheme, motion="reduce"):
         """Sets the size of the page, whether the system is light or dark, and "reduce" or "no-preference" for motion."""
         self.driver.execute_cdp_cmd(
-            "Emulation.setDeviceMetricsOverride", {"width": width, "height": height, "deviceScaleFactor": 1, "mobile": width < 600}
+            "Emulation.setDeviceMetricsOverride",
+            {"width": width, "height": height, "deviceScaleFactor": 1, "mobile": width < 600},
         )
         self.driver.execute_cdp_cmd("Emulation.setTouchEmulationEnabled", {"enabled": width < 600})
-        self.driver.execute_cdp_cmd("Emulation.setEmulatedMedia", {"features": [{"name": "prefers-color-scheme", "value": scheme}, {"name": "prefers-reduced-motion", "value": motion}]})
+        self.driver.execute_cdp_cmd(
+            "Emulation.setEmulatedMedia",
+            {
+                "features": [
+                    {"name": "prefers-color-scheme", "value": scheme},
+                    {"name": "prefers-reduced-motion", "value": motion},
+                ]
+            },
+        )
 
     def tree(self):
         """The nodes of the accessibility tree that are not ignored, as (role, name)."""

@@ -19,9 +19,36 @@ FRESH = {"stages": [0] * 6, "status": 0, "conditions": 0, "hp": 0}
 REFLECT, LIGHT_SCREEN, FOCUS_ENERGY, SUBSTITUTE = 1, 2, 4, 32
 # Moves of every kind: fixed, many hits, one hit, recoil, drain, charging, explosion.
 KINDS = (
-    "Seismic Toss", "Night Shade", "Sonic Boom", "Dragon Rage", "Psywave", "Super Fang", "Fury Attack", "Pin Missile", "Double Kick", "Twineedle", "Fissure",
-    "Horn Drill", "Take Down", "Submission", "Mega Drain", "Dream Eater", "Solar Beam", "Dig", "Explosion", "Hyper Beam", "Swift", "Wrap", "Counter", "Bide",
-    "Jump Kick", "Slash", "Thunder Wave", "Recover", "Rage", "Thrash",
+    "Seismic Toss",
+    "Night Shade",
+    "Sonic Boom",
+    "Dragon Rage",
+    "Psywave",
+    "Super Fang",
+    "Fury Attack",
+    "Pin Missile",
+    "Double Kick",
+    "Twineedle",
+    "Fissure",
+    "Horn Drill",
+    "Take Down",
+    "Submission",
+    "Mega Drain",
+    "Dream Eater",
+    "Solar Beam",
+    "Dig",
+    "Explosion",
+    "Hyper Beam",
+    "Swift",
+    "Wrap",
+    "Counter",
+    "Bide",
+    "Jump Kick",
+    "Slash",
+    "Thunder Wave",
+    "Recover",
+    "Rage",
+    "Thrash",
 )
 # All that the results show of the moves of a side.
 ROWS = """
@@ -56,24 +83,38 @@ def member_of(species, *moves, **more):
 def standing_bytes(member, state):
     """A member with its state in the form for an address (web/README.md)."""
     stages = bytes(stage + 6 for stage in state["stages"])
-    return member_bytes(member) + stages + bytes([state["status"], state["conditions"]]) + state["hp"].to_bytes(2, "little")
+    return (
+        member_bytes(member)
+        + stages
+        + bytes([state["status"], state["conditions"]])
+        + state["hp"].to_bytes(2, "little")
+    )
 
 
 def show(browser, one, two, extra=0):
     """Opens the address of two members, each with its state."""
     code = base64.urlsafe_b64encode(standing_bytes(*one) + standing_bytes(*two) + bytes([extra])).decode().rstrip("=")
     # A route with the same values as before does nothing, so that a check cannot read older results.
-    browser.run("document.getElementById('calc-results').replaceChildren(); location.hash = arguments[0]", f"#calculator?c={code}")
+    browser.run(
+        "document.getElementById('calc-results').replaceChildren(); location.hash = arguments[0]",
+        f"#calculator?c={code}",
+    )
     browser.wait("return document.querySelector('#calc-results table')")
     assert not browser.text("#calc-fault"), browser.text("#calc-fault")
 
 
 def press(browser, side, name):
-    browser.run("document.querySelector(`#calc-member-${arguments[0]} [aria-label='${arguments[1]}']`).click()", side, name)
+    browser.run(
+        "document.querySelector(`#calc-member-${arguments[0]} [aria-label='${arguments[1]}']`).click()", side, name
+    )
 
 
 def choose(browser, move, side=1):
-    browser.run("document.querySelector(`#calc-results-${arguments[0]} tr[data-move='${arguments[1]}'] button`).click()", side, move)
+    browser.run(
+        "document.querySelector(`#calc-results-${arguments[0]} tr[data-move='${arguments[1]}'] button`).click()",
+        side,
+        move,
+    )
 
 
 def damage_of(browser, move, side=1):
@@ -123,20 +164,32 @@ def state_words(side, member, state):
     words += [f"--{who}-stages", stages] if stages else []
     words += [f"--{who}-status", STATUSES[state["status"]]] if state["status"] else []
     words += [f"--{who}-hp", str(state["hp"])] if state["hp"] else []
-    flags = ((2, REFLECT, "--reflect"), (2, LIGHT_SCREEN, "--light-screen"), (1, FOCUS_ENERGY, "--focus-energy"), (2, SUBSTITUTE, "--substitute"))
+    flags = (
+        (2, REFLECT, "--reflect"),
+        (2, LIGHT_SCREEN, "--light-screen"),
+        (1, FOCUS_ENERGY, "--focus-energy"),
+        (2, SUBSTITUTE, "--substitute"),
+    )
     return words + [flag for of, bit, flag in flags if side == of and state["conditions"] & bit]
 
 
 def some_member(draw):
     species = draw.choice(names("Species"))
-    known = [move for move in names("Moves") if move not in ("Metronome", "Mimic", "Mirror Move", "Transform", "Struggle")]
+    known = [
+        move for move in names("Moves") if move not in ("Metronome", "Mimic", "Mirror Move", "Transform", "Struggle")
+    ]
     moves = list(dict.fromkeys([*draw.sample(KINDS, 2), *draw.sample(known, 4)]))[:4]
     return member_of(species, *moves, level=draw.choice([100, 100, 74, 50, 5]))
 
 
 def some_state(draw, conditions):
     stages = [draw.choice([0, 0, 0, 1, -1, 2, 6, -6]) for _ in STAGES]
-    return {"stages": stages, "status": draw.choice([0, 0, *STATUSES]), "conditions": draw.choice([0, *conditions]), "hp": draw.choice([0, draw.randint(1, 18)])}
+    return {
+        "stages": stages,
+        "status": draw.choice([0, 0, *STATUSES]),
+        "conditions": draw.choice([0, *conditions]),
+        "hp": draw.choice([0, draw.randint(1, 18)]),
+    }
 
 
 def same_numbers(row, move, hp):
@@ -151,7 +204,11 @@ def same_numbers(row, move, hp):
     if chances:
         assert row["titles"][2:4] == [ways(chances["once"]), ways(chances["twice"])], (row, move)
         counts = [count for count, part in enumerate(move["hits"]) if part]
-        each = [move["usual"][0], move["usual"][-1]] if move["usual"] else [min(it, hp) if it == 65535 else it for it in move["fixed"]]
+        each = (
+            [move["usual"][0], move["usual"][-1]]
+            if move["usual"]
+            else [min(it, hp) if it == 65535 else it for it in move["fixed"]]
+        )
         least, highest = each[0] * counts[0], each[1] * counts[-1]
         assert row["damage"][1].partition(" HP")[0] == span(least, highest), (row, move)
     if move["usual"]:
@@ -164,7 +221,9 @@ def calculations_are_those_of_the_library(browser):
         return
     browser.open("#calculator")
     draw, count = random.Random(53), 0
-    ask = lambda *words: subprocess.run([browser.program, "calc", *words], capture_output=True, text=True, check=True).stdout
+    ask = lambda *words: subprocess.run(
+        [browser.program, "calc", *words], capture_output=True, text=True, check=True
+    ).stdout
     for _ in range(60):
         one = some_member(draw), some_state(draw, [FOCUS_ENERGY])
         two = some_member(draw), some_state(draw, [REFLECT, LIGHT_SCREEN, REFLECT + LIGHT_SCREEN, SUBSTITUTE])
@@ -193,8 +252,17 @@ def a_text_is_taken(browser):
     browser.open("#calculator")
     browser.fill("#calc-member-2 textarea", "Bob (Tauros) (M)\nLevel: 88\nIVs: 0 Atk\n- Body Slam\n- Fly")
     browser.run("document.querySelector('#calc-member-2 textarea').closest('details').querySelector('button').click()")
-    value = lambda name: browser.run("return document.querySelector('#calc-member-2 [name=\"' + arguments[0] + '\"]').value", name)
-    assert [value(name) for name in ("species", "level", "dv-Attack", "move-1", "move-2", "move-3")] == ["Tauros", "88", "0", "Body Slam", "Fly", ""]
+    value = lambda name: browser.run(
+        "return document.querySelector('#calc-member-2 [name=\"' + arguments[0] + '\"]').value", name
+    )
+    assert [value(name) for name in ("species", "level", "dv-Attack", "move-1", "move-2", "move-3")] == [
+        "Tauros",
+        "88",
+        "0",
+        "Body Slam",
+        "Fly",
+        "",
+    ]
 
 
 def stages_status_and_screens_count(browser):
@@ -210,7 +278,10 @@ def stages_status_and_screens_count(browser):
     assert "→" not in shown()
     for _ in range(2):
         press(browser, 1, "Attack up")
-    assert "→ 596" in shown() and browser.run("return document.querySelector(\"#calc-member-1 [name='stage-Attack']\").value") == "2"
+    assert (
+        "→ 596" in shown()
+        and browser.run("return document.querySelector(\"#calc-member-1 [name='stage-Attack']\").value") == "2"
+    )
     browser.fill("#calc-member-1 [name=stage-Attack]", "0")
     press(browser, 2, "Reflect")
     # Defense 576: 74 and 144, so 42 * 85 * 74 / 144 / 50 + 2 is 38, and 57 with its own type.
@@ -223,7 +294,9 @@ def stages_status_and_screens_count(browser):
     assert browser.run(ROWS, 1)[0]["titles"][4] == "19 of 256 bytes"
     press(browser, 1, "Paralysed")
     press(browser, 1, "Frozen")
-    assert browser.run("return [...document.querySelectorAll('#calc-member-1 [aria-pressed=true]')].map((it) => it.ariaLabel)") == ["Frozen"]
+    assert browser.run(
+        "return [...document.querySelectorAll('#calc-member-1 [aria-pressed=true]')].map((it) => it.ariaLabel)"
+    ) == ["Frozen"]
     browser.click("#calc-clear")
     assert not browser.run("return document.querySelectorAll('.member [aria-pressed=true]').length")
 
@@ -247,7 +320,11 @@ def chances_of_a_knock_out_and_fixed_damage_are_shown(browser):
 def what_the_user_pays_is_shown(browser):
     """docs/MECHANICS.md, "Recoil, drain and explosion": a quarter or a half of the damage, which the foe's HP cut."""
     browser.open("#calculator")
-    show(browser, (member_of("Tauros", "Take Down", "Mega Drain", "Explosion", "Hyper Beam"), FRESH), (member_of("Tauros", "Body Slam"), {**FRESH, "hp": 40}))
+    show(
+        browser,
+        (member_of("Tauros", "Take Down", "Mega Drain", "Explosion", "Hyper Beam"), FRESH),
+        (member_of("Tauros", "Body Slam"), {**FRESH, "hp": 40}),
+    )
     notes = lambda: {row["move"]: row["damage"][2:] for row in browser.run(ROWS, 1)}
     # The 40 HP are all that Take Down takes; of Tauros' 353, 10 are 2.8 per cent.
     assert notes()["Take Down"] == ["recoil 2.8% (10)"], notes()
@@ -261,7 +338,9 @@ def many_hits_are_totals(browser):
     show(browser, (member_of("Tauros", "Fury Attack", "Double Kick"), FRESH), (member_of("Tauros", "Body Slam"), FRESH))
     for move, fewest, highest in (("Fury Attack", 2, 5), ("Double Kick", 2, 2)):
         each = [int(number) for number in lists_of(browser, move)[0]]
-        assert damage_of(browser, move)[1] == f"{each[0] * fewest}–{each[-1] * highest} HP, {span(fewest, highest)} hits", move
+        assert (
+            damage_of(browser, move)[1] == f"{each[0] * fewest}–{each[-1] * highest} HP, {span(fewest, highest)} hits"
+        ), move
 
 
 def an_address_is_a_calculation(browser):
@@ -273,7 +352,10 @@ def an_address_is_a_calculation(browser):
     press(browser, 2, "Light Screen")
     press(browser, 1, "Focus Energy")
     browser.wait("return location.hash.includes('c=')")
-    shown, pressed = browser.text("#calc-results"), "return [...document.querySelectorAll('.member [aria-pressed=true]')].map((it) => it.ariaLabel)"
+    shown, pressed = (
+        browser.text("#calc-results"),
+        "return [...document.querySelectorAll('.member [aria-pressed=true]')].map((it) => it.ariaLabel)",
+    )
     marks = browser.run(pressed)
     browser.run("return new Promise((done) => setTimeout(done, 250))")
     address = browser.run("return location.hash")
@@ -283,19 +365,33 @@ def an_address_is_a_calculation(browser):
 
 def an_older_address_keeps_its_further_move(browser):
     browser.open("#calculator")
-    show(browser, (member_of("Tauros", "Body Slam"), FRESH), (member_of("Chansey", "Reflect"), FRESH), names("Moves").index("Fissure") + 1)
+    show(
+        browser,
+        (member_of("Tauros", "Body Slam"), FRESH),
+        (member_of("Chansey", "Reflect"), FRESH),
+        names("Moves").index("Fissure") + 1,
+    )
     assert {row["move"] for row in browser.run(ROWS, 1)} == {"Body Slam", "Fissure"}
 
 
 def a_member_needs_no_moves(browser):
     browser.open("#calculator")
     type_member(browser, 2, member_of("Chansey"))
-    assert not browser.text("#calc-fault") and len(browser.run(ROWS, 1)) == 4 and "Choose a move." in browser.text("#calc-results-2")
+    assert (
+        not browser.text("#calc-fault")
+        and len(browser.run(ROWS, 1)) == 4
+        and "Choose a move." in browser.text("#calc-results-2")
+    )
 
 
 def a_wrong_field_is_said(browser):
     browser.open("#calculator")
-    for field, value, word in (("species", "Missingno.", "Missingno."), ("level", "101", "level"), ("move-1", "Body Slap", "Body Slap"), ("dv-Attack", "", "DV of Attack")):
+    for field, value, word in (
+        ("species", "Missingno.", "Missingno."),
+        ("level", "101", "level"),
+        ("move-1", "Body Slap", "Body Slap"),
+        ("dv-Attack", "", "DV of Attack"),
+    ):
         kept = browser.run(f"return document.querySelector('#calc-member-1 [name={field}]').value")
         browser.fill(f"#calc-member-1 [name={field}]", value)
         assert word in browser.text("#calc-fault"), (field, browser.text("#calc-fault"))
@@ -311,9 +407,17 @@ def half_a_name_is_no_fault_yet(browser):
     browser.type(field, "Body Sl")
     assert not browser.text("#calc-fault") and browser.run(stale)
     browser.wait("return document.getElementById('calc-fault').textContent")
-    assert browser.text("#calc-fault") == 'Side 1: there is no move "Body Sl". The results are those of the previous input.'
+    assert (
+        browser.text("#calc-fault")
+        == 'Side 1: there is no move "Body Sl". The results are those of the previous input.'
+    )
     assert browser.run("return document.getElementById('calc-fault').getAttribute('role')") == "status"
-    assert browser.run(f"const it = document.querySelector('{field}'); return it === document.activeElement && it.getAttribute('aria-invalid')") == "true"
+    assert (
+        browser.run(
+            f"const it = document.querySelector('{field}'); return it === document.activeElement && it.getAttribute('aria-invalid')"
+        )
+        == "true"
+    )
     browser.find(field).send_keys("am")
     assert not browser.text("#calc-fault") and not browser.run(stale) and browser.text("#calc-results") == shown
     assert not browser.run("return document.querySelectorAll('[aria-invalid]').length")
@@ -324,9 +428,13 @@ def too_many_hp_are_those_of_a_side(browser):
     browser.open("#calculator")
     for side, name, most in ((1, "Tauros", 353), (2, "Alakazam", 313)):
         browser.fill(f"#calc-member-{side} [name=hp]", str(most + 1))
-        assert f"Side {side}: {most + 1} HP are above the maximum of {name}, which is {most}." in browser.text("#calc-fault")
+        assert f"Side {side}: {most + 1} HP are above the maximum of {name}, which is {most}." in browser.text(
+            "#calc-fault"
+        )
         browser.fill(f"#calc-member-{side} [name=hp]", str(most - 1))
-        assert not browser.text("#calc-fault") and f"{most - 1} of {most} HP" in browser.text(f"#calc-results-{3 - side}")
+        assert not browser.text("#calc-fault") and f"{most - 1} of {most} HP" in browser.text(
+            f"#calc-results-{3 - side}"
+        )
         browser.fill(f"#calc-member-{side} [type=range]", str(most))
         assert f"{most} of {most} HP" in browser.text(f"#calc-results-{3 - side}")
 
@@ -352,7 +460,9 @@ def names_are_searched(browser):
     active = "const it = document.activeElement; return [it.role, it.ariaExpanded, document.getElementById(it.getAttribute('aria-activedescendant'))?.textContent]"
     assert browser.run(active) == ["combobox", "true", "ChanseyNormal"]
     browser.press(Keys.ENTER)
-    assert browser.run("return document.querySelector('#calc-member-2 [name=species]').value") == "Chansey" and not shown()
+    assert (
+        browser.run("return document.querySelector('#calc-member-2 [name=species]').value") == "Chansey" and not shown()
+    )
     assert "on Chansey" in browser.text("#calc-results-1") and len(browser.run(ROWS, 2)) == 4
     browser.type("#calc-member-2 [name=move-1]", "ice")
     assert shown()[:2] == ["Ice Beam", "Ice Punch"] and "Blizzard" in shown() and "Aurora Beam" in shown()
@@ -382,24 +492,48 @@ def all_results_are_in_view(browser):
     browser.look(1280, 800, "light")
     browser.open("#calculator")
     assert browser.run("return document.querySelectorAll('#calc-results tbody tr').length") == 8
-    assert browser.run(inside, "#calc-results tr, #calc-line, #calc-chosen button, .member .toggle, .member select, .member .name-row")
-    browser.run("document.querySelectorAll('.member details').forEach((it) => (it.open = true)); window.scrollTo(0, 9999)")
+    assert browser.run(
+        inside, "#calc-results tr, #calc-line, #calc-chosen button, .member .toggle, .member select, .member .name-row"
+    )
+    browser.run(
+        "document.querySelectorAll('.member details').forEach((it) => (it.open = true)); window.scrollTo(0, 9999)"
+    )
     assert browser.run("return scrollY > 100") and browser.run(inside, "#calc-results tr")
     browser.look(390, 844, "light")
     browser.open("#calculator")
     for place in (0, 600, 9999):
         browser.run("window.scrollTo(0, arguments[0])", place)
-        assert browser.run("return [...document.querySelectorAll('#calc-results tbody tr')].filter((it) => it.checkVisibility()).length") == 4
+        assert (
+            browser.run(
+                "return [...document.querySelectorAll('#calc-results tbody tr')].filter((it) => it.checkVisibility()).length"
+            )
+            == 4
+        )
         assert browser.run(inside, "#calc-results tr"), place
     assert browser.run("return document.getElementById('calc-results').offsetHeight") < 844 * 0.4
     press_direction = "document.getElementById('calc-from-2').click(); return document.getElementById('calc-results-2').checkVisibility()"
-    assert browser.run(press_direction) and not browser.run("return document.getElementById('calc-results-1').checkVisibility()")
+    assert browser.run(press_direction) and not browser.run(
+        "return document.getElementById('calc-results-1').checkVisibility()"
+    )
     browser.look(1280, 960, "light")
 
 
 CHECKS = [
-    half_a_name_is_no_fault_yet, too_many_hp_are_those_of_a_side, a_text_at_fault_is_that_of_a_side, recorded_calculations_come_out,
-    calculations_are_those_of_the_library, the_best_move_is_first, chances_of_a_knock_out_and_fixed_damage_are_shown, what_the_user_pays_is_shown,
-    many_hits_are_totals, a_text_is_taken, stages_status_and_screens_count, an_address_is_a_calculation, an_older_address_keeps_its_further_move,
-    a_member_needs_no_moves, a_wrong_field_is_said, names_are_searched, all_results_are_in_view,
+    half_a_name_is_no_fault_yet,
+    too_many_hp_are_those_of_a_side,
+    a_text_at_fault_is_that_of_a_side,
+    recorded_calculations_come_out,
+    calculations_are_those_of_the_library,
+    the_best_move_is_first,
+    chances_of_a_knock_out_and_fixed_damage_are_shown,
+    what_the_user_pays_is_shown,
+    many_hits_are_totals,
+    a_text_is_taken,
+    stages_status_and_screens_count,
+    an_address_is_a_calculation,
+    an_older_address_keeps_its_further_move,
+    a_member_needs_no_moves,
+    a_wrong_field_is_said,
+    names_are_searched,
+    all_results_are_in_view,
 ]

@@ -1,11 +1,12 @@
 // What the page takes from the engine, without a browser: states, odds, messages, the calculator's battles and the computer's choices. Run
 // by web/test, which bundles it: node FILE MODULE. The values are those of docs/MECHANICS.md and docs/PROGRAM.md.
-import { readFileSync } from "node:fs";
-import { choose, scores } from "../src/computer.js";
-import { Engine } from "../src/engine.js";
-import { guessed, playerOf } from "../src/guesses.js";
-import { Match } from "../src/match.js";
-import { conditionWords, whole } from "../src/sides.js";
+import {readFileSync} from "node:fs";
+
+import {choose, scores} from "../src/computer.js";
+import {Engine} from "../src/engine.js";
+import {guessed, playerOf} from "../src/guesses.js";
+import {Match} from "../src/match.js";
+import {conditionWords, whole} from "../src/sides.js";
 
 const engine = await Engine.of(readFileSync(process.argv[2]));
 const SEED = [1, 36, 255, 7, 31, 100, 179, 254, 127, 10];
@@ -36,8 +37,14 @@ function message(call) {
   throw new Error("there was no error");
 }
 
-const tauros = (...moves) => ({ species: "Tauros", level: 100, dvs: [15, 15, 15, 15], exp: Array(5).fill(65535), moves: moves.map((move) => [move, 3]) });
-const terms = (one, two) => ({ one, two, seed: SEED, rules: 0, limit: 1000 });
+const tauros = (...moves) => ({
+  species: "Tauros",
+  level: 100,
+  dvs: [15, 15, 15, 15],
+  exp: Array(5).fill(65535),
+  moves: moves.map((move) => [move, 3])
+});
+const terms = (one, two) => ({one, two, seed: SEED, rules: 0, limit: 1000});
 const asked = (moves, player) => {
   const match = new Match(engine, terms([tauros(...moves)], [tauros(...moves)]), [player, "random"]);
   match.update([0, 0]);
@@ -48,23 +55,35 @@ const begun = (...moves) => engine.update(engine.begin(terms([tauros(...moves)],
 check("a battle has the lines of the documents", () => {
   const first = begun("Strength");
   const events = engine.events(first.log);
-  equal(events.map(({ size, line }) => [size, line]), [[10, "|switch|p1a: Tauros|Tauros|353/353"], [10, "|switch|p2a: Tauros|Tauros|353/353"], [3, "|turn|1"]]);
+  equal(events.map(({size, line}) => [size, line]),
+      [[10, "|switch|p1a: Tauros|Tauros|353/353"], [10, "|switch|p2a: Tauros|Tauros|353/353"], [3, "|turn|1"]]);
   equal([events[1].side, events[1].place], [2, 1]);
-  equal(engine.events(engine.update(first.battle, MOVE, MOVE).log).some(({ line }) => line === "|-damage|p2a: Tauros|149/353"), true);
+  equal(engine.events(engine.update(first.battle, MOVE, MOVE).log)
+            .some(({line}) => line === "|-damage|p2a: Tauros|149/353"),
+      true);
 });
 
 check("errors are explained", () => {
   const one = tauros("Strength");
-  equal(message(() => engine.begin(terms([], [one]))), "The team is refused: side 1: the team has no member: it has 1 to 6.");
-  equal(message(() => engine.begin(terms([one], [one, { ...one, level: 101 }]))), "The team is refused: side 2, member 2: the level is not 1 to 100.");
-  equal(message(() => engine.begin({ ...terms([one], [one]), rules: 4 })), "The battle is refused: the rules are not 0 to 3.");
-  equal(message(() => engine.team("Tauros\n- Body Slap", "The text", 1)), "The text: line 2: expected the name of a move of the first generation.");
-  equal(message(() => engine.team("Tauros||||pond|||||||", "The text", 1)), "The text: member 1, field 5: expected the name of a move of the first generation.");
-  equal(message(() => engine.team("Mew\n- Mimic", "The text", 2)).startsWith("The team is refused: side 2, member 1: a move is left out"), true);
+  equal(message(() => engine.begin(terms([], [one]))),
+      "The team is refused: side 1: the team has no member: it has 1 to 6.");
+  equal(message(() => engine.begin(terms([one], [one, {...one, level: 101}]))),
+      "The team is refused: side 2, member 2: the level is not 1 to 100.");
+  equal(message(() => engine.begin({...terms([one], [one]), rules: 4})),
+      "The battle is refused: the rules are not 0 to 3.");
+  equal(message(() => engine.team("Tauros\n- Body Slap", "The text", 1)),
+      "The text: line 2: expected the name of a move of the first generation.");
+  equal(message(() => engine.team("Tauros||||pond|||||||", "The text", 1)),
+      "The text: member 1, field 5: expected the name of a move of the first generation.");
+  equal(message(() => engine.team("Mew\n- Mimic", "The text", 2))
+            .startsWith("The team is refused: side 2, member 1: a move is left out"),
+      true);
   equal(engine.team("", "The text", 1), []);
-  equal(/^This is not the log of a battle: .* \(at byte 2\)\.$/.test(message(() => engine.events(Uint8Array.of(26, 1, 99)))), true);
+  equal(/^This is not the log of a battle: .* \(at byte 2\)\.$/.test(
+            message(() => engine.events(Uint8Array.of(26, 1, 99)))),
+      true);
   equal([[MOVE, 18], [18, MOVE]].map((pair) => engine.update(begun("Strength").battle, ...pair).refused),
-    ["the choice of side 2 was not offered", "the choice of side 1 was not offered"]);
+      ["the choice of side 2 was not offered", "the choice of side 1 was not offered"]);
 });
 
 check("a spectator knows what the log shows", () => {
@@ -72,68 +91,85 @@ check("a spectator knows what the log shows", () => {
   const spectator = engine.spectator(team, team);
   const first = begun("Strength");
   engine.watch(spectator, first.log);
-  const { turn, outcome, sides } = engine.watch(spectator, engine.update(first.battle, MOVE, MOVE).log);
-  equal([turn, outcome, sides.map(({ place, members }) => [place, members])], [2, "ongoing", [[1, [{ hp: 263, status: "none" }]], [1, [{ hp: 149, status: "none" }]]]]);
+  const {turn, outcome, sides} = engine.watch(spectator, engine.update(first.battle, MOVE, MOVE).log);
+  equal([turn, outcome, sides.map(({place, members}) => [place, members])],
+      [2, "ongoing", [[1, [{hp: 263, status: "none"}]], [1, [{hp: 149, status: "none"}]]]]);
 });
 
 check("a status is shown as the lines write it", () => {
   // The status of side 1's first member (docs/LAYOUT.md, "Member").
   for (const [byte, word] of [[0, ""], [1, "slp"], [8, "psn"], [16, "brn"], [32, "frz"], [64, "par"]]) {
-    const { battle } = begun("Strength");
+    const {battle} = begun("Strength");
     battle[24 + 14] = byte;
     equal(whole(engine.tables, engine.state(battle).sides[0]).members[0].status, word);
   }
 });
 
 check("conditions are shown with their numbers", () => {
-  const { battle } = begun("Strength");
+  const {battle} = begun("Strength");
   // Side 1's condition bits that don't depend on a move, and their numbers (docs/LAYOUT.md, "Active block").
   battle.set([0xe8, 0xf3, 1], 168 + 17);
   battle.set([30, 3, 1, 2, 5], 168 + 21);
-  equal(conditionWords(engine.state(battle).sides[0].active), ["Flinches", "Out of reach", "Confused, 3 more", "Mist", "Focus Energy", "Substitute, 30 HP",
-    "Seeded", "Bad poison, 5", "Light Screen", "Reflect", "Move 1 disabled"]);
+  equal(conditionWords(engine.state(battle).sides[0].active), [
+    "Flinches", "Out of reach", "Confused, 3 more", "Mist", "Focus Energy", "Substitute, 30 HP", "Seeded",
+    "Bad poison, 5", "Light Screen", "Reflect", "Move 1 disabled"
+  ]);
 });
 
-const STANDS = { stages: Array(6).fill(6), status: 0, conditions: 0, hp: 0 };
+const STANDS = {
+  stages: Array(6).fill(6),
+  status: 0,
+  conditions: 0,
+  hp: 0
+};
 
 // Two Tauros that know Strength and Body Slam, in these states.
 function calculated(one, two = {}) {
-  const both = [one, two].map((it) => ({ ...STANDS, member: tauros("Strength", "Body Slam"), ...it }));
+  const both = [one, two].map((it) => ({...STANDS, member: tauros("Strength", "Body Slam"), ...it}));
   return engine.calculate(both);
 }
 
 check("members have the state that is asked for", () => {
   const [user] = calculated({});
-  const slam = user.moves.find(({ move }) => move === "Body Slam");
-  equal([slam.slot, slam.damage.slice(0, 3), slam.damage.slice(36), slam.hit, slam.bound], [2, [95, 95, 96], [111, 111, 112], 255, 55]);
+  const slam = user.moves.find(({move}) => move === "Body Slam");
+  equal([slam.slot, slam.damage.slice(0, 3), slam.damage.slice(36), slam.hit, slam.bound],
+      [2, [95, 95, 96], [111, 111, 112], 255, 55]);
   const OWN = [298, 288, 318, 238];
-  const stats = (...asked) => calculated(...asked).map(({ own, stats: now }) => [own, now]);
-  equal(stats({ status: 16 })[0], [OWN, [149, 288, 318, 238]]);
-  equal(stats({ stages: [8, 6, 6, 6, 6, 6] }, { status: 64, conditions: 1 }), [[OWN, [596, 288, 318, 238]], [OWN, [298, 288, 79, 238]]]);
+  const stats = (...asked) => calculated(...asked).map(({own, stats: now}) => [own, now]);
+  equal(stats({status: 16})[0], [OWN, [149, 288, 318, 238]]);
+  equal(stats({stages: [8, 6, 6, 6, 6, 6]}, {status: 64, conditions: 1}),
+      [[OWN, [596, 288, 318, 238]], [OWN, [298, 288, 79, 238]]]);
   // 318 at stage 2 is 636, and a quarter of that 159; 298 at stage -1 is 196, and half of that 98.
-  equal(stats({ stages: [6, 6, 8, 6, 6, 6], status: 64 }, { stages: [5, 6, 6, 6, 6, 6], status: 16 }).map(([, now]) => now), [[298, 288, 159, 238], [98, 288, 318, 238]]);
-  equal(calculated({ hp: 100 }).map(({ hp, max }) => [hp, max]), [[100, 353], [353, 353]]);
-  equal(message(() => calculated({ stages: [13, 6, 6, 6, 6, 6] })), "The calculation is refused: the members cannot be in this state.");
-  equal(message(() => calculated({ hp: 354 })), "The calculation is refused: the members cannot be in this state.");
+  equal(stats({stages: [6, 6, 8, 6, 6, 6], status: 64}, {stages: [5, 6, 6, 6, 6, 6], status: 16}).map(([, now]) => now),
+      [[298, 288, 159, 238], [98, 288, 318, 238]]);
+  equal(calculated({hp: 100}).map(({hp, max}) => [hp, max]), [[100, 353], [353, 353]]);
+  equal(message(() => calculated({stages: [13, 6, 6, 6, 6, 6]})),
+      "The calculation is refused: the members cannot be in this state.");
+  equal(message(() => calculated({hp: 354})), "The calculation is refused: the members cannot be in this state.");
 });
 
 check("what a use does to the HP", () => {
   const found = (one, two, move) => calculated(one, two)[0].moves.find((it) => it.move === move);
   // Body Slam deals 95 to 112, and each critical hit more. It hits with 255 of 256 bytes.
-  const { chanceOnce, chanceTwice, chanceThrice } = found({}, { hp: 95 }, "Body Slam").knockOut;
+  const {chanceOnce, chanceTwice, chanceThrice} = found({}, {hp: 95}, "Body Slam").knockOut;
   equal([chanceOnce, chanceTwice, chanceThrice], [255 / 256, 65535 / 65536, 16777215 / 16777216]);
-  const users = (move) => engine.calculate([{ ...STANDS, member: tauros(move) }, { ...STANDS, member: tauros("Strength") }])[0].moves[0];
-  equal(["Seismic Toss", "Super Fang", "Fissure"].map((move) => users(move).fixed), [[100, 100], [176, 176], [65535, 65535]]);
-  equal([users("Fissure").hit, users("Fissure").reason, users("Recover").reason], [76, null, "the user's HP don't allow it"]);
+  const users = (move) =>
+      engine.calculate([{...STANDS, member: tauros(move)}, {...STANDS, member: tauros("Strength")}])[0].moves[0];
+  equal(["Seismic Toss", "Super Fang", "Fissure"].map((move) => users(move).fixed),
+      [[100, 100], [176, 176], [65535, 65535]]);
+  equal([users("Fissure").hit, users("Fissure").reason, users("Recover").reason],
+      [76, null, "the user's HP don't allow it"]);
   equal([users("Swift").hit, users("Swift").reason], [null, null]);
 });
 
 check("the computer chooses the offered choice with the most damage", () => {
-  equal([["Strength"], ["Strength", "Body Slam"], ["Body Slam", "Strength"]].map((moves) => choose(engine, asked(moves, "greedy"))), [17, 18, 17]);
+  equal([["Strength"], ["Strength", "Body Slam"], ["Body Slam", "Strength"]].map(
+            (moves) => choose(engine, asked(moves, "greedy"))),
+      [17, 18, 17]);
 });
 
 check("playouts do not know what the battle will draw", () => {
-  const { battle } = begun("Strength", "Body Slam");
+  const {battle} = begun("Strength", "Body Slam");
   const found = [Array(10).fill(0), Array(10).fill(255), [9, 200, 31, 4, 77, 128, 3, 250, 66, 5]].map((numbers) => {
     const copy = engine.gen1.load(battle);
     copy.reseed(numbers, numbers[9] % 9);
@@ -149,29 +185,41 @@ check("playouts differ from each other", () => {
 });
 
 // Six members whose moves cover the conditions that a guess has to explain.
-const MOVES = ["Fly", "Dig", "Hyper Beam", "Thrash", "Wrap", "Bide", "Substitute", "Confuse Ray", "Rage", "Disable", "Toxic", "Leech Seed", "Body Slam", "Sing",
-  "Reflect", "Mist", "Focus Energy", "Light Screen", "Solar Beam", "Swords Dance", "Surf", "Explosion", "Growl", "Blizzard"];
-const six = (from) => [0, 1, 2, 3, 4, 5].map((at) => ({ ...tauros(...[0, 6, 12, 18].map((step) => MOVES[(from + at + step) % 24])), species: ["Tauros", "Starmie", "Gengar", "Zapdos", "Snorlax", "Golem"][at] }));
+const MOVES = [
+  "Fly", "Dig", "Hyper Beam", "Thrash", "Wrap", "Bide", "Substitute", "Confuse Ray", "Rage", "Disable", "Toxic",
+  "Leech Seed", "Body Slam", "Sing", "Reflect", "Mist", "Focus Energy", "Light Screen", "Solar Beam", "Swords Dance",
+  "Surf", "Explosion", "Growl", "Blizzard"
+];
+const six = (from) => [0, 1, 2, 3, 4, 5].map((at) => ({
+  ...tauros(...[0, 6, 12, 18].map((step) => MOVES[(from + at + step) % 24])),
+  species: ["Tauros", "Starmie", "Gengar", "Zapdos", "Snorlax", "Golem"][at]
+}));
 
 check("guesses fit what a player knows", () => {
   let [state, count] = [12345, 0];
   const draw = (bound) => ((state = (Math.imul(state, 1103515245) + 12345) >>> 0) >>> 8) % bound;
   for (let round = 0; round < 12; round++) {
-    const match = new Match(engine, { ...terms(six(round), six(round + 5)), seed: Array.from({ length: 10 }, () => draw(256)) }, ["random", "random"]);
+    const match = new Match(engine,
+        {...terms(six(round), six(round + 5)), seed: Array.from({length: 10}, () => draw(256))}, ["random", "random"]);
     match.update([0, 0]);
-    for (; !match.isOver; match.update([1, 2].map((side) => { const offered = match.offered(side); return offered[draw(offered.length)]; }))) {
+    for (; !match.isOver; match.update([1, 2].map((side) => {
+           const offered = match.offered(side);
+           return offered[draw(offered.length)];
+         }))) {
       for (const side of [1, 2]) {
         const view = match.view(side);
         // The worker's player is made from what it is sent.
         const player = playerOf(engine, match.sight(side));
         equal([player.view, player.choices], [view, match.last.players[side - 1].choices]);
-        const battle = guessed(engine, player, draw, { seed: SEED, rules: 0, limit: 1000 });
+        const battle = guessed(engine, player, draw, {seed: SEED, rules: 0, limit: 1000});
         const own = battle.ownSide(side);
-        equal([own.members, own.active.place, own.active.stages, own.active.types, own.turn, own.request],
-          [view.own.members, view.own.active.place, view.own.active.stages, view.own.active.types, view.own.turn, view.own.request]);
+        equal([own.members, own.active.place, own.active.stages, own.active.types, own.turn, own.request], [
+          view.own.members, view.own.active.place, view.own.active.stages, view.own.active.types, view.own.turn,
+          view.own.request
+        ]);
         const foe = battle.ownSide(side === 1 ? 2 : 1);
-        equal(foe.members.slice(0, view.foe.members.length).map(({ species, level, status }) => [species, level, status]),
-          view.foe.members.map(({ species, level, status }) => [species, level, status]));
+        equal(foe.members.slice(0, view.foe.members.length).map(({species, level, status}) => [species, level, status]),
+            view.foe.members.map(({species, level, status}) => [species, level, status]));
         equal(battle.choices(side), match.last.players[side - 1].choices);
         count++;
       }
@@ -182,7 +230,9 @@ check("guesses fit what a player knows", () => {
 
 check("the computer is asked with what its side knows", () => {
   const question = asked(["Strength", "Body Slam"], "playouts");
-  equal([question.battle, playerOf(engine, question.sight).view.foe.members.map(({ species, moves }) => [species, moves])], [null, [["Tauros", []]]]);
+  equal(
+      [question.battle, playerOf(engine, question.sight).view.foe.members.map(({species, moves}) => [species, moves])],
+      [null, [["Tauros", []]]]);
   equal(asked(["Strength"], "cheating").sight, null);
   equal([17, 18].includes(choose(engine, question)), true);
 });

@@ -37,9 +37,19 @@ def files_that_are_no_battles_are_refused(browser):
     said(browser, "text.json", b'"Tauros"', "The file is a string in JSON.")
     said(browser, "cut.json", json.dumps(asked)[:200], "not JSON")
     said(browser, "team.json", json.dumps({**asked, "one": []}), "side 1: the team has no member")
-    said(browser, "name.json", json.dumps({**asked, "two": [{**asked["two"][0], "species": "Missingno."}]}), "two[0].species")
+    said(
+        browser,
+        "name.json",
+        json.dumps({**asked, "two": [{**asked["two"][0], "species": "Missingno."}]}),
+        "two[0].species",
+    )
     said(browser, "seed.json", json.dumps({**asked, "seed": [1, 2]}), "seed has 2 items, not 10")
-    said(browser, "limit.json", json.dumps({**asked, "limit": 0}), "limit is 0, which is not a whole number from 1 to 9999")
+    said(
+        browser,
+        "limit.json",
+        json.dumps({**asked, "limit": 0}),
+        "limit is 0, which is not a whole number from 1 to 9999",
+    )
     said(browser, "page.html", "<!doctype html><p>nothing", "does not hold a battle")
     goes_on(browser)
 
@@ -62,8 +72,12 @@ def damaged_addresses_are_refused(browser):
 def teams_and_seeds_are_tested(browser):
     browser.open("#play")
     for field, value, word in (
-        ("play-team-1", "", "no member"), ("play-team-2", "Tauros\n- Body Slap", "Side 2's team: line 2"), ("play-seed", "1 2 3", "ten whole numbers"),
-        ("play-team-1", "Tauros", "move"), ("play-limit", "0", "limit"), ("play-team-2", "Mew\n- Metronome", "side 2, member 1"),
+        ("play-team-1", "", "no member"),
+        ("play-team-2", "Tauros\n- Body Slap", "Side 2's team: line 2"),
+        ("play-seed", "1 2 3", "ten whole numbers"),
+        ("play-team-1", "Tauros", "move"),
+        ("play-limit", "0", "limit"),
+        ("play-team-2", "Mew\n- Metronome", "side 2, member 1"),
     ):
         kept = browser.run("return document.getElementById(arguments[0]).value", field)
         browser.fill(f"#{field}", value)
@@ -79,8 +93,12 @@ def a_wrong_turn_limit_is_named(browser):
     for value in ("70000", "-60000", "2.5", "0", "10000", ""):
         browser.fill("#play-limit", value)
         browser.click("#play-start")
-        assert browser.notice() == f"The turn limit is {value or 'missing'}: it must be a whole number from 1 to 9999.", (value, browser.notice())
-        assert browser.run("return document.activeElement.id") == "play-limit" and not browser.run("return document.getElementById('play-setup').hidden")
+        assert (
+            browser.notice() == f"The turn limit is {value or 'missing'}: it must be a whole number from 1 to 9999."
+        ), (value, browser.notice())
+        assert browser.run("return document.activeElement.id") == "play-limit" and not browser.run(
+            "return document.getElementById('play-setup').hidden"
+        )
     for value in ("1", "9999"):
         browser.open("#play")
         browser.fill("#play-limit", value)
@@ -113,6 +131,12 @@ def a_mark_at_the_beginning_of_a_text_is_skipped(browser):
 
 
 CHECKS = [
-    damaged_logs_are_refused, files_that_are_no_battles_are_refused, what_was_shown_stays, damaged_addresses_are_refused, teams_and_seeds_are_tested,
-    a_wrong_turn_limit_is_named, a_log_that_is_too_long_is_refused, a_mark_at_the_beginning_of_a_text_is_skipped,
+    damaged_logs_are_refused,
+    files_that_are_no_battles_are_refused,
+    what_was_shown_stays,
+    damaged_addresses_are_refused,
+    teams_and_seeds_are_tested,
+    a_wrong_turn_limit_is_named,
+    a_log_that_is_too_long_is_refused,
+    a_mark_at_the_beginning_of_a_text_is_skipped,
 ]

@@ -9,11 +9,39 @@ from checks.tabs import COPIES
 
 BATTLES, TURNS, EXPORTS = 50, 5, 10
 OWN = ("Tauros", "Chansey", "Zapdos")
-FOES = ("Rhydon", "Lapras", "Gengar", "Jynx", "Cloyster", "Machamp", "Alakazam", "Golem", "Arcanine", "Pinsir", "Electabuzz", "Persian")
+FOES = (
+    "Rhydon",
+    "Lapras",
+    "Gengar",
+    "Jynx",
+    "Cloyster",
+    "Machamp",
+    "Alakazam",
+    "Golem",
+    "Arcanine",
+    "Pinsir",
+    "Electabuzz",
+    "Persian",
+)
 OWN_MOVES = ("Body Slam", "Drill Peck", "Ice Beam")
 # Moves whose names are not also other words of the page, such as types.
-FOE_MOVES = ("Rock Slide", "Surf", "Blizzard", "Clamp", "Submission", "Horn Attack", "Earthquake", "Fire Blast", "Vice Grip", "Thunder Punch", "Slash",
-             "Crabhammer", "Lick", "Aurora Beam", "Stomp")
+FOE_MOVES = (
+    "Rock Slide",
+    "Surf",
+    "Blizzard",
+    "Clamp",
+    "Submission",
+    "Horn Attack",
+    "Earthquake",
+    "Fire Blast",
+    "Vice Grip",
+    "Thunder Punch",
+    "Slash",
+    "Crabhammer",
+    "Lick",
+    "Aurora Beam",
+    "Stomp",
+)
 SEEN = """
 const form = [...document.querySelectorAll('#panel-play input, #panel-play textarea')].map((it) => it.value).join(' ');
 const shown = document.getElementById('panel-play').cloneNode(true);
@@ -23,7 +51,13 @@ return [shown.outerHTML, form, document.title, location.href, document.getElemen
 
 
 def member(species, moves, level):
-    return {"species": species, "level": level, "dvs": [15] * 4, "exp": [65535] * 5, "moves": [[move, 3] for move in moves]}
+    return {
+        "species": species,
+        "level": level,
+        "dvs": [15] * 4,
+        "exp": [65535] * 5,
+        "moves": [[move, 3] for move in moves],
+    }
 
 
 def planted(number):
@@ -31,7 +65,12 @@ def planted(number):
     draw = random.Random(number)
     foes, moves, levels = draw.sample(FOES, 3), draw.sample(FOE_MOVES, 6), draw.sample(range(61, 91), 3)
     two = [member(species, moves[2 * at : 2 * at + 2], levels[at]) for at, species in enumerate(foes)]
-    return {"seed": [201 + draw.randrange(50) for _ in range(10)], "one": [member(it, OWN_MOVES, 100) for it in OWN], "two": two, "choices": [[0, 0]]}
+    return {
+        "seed": [201 + draw.randrange(50) for _ in range(10)],
+        "one": [member(it, OWN_MOVES, 100) for it in OWN],
+        "two": two,
+        "choices": [[0, 0]],
+    }
 
 
 def unknown(asked, lines):
@@ -47,7 +86,12 @@ def unknown(asked, lines):
 def exports(browser):
     """Each file that is saved, and the link, as text."""
     found = []
-    for name, file in (("page", "battle.html"), ("input", "battle.json"), ("log", "battle.log"), ("showdown", "battle_showdown.html")):
+    for name, file in (
+        ("page", "battle.html"),
+        ("input", "battle.json"),
+        ("log", "battle.log"),
+        ("showdown", "battle_showdown.html"),
+    ):
         browser.run("document.getElementById('play-menu').open = true")
         found.append(browser.saved(f"#play-share [data-share={name}]", file))
     browser.run("window.copied = ''; document.getElementById('play-menu').open = true")

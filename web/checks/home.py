@@ -5,13 +5,18 @@ def a_battle_is_watched(browser):
     browser.open("")
     assert not browser.run("return document.getElementById('panel-home').hidden")
     browser.click("#home-watch")
-    assert "update 1 of 34" in browser.text("#replay-now") and browser.run("return document.querySelectorAll('#replay-lines li').length")
+    assert "update 1 of 34" in browser.text("#replay-now") and browser.run(
+        "return document.querySelectorAll('#replay-lines li').length"
+    )
 
 
 def a_battle_is_played(browser):
     browser.open("")
     browser.click("#home-play")
-    assert browser.text("#play-now") == "Turn 1" and browser.run("return document.querySelectorAll('#play-choices-1 [data-choice]').length") > 4
+    assert (
+        browser.text("#play-now") == "Turn 1"
+        and browser.run("return document.querySelectorAll('#play-choices-1 [data-choice]').length") > 4
+    )
     browser.click("#play-choices-1 [data-choice]")
     browser.wait("return Number(document.getElementById('play-game').dataset.updates) === 2")
     assert not browser.notice()
@@ -35,7 +40,10 @@ def a_hit_is_calculated(browser):
 def a_menu_closes(browser):
     browser.open("#replay")
     opened = "return document.getElementById('settings').open"
-    for close in ("document.querySelector('h1').click()", "document.dispatchEvent(new KeyboardEvent('keydown', {key: 'Escape'}))"):
+    for close in (
+        "document.querySelector('h1').click()",
+        "document.dispatchEvent(new KeyboardEvent('keydown', {key: 'Escape'}))",
+    ):
         browser.click("#settings summary")
         assert browser.run(opened)
         browser.run(close)

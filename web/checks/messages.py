@@ -38,7 +38,11 @@ def what_was_done_is_said_quietly(browser):
 def the_field_at_fault_has_the_focus(browser):
     browser.open("#play")
     for field, value, message in (
-        ("play-team-2", "Tauros\n- Body Slap", "Side 2's team: line 2: expected the name of a move of the first generation."),
+        (
+            "play-team-2",
+            "Tauros\n- Body Slap",
+            "Side 2's team: line 2: expected the name of a move of the first generation.",
+        ),
         ("play-team-1", "Tauros\n- Body Slam\n- Body Slam", "The team is refused: side 1, member 1: "),
         ("play-team-1", "", "Side 1's team has no member."),
         ("play-seed", "1 2 256 4 5 6 7 8 9 10", "The seed must be ten whole numbers from 0 to 255"),
@@ -61,4 +65,9 @@ def a_pasted_battle_at_fault_has_the_focus(browser):
     assert browser.run(FIELD)[:2] == ["replay-text", "true"] and "not JSON" in browser.notice()
 
 
-CHECKS = [a_message_is_seen_where_the_button_is, what_was_done_is_said_quietly, the_field_at_fault_has_the_focus, a_pasted_battle_at_fault_has_the_focus]
+CHECKS = [
+    a_message_is_seen_where_the_button_is,
+    what_was_done_is_said_quietly,
+    the_field_at_fault_has_the_focus,
+    a_pasted_battle_at_fault_has_the_focus,
+]

@@ -15,7 +15,9 @@ RECORDED = """
 const left = arguments[0].map((pair) => pair[1]).slice(1);
 window.Worker = class { postMessage(it) { if (it.id) setTimeout(() => this.onmessage({data: {id: it.id, choice: left[document.getElementById('play-game').dataset.updates - 1]}})); } terminate() {} };
 """
-OFFERED = "return [...document.querySelectorAll('#play-choices-%d [data-choice]')].map((it) => Number(it.dataset.choice))"
+OFFERED = (
+    "return [...document.querySelectorAll('#play-choices-%d [data-choice]')].map((it) => Number(it.dataset.choice))"
+)
 
 
 def play_on(browser, asked, press):
@@ -44,12 +46,19 @@ def a_recorded_battle_is_played_by_keys(browser):
 
 
 def only_what_is_offered_can_be_pressed(browser):
-    trace = next(it for it in traces() if 10 <= len(it["updates"]) <= 20 and not any(update["refused"] for update in it["updates"]))
+    trace = next(
+        it
+        for it in traces()
+        if 10 <= len(it["updates"]) <= 20 and not any(update["refused"] for update in it["updates"])
+    )
     asked = trace["object"]
     browser.open(f"#play?b={address_of(asked, 1)}&p1=person&p2=person&hands=open")
     for before, after in zip(trace["updates"], trace["updates"][1:]):
         for side in (1, 2):
-            assert browser.run(OFFERED % side) == [byte for byte in before["offered"][side - 1] if byte], (side, before["pair"])
+            assert browser.run(OFFERED % side) == [byte for byte in before["offered"][side - 1] if byte], (
+                side,
+                before["pair"],
+            )
         for side, choice in zip((1, 2), after["pair"]):
             if choice:
                 browser.click(f"#play-choices-{side} [data-choice='{choice}']")
@@ -77,7 +86,9 @@ def taking_back_and_playing_again_is_the_same(browser):
 def battles_against_the_computer_go_on(browser):
     for foe in ("random", "greedy", "playouts", "cheating"):
         browser.open("#play")
-        browser.run("const Own = Worker; window.Worker = class extends Own { constructor(...words) { super(...words); window.began = true; } }")
+        browser.run(
+            "const Own = Worker; window.Worker = class extends Own { constructor(...words) { super(...words); window.began = true; } }"
+        )
         browser.fill("#play-who-2", foe)
         browser.fill("#play-team-1", "Tauros\n- Body Slam\n- Blizzard\n\nStarmie\n- Surf\n- Recover")
         browser.fill("#play-team-2", "Chansey\n- Ice Beam\n- Soft-Boiled\n\nSnorlax\n- Body Slam\n- Rest")
@@ -118,10 +129,14 @@ def choose_first(browser, side=1):
 
 def told_to(side, lines):
     """Lines as a side is told them: the foe's HP in 48ths (docs/MECHANICS.md, "What a side is told")."""
+
     def pixels(found):
         hp, most = int(found[2]), int(found[3])
         return f"{found[1]}{max(48 * hp // most, int(hp > 0))}/48"
-    return [re.sub(r"^(\|(?:switch|-damage|-heal)\|p%da: .*?\|)(\d+)/(\d+)" % (3 - side), pixels, line) for line in lines]
+
+    return [
+        re.sub(r"^(\|(?:switch|-damage|-heal)\|p%da: .*?\|)(\d+)/(\d+)" % (3 - side), pixels, line) for line in lines
+    ]
 
 
 def play_covered(browser, asked, press):
@@ -129,7 +144,9 @@ def play_covered(browser, asked, press):
     browser.open()
     browser.run(RECORDED, asked["choices"])
     browser.run("location.hash = arguments[0]", f"play?b={address_of(asked, 1)}&p1=person&p2=random")
-    browser.wait("return !document.getElementById('play-game').hidden && Number(document.getElementById('play-game').dataset.updates) === 1")
+    browser.wait(
+        "return !document.getElementById('play-game').hidden && Number(document.getElementById('play-game').dataset.updates) === 1"
+    )
     updates = 1
     for mine, _ in asked["choices"][1:]:
         # What is left to the engine passes by itself.
@@ -177,7 +194,10 @@ return boxes.every((it) => it.top >= 0 && it.left >= 0 && it.bottom <= innerHeig
 
 def all_is_on_one_screen(browser):
     """The field, the end of the log and all choices, at each turn of a battle with six members."""
-    team = "\n\n".join(f"{name}\n- Body Slam\n- Rest\n- Substitute\n- Hyper Beam" for name in ("Snorlax", "Tauros", "Kangaskhan", "Dodrio", "Persian", "Fearow"))
+    team = "\n\n".join(
+        f"{name}\n- Body Slam\n- Rest\n- Substitute\n- Hyper Beam"
+        for name in ("Snorlax", "Tauros", "Kangaskhan", "Dodrio", "Persian", "Fearow")
+    )
     for size in SIZES:
         browser.look(*SIZES[size], "light")
         browser.open("#play")
@@ -193,7 +213,9 @@ def all_is_on_one_screen(browser):
         assert turn > 4, turn
         # After another size the log still ends at its end.
         browser.look(SIZES[size][0], SIZES[size][1] - 150, "light")
-        browser.wait("const it = document.getElementById('play-lines'); return Math.abs(it.scrollHeight - it.clientHeight - it.scrollTop) < 2")
+        browser.wait(
+            "const it = document.getElementById('play-lines'); return Math.abs(it.scrollHeight - it.clientHeight - it.scrollTop) < 2"
+        )
     browser.look(*SIZES["wide"], "light")
 
 
@@ -220,7 +242,10 @@ def a_member_is_in_the_middle_of_its_move(browser):
         browser.click(f"#play-choices-1 [data-choice='{choice}']")
         browser.wait(f"{UPDATES} > {before}")
     assert browser.text("#play-choices-1 .to-move strong") == "Continue Dig"
-    assert browser.run("return document.querySelector('#play-field .side-1 .figure').className") == "figure under substitute"
+    assert (
+        browser.run("return document.querySelector('#play-field .side-1 .figure').className")
+        == "figure under substitute"
+    )
     browser.click("#play-choices-1 [data-choice]")
     browser.wait(f"{UPDATES} > {before + 1}")
     assert browser.run("return document.querySelector('#play-field .side-1 .figure').className") == "figure substitute"
@@ -251,10 +276,15 @@ def two_persons_cover_their_choices(browser):
             browser.click("#play-reveal")
             own, foe = words
             assert own in browser.text("#play-choices-%d" % side) and browser.run(shown)[2 - side] == 0
-            assert foe not in browser.text(".acts") and browser.run("return document.activeElement.closest('.choices').id") == f"play-choices-{side}"
+            assert (
+                foe not in browser.text(".acts")
+                and browser.run("return document.activeElement.closest('.choices').id") == f"play-choices-{side}"
+            )
             browser.press("1")
         browser.wait(f"return document.getElementById('play-now').textContent === 'Turn {turn + 1}'")
-    assert "/353" not in browser.text("#play-field") and not re.search(r"\d+/(?!48\b)\d+", " ".join(browser.lines("#play-lines")))
+    assert "/353" not in browser.text("#play-field") and not re.search(
+        r"\d+/(?!48\b)\d+", " ".join(browser.lines("#play-lines"))
+    )
 
 
 def events_play_one_after_the_other(browser):
@@ -265,7 +295,9 @@ def events_play_one_after_the_other(browser):
         browser.fill(f"#play-team-{side}", "Chansey\n- Strength\n- Pound")
     browser.fill("#speed", "slow")
     browser.click("#play-start")
-    browser.run("window.seen = []; new MutationObserver(() => window.seen.push(performance.now())).observe(document.getElementById('play-lines'), {childList: true})")
+    browser.run(
+        "window.seen = []; new MutationObserver(() => window.seen.push(performance.now())).observe(document.getElementById('play-lines'), {childList: true})"
+    )
     browser.click("#play-choices-1 [data-choice]")
     browser.wait("return window.seen.length > 1 && !document.getElementById('play-skip').hidden")
     assert browser.run("return !document.querySelector('#play-choices-1 [data-choice]')")
@@ -281,10 +313,14 @@ def events_play_one_after_the_other(browser):
 
 def a_change_of_mind_asks_the_computer_once(browser):
     browser.open("#play")
-    browser.run("const Own = Worker; window.asked = 0; window.Worker = class extends Own { postMessage(it) { if (it.id) window.asked++; super.postMessage(it); } }")
+    browser.run(
+        "const Own = Worker; window.asked = 0; window.Worker = class extends Own { postMessage(it) { if (it.id) window.asked++; super.postMessage(it); } }"
+    )
     browser.click("#play-start")
     browser.wait("return window.asked === 1")
-    browser.run("for (let time = 0; time < 40; time++) document.querySelectorAll('#play-choices-1 [data-choice]')[time % 2].click()")
+    browser.run(
+        "for (let time = 0; time < 40; time++) document.querySelectorAll('#play-choices-1 [data-choice]')[time % 2].click()"
+    )
     browser.wait(f"{UPDATES} >= 2")
     assert browser.run("return window.asked") <= 2
 
@@ -338,11 +374,13 @@ def a_worker_that_fails_is_done_without(browser):
 
 def a_worker_says_why_it_cannot(browser):
     browser.open("#play")
-    told = browser.run("""
+    told = browser.run(
+        """
         const worker = new Worker(URL.createObjectURL(new Blob([document.getElementById('script').text], {type: 'text/javascript'})));
         worker.postMessage({module: new Uint8Array([1, 2, 3])});
         worker.postMessage({id: 7, asked: {side: 1, player: 'greedy', seed: 1, offered: [17, 18], battle: new Uint8Array(384)}});
-        return new Promise((done) => (worker.onmessage = ({data}) => done(data)));""")
+        return new Promise((done) => (worker.onmessage = ({data}) => done(data)));"""
+    )
     assert told["id"] == 7 and "CompileError" in told["fault"], told
 
 
@@ -369,11 +407,15 @@ def a_key_that_is_held_plays_once(browser):
 
 def keys_of_one_character_can_be_switched_off(browser):
     two_tauros(browser)
-    assert browser.run("return document.querySelectorAll('#play-choices-1 kbd, #play-choices-1 [aria-keyshortcuts]').length")
+    assert browser.run(
+        "return document.querySelectorAll('#play-choices-1 kbd, #play-choices-1 [aria-keyshortcuts]').length"
+    )
     browser.click("#settings summary")
     browser.click("#keys")
     browser.run("document.activeElement.blur()")
-    assert not browser.run("return document.querySelectorAll('#play-choices-1 kbd, #play-choices-1 [aria-keyshortcuts]').length")
+    assert not browser.run(
+        "return document.querySelectorAll('#play-choices-1 kbd, #play-choices-1 [aria-keyshortcuts]').length"
+    )
     browser.press("1q")
     assert browser.text("#play-now") == "Turn 1"
     two_tauros(browser)
@@ -413,7 +455,9 @@ def a_hit_has_its_share_of_the_hp(browser):
 
 def work_of(browser):
     """The milliseconds that the page's thread has worked: scripts, styles and layout, without waiting for the processor."""
-    metrics = {it["name"]: it["value"] for it in browser.driver.execute_cdp_cmd("Performance.getMetrics", {})["metrics"]}
+    metrics = {
+        it["name"]: it["value"] for it in browser.driver.execute_cdp_cmd("Performance.getMetrics", {})["metrics"]
+    }
     return 1000 * sum(metrics[name] for name in ("ScriptDuration", "RecalcStyleDuration", "LayoutDuration"))
 
 
@@ -457,11 +501,26 @@ def a_turn_is_little_work(browser):
 
 CHECKS = [
     a_turn_is_little_work,
-    a_hit_has_its_share_of_the_hp, a_covered_battle_is_played_at_both_sizes, all_is_on_one_screen, a_member_is_in_the_middle_of_its_move, the_log_is_whole_and_searched, the_focus_comes_back_to_the_choices,
-    two_persons_cover_their_choices, events_play_one_after_the_other, a_change_of_mind_asks_the_computer_once, a_battle_lasts_as_long_as_its_tab,
-    a_worker_that_fails_is_done_without, a_worker_says_why_it_cannot, a_key_that_is_held_plays_once, keys_of_one_character_can_be_switched_off,
-    a_battle_that_was_left_is_gone_back_to, a_recorded_battle_is_played_by_clicks,
-    a_recorded_battle_is_played_by_keys, only_what_is_offered_can_be_pressed,
-    taking_back_and_playing_again_is_the_same, battles_against_the_computer_go_on, two_computers_play_to_the_end,
+    a_hit_has_its_share_of_the_hp,
+    a_covered_battle_is_played_at_both_sizes,
+    all_is_on_one_screen,
+    a_member_is_in_the_middle_of_its_move,
+    the_log_is_whole_and_searched,
+    the_focus_comes_back_to_the_choices,
+    two_persons_cover_their_choices,
+    events_play_one_after_the_other,
+    a_change_of_mind_asks_the_computer_once,
+    a_battle_lasts_as_long_as_its_tab,
+    a_worker_that_fails_is_done_without,
+    a_worker_says_why_it_cannot,
+    a_key_that_is_held_plays_once,
+    keys_of_one_character_can_be_switched_off,
+    a_battle_that_was_left_is_gone_back_to,
+    a_recorded_battle_is_played_by_clicks,
+    a_recorded_battle_is_played_by_keys,
+    only_what_is_offered_can_be_pressed,
+    taking_back_and_playing_again_is_the_same,
+    battles_against_the_computer_go_on,
+    two_computers_play_to_the_end,
     a_battle_that_was_played_is_watched,
 ]

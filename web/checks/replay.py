@@ -13,19 +13,25 @@ from checks.cases import cases, lines_of
 
 def battle(least, most):
     """A recorded battle without a refusal, with this many pairs."""
-    return next(case for case in cases("battles") if not case["stderr"] and least <= len(json.loads(case["input"])["choices"]) <= most)
+    return next(
+        case
+        for case in cases("battles")
+        if not case["stderr"] and least <= len(json.loads(case["input"])["choices"]) <= most
+    )
 
 
 def steps(browser):
     """Goes forward to the end, and collects the lines of each update."""
-    return browser.run("""
+    return browser.run(
+        """
         const found = [];
         const forward = document.getElementById('replay-forward');
         for (;;) {
           for (const it of document.querySelectorAll('#replay-lines [data-line]')) found.push(it.dataset.line);
           if (forward.getAttribute('aria-disabled') === 'true') return found;
           forward.click();
-        }""")
+        }"""
+    )
 
 
 def shown(browser, content, name="battle.json"):
@@ -43,7 +49,9 @@ def a_recorded_battle_is_replayed_by_clicks(browser):
         browser.click("#replay-forward")
         found += browser.lines("#replay-lines")
     assert found == lines_of(case)
-    outcome = {"|win|p1": "Side 1 has won", "|win|p2": "Side 2 has won", "|tie": "A tie"}.get(lines_of(case)[-1], "update")
+    outcome = {"|win|p1": "Side 1 has won", "|win|p2": "Side 2 has won", "|tie": "A tie"}.get(
+        lines_of(case)[-1], "update"
+    )
     assert outcome in browser.text("#replay-now"), browser.text("#replay-now")
 
 
@@ -75,9 +83,12 @@ def a_dropped_file_is_shown(browser):
     browser.open("#play")
     browser.run(
         "const moved = new DataTransfer(); moved.items.add(new File([arguments[0]], 'battle.json'));"
-        "document.body.dispatchEvent(new DragEvent('drop', {dataTransfer: moved, bubbles: true, cancelable: true}));", case["input"],
+        "document.body.dispatchEvent(new DragEvent('drop', {dataTransfer: moved, bubbles: true, cancelable: true}));",
+        case["input"],
     )
-    browser.wait("return !document.getElementById('replay-stage').hidden && !document.getElementById('panel-replay').hidden")
+    browser.wait(
+        "return !document.getElementById('replay-stage').hidden && !document.getElementById('panel-replay').hidden"
+    )
     assert steps(browser) == lines_of(case)
 
 
@@ -162,7 +173,10 @@ def a_page_is_filled_by_others(browser):
     assert steps(browser) == lines_of(case)
     if browser.program:
         words = [browser.program, "replay", "--page", browser.page.removeprefix("file://")]
-        assert subprocess.run(words, input=case["input"].encode(), capture_output=True).stdout.decode() == Path(page.removeprefix("file://")).read_text()
+        assert (
+            subprocess.run(words, input=case["input"].encode(), capture_output=True).stdout.decode()
+            == Path(page.removeprefix("file://")).read_text()
+        )
 
 
 def what_is_saved_is_what_was_opened(browser):
@@ -177,17 +191,30 @@ def what_is_saved_is_what_was_opened(browser):
 
 
 def a_log_as_long_as_may_be_is_shown(browser):
-    log = next(bytes.fromhex(case["hex"]) for case in cases("print") if case["status"] == 0 and case["stdout"].startswith("|switch"))
+    log = next(
+        bytes.fromhex(case["hex"])
+        for case in cases("print")
+        if case["status"] == 0 and case["stdout"].startswith("|switch")
+    )
     shown(browser, log * (1_048_576 // len(log)), "battle.log")
     browser.click("#replay-last")
-    assert "b=" not in browser.run("return location.hash") and int(browser.run("return document.getElementById('replay-slider').max")) > 10_000
+    assert (
+        "b=" not in browser.run("return location.hash")
+        and int(browser.run("return document.getElementById('replay-slider').max")) > 10_000
+    )
     browser.click("#replay-share [data-share=link]")
     assert "too long for an address" in browser.notice()
 
 
 def a_page_with_a_long_log_opens_again(browser):
-    log = next(bytes.fromhex(case["hex"]) for case in cases("print") if case["status"] == 0 and case["stdout"].startswith("|switch"))
-    page = Path(fill_page(browser, json.dumps({"log": (log * (450_000 // len(log))).hex()})).removeprefix("file://")).read_bytes()
+    log = next(
+        bytes.fromhex(case["hex"])
+        for case in cases("print")
+        if case["status"] == 0 and case["stdout"].startswith("|switch")
+    )
+    page = Path(
+        fill_page(browser, json.dumps({"log": (log * (450_000 // len(log))).hex()})).removeprefix("file://")
+    ).read_bytes()
     assert len(page) > 1_048_576
     shown(browser, page, "saved.html")
     assert int(browser.run("return document.getElementById('replay-slider').max")) > 4_000
@@ -203,7 +230,11 @@ setTimeout(tick);
 
 
 def a_long_log_leaves_the_page_responsive(browser):
-    log = next(bytes.fromhex(case["hex"]) for case in cases("print") if case["status"] == 0 and case["stdout"].startswith("|switch"))
+    log = next(
+        bytes.fromhex(case["hex"])
+        for case in cases("print")
+        if case["status"] == 0 and case["stdout"].startswith("|switch")
+    )
     browser.open()
     browser.run(REACTS)
     begun = time.monotonic()
@@ -218,11 +249,16 @@ def a_long_log_leaves_the_page_responsive(browser):
 def what_a_spectator_shares_is_the_log(browser):
     case = battle(20, 40)
     shown(browser, case["input"])
-    browser.run("Object.defineProperty(navigator, 'clipboard', {value: {writeText: async (text) => { window.copied = text; }}})")
+    browser.run(
+        "Object.defineProperty(navigator, 'clipboard', {value: {writeText: async (text) => { window.copied = text; }}})"
+    )
     browser.fill("#replay-see", "spectator")
     log = browser.saved("#replay-share [data-share=log]", "battle.log")
     assert json.loads(browser.saved("#replay-input", "battle.json")) == {"log": log.hex()}
-    assert json.dumps({"log": log.hex()}, separators=(",", ":")) in browser.saved("#replay-share [data-share=page]", "battle.html").decode()
+    assert (
+        json.dumps({"log": log.hex()}, separators=(",", ":"))
+        in browser.saved("#replay-share [data-share=page]", "battle.html").decode()
+    )
     browser.click("#replay-share [data-share=link]")
     link = browser.wait("return window.copied").partition("#")[2]
     assert re.fullmatch(r"replay\?b=l[\w-]+&u=\d+", link), link
@@ -258,7 +294,10 @@ def a_text_is_dropped_on_a_field(browser):
 
 def open_details_stay_with_their_member(browser):
     member = {"level": 100, "dvs": [15] * 4, "exp": [65535] * 5}
-    team = [{**member, "species": species, "moves": [[move, 0]]} for species, move in (("Tauros", "Strength"), ("Starmie", "Surf"), ("Chansey", "Ice Beam"))]
+    team = [
+        {**member, "species": species, "moves": [[move, 0]]}
+        for species, move in (("Tauros", "Strength"), ("Starmie", "Surf"), ("Chansey", "Ice Beam"))
+    ]
     shown(browser, json.dumps({"seed": [1] * 10, "one": team, "two": team, "choices": [[0, 0], [35, 17]]}))
     names = "return [...document.querySelectorAll('#replay-side-1 .members details[open]')].map((it) => it.parentElement.querySelector('.name').textContent)"
     browser.run("document.querySelector('#replay-side-1 .members > li:nth-child(2) details summary').focus()")
@@ -273,10 +312,22 @@ def open_details_stay_with_their_member(browser):
 
 CHECKS = [
     open_details_stay_with_their_member,
-    a_recorded_battle_is_replayed_by_clicks, the_longest_recorded_battle_is_whole_at_its_end, a_refused_pair_is_said_and_the_rest_is_shown,
-    a_recorded_log_is_replayed, a_dropped_file_is_shown, keys_go_through_a_battle, an_address_is_a_position, a_spectator_sees_less,
-    a_long_log_leaves_the_page_responsive, what_a_spectator_shares_is_the_log, a_file_for_showdown_is_the_programs,
-    a_battle_after_a_log_shows_all, a_text_is_dropped_on_a_field,
-    a_saved_page_holds_its_battle, a_page_is_filled_by_others, what_is_saved_is_what_was_opened, a_log_as_long_as_may_be_is_shown,
+    a_recorded_battle_is_replayed_by_clicks,
+    the_longest_recorded_battle_is_whole_at_its_end,
+    a_refused_pair_is_said_and_the_rest_is_shown,
+    a_recorded_log_is_replayed,
+    a_dropped_file_is_shown,
+    keys_go_through_a_battle,
+    an_address_is_a_position,
+    a_spectator_sees_less,
+    a_long_log_leaves_the_page_responsive,
+    what_a_spectator_shares_is_the_log,
+    a_file_for_showdown_is_the_programs,
+    a_battle_after_a_log_shows_all,
+    a_text_is_dropped_on_a_field,
+    a_saved_page_holds_its_battle,
+    a_page_is_filled_by_others,
+    what_is_saved_is_what_was_opened,
+    a_log_as_long_as_may_be_is_shown,
     a_page_with_a_long_log_opens_again,
 ]

@@ -9,7 +9,9 @@ LATE = """
 window.held = [];
 window.Worker = class { postMessage(asked) { if (asked.id) window.held.push(() => this.onmessage({data: {id: asked.id, choice: 17}})); } terminate() {} };
 """
-COPIES = "Object.defineProperty(navigator, 'clipboard', {value: {writeText: async (text) => { window.copied = text; }}})"
+COPIES = (
+    "Object.defineProperty(navigator, 'clipboard', {value: {writeText: async (text) => { window.copied = text; }}})"
+)
 HASH = "return location.hash"
 
 
@@ -87,4 +89,8 @@ def a_link_is_that_of_its_part(browser):
     assert copied(browser, "play") not in (link, "") and copied(browser, "play").startswith("play?b=i")
 
 
-CHECKS = [a_replay_stops_when_its_tab_is_left, a_late_choice_leaves_the_address_of_another_part, a_link_is_that_of_its_part]
+CHECKS = [
+    a_replay_stops_when_its_tab_is_left,
+    a_late_choice_leaves_the_address_of_another_part,
+    a_link_is_that_of_its_part,
+]

@@ -11,7 +11,10 @@ from checks.cases import ROOT
 FILES = sorted((ROOT / "examples" / "teams").glob("*.txt"))
 FULL = {"species": "Tauros", "level": 100, "dvs": [15] * 4, "exp": [65535] * 5, "moves": [["Surf", 3]]}
 # Kept teams with something that isn't a name or is out of range.
-WRONG = [[{"name": "x", "members": [{**FULL, **more}]}] for more in ({"species": "Missingno."}, {"level": "a"}, {"dvs": [15] * 5}, {"moves": [["Body Slap", 3]]})]
+WRONG = [
+    [{"name": "x", "members": [{**FULL, **more}]}]
+    for more in ({"species": "Missingno."}, {"level": "a"}, {"dvs": [15] * 5}, {"moves": [["Body Slap", 3]]})
+]
 TAUROS = "Tauros\n- Body Slam\n- Hyper Beam\n- Blizzard\n- Earthquake\n"
 
 
@@ -74,15 +77,23 @@ def members_are_found_by_keys(browser):
     assert members(browser) == ["Add a member"] and browser.run("return document.activeElement.name") == "species"
     browser.press("snor")
     browser.press(Keys.ENTER)
-    assert members(browser) == ["Snorlax", "Add a member"] and all(field(browser, f"move-{slot}") for slot in (1, 2, 3, 4))
+    assert members(browser) == ["Snorlax", "Add a member"] and all(
+        field(browser, f"move-{slot}") for slot in (1, 2, 3, 4)
+    )
     browser.type("#teams-member [name=move-1]", "surf")
-    assert "Surf" in browser.text("#teams-member [role=option]") and "95 · 100% · 15 PP" in browser.text("#teams-member [role=option]")
+    assert "Surf" in browser.text("#teams-member [role=option]") and "95 · 100% · 15 PP" in browser.text(
+        "#teams-member [role=option]"
+    )
     browser.press(Keys.ENTER)
-    assert text_of(browser).startswith("Snorlax\n- Surf\n") and "95 · 100% · 15 PP" in browser.text("#teams-member .move-facts")
+    assert text_of(browser).startswith("Snorlax\n- Surf\n") and "95 · 100% · 15 PP" in browser.text(
+        "#teams-member .move-facts"
+    )
     browser.run("document.querySelectorAll('.slot')[1].click()")
     put(browser, "species", "Gengar")
     put(browser, "move-1", "Hypnosis")
-    assert members(browser) == ["Snorlax", "Gengar", "Add a member"] and text_of(browser).endswith("\n\nGengar\n- Hypnosis\n")
+    assert members(browser) == ["Snorlax", "Gengar", "Add a member"] and text_of(browser).endswith(
+        "\n\nGengar\n- Hypnosis\n"
+    )
 
 
 def texts_are_those_of_the_program(browser):
@@ -96,11 +107,15 @@ def texts_are_those_of_the_program(browser):
         for member in team:
             member["dvs"] = [draw.choice([15, 15, draw.randint(0, 15)]) for _ in range(4)]
             member["exp"] = [draw.choice([65535, 65535, draw.randint(0, 65535)]) for _ in range(5)]
-        made = subprocess.run([browser.program, "team"], input=json.dumps(team), capture_output=True, text=True, check=True).stdout
+        made = subprocess.run(
+            [browser.program, "team"], input=json.dumps(team), capture_output=True, text=True, check=True
+        ).stdout
         read(browser, "=== [gen1ou] Drawn ===\n\n" + made)
         assert not browser.notice() and text_of(browser) == made, (text_of(browser), made)
         assert browser.run("return document.getElementById('teams-name').value") == "Drawn"
-        packed = subprocess.run([browser.program, "team", "--packed"], input=json.dumps(team), capture_output=True, text=True, check=True).stdout
+        packed = subprocess.run(
+            [browser.program, "team", "--packed"], input=json.dumps(team), capture_output=True, text=True, check=True
+        ).stdout
         read(browser, packed)
         assert text_of(browser) == made
 
@@ -117,7 +132,9 @@ def teams_are_kept(browser):
     browser.fill("#teams-which", "1")
     assert members(browser)[0] == "Chansey"
     browser.click("#teams-delete")
-    assert members(browser)[0] == "Tauros" and browser.run("return JSON.parse(localStorage.getItem('teams')).length") == 1
+    assert (
+        members(browser)[0] == "Tauros" and browser.run("return JSON.parse(localStorage.getItem('teams')).length") == 1
+    )
     for broken in ("{", "[1]", '{"a": 1}', '[{"name": "x", "members": [{}]}]', *map(json.dumps, WRONG)):
         browser.run("localStorage.setItem('teams', arguments[0])", broken)
         browser.open("#teams")
@@ -131,7 +148,10 @@ def a_kept_member_is_offered_in_the_calculator(browser):
     browser.open("#calculator")
     browser.type("#calc-member-1 [name=species]", "tauros")
     browser.press(Keys.ENTER)
-    found = [browser.run("return document.querySelector(`#calc-member-1 [name='${arguments[0]}']`).value", name) for name in ("level", "move-1", "move-2")]
+    found = [
+        browser.run("return document.querySelector(`#calc-member-1 [name='${arguments[0]}']`).value", name)
+        for name in ("level", "move-1", "move-2")
+    ]
     assert found == ["68", "Fly", ""], found
     browser.run("localStorage.removeItem('teams')")
 
@@ -156,7 +176,9 @@ def sample_teams_are_whole(browser):
     put(browser, "level", "50")
     assert browser.words("#teams-which optgroup")[0] == titles[-1] and "Level: 50" in text_of(browser)
     browser.fill("#teams-which", str(len(FILES)))
-    assert "Level: 50" not in text_of(browser) and browser.run("return document.getElementById('teams-delete').disabled")
+    assert "Level: 50" not in text_of(browser) and browser.run(
+        "return document.getElementById('teams-delete').disabled"
+    )
     browser.run("localStorage.removeItem('teams')")
 
 
@@ -179,12 +201,18 @@ def wrong_members_are_named(browser):
     browser.click("#teams-play-1")
     assert browser.notice() == "Member 1: a move is there twice."
     put(browser, "move-2", "Body Slap")
-    assert browser.text("#teams-fault") == 'This member: there is no move "Body Slap".' and text_of(browser).count("- Body Slam") == 2
+    assert (
+        browser.text("#teams-fault") == 'This member: there is no move "Body Slap".'
+        and text_of(browser).count("- Body Slam") == 2
+    )
     put(browser, "move-2", "Surf")
     put(browser, "level", "0")
     assert "the level must be a whole number from 1 to 100" in browser.text("#teams-fault")
     read(browser, "Tauros\n- Body Slap")
-    assert browser.notice().startswith("The text: line 2: ") and browser.run("return document.activeElement.id") == "teams-text"
+    assert (
+        browser.notice().startswith("The text: line 2: ")
+        and browser.run("return document.activeElement.id") == "teams-text"
+    )
 
 
 def a_link_holds_a_team(browser):
@@ -205,12 +233,23 @@ def a_team_goes_to_play(browser):
     fresh(browser)
     read(browser, TAUROS)
     browser.click("#teams-play-1")
-    assert browser.run("return document.getElementById('play-team-1').value") == TAUROS and not browser.run("return document.getElementById('panel-play').hidden")
+    assert browser.run("return document.getElementById('play-team-1').value") == TAUROS and not browser.run(
+        "return document.getElementById('panel-play').hidden"
+    )
     browser.click("#play-start")
     assert not browser.notice() and "Turn 1" in browser.text("#play-now")
 
 
 CHECKS = [
-    stats_follow_the_fields, members_are_found_by_keys, texts_are_those_of_the_program, teams_are_kept, a_kept_member_is_offered_in_the_calculator, a_browser_that_keeps_nothing_says_so,
-    sample_teams_are_whole, members_are_moved_and_removed, wrong_members_are_named, a_link_holds_a_team, a_team_goes_to_play,
+    stats_follow_the_fields,
+    members_are_found_by_keys,
+    texts_are_those_of_the_program,
+    teams_are_kept,
+    a_kept_member_is_offered_in_the_calculator,
+    a_browser_that_keeps_nothing_says_so,
+    sample_teams_are_whole,
+    members_are_moved_and_removed,
+    wrong_members_are_named,
+    a_link_holds_a_team,
+    a_team_goes_to_play,
 ]

@@ -24,8 +24,13 @@ def each(tag, side, sentences):
 def shifts(tag, word):
     stats = ("Attack", "Defense", "Speed", "Special", "accuracy", "evasion")
     by = ((2, "2 stages"), (1, "1 stage"))
-    return [(bytes([tag]) + who(1) + bytes([number, by[number % 2][0]]), f"Side 1's Tauros's {stat} {word} by {by[number % 2][1]}.")
-            for number, stat in enumerate(stats, 1)]
+    return [
+        (
+            bytes([tag]) + who(1) + bytes([number, by[number % 2][0]]),
+            f"Side 1's Tauros's {stat} {word} by {by[number % 2][1]}.",
+        )
+        for number, stat in enumerate(stats, 1)
+    ]
 
 
 def plain(tag, side, sentence):
@@ -34,46 +39,121 @@ def plain(tag, side, sentence):
 
 ENTER = [
     (b"\x02" + who(1) + bytes([1, 100]) + health(353, 353), "Side 1 sends out Tauros, level 100, with 353 of 353 HP."),
-    (b"\x02" + who(2) + bytes([1, 50]) + health(100, 200, 5), "Side 2 sends out Starmie, level 50, with 100 of 200 HP, paralysed."),
+    (
+        b"\x02" + who(2) + bytes([1, 50]) + health(100, 200, 5),
+        "Side 2 sends out Starmie, level 50, with 100 of 200 HP, paralysed.",
+    ),
     (b"\x01\x01\x00", "Turn 1"),
 ]
 ACTIONS = [
     (b"\x03" + who(1) + move("Strength") + who(2), "Side 1's Tauros uses Strength."),
-    *each(4, 1, (
-        "Side 1's Tauros is asleep.", "Side 1's Tauros is frozen.", "Side 1's Tauros is trapped and cannot act.", "Side 1's Tauros flinches.",
-        "Side 1's Tauros has to recharge.", "Side 1's Tauros cannot use its move, which is disabled.", "Side 1's Tauros is fully paralysed.")),
+    *each(
+        4,
+        1,
+        (
+            "Side 1's Tauros is asleep.",
+            "Side 1's Tauros is frozen.",
+            "Side 1's Tauros is trapped and cannot act.",
+            "Side 1's Tauros flinches.",
+            "Side 1's Tauros has to recharge.",
+            "Side 1's Tauros cannot use its move, which is disabled.",
+            "Side 1's Tauros is fully paralysed.",
+        ),
+    ),
     (b"\x15" + who(1) + move("Fly"), "Side 1's Tauros prepares Fly."),
     *plain(0x16, 1, "Side 1's Tauros will have to recharge."),
-    *plain(0x0B, 1, "Side 1's Tauros misses."), *plain(0x0C, 1, "Side 1's Tauros fails."), *plain(0x0A, 2, "Side 2's Starmie is not affected."),
+    *plain(0x0B, 1, "Side 1's Tauros misses."),
+    *plain(0x0C, 1, "Side 1's Tauros fails."),
+    *plain(0x0A, 2, "Side 2's Starmie is not affected."),
 ]
 HITS = [
-    *[(b"\x05" + who(2) + health(90 - source, 200) + bytes([source]), f"Side 2's Starmie is down to {90 - source} of 200 HP{why}.")
-      for source, why in enumerate(("", " by poison", " by its burn", " by Leech Seed", " by recoil", " by hitting itself"))],
+    *[
+        (
+            b"\x05" + who(2) + health(90 - source, 200) + bytes([source]),
+            f"Side 2's Starmie is down to {90 - source} of 200 HP{why}.",
+        )
+        for source, why in enumerate(
+            ("", " by poison", " by its burn", " by Leech Seed", " by recoil", " by hitting itself")
+        )
+    ],
     (b"\x06" + who(2) + health(150, 200), "Side 2's Starmie is healed to 150 of 200 HP."),
-    *plain(0x07, 2, "It is a critical hit on side 2's Starmie."), *plain(0x08, 2, "It is super effective."),
-    *plain(0x09, 2, "It is not very effective."), (b"\x18", "It is a one-hit knock-out."),
-    (b"\x17" + who(2) + b"\x01", "Side 2's Starmie was hit once."), (b"\x17" + who(2) + b"\x03", "Side 2's Starmie was hit 3 times."),
+    *plain(0x07, 2, "It is a critical hit on side 2's Starmie."),
+    *plain(0x08, 2, "It is super effective."),
+    *plain(0x09, 2, "It is not very effective."),
+    (b"\x18", "It is a one-hit knock-out."),
+    (b"\x17" + who(2) + b"\x01", "Side 2's Starmie was hit once."),
+    (b"\x17" + who(2) + b"\x03", "Side 2's Starmie was hit 3 times."),
 ]
 EFFECTS = [
-    *each(0x0D, 2, ("Side 2's Starmie falls asleep.", "Side 2's Starmie is poisoned.", "Side 2's Starmie is burned.", "Side 2's Starmie is frozen.",
-                    "Side 2's Starmie is paralysed.")),
-    *each(0x0E, 2, ("Side 2's Starmie wakes up.", "Side 2's Starmie is no longer poisoned.", "Side 2's Starmie is no longer burned.",
-                    "Side 2's Starmie thaws.", "Side 2's Starmie is no longer paralysed.")),
-    *shifts(0x0F, "rises"), *shifts(0x10, "falls"), (b"\x11", "All stages go back to 0."),
-    *each(0x12, 1, (
-        "Side 1's Tauros is confused.", "Side 1's Tauros begins to bide.", "Side 1's Tauros puts up a Substitute.", "Side 1's Tauros is seeded.",
-        "Side 1's Tauros is shrouded in Mist.", "Side 1's Tauros focuses its energy.", "Side 1's Tauros is behind a Light Screen.",
-        "Side 1's Tauros is behind Reflect.", "Side 1's Tauros has a move disabled.", "Side 1's Tauros takes its foe's types.")),
+    *each(
+        0x0D,
+        2,
+        (
+            "Side 2's Starmie falls asleep.",
+            "Side 2's Starmie is poisoned.",
+            "Side 2's Starmie is burned.",
+            "Side 2's Starmie is frozen.",
+            "Side 2's Starmie is paralysed.",
+        ),
+    ),
+    *each(
+        0x0E,
+        2,
+        (
+            "Side 2's Starmie wakes up.",
+            "Side 2's Starmie is no longer poisoned.",
+            "Side 2's Starmie is no longer burned.",
+            "Side 2's Starmie thaws.",
+            "Side 2's Starmie is no longer paralysed.",
+        ),
+    ),
+    *shifts(0x0F, "rises"),
+    *shifts(0x10, "falls"),
+    (b"\x11", "All stages go back to 0."),
+    *each(
+        0x12,
+        1,
+        (
+            "Side 1's Tauros is confused.",
+            "Side 1's Tauros begins to bide.",
+            "Side 1's Tauros puts up a Substitute.",
+            "Side 1's Tauros is seeded.",
+            "Side 1's Tauros is shrouded in Mist.",
+            "Side 1's Tauros focuses its energy.",
+            "Side 1's Tauros is behind a Light Screen.",
+            "Side 1's Tauros is behind Reflect.",
+            "Side 1's Tauros has a move disabled.",
+            "Side 1's Tauros takes its foe's types.",
+        ),
+    ),
     (b"\x12" + who(1) + b"\x0c", "Side 1's Tauros begins to rage."),
-    *each(0x13, 1, ("Side 1's Tauros is no longer confused.", "Side 1's Tauros releases its energy.", "Side 1's Tauros loses its Substitute.")),
+    *each(
+        0x13,
+        1,
+        (
+            "Side 1's Tauros is no longer confused.",
+            "Side 1's Tauros releases its energy.",
+            "Side 1's Tauros loses its Substitute.",
+        ),
+    ),
     (b"\x13" + who(1) + b"\x09", "Side 1's Tauros may use its move again."),
-    *each(0x14, 1, ("Side 1's Tauros is confused.", "Side 1's Tauros bides its time.", "Side 1's Tauros has its Substitute hit.")),
+    *each(
+        0x14,
+        1,
+        ("Side 1's Tauros is confused.", "Side 1's Tauros bides its time.", "Side 1's Tauros has its Substitute hit."),
+    ),
     (b"\x14" + who(1) + b"\x0d", "Side 1's Tauros splashes: nothing happens."),
 ]
-FALL = [(b"\x05" + who(2) + health(0, 200) + b"\x00", "Side 2's Starmie is down to 0 HP."), *plain(0x19, 2, "Side 2's Starmie faints.")]
+FALL = [
+    (b"\x05" + who(2) + health(0, 200) + b"\x00", "Side 2's Starmie is down to 0 HP."),
+    *plain(0x19, 2, "Side 2's Starmie faints."),
+]
 ENDS = [
-    (b"\x1a\x01", "Side 1 wins."), (b"\x1a\x02", "Side 2 wins."), (b"\x1b", "The battle is a tie."),
-    (b"\x1c\x01", "The battle stopped by a division by 0."), (b"\x1c\x02", "The battle stopped at a Psywave of level 1."),
+    (b"\x1a\x01", "Side 1 wins."),
+    (b"\x1a\x02", "Side 2 wins."),
+    (b"\x1b", "The battle is a tie."),
+    (b"\x1c\x01", "The battle stopped by a division by 0."),
+    (b"\x1c\x02", "The battle stopped at a Psywave of level 1."),
 ]
 
 

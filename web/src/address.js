@@ -8,7 +8,7 @@
 /** @returns {Address} */
 export function address() {
   const [tab, ...rest] = location.hash.slice(1).split("?");
-  return { tab, values: new URLSearchParams(rest.join("?")) };
+  return {tab, values: new URLSearchParams(rest.join("?"))};
 }
 
 let due = 0;
@@ -26,7 +26,8 @@ export function giveAddress(tab) {
 /** @param {string} tab @param {Values} values */
 function hash(tab, values) {
   const kept = new URLSearchParams();
-  for (const [key, value] of Object.entries(values)) if (value !== "") kept.set(key, String(value));
+  for (const [key, value] of Object.entries(values))
+    if (value !== "") kept.set(key, String(value));
   return `#${tab}${String(kept) && `?${kept}`}`;
 }
 

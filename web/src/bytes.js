@@ -1,6 +1,7 @@
 // Bytes: joined, as text, and members as bytes in an address.
-import { MOVES, SPECIES } from "gen1";
-import { Problem } from "./dom.js";
+import {MOVES, SPECIES} from "gen1";
+
+import {Problem} from "./dom.js";
 
 /**
  * @typedef {import("./engine.js").Member} Member
@@ -93,12 +94,14 @@ export function memberOf(bytes) {
     level: bytes[1],
     dvs: [...bytes.subarray(2, 6)],
     exp: [0, 1, 2, 3, 4].map((stat) => view.getUint16(14 + 2 * stat, true)),
-    moves: [0, 1, 2, 3].filter((slot) => bytes[6 + slot]).map((slot) => [MOVES[bytes[6 + slot] - 1] ?? bytes[6 + slot], bytes[10 + slot]]),
+    moves: [0, 1, 2, 3]
+               .filter((slot) => bytes[6 + slot])
+               .map((slot) => [MOVES[bytes[6 + slot] - 1] ?? bytes[6 + slot], bytes[10 + slot]]),
   };
 }
 
 /** @param {Standing} it */
-export function standingBytes({ member, stages, status, conditions, hp }) {
+export function standingBytes({member, stages, status, conditions, hp}) {
   return joined(memberBytes(member), stages, [status, conditions, hp & 255, hp >> 8]);
 }
 
@@ -106,5 +109,11 @@ export function standingBytes({ member, stages, status, conditions, hp }) {
 export function standingOf(bytes) {
   if (bytes.length !== STANDING) throw new Problem("The address is damaged: a member is cut off.");
   const [status, conditions, low, high] = bytes.subarray(MEMBER + 6);
-  return { member: memberOf(bytes.subarray(0, MEMBER)), stages: [...bytes.subarray(MEMBER, MEMBER + 6)], status, conditions, hp: low + 256 * high };
+  return {
+    member: memberOf(bytes.subarray(0, MEMBER)),
+    stages: [...bytes.subarray(MEMBER, MEMBER + 6)],
+    status,
+    conditions,
+    hp: low + 256 * high
+  };
 }

@@ -1,5 +1,5 @@
 // The numbers of a move in words: per cent of HP, the uses that it takes to knock out, what the user gains and loses, and a line to copy.
-import { span } from "./words.js";
+import {span} from "./words.js";
 
 /**
  * @typedef {import("./engine.js").CalculatedMove} CalculatedMove
@@ -13,7 +13,14 @@ const VISIBLE = 0.0005;
 const [USES, NAMED] = [9, 3];
 const SHORT = ["atk", "def", "spe", "spc", "acc", "eva"];
 /** @type {Record<number, string>} */
-const AILING = { 0: "", 1: "sleeping ", 8: "poisoned ", 16: "burned ", 32: "frozen ", 64: "paralysed " };
+const AILING = {
+  0: "",
+  1: "sleeping ",
+  8: "poisoned ",
+  16: "burned ",
+  32: "frozen ",
+  64: "paralysed "
+};
 const SCREENS = ["Reflect", "Light Screen"];
 
 /**
@@ -42,7 +49,7 @@ function linePercent(part) {
  * The chance that a use hits.
  * @param {CalculatedMove} odds
  */
-export function hitChance({ hit, reason }) {
+export function hitChance({hit, reason}) {
   return reason ? 0 : hit === null ? 1 : hit / 256;
 }
 
@@ -50,7 +57,7 @@ export function hitChance({ hit, reason }) {
  * Whether a move deals all HP of the foe.
  * @param {CalculatedMove} odds
  */
-export function isOneHit({ fixed }) {
+export function isOneHit({fixed}) {
   return fixed?.[0] === 65535;
 }
 
@@ -58,7 +65,7 @@ export function isOneHit({ fixed }) {
  * The HP that uses have to take: those of the foe, or one more than its Substitute has.
  * @param {Calculated} foe
  */
-export function target({ hp, substitute }) {
+export function target({hp, substitute}) {
   return substitute ? substitute + 1 : hp;
 }
 
@@ -77,7 +84,7 @@ export function ofHit(odds, foe) {
  * Why a move has no damage.
  * @param {CalculatedMove} odds
  */
-export function without({ bound }) {
+export function without({bound}) {
   // The engine has a bound for each move with the usual damage.
   return bound === null ? "no damage" : "the damage would be divided by 0";
 }
@@ -86,7 +93,7 @@ export function without({ bound }) {
  * The fewest and the most hits of a use that hits.
  * @param {CalculatedMove} odds
  */
-export function hitCounts({ hits }) {
+export function hitCounts({hits}) {
   const counts = hits.flatMap((part, count) => (part ? [count] : []));
   return counts.length ? [counts[0], counts[counts.length - 1]] : [1, 1];
 }
@@ -110,13 +117,15 @@ function damages(odds) {
   const lands = hitChance(odds);
   const critical = (odds.bound ?? 0) / 256;
   const [least, most] = odds.fixed ?? [0, 0];
-  const each = (/** @type {number[]} */ numbers, /** @type {number} */ chance) => numbers.map((number) => [number, chance / numbers.length]);
-  const ofHit = odds.damage ? [...each(odds.damage, 1 - critical), ...each(odds.critical ?? [], critical)]
-    : each(Array.from({ length: most - least + 1 }, (_, at) => least + at), 1);
+  const each = (/** @type {number[]} */ numbers, /** @type {number} */ chance) =>
+      numbers.map((number) => [number, chance / numbers.length]);
+  const ofHit = odds.damage ? [...each(odds.damage, 1 - critical), ...each(odds.critical ?? [], critical)] :
+                              each(Array.from({length: most - least + 1}, (_, at) => least + at), 1);
   /** @type {Map<number, number>} */
   const found = new Map([[0, 1 - lands]]);
   odds.hits.forEach((part, count) => {
-    for (const [number, chance] of part ? ofHit : []) found.set(number * count, (found.get(number * count) ?? 0) + chance * part * lands);
+    for (const [number, chance] of part ? ofHit : [])
+      found.set(number * count, (found.get(number * count) ?? 0) + chance * part * lands);
   });
   return [...found].filter(([, chance]) => chance > 0);
 }
@@ -140,7 +149,7 @@ export function onAverage(odds, foe) {
 export function* usesToKnockOut(odds, hp) {
   const each = damages(odds);
   const halves = odds.move === "Super Fang" && !odds.knockOut.breaksSubstitute;
-  const { chanceOnce, chanceTwice, chanceThrice } = odds.knockOut;
+  const {chanceOnce, chanceTwice, chanceThrice} = odds.knockOut;
   const exact = [chanceOnce, chanceTwice, chanceThrice];
   // The chance of each sum below the HP.
   let sums = Float64Array.of(1, ...Array(hp - 1).fill(0));
@@ -149,8 +158,10 @@ export function* usesToKnockOut(odds, hp) {
     for (let sum = 0; sum < hp; sum++) {
       for (const [number, part] of sums[sum] ? each : []) {
         const to = sum + (halves && number ? Math.max(1, Math.floor((hp - sum) / 2)) : number);
-        if (to < hp) next[to] += sums[sum] * part;
-        else reached += sums[sum] * part;
+        if (to < hp)
+          next[to] += sums[sum] * part;
+        else
+          reached += sums[sum] * part;
       }
     }
     sums = next;
@@ -176,15 +187,26 @@ export function costs(odds, effect, user, foe) {
     return `${span(tenth((100 * least) / user.max), tenth((100 * most) / user.max))}% (${span(least, most)})`;
   };
   switch (effect) {
-    case "Recoil": return `recoil ${part(odds.move === "Struggle" ? 2 : 4)}`;
-    case "Drain": case "DreamEater": return `drains ${part(2)}`;
-    case "Explode": return "the user faints";
-    case "CrashOnMiss": return "a miss costs 1 HP";
-    case "Recharge": return "recharges";
-    case "Charge": case "ChargeInvulnerable": return "charges first";
-    case "Trapping": return "2–5 turns";
-    case "Thrash": return "3–4 turns";
-    default: return "";
+    case "Recoil":
+      return `recoil ${part(odds.move === "Struggle" ? 2 : 4)}`;
+    case "Drain":
+    case "DreamEater":
+      return `drains ${part(2)}`;
+    case "Explode":
+      return "the user faints";
+    case "CrashOnMiss":
+      return "a miss costs 1 HP";
+    case "Recharge":
+      return "recharges";
+    case "Charge":
+    case "ChargeInvulnerable":
+      return "charges first";
+    case "Trapping":
+      return "2–5 turns";
+    case "Thrash":
+      return "3–4 turns";
+    default:
+      return "";
   }
 }
 
@@ -192,7 +214,7 @@ export function costs(odds, effect, user, foe) {
  * A member's name with its level, if that is not 100.
  * @param {Standing} it
  */
-function named({ member: { species, level } }) {
+function named({member: {species, level}}) {
   return level === 100 ? String(species) : `L${level} ${species}`;
 }
 
@@ -200,8 +222,9 @@ function named({ member: { species, level } }) {
  * Stages and status, before a name.
  * @param {Standing} it
  */
-function before({ stages, status }) {
-  const shifted = stages.flatMap((stage, at) => (stage === 6 ? [] : [`${stage > 6 ? "+" : ""}${stage - 6} ${SHORT[at]} `]));
+function before({stages, status}) {
+  const shifted =
+      stages.flatMap((stage, at) => (stage === 6 ? [] : [`${stage > 6 ? "+" : ""}${stage - 6} ${SHORT[at]} `]));
   return shifted.join("") + AILING[status > 0 && status < 8 ? 1 : status];
 }
 
@@ -214,7 +237,10 @@ function damageWords(odds, foe) {
   const share = (/** @type {number} */ number) => tenth((100 * number) / foe.max);
   const text = least === most ? `${least} (${share(least)}%)` : `${least}-${most} (${share(least)} - ${share(most)}%)`;
   const [fewest, highest] = hitCounts(odds);
-  return text + (highest < 2 || !odds.damage ? "" : fewest === highest ? ` each of ${fewest} hits` : ` each of ${fewest} to ${highest} hits`);
+  return text +
+      (highest < 2 || !odds.damage ? "" :
+              fewest === highest   ? ` each of ${fewest} hits` :
+                                     ` each of ${fewest} to ${highest} hits`);
 }
 
 /** @param {CalculatedMove} odds @param {number} hp */
@@ -241,10 +267,16 @@ function knockOutWords(odds, hp) {
  */
 export function line(odds, one, two, foe) {
   const screens = SCREENS.filter((_, bit) => (two.conditions >> bit) & 1);
-  const head = `${before(one)}${named(one)} ${odds.move} vs. ${before(two)}${named(two)}${screens.length ? ` with ${screens.join(" and ")}` : ""}`
-    + (foe.substitute ? ` behind a Substitute with ${foe.substitute} HP` : foe.hp < foe.max ? ` at ${foe.hp} HP` : "");
+  const head = `${before(one)}${named(one)} ${odds.move} vs. ${before(two)}${named(two)}${
+                   screens.length ? ` with ${screens.join(" and ")}` : ""}` +
+      (foe.substitute ? ` behind a Substitute with ${foe.substitute} HP` :
+              foe.hp < foe.max ? ` at ${foe.hp} HP` :
+                                 "");
   if (odds.reason) return `${head}: can't hit: ${odds.reason}`;
-  const critical = odds.critical && odds.bound ? `, ${linePercent(odds.bound / 256)} critical ${odds.critical[0]}-${odds.critical[odds.critical.length - 1]}` : "";
+  const critical = odds.critical && odds.bound ?
+      `, ${linePercent(odds.bound / 256)} critical ${odds.critical[0]}-${odds.critical[odds.critical.length - 1]}` :
+      "";
   const miss = odds.hit === null ? "" : `, ${linePercent(1 - odds.hit / 256)} miss`;
-  return `${head}: ${damageWords(odds, foe)}${critical}${miss}${odds.charges ? ", after a turn of charging" : ""}${knockOutWords(odds, target(foe))}`;
+  return `${head}: ${damageWords(odds, foe)}${critical}${miss}${odds.charges ? ", after a turn of charging" : ""}${
+      knockOutWords(odds, target(foe))}`;
 }

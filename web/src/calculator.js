@@ -1,12 +1,13 @@
 // The calculator: the moves of two members against each other, with the engine's damage numbers and chances.
-import { MOVES } from "gen1";
-import { setAddress, link } from "./address.js";
-import { decoded, encoded, joined, STANDING, standingBytes, standingOf } from "./bytes.js";
-import { line } from "./calculation.js";
-import { blame, copy, find, guarded, make, Problem } from "./dom.js";
-import { byBest, Results } from "./results.js";
-import { setOf } from "./sample_teams.js";
-import { StandingForm } from "./standing_form.js";
+import {MOVES} from "gen1";
+
+import {link, setAddress} from "./address.js";
+import {decoded, encoded, joined, STANDING, standingBytes, standingOf} from "./bytes.js";
+import {line} from "./calculation.js";
+import {blame, copy, find, guarded, make, Problem} from "./dom.js";
+import {byBest, Results} from "./results.js";
+import {setOf} from "./sample_teams.js";
+import {StandingForm} from "./standing_form.js";
 
 /**
  * @typedef {import("./engine.js").Calculated} Calculated
@@ -30,15 +31,17 @@ export class Calculator {
     this.timer = 0;
     find("calc-attacker", HTMLElement).replaceChildren(this.forms[0].element);
     find("calc-defender", HTMLElement).replaceChildren(this.forms[1].element);
-    const example = (/** @type {number} */ side, /** @type {string} */ text) => this.forms[side - 1].form.set(engine.team(text, "The example", side)[0]);
+    const example = (/** @type {number} */ side, /** @type {string} */ text) =>
+        this.forms[side - 1].form.set(engine.team(text, "The example", side)[0]);
     example(1, "Tauros\n- Body Slam\n- Hyper Beam\n- Blizzard\n- Earthquake");
     example(2, "Alakazam\n- Psychic\n- Seismic Toss\n- Thunder Wave\n- Recover");
-    const click = (/** @type {string} */ id, /** @type {() => void | Promise<void>} */ work) => (
-      find(id, HTMLButtonElement).addEventListener("click", () => void guarded(work)));
+    const click = (/** @type {string} */ id, /** @type {() => void | Promise<void>} */ work) =>
+        (find(id, HTMLButtonElement).addEventListener("click", () => void guarded(work)));
     click("calc-swap", () => this.swap());
     click("calc-clear", () => this.clear());
     click("calc-copy", () => copy(find("calc-line", HTMLElement).textContent ?? "", "The line is copied."));
-    click("calc-link", () => copy(link("calculator", { c: this.code }), "The link is copied. It holds both members and their states."));
+    click("calc-link",
+        () => copy(link("calculator", {c: this.code}), "The link is copied. It holds both members and their states."));
   }
 
   /** @param {number} side */
@@ -65,7 +68,7 @@ export class Calculator {
       const both = [0, 1].map((at) => standingOf(bytes.subarray(STANDING * at, STANDING * (at + 1))));
       // The last byte is a further move of the attacker, or 0.
       const extra = MOVES[bytes[2 * STANDING] - 1];
-      const { moves } = both[0].member;
+      const {moves} = both[0].member;
       if (extra && !moves.some(([move]) => move === extra)) moves.splice(Math.min(moves.length, 3), 1, [extra, 3]);
       this.forms.forEach((form, at) => form.set(both[at]));
     }
@@ -81,7 +84,8 @@ export class Calculator {
 
   /** Puts both members back to full HP, without status, stages and conditions. */
   clear() {
-    for (const form of this.forms) form.set({ member: form.form.member(), stages: Array(6).fill(6), status: 0, conditions: 0, hp: 0 });
+    for (const form of this.forms)
+      form.set({member: form.form.member(), stages: Array(6).fill(6), status: 0, conditions: 0, hp: 0});
     this.calculate();
   }
 
@@ -94,31 +98,33 @@ export class Calculator {
     window.clearTimeout(this.timer);
     try {
       const both = this.forms.map((form) => form.standing());
-      both.forEach(({ hp, member }, at) => hp && this.forms[at].testHp(this.engine.stats(member)[0]));
+      both.forEach(({hp, member}, at) => hp && this.forms[at].testHp(this.engine.stats(member)[0]));
       const sides = this.engine.calculate(both);
       this.forms.forEach((form, at) => form.show(sides[at]));
-      this.drawn = { both, sides };
+      this.drawn = {both, sides};
       this.draw(this.drawn);
       this.say("");
       this.code = encoded(joined(...both.map(standingBytes), [0]));
-      setAddress("calculator", { c: this.code });
+      setAddress("calculator", {c: this.code});
     } catch (error) {
       if (!(error instanceof Problem)) throw error;
-      const { message, field } = error;
+      const {message, field} = error;
       this.results.element.setAttribute("data-stale", "");
       const say = () => this.say(`${message} The results are those of the previous input.`, field);
-      if (pause) this.timer = window.setTimeout(say, pause);
-      else say();
+      if (pause)
+        this.timer = window.setTimeout(say, pause);
+      else
+        say();
     }
   }
 
   /** @param {{ both: Standing[], sides: Calculated[] }} drawn */
-  draw({ both, sides }) {
+  draw({both, sides}) {
     const sorted = sides.map((side, at) => byBest(side.moves, sides[1 - at]));
-    const chosen = this.results.draw(both.map(({ member }) => String(member.species)), sides, sorted);
+    const chosen = this.results.draw(both.map(({member}) => String(member.species)), sides, sorted);
     this.results.element.removeAttribute("data-stale");
     if (!chosen) return;
-    const { at, odds } = chosen;
+    const {at, odds} = chosen;
     find("calc-line", HTMLElement).textContent = line(odds, both[at], both[1 - at], sides[1 - at]);
   }
 

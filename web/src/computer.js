@@ -1,6 +1,7 @@
 // The computer's choices: at random, by expected damage, or by random battles played to their end.
-import { choiceOf } from "gen1";
-import { guessed, playerOf } from "./guesses.js";
+import {choiceOf} from "gen1";
+
+import {guessed, playerOf} from "./guesses.js";
 
 /**
  * @typedef {import("gen1").Battle} Battle
@@ -38,7 +39,7 @@ class Random {
 
   /** Ten numbers for a copy of a battle to draw. */
   seed() {
-    return Array.from({ length: 10 }, () => this.draw() & 255);
+    return Array.from({length: 10}, () => this.draw() & 255);
   }
 }
 
@@ -54,9 +55,11 @@ function scoreOf(battle, side, choice, other, random) {
   const copy = battle.clone();
   // With the battle's own numbers the player would know the draws to come.
   copy.reseed(random.seed());
-  if (side === 1) copy.updateSilent(choice, other);
-  else copy.updateSilent(other, choice);
-  const { winsOne, winsTwo, ties, faults } = copy.playout(random.draw(), 1);
+  if (side === 1)
+    copy.updateSilent(choice, other);
+  else
+    copy.updateSilent(other, choice);
+  const {winsOne, winsTwo, ties, faults} = copy.playout(random.draw(), 1);
   copy.free();
   return 2 * (side === 1 ? winsOne : winsTwo) + ties + faults;
 }
@@ -75,7 +78,8 @@ function scoresOf(battle, side, rounds, random, choices = battle.choices(side)) 
   return choices.map((choice) => {
     if (!offered.includes(choice)) return rounds;
     let score = 0;
-    for (let round = 0; round < rounds; round++) score += scoreOf(battle, side, choice, others[random.below(others.length)], random);
+    for (let round = 0; round < rounds; round++)
+      score += scoreOf(battle, side, choice, others[random.below(others.length)], random);
     return score;
   });
 }
@@ -92,10 +96,11 @@ export function scores(battle, side, rounds, seed) {
  * @param {Random} random
  * @param {number} count
  */
-function guesses(engine, { sight, rules, limit }, random, count) {
+function guesses(engine, {sight, rules, limit}, random, count) {
   if (!sight) throw new Error("nothing is known of the battle");
   const player = playerOf(engine, sight);
-  return Array.from({ length: count }, () => guessed(engine, player, (bound) => random.below(bound), { seed: random.seed(), rules, limit }));
+  return Array.from({length: count},
+      () => guessed(engine, player, (bound) => random.below(bound), {seed: random.seed(), rules, limit}));
 }
 
 /** @param {Engine} engine @param {Asked} asked @param {Random} random @param {ChoiceName[]} choices */
@@ -116,7 +121,7 @@ function fairScores(engine, asked, random, choices) {
 function damages(engine, battle, side, choices) {
   const odds = engine.oddsOf(battle, side);
   return choices.map((choice) => {
-    const found = odds.find(({ slot }) => choice === `move ${slot}`);
+    const found = odds.find(({slot}) => choice === `move ${slot}`);
     return found?.damage ? found.damage.reduce((sum, number) => sum + number, 0) * (found.hit ?? 256) : 0;
   });
 }
@@ -132,10 +137,11 @@ function placeOfBest(values) {
  * @param {Asked} asked
  */
 export function choose(engine, asked) {
-  const { side, player, seed, offered, battle } = asked;
+  const {side, player, seed, offered, battle} = asked;
   if (player === "random" || offered.length < 2) return offered[seed % offered.length];
   const [random, choices] = [new Random(seed), offered.map(choiceOf)];
   if (battle) return offered[placeOfBest(scoresOf(engine.gen1.load(battle), side, ROUNDS, random, choices))];
-  if (player === "greedy") return offered[placeOfBest(damages(engine, guesses(engine, asked, random, 1)[0], side, choices))];
+  if (player === "greedy")
+    return offered[placeOfBest(damages(engine, guesses(engine, asked, random, 1)[0], side, choices))];
   return offered[placeOfBest(fairScores(engine, asked, random, choices))];
 }

@@ -11,11 +11,15 @@
 export function make(name, attributes = {}, ...children) {
   const made = document.createElement(name);
   for (const [key, value] of Object.entries(attributes)) {
-    if (typeof value === "function") made.addEventListener(key, value);
-    else if (value === true) made.setAttribute(key, "");
-    else if (value !== false && value !== undefined) made.setAttribute(key, String(value));
+    if (typeof value === "function")
+      made.addEventListener(key, value);
+    else if (value === true)
+      made.setAttribute(key, "");
+    else if (value !== false && value !== undefined)
+      made.setAttribute(key, String(value));
   }
-  for (const child of children) if (child !== null) made.append(typeof child === "number" ? String(child) : child);
+  for (const child of children)
+    if (child !== null) made.append(typeof child === "number" ? String(child) : child);
   return made;
 }
 
@@ -148,8 +152,8 @@ export function keepingFocus(heading, work) {
  * @param {string} type
  */
 export function save(name, content, type) {
-  const url = URL.createObjectURL(new Blob([content], { type }));
-  const link = make("a", { href: url, download: name });
+  const url = URL.createObjectURL(new Blob([content], {type}));
+  const link = make("a", {href: url, download: name});
   document.body.append(link);
   link.click();
   link.remove();

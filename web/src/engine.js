@@ -1,7 +1,8 @@
-// The engine: the JavaScript package (rust/gen1-wasm), with states, odds and errors in the form that the page shows. A battle is 384 bytes.
-import { ArgumentTypeError, byteOf, load, LogError, MOVES, RefusedError, SPECIES, StateError, TeamError, TextError } from "gen1";
-import { Problem } from "./dom.js";
-import { kindOf } from "./words.js";
+// The engine: the JavaScript package (js), with states, odds and errors in the form that the page shows. A battle is 384 bytes.
+import {ArgumentTypeError, byteOf, load, LogError, MOVES, RefusedError, SPECIES, StateError, TeamError, TextError} from "gen1";
+
+import {Problem} from "./dom.js";
+import {kindOf} from "./words.js";
 
 /**
  * @typedef {import("gen1").Gen1} Gen1
@@ -34,10 +35,21 @@ const SEED = Array(10).fill(0);
  * @type {[string, import("gen1").Condition][]}
  */
 export const CONDITIONS = [
-  ["Reflect", "reflect"], ["Light Screen", "light screen"], ["Focus Energy", "focus energy"], ["Mist", "mist"], ["Out of reach", "invulnerable"], ["Substitute", "substitute"],
+  ["Reflect", "reflect"],
+  ["Light Screen", "light screen"],
+  ["Focus Energy", "focus energy"],
+  ["Mist", "mist"],
+  ["Out of reach", "invulnerable"],
+  ["Substitute", "substitute"],
 ];
 /** @type {Record<number, import("gen1").Status>} */
-const STATUSES = { 0: "none", 8: "poison", 16: "burn", 32: "freeze", 64: "paralysis" };
+const STATUSES = {
+  0: "none",
+  8: "poison",
+  16: "burn",
+  32: "freeze",
+  64: "paralysis"
+};
 const MIDDLE = 6;
 /**
  * What a member knows that was given no moves, since a battle needs one.
@@ -51,7 +63,9 @@ const NO_MOVES = [["Splash", 3]];
  * @param {string} what they are, as a message names them
  */
 export function testLength(bytes, what) {
-  if (bytes.length > MOST) throw new Problem(`${what} has ${bytes.length.toLocaleString("en")} bytes; at most ${MOST.toLocaleString("en")} are read.`);
+  if (bytes.length > MOST)
+    throw new Problem(
+        `${what} has ${bytes.length.toLocaleString("en")} bytes; at most ${MOST.toLocaleString("en")} are read.`);
 }
 
 /**
@@ -71,7 +85,7 @@ function testingTeams(call) {
 /** @param {number} side @param {number} place @param {string} reason */
 function refused(side, place, reason) {
   const where = [side ? `side ${side}` : "", place ? `member ${place}` : ""].filter(Boolean).join(", ");
-  return new Problem(`The ${side ? "team" : "battle"} is refused: ${where ? `${where}: ` : ""}${reason}.`, { side });
+  return new Problem(`The ${side ? "team" : "battle"} is refused: ${where ? `${where}: ` : ""}${reason}.`, {side});
 }
 
 /**
@@ -79,7 +93,7 @@ function refused(side, place, reason) {
  * @param {import("gen1").SideState} side
  * @param {Standing} it
  */
-function stand({ members: [member], active }, { stages, status, conditions, hp }) {
+function stand({members: [member], active}, {stages, status, conditions, hp}) {
   member.status = status > 0 && status < 8 ? "sleep" : STATUSES[status];
   member.sleep = status < 8 ? status : 0;
   if (hp) member.hp = hp;
@@ -94,7 +108,7 @@ function stand({ members: [member], active }, { stages, status, conditions, hp }
 /** @param {Gen1} gen1 @returns {Tables} */
 function tablesOf(gen1) {
   const isKnown = (/** @type {string} */ move) => {
-    const team = [{ species: SPECIES[0], moves: /** @type {[string, number][]} */ ([[move, 0]]) }];
+    const team = [{species: SPECIES[0], moves: /** @type {[string, number][]} */ ([[move, 0]])}];
     try {
       return Boolean(gen1.spectator(team, team));
     } catch (error) {
@@ -104,7 +118,7 @@ function tablesOf(gen1) {
   };
   return {
     species: Object.fromEntries(SPECIES.map((name) => [name, gen1.base(name).types])),
-    moves: Object.fromEntries(MOVES.map((name) => [name, { name, ...gen1.moveData(name), isKnown: isKnown(name) }])),
+    moves: Object.fromEntries(MOVES.map((name) => [name, {name, ...gen1.moveData(name), isKnown: isKnown(name)}])),
   };
 }
 
@@ -126,8 +140,8 @@ export class Engine {
    * @param {Terms} terms
    */
   begin(terms) {
-    const { one, two, seed, rules, limit } = terms;
-    return testingTeams(() => this.gen1.battle({ one, two, seed, rules, limit })).bytes;
+    const {one, two, seed, rules, limit} = terms;
+    return testingTeams(() => this.gen1.battle({one, two, seed, rules, limit})).bytes;
   }
 
   /**
@@ -139,10 +153,10 @@ export class Engine {
   update(battle, one, two) {
     const next = this.gen1.load(battle);
     try {
-      const { log } = next.update(one, two);
-      return { refused: "", battle: next.bytes, log };
+      const {log} = next.update(one, two);
+      return {refused: "", battle: next.bytes, log};
     } catch (error) {
-      if (error instanceof RefusedError) return { refused: error.reason, battle, log: new Uint8Array() };
+      if (error instanceof RefusedError) return {refused: error.reason, battle, log: new Uint8Array()};
       throw error;
     }
   }
@@ -158,10 +172,15 @@ export class Engine {
     try {
       const lines = this.gen1.lines(log);
       return this.gen1.events(log).map((event, at) => ({
-        kind: kindOf(lines[at]), side: "side" in event ? event.side : 0, place: event.kind === "switch" ? event.place : 0, size: event.size, line: lines[at],
+        kind: kindOf(lines[at]),
+        side: "side" in event ? event.side : 0,
+        place: event.kind === "switch" ? event.place : 0,
+        size: event.size,
+        line: lines[at],
       }));
     } catch (error) {
-      if (error instanceof LogError) throw new Problem(`This is not the log of a battle: ${error.reason} (at byte ${before + error.at}).`);
+      if (error instanceof LogError)
+        throw new Problem(`This is not the log of a battle: ${error.reason} (at byte ${before + error.at}).`);
       throw error;
     }
   }
@@ -171,7 +190,7 @@ export class Engine {
    * @param {Uint8Array} log
    * @returns {Generator<GameEvent[]>}
    */
-  *pieces(log) {
+  * pieces(log) {
     testLength(log, "The log");
     for (let at = 0; at < log.length;) {
       const end = Math.min(log.length, at + PIECE);
@@ -203,10 +222,10 @@ export class Engine {
    */
   state(battle) {
     const it = this.gen1.load(battle);
-    const { state } = it;
+    const {state} = it;
     return {
       ...state,
-      sides: [{ ...state.one, choices: it.choices(1).map(byteOf) }, { ...state.two, choices: it.choices(2).map(byteOf) }],
+      sides: [{...state.one, choices: it.choices(1).map(byteOf)}, {...state.two, choices: it.choices(2).map(byteOf)}],
     };
   }
 
@@ -221,18 +240,23 @@ export class Engine {
 
   /** @param {import("gen1").Battle} battle @param {1 | 2} side @returns {Odds[]} */
   oddsOf(battle, side) {
-    const { members, active } = battle.state[side === 1 ? "one" : "two"];
+    const {members, active} = battle.state[side === 1 ? "one" : "two"];
     return active ? members[active.place - 1].moves.map((move, at) => this.oddsWith(battle, side, at + 1, move)) : [];
   }
 
   /** @param {import("gen1").Battle} battle @param {1 | 2} side @param {number} slot 0 if it is not known @param {string} move @returns {Odds} */
   oddsWith(battle, side, slot, move) {
-    const { usual, critical, criticalChance, hitChance, takesHitTest, fixed, reason, hits, chargesFirst } = battle.odds(side, move);
+    const {usual, critical, criticalChance, hitChance, takesHitTest, fixed, reason, hits, chargesFirst} =
+        battle.odds(side, move);
     return {
-      slot, move,
+      slot,
+      move,
       damage: usual.numbers.length ? usual.numbers : null,
       critical: critical.numbers.length ? critical.numbers : null,
-      fixed, reason, hits, charges: chargesFirst,
+      fixed,
+      reason,
+      hits,
+      charges: chargesFirst,
       bound: usual.code === UNUSUAL ? null : 256 * criticalChance,
       hit: takesHitTest && hitChance < 1 ? 256 * hitChance : null,
     };
@@ -288,8 +312,8 @@ export class Engine {
    */
   watch(spectator, log) {
     spectator.feed(log);
-    const { state } = spectator;
-    return { ...state, sides: [state.one, state.two] };
+    const {state} = spectator;
+    return {...state, sides: [state.one, state.two]};
   }
 
   /**
@@ -297,9 +321,9 @@ export class Engine {
    * @param {Member} member
    */
   stats(member) {
-    const team = [{ ...member, moves: NO_MOVES }];
-    const { state } = testingTeams(() => this.gen1.battle({ one: team, two: team, seed: SEED }));
-    const { maxHp, stats } = state.one.members[0];
+    const team = [{...member, moves: NO_MOVES}];
+    const {state} = testingTeams(() => this.gen1.battle({one: team, two: team, seed: SEED}));
+    const {maxHp, stats} = state.one.members[0];
     return [maxHp, ...stats];
   }
 
@@ -310,13 +334,17 @@ export class Engine {
    */
   calculate(both) {
     const battle = this.standing(both);
-    const { state } = battle;
-    return [state.one, state.two].map(({ members: [member], active }, at) => {
+    const {state} = battle;
+    return [state.one, state.two].map(({members: [member], active}, at) => {
       const side = at === 0 ? 1 : 2;
       const odds = both[at].member.moves.length ? this.oddsOf(battle, side) : [];
       return {
-        hp: member.hp, max: member.maxHp, substitute: active?.substitute ?? 0, own: member.stats, stats: active?.stats ?? [],
-        moves: odds.map((it) => ({ ...it, knockOut: battle.knockOutInThree(side, it.move) })),
+        hp: member.hp,
+        max: member.maxHp,
+        substitute: active?.substitute ?? 0,
+        own: member.stats,
+        stats: active?.stats ?? [],
+        moves: odds.map((it) => ({...it, knockOut: battle.knockOutInThree(side, it.move)})),
       };
     });
   }
@@ -326,8 +354,8 @@ export class Engine {
    * @param {Standing[]} both
    */
   standing(both) {
-    const [one, two] = both.map(({ member }) => [member.moves.length ? member : { ...member, moves: NO_MOVES }]);
-    const begun = testingTeams(() => this.gen1.battle({ one, two, seed: SEED }));
+    const [one, two] = both.map(({member}) => [member.moves.length ? member : {...member, moves: NO_MOVES}]);
+    const begun = testingTeams(() => this.gen1.battle({one, two, seed: SEED}));
     begun.updateSilent("pass", "pass");
     try {
       return begun.withState((state) => [state.one, state.two].forEach((side, at) => stand(side, both[at])));

@@ -1,8 +1,8 @@
 // The field: both members that are out with their tokens, and what an event changes in it.
-import { make } from "./dom.js";
-import { badge, STAGES } from "./sides.js";
-import { token } from "./tokens.js";
-import { percentage, STATUS_WORDS } from "./words.js";
+import {make} from "./dom.js";
+import {badge, STAGES} from "./sides.js";
+import {token} from "./tokens.js";
+import {percentage, STATUS_WORDS} from "./words.js";
 
 /**
  * @typedef {import("./sides.js").Shown} Shown
@@ -13,8 +13,16 @@ import { percentage, STATUS_WORDS } from "./words.js";
 
 /** @type {Record<string, string>} */
 const STARTED = {
-  confusion: "Confused", Bide: "Bide", Substitute: "Substitute", "Leech Seed": "Seeded", Mist: "Mist", "Focus Energy": "Focus Energy", "Light Screen": "Light Screen",
-  Reflect: "Reflect", Disable: "A move is disabled", Rage: "Rage",
+  confusion: "Confused",
+  Bide: "Bide",
+  Substitute: "Substitute",
+  "Leech Seed": "Seeded",
+  Mist: "Mist",
+  "Focus Energy": "Focus Energy",
+  "Light Screen": "Light Screen",
+  Reflect: "Reflect",
+  Disable: "A move is disabled",
+  Rage: "Rage",
 };
 const STATS = ["atk", "def", "spe", "spc", "acc", "eva"];
 
@@ -28,20 +36,22 @@ class Stand {
     this.hp = -1;
     this.counting = 0;
     this.name = make("strong");
-    this.level = make("span", { class: "quiet" });
-    this.types = make("span", { class: "types" });
+    this.level = make("span", {class: "quiet"});
+    this.types = make("span", {class: "types"});
     this.status = make("span");
     this.filled = make("span");
-    this.bar = make("span", { class: "bar", role: "meter", "aria-valuemin": 0 }, this.filled);
-    this.number = make("span", { class: "hp" });
-    this.chips = make("ul", { class: "chips", "aria-label": "Stages and conditions" });
-    this.party = make("ol", { class: "party" });
-    this.used = make("p", { class: "used" });
-    this.figure = make("div", { class: "figure" });
-    this.title = make("span", { class: "whose" });
-    const plate = make("div", { class: "plate" }, make("p", { class: "head" }, this.name, " ", this.level, " ", this.types, " ", this.status),
-      make("p", { class: "health" }, this.bar, this.number), this.chips, this.used, make("p", { class: "crew" }, this.title, this.party));
-    this.place = make("section", { class: `stand side-${side}` }, plate, this.figure);
+    this.bar = make("span", {class: "bar", role: "meter", "aria-valuemin": 0}, this.filled);
+    this.number = make("span", {class: "hp"});
+    this.chips = make("ul", {class: "chips", "aria-label": "Stages and conditions"});
+    this.party = make("ol", {class: "party"});
+    this.used = make("p", {class: "used"});
+    this.figure = make("div", {class: "figure"});
+    this.title = make("span", {class: "whose"});
+    const plate = make("div", {class: "plate"},
+        make("p", {class: "head"}, this.name, " ", this.level, " ", this.types, " ", this.status),
+        make("p", {class: "health"}, this.bar, this.number), this.chips, this.used,
+        make("p", {class: "crew"}, this.title, this.party));
+    this.place = make("section", {class: `stand side-${side}`}, plate, this.figure);
   }
 
   /** @param {string} title @param {Shown} shown @param {Hidden} hidden @param {boolean} isFar */
@@ -77,7 +87,8 @@ class Stand {
     const share = percentage(member.hp, member.max);
     this.filled.className = share > 50 ? "high" : share > 20 ? "middle" : "low";
     this.filled.style.width = `${share}%`;
-    const text = (/** @type {number} */ hp) => (member.hasPixels ? `${percentage(hp, member.max)}%` : `${hp}/${member.max}`);
+    const text = (/** @type {number} */ hp) =>
+        (member.hasPixels ? `${percentage(hp, member.max)}%` : `${hp}/${member.max}`);
     this.bar.setAttribute("aria-label", `HP of ${member.species}`);
     this.bar.setAttribute("aria-valuemax", String(member.hasPixels ? 100 : member.max));
     this.bar.setAttribute("aria-valuenow", String(member.hasPixels ? share : member.hp));
@@ -105,30 +116,41 @@ class Stand {
 
   /** @param {Shown} shown */
   drawChips(shown) {
-    const stages = shown.stages.flatMap((stage, at) => (stage ? [`${STAGES[at]} ${stage > 0 ? "+" : "−"}${Math.abs(stage)}`] : []));
+    const stages = shown.stages.flatMap(
+        (stage, at) => (stage ? [`${STAGES[at]} ${stage > 0 ? "+" : "−"}${Math.abs(stage)}`] : []));
     const texts = [...stages, ...shown.conditions];
-    if (texts.join() !== [...this.chips.children].map((it) => it.textContent).join()) this.chips.replaceChildren(...texts.map((text) => make("li", {}, text)));
+    if (texts.join() !== [...this.chips.children].map((it) => it.textContent).join())
+      this.chips.replaceChildren(...texts.map((text) => make("li", {}, text)));
   }
 
   /** @param {string} title @param {Shown} shown */
   drawParty(title, shown) {
     this.party.setAttribute("aria-label", `Members of ${title}`);
-    const key = shown.members.map(({ species, hp, status, isKnown }) => `${species} ${isKnown && hp === 0} ${status}`).join();
+    const key =
+        shown.members.map(({species, hp, status, isKnown}) => `${species} ${isKnown && hp === 0} ${status}`).join();
     if (this.party.dataset.key === key) return;
     this.party.dataset.key = key;
     this.party.replaceChildren(...shown.members.map((member) => {
       const state = !member.isKnown ? "not seen yet" : member.hp === 0 ? "fainted" : STATUS_WORDS[member.status] ?? "";
       const text = member.isKnown ? `${member.species}${state && `, ${state}`}` : state;
-      return make("li", { class: `ball ${member.isKnown && member.hp === 0 ? "fallen" : member.status}${member.isKnown ? "" : " unknown"}`, title: text },
-        make("span", { class: "unseen" }, text));
+      return make("li", {
+        class:
+            `ball ${member.isKnown && member.hp === 0 ? "fallen" : member.status}${member.isKnown ? "" : " unknown"}`,
+        title: text
+      },
+          make("span", {class: "unseen"}, text));
     }));
   }
 
   /** @param {ShownMember} member @param {Shown} shown @param {Hidden} hidden */
   drawFigure(member, shown, hidden) {
-    if (this.species !== member.species || !this.figure.firstChild) this.figure.replaceChildren(token(this.engine, member.species));
+    if (this.species !== member.species || !this.figure.firstChild)
+      this.figure.replaceChildren(token(this.engine, member.species));
     this.species = member.species;
-    const states = [member.hp ? member.status : "fallen", hidden, shown.conditions.some((it) => it.startsWith("Substitute")) ? "substitute" : ""];
+    const states = [
+      member.hp ? member.status : "fallen", hidden,
+      shown.conditions.some((it) => it.startsWith("Substitute")) ? "substitute" : ""
+    ];
     this.figure.className = ["figure", ...states].filter(Boolean).join(" ");
   }
 
@@ -142,25 +164,36 @@ class Stand {
     const [way, up] = [this.place.classList.contains("far") ? -1 : 1, -1];
     /** @type {Record<string, Keyframe[]>} */
     const frames = {
-      lunge: [{}, { transform: `translate(${way * 14}%, ${way * up * 10}%)` }, {}],
-      hit: [{}, { transform: "translateX(-5%)", opacity: 0.5 }, { transform: "translateX(5%)" }, { opacity: 0.5 }, {}],
-      enter: [{ transform: `translateX(${-way * 60}%) scale(.3)`, opacity: 0 }, {}],
-      rise: [{}, { transform: "translateY(-8%) scale(1.06)" }, {}],
-      sink: [{}, { transform: "translateY(5%) scale(.96)" }, {}],
-      fall: [{}, { transform: "translateY(40%) scale(.8)", opacity: 0 }],
+      lunge: [{}, {transform: `translate(${way * 14}%, ${way * up * 10}%)`}, {}],
+      hit: [{}, {transform: "translateX(-5%)", opacity: 0.5}, {transform: "translateX(5%)"}, {opacity: 0.5}, {}],
+      enter: [{transform: `translateX(${- way * 60}%) scale(.3)`, opacity: 0}, {}],
+      rise: [{}, {transform: "translateY(-8%) scale(1.06)"}, {}],
+      sink: [{}, {transform: "translateY(5%) scale(.96)"}, {}],
+      fall: [{}, {transform: "translateY(40%) scale(.8)", opacity: 0}],
     };
-    if (how) this.figure.animate(frames[how], { duration: time, easing: "ease-in-out" });
+    if (how) this.figure.animate(frames[how], {duration: time, easing: "ease-in-out"});
     if (!text) return;
-    const label = make("span", { class: "floating", "aria-hidden": "true" }, text);
+    const label = make("span", {class: "floating", "aria-hidden": "true"}, text);
     this.place.append(label);
-    label.animate([{ opacity: 0, transform: "translateY(40%)" }, { opacity: 1, transform: "none", offset: 0.25 }, { opacity: 1, transform: "none", offset: 0.8 },
-      { opacity: 0, transform: "translateY(-60%)" }], { duration: Math.max(time * 1.4, 500) }).finished.then(() => label.remove(), () => label.remove());
+    label
+        .animate(
+            [
+              {opacity: 0, transform: "translateY(40%)"}, {opacity: 1, transform: "none", offset: 0.25},
+              {opacity: 1, transform: "none", offset: 0.8}, {opacity: 0, transform: "translateY(-60%)"}
+            ],
+            {duration: Math.max(time * 1.4, 500)})
+        .finished.then(() => label.remove(), () => label.remove());
   }
 }
 
 /** @type {Record<string, string>} */
 const FLOATING = {
-  "-crit": "Critical!", "-supereffective": "Super effective!", "-resisted": "Not very effective", "-immune": "No effect", "-miss": "Missed", "-fail": "Failed",
+  "-crit": "Critical!",
+  "-supereffective": "Super effective!",
+  "-resisted": "Not very effective",
+  "-immune": "No effect",
+  "-miss": "Missed",
+  "-fail": "Failed",
   "-ohko": "One-hit knock-out!",
 };
 
@@ -200,7 +233,8 @@ export class Field {
    * @param {GameEvent} event @param {number} time in milliseconds
    */
   apply(event, time) {
-    if (event.kind === "-clearallboost") for (const shown of this.shown) shown.stages = shown.stages.map(() => 0);
+    if (event.kind === "-clearallboost")
+      for (const shown of this.shown) shown.stages = shown.stages.map(() => 0);
     if (!event.side) return;
     const stand = this.stands[event.side - 1];
     const before = stand.hp;
@@ -245,7 +279,7 @@ export class Field {
   }
 
   /** @param {GameEvent} event @param {Shown} shown @param {string} what @param {string} by @returns {[string, string?]} */
-  affect({ kind }, shown, what, by) {
+  affect({kind}, shown, what, by) {
     const member = shown.members[shown.active - 1];
     if (!member) return [""];
     if (kind === "-status" || kind === "-curestatus") {
@@ -254,26 +288,39 @@ export class Field {
     }
     if (kind === "-boost" || kind === "-unboost") {
       const [at, isUp] = [STATS.indexOf(what), kind === "-boost"];
-      shown.stages = shown.stages.map((stage, place) => (place === at ? Math.max(-6, Math.min(6, stage + (isUp ? 1 : -1) * Number(by))) : stage));
+      shown.stages = shown.stages.map(
+          (stage, place) => (place === at ? Math.max(-6, Math.min(6, stage + (isUp ? 1 : -1) * Number(by))) : stage));
       return [isUp ? "rise" : "sink", `${isUp ? "▲" : "▼"} ${STAGES[at]}`];
     }
     const started = STARTED[what];
     if (kind === "-start" && started) shown.conditions = [...new Set([...shown.conditions, started])];
     if (kind === "-end" && started) shown.conditions = shown.conditions.filter((it) => !it.startsWith(started));
-    if (kind === "-start" || kind === "-end" || kind === "-activate") return [kind === "-end" ? "sink" : "rise", started];
+    if (kind === "-start" || kind === "-end" || kind === "-activate")
+      return [kind === "-end" ? "sink" : "rise", started];
     return ["", FLOATING[kind]];
   }
 
   /** @param {GameEvent} event @param {Shown} shown @param {string} name as "Tauros, L50" @param {string} health */
-  send({ side, place }, shown, name, health) {
+  send({side, place}, shown, name, health) {
     const [species, level] = name.split(", L");
     const types = this.engine.tables.species[species];
     const known = shown.members[place - 1];
     if (!known?.isKnown) {
-      shown.members = shown.members.map((it, at) =>
-        at === place - 1 ? { species, types, level: Number(level ?? 100), hp: 0, max: 0, status: "", moves: [], used: [], isKnown: true, hasPixels: true } : it);
+      shown.members = shown.members.map((it, at) => at === place - 1 ? {
+        species,
+        types,
+        level: Number(level ?? 100),
+        hp: 0,
+        max: 0,
+        status: "",
+        moves: [],
+        used: [],
+        isKnown: true,
+        hasPixels: true
+      } :
+                                                                       it);
     }
-    Object.assign(shown, { active: place, types, stages: Array(6).fill(0), conditions: [] });
+    Object.assign(shown, {active: place, types, stages: Array(6).fill(0), conditions: []});
     heal(shown.members[place - 1], health);
     this.hidden[side - 1] = "";
   }

@@ -1,6 +1,7 @@
 // Guesses of what a player may not know: the foe's team, and battles with such a team. A search in them does not cheat.
-import { Battle } from "gen1";
-import { randomMoves, randomSpecies } from "./random.js";
+import {Battle} from "gen1";
+
+import {randomMoves, randomSpecies} from "./random.js";
 
 /**
  * @typedef {import("./engine.js").Engine} Engine
@@ -12,7 +13,10 @@ import { randomMoves, randomSpecies } from "./random.js";
  *   the foe has, what it was told, and a battle that shows its own side as it is now
  */
 
-const MAX = { dvs: [15, 15, 15, 15], exp: Array(5).fill(65535) };
+const MAX = {
+  dvs: [15, 15, 15, 15],
+  exp: Array(5).fill(65535)
+};
 
 /**
  * A guess of the foe's team: the members that appeared with the moves that they used, and others at random.
@@ -21,15 +25,19 @@ const MAX = { dvs: [15, 15, 15, 15], exp: Array(5).fill(65535) };
  * @param {Draw} draw
  * @returns {Member[]}
  */
-function guessedTeam({ tables }, view, draw) {
+function guessedTeam({tables}, view, draw) {
   const member = (/** @type {string} */ species, /** @type {number} */ level, /** @type {string[]} */ used) => ({
-    ...MAX, species, level,
-    moves: [...used, ...randomMoves(tables, tables.species[species], draw, used)].slice(0, 4).map((name) => /** @type {[string, number]} */ ([name, 3])),
+    ...MAX,
+    species,
+    level,
+    moves: [...used, ...randomMoves(tables, tables.species[species], draw, used)].slice(0, 4).map(
+        (name) => /** @type {[string, number]} */ ([name, 3])),
   });
-  const seen = view.foe.members.map(({ species, level, moves }) =>
-    member(species, level, moves.map(({ name }) => String(name)).filter((name) => tables.moves[name].isKnown)));
+  const seen = view.foe.members.map(
+      ({species, level, moves}) =>
+          member(species, level, moves.map(({name}) => String(name)).filter((name) => tables.moves[name].isKnown)));
   const rest = Math.max(0, (view.foes ?? 6) - seen.length);
-  return [...seen, ...Array.from({ length: rest }, () => member(randomSpecies(tables, draw), seen[0]?.level ?? 100, []))];
+  return [...seen, ...Array.from({length: rest}, () => member(randomSpecies(tables, draw), seen[0]?.level ?? 100, []))];
 }
 
 /**
@@ -39,9 +47,9 @@ function guessedTeam({ tables }, view, draw) {
  * @param {Draw} draw draws what is not known
  * @param {Frame} frame
  */
-export function guessed(engine, player, draw, { seed, rules, limit }) {
+export function guessed(engine, player, draw, {seed, rules, limit}) {
   const team = /** @type {any} */ (guessedTeam(engine, player.view, draw));
-  return Battle.fromPlayer(player, { team, seed, rules, limit });
+  return Battle.fromPlayer(player, {team, seed, rules, limit});
 }
 
 /**
@@ -49,8 +57,8 @@ export function guessed(engine, player, draw, { seed, rules, limit }) {
  * @param {Engine} engine
  * @param {Sight} sight
  */
-export function playerOf({ gen1 }, { side, team, foes, told, guess }) {
-  const player = gen1.player({ side, team: /** @type {any} */ (team), foes });
+export function playerOf({gen1}, {side, team, foes, told, guess}) {
+  const player = gen1.player({side, team: /** @type {any} */ (team), foes});
   player.feed(told);
   player.show(gen1.load(guess));
   return player;

@@ -1,16 +1,26 @@
 // The first page: a battle to watch, one to play, and a calculation, each with a working example.
-import { find, make } from "./dom.js";
-import { Field } from "./field.js";
-import { below } from "./random.js";
-import { sampleTeams } from "./sample_teams.js";
-import { watched } from "./sides.js";
-import { token } from "./tokens.js";
-import { shares } from "./words.js";
+import {find, make} from "./dom.js";
+import {Field} from "./field.js";
+import {below} from "./random.js";
+import {sampleTeams} from "./sample_teams.js";
+import {watched} from "./sides.js";
+import {token} from "./tokens.js";
+import {shares} from "./words.js";
 
 /** @typedef {import("./engine.js").Engine} Engine */
 
-const STAND = { place: 1, stages: Array(6).fill(0), substitute: false, confused: false, lightScreen: false, reflect: false };
-const MAX = { dvs: [15, 15, 15, 15], exp: Array(5).fill(65535) };
+const STAND = {
+  place: 1,
+  stages: Array(6).fill(0),
+  substitute: false,
+  confused: false,
+  lightScreen: false,
+  reflect: false
+};
+const MAX = {
+  dvs: [15, 15, 15, 15],
+  exp: Array(5).fill(65535)
+};
 
 /**
  * A still field of two members.
@@ -19,8 +29,9 @@ const MAX = { dvs: [15, 15, 15, 15], exp: Array(5).fill(65535) };
  */
 function drawScene(engine, place) {
   const field = new Field(engine, place);
-  const sides = [["Tauros", 353, 246, "none"], ["Starmie", 323, 97, "paralysis"]].map(([species, max, hp, status]) =>
-    watched(engine.tables, /** @type {any} */ ({ ...STAND, members: [{ hp, status }] }), [{ species: String(species), level: 100, max: Number(max) }]));
+  const sides = [["Tauros", 353, 246, "none"], ["Starmie", 323, 97, "paralysis"]].map(
+      ([species, max, hp, status]) => watched(engine.tables, /** @type {any} */ ({...STAND, members: [{hp, status}]}),
+          [{species: String(species), level: 100, max: Number(max)}]));
   field.show(sides, ["Side 1", "Side 2"], 1, ["", ""]);
 }
 
@@ -31,8 +42,9 @@ function drawScene(engine, place) {
  */
 function drawTeam(engine, place) {
   const teams = sampleTeams();
-  const { name, text } = teams[below(teams.length)];
-  place.replaceChildren(...engine.team(text, name, 0).map(({ species }) => make("span", { class: "figure" }, token(engine, String(species)))));
+  const {name, text} = teams[below(teams.length)];
+  place.replaceChildren(...engine.team(text, name, 0)
+                            .map(({species}) => make("span", {class: "figure"}, token(engine, String(species)))));
 }
 
 /**
@@ -41,12 +53,17 @@ function drawTeam(engine, place) {
  * @param {HTMLElement} place
  */
 function drawCalculation(engine, place) {
-  const [one, two] = ["Tauros", "Starmie"].map((species) => ({ ...MAX, species, level: 100, moves: /** @type {[string, number][]} */ ([["Body Slam", 3]]) }));
-  const hp = engine.gen1.battle({ one: [one], two: [{ ...two, moves: [["Surf", 3]] }], seed: Array(10).fill(0) }).state.two.members[0].maxHp;
-  const { usual, hitChance } = engine.gen1.odds(one, { ...two, moves: [["Surf", 3]] }, "Body Slam");
+  const [one, two] = ["Tauros", "Starmie"].map(
+      (species) => ({...MAX, species, level: 100, moves: /** @type {[string, number][]} */ ([["Body Slam", 3]])}));
+  const hp = engine.gen1.battle({one: [one], two: [{...two, moves: [["Surf", 3]]}], seed: Array(10).fill(0)})
+                 .state.two.members[0]
+                 .maxHp;
+  const {usual, hitChance} = engine.gen1.odds(one, {...two, moves: [["Surf", 3]]}, "Body Slam");
   place.replaceChildren(
-    make("span", { class: "figure" }, token(engine, "Tauros")), make("p", {}, make("strong", {}, shares(usual.numbers, hp)), make("br"),
-      `Body Slam: ${usual.numbers[0]}–${usual.numbers[38]} of ${hp} HP, ${(100 * hitChance).toFixed(1)}% to hit`), make("span", { class: "figure" }, token(engine, "Starmie")),
+      make("span", {class: "figure"}, token(engine, "Tauros")),
+      make("p", {}, make("strong", {}, shares(usual.numbers, hp)), make("br"),
+          `Body Slam: ${usual.numbers[0]}–${usual.numbers[38]} of ${hp} HP, ${(100 * hitChance).toFixed(1)}% to hit`),
+      make("span", {class: "figure"}, token(engine, "Starmie")),
   );
 }
 

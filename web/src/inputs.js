@@ -1,8 +1,9 @@
 // Battles from files, and as files: the input of battle_tool (docs/PROGRAM.md), log bytes, and pages that hold one of these.
-import { MOVES, SPECIES } from "gen1";
-import { decoded, digits, encoded, joined, MEMBER, memberBytes, memberOf, ofDigits } from "./bytes.js";
-import { Problem } from "./dom.js";
-import { MOST, testLength } from "./engine.js";
+import {MOVES, SPECIES} from "gen1";
+
+import {decoded, digits, encoded, joined, MEMBER, memberBytes, memberOf, ofDigits} from "./bytes.js";
+import {Problem} from "./dom.js";
+import {MOST, testLength} from "./engine.js";
 
 /**
  * @typedef {import("./engine.js").Member} Member
@@ -14,14 +15,16 @@ import { MOST, testLength } from "./engine.js";
 /** @param {unknown} value @param {string} what @param {number} most @param {number} [least] @returns {number} */
 function whole(value, what, most, least = 0) {
   if (typeof value !== "number" || !Number.isInteger(value) || value < least || value > most)
-    throw new Problem(`${what} is ${JSON.stringify(value) ?? "missing"}, which is not a whole number from ${least} to ${most}.`);
+    throw new Problem(
+        `${what} is ${JSON.stringify(value) ?? "missing"}, which is not a whole number from ${least} to ${most}.`);
   return value;
 }
 
 /** @param {unknown} value @param {string} what @param {number} [length] @returns {unknown[]} */
 function list(value, what, length) {
   if (!Array.isArray(value)) throw new Problem(`${what} is ${value === undefined ? "missing" : "not a list"}.`);
-  if (length !== undefined && value.length !== length) throw new Problem(`${what} has ${value.length} items, not ${length}.`);
+  if (length !== undefined && value.length !== length)
+    throw new Problem(`${what} has ${value.length} items, not ${length}.`);
   return value;
 }
 
@@ -58,7 +61,9 @@ export class Inputs {
    * @param {File} file
    */
   async readFile(file) {
-    if (file.size > MOST_FILE) throw new Problem(`The file has ${file.size.toLocaleString("en")} bytes; at most ${MOST_FILE.toLocaleString("en")} are read.`);
+    if (file.size > MOST_FILE)
+      throw new Problem(
+          `The file has ${file.size.toLocaleString("en")} bytes; at most ${MOST_FILE.toLocaleString("en")} are read.`);
     return this.read(new Uint8Array(await file.arrayBuffer()));
   }
 
@@ -99,17 +104,18 @@ export class Inputs {
     }
     if (typeof value !== "object" || value === null || Array.isArray(value)) {
       const found = Array.isArray(value) ? "a list" : value === null ? "null" : `a ${typeof value}`;
-      throw new Problem(`The file is ${found} in JSON. A battle is an object: {"seed": .., "one": .., "two": .., "choices": ..}, or {"log": ..}.`);
+      throw new Problem(`The file is ${
+          found} in JSON. A battle is an object: {"seed": .., "one": .., "two": .., "choices": ..}, or {"log": ..}.`);
     }
     if (typeof value.log === "string" && value.choices === undefined) return this.log(ofDigits(value.log));
-    return { input: this.input(value) };
+    return {input: this.input(value)};
   }
 
   /** @param {Uint8Array} log @returns {Recorded} */
   log(log) {
     testLength(log, "The log");
     if (!log.length) throw new Problem("The log has no events.");
-    return { log };
+    return {log};
   }
 
   /** @param {any} value @returns {Input} */
@@ -145,9 +151,9 @@ export class Inputs {
    * @param {Recorded} recorded
    */
   text(recorded) {
-    if ("log" in recorded) return JSON.stringify({ log: digits(recorded.log) });
-    const { seed, one, two, rules, limit, choices } = recorded.input;
-    return JSON.stringify({ seed, one, two, rules, limit, choices });
+    if ("log" in recorded) return JSON.stringify({log: digits(recorded.log)});
+    const {seed, one, two, rules, limit, choices} = recorded.input;
+    return JSON.stringify({seed, one, two, rules, limit, choices});
   }
 }
 
@@ -176,7 +182,7 @@ export function isShort(code) {
  */
 export function toAddress(recorded) {
   if ("log" in recorded) return `l${encoded(recorded.log)}`;
-  const { seed, one, two, rules, limit, choices } = recorded.input;
+  const {seed, one, two, rules, limit, choices} = recorded.input;
   const teams = [one, two].map((team) => joined([team.length], ...team.map(memberBytes)));
   return `i${encoded(joined(seed, [rules, limit & 255, limit >> 8], ...teams, choices.flat()))}`;
 }
@@ -190,13 +196,16 @@ export function ofAddress(text, inputs) {
   const teams = [0, 1].map(() => {
     const count = bytes[at];
     if (count === undefined) throw damaged();
-    const members = Array.from({ length: count }, (_, place) => memberOf(bytes.subarray(at + 1 + MEMBER * place, at + 1 + MEMBER * (place + 1))));
+    const members = Array.from({length: count},
+        (_, place) => memberOf(bytes.subarray(at + 1 + MEMBER * place, at + 1 + MEMBER * (place + 1))));
     at += 1 + MEMBER * count;
     return members;
   });
   const pairs = bytes.subarray(at);
   if (text[0] !== "i" || pairs.length % 2) throw damaged();
-  const choices = Array.from({ length: pairs.length / 2 }, (_, place) => [pairs[2 * place], pairs[2 * place + 1]]);
+  const choices = Array.from({length: pairs.length / 2}, (_, place) => [pairs[2 * place], pairs[2 * place + 1]]);
   const [rules, low, high] = bytes.subarray(10, 13);
-  return { input: { seed: [...bytes.subarray(0, 10)], rules, limit: low + 256 * high, one: teams[0], two: teams[1], choices } };
+  return {
+    input: {seed: [...bytes.subarray(0, 10)], rules, limit: low + 256 * high, one: teams[0], two: teams[1], choices}
+  };
 }

@@ -1,5 +1,5 @@
 // The running log: all lines of a battle, turn by turn, which can be searched.
-import { lineItems } from "./replay.js";
+import {lineItems} from "./replay.js";
 
 /** @typedef {import("./engine.js").GameEvent} GameEvent */
 
@@ -11,7 +11,7 @@ export class Log {
     this.search = search;
     this.count = count;
     /** @type {import("./words.js").Voice} */
-    this.voice = { you: 0, hasPixels: false };
+    this.voice = {you: 0, hasPixels: false};
     this.isScrolling = false;
     search.addEventListener("input", () => this.find());
     // A phone's keyboard or a turned screen changes the height.
@@ -54,8 +54,10 @@ export class Log {
       const isTurn = item.classList.contains("turn");
       const isFound = !wanted || Boolean(item.textContent?.toLowerCase().includes(wanted));
       item.hidden = !isFound;
-      if (isTurn) turn = item;
-      else if (isFound && turn) turn.hidden = false;
+      if (isTurn)
+        turn = item;
+      else if (isFound && turn)
+        turn.hidden = false;
       if (isFound) found++;
     }
     this.count.textContent = wanted ? `${found} ${found === 1 ? "line" : "lines"}` : "";

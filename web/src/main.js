@@ -1,16 +1,16 @@
 // The page: its parts, the address, keys, themes, and dropped files.
-import { address, giveAddress, setAddress } from "./address.js";
-import { Calculator } from "./calculator.js";
-import { done, find, guarded, notice } from "./dom.js";
-import { Engine } from "./engine.js";
-import { drawHome } from "./home.js";
-import { Inputs } from "./inputs.js";
-import { Play } from "./play.js";
-import { Players } from "./players.js";
-import { Replay } from "./replay.js";
-import { heldBattle } from "./share.js";
-import { keep, kept } from "./storage.js";
-import { Teams } from "./teams.js";
+import {address, giveAddress, setAddress} from "./address.js";
+import {Calculator} from "./calculator.js";
+import {done, find, guarded, notice} from "./dom.js";
+import {Engine} from "./engine.js";
+import {drawHome} from "./home.js";
+import {Inputs} from "./inputs.js";
+import {Play} from "./play.js";
+import {Players} from "./players.js";
+import {Replay} from "./replay.js";
+import {heldBattle} from "./share.js";
+import {keep, kept} from "./storage.js";
+import {Teams} from "./teams.js";
 
 const TABS = ["home", "replay", "play", "teams", "calculator"];
 
@@ -39,12 +39,13 @@ function listenTheme() {
 /** Closes a menu by a press outside of it, on a button in it, or on Escape. */
 function listenMenus() {
   const close = (/** @type {(menu: HTMLElement) => boolean} */ isClosed) => {
-    for (const menu of /** @type {NodeListOf<HTMLDetailsElement>} */ (document.querySelectorAll(".menu[open]"))) if (isClosed(menu)) menu.open = false;
+    for (const menu of /** @type {NodeListOf<HTMLDetailsElement>} */ (document.querySelectorAll(".menu[open]")))
+      if (isClosed(menu)) menu.open = false;
   };
-  document.addEventListener("click", ({ target }) => {
+  document.addEventListener("click", ({target}) => {
     if (target instanceof Element) close((menu) => !menu.contains(target) || target.closest(".menu button") !== null);
   });
-  document.addEventListener("keydown", ({ key }) => key === "Escape" && close((menu) => {
+  document.addEventListener("keydown", ({key}) => key === "Escape" && close((menu) => {
     if (menu.contains(document.activeElement)) menu.querySelector("summary")?.focus();
     return true;
   }));
@@ -87,7 +88,7 @@ function listenTabs(open) {
     const button = find(`tab-${tab}`, HTMLButtonElement);
     button.addEventListener("click", () => open(tab));
     button.addEventListener("keydown", (event) => {
-      const by = { ArrowLeft: -1, ArrowRight: 1 }[event.key];
+      const by = {ArrowLeft: -1, ArrowRight: 1}[event.key];
       if (!by) return;
       event.preventDefault();
       event.stopPropagation();
@@ -118,10 +119,11 @@ function listenDrops(replay, open) {
     if (!hasFile(event)) return;
     event.preventDefault();
     const file = event.dataTransfer?.files[0];
-    if (file) void guarded(async () => {
-      open("replay");
-      await replay.open(file);
-    });
+    if (file)
+      void guarded(async () => {
+        open("replay");
+        await replay.open(file);
+      });
   });
 }
 
@@ -151,13 +153,16 @@ async function begin() {
   const open = (/** @type {string} */ name) => {
     turnTo(name);
     setAddress(name, {});
-    if (name === "calculator") calculator.route(new URLSearchParams());
-    else if (name === "teams") teams.route(new URLSearchParams());
-    else if (name !== "home") (name === "replay" ? replay : play).toAddress();
+    if (name === "calculator")
+      calculator.route(new URLSearchParams());
+    else if (name === "teams")
+      teams.route(new URLSearchParams());
+    else if (name !== "home")
+      (name === "replay" ? replay : play).toAddress();
   };
   const play = new Play(engine, inputs, new Players(engine, module), (recorded, at) => {
     open("replay");
-    return replay.show(recorded, { at });
+    return replay.show(recorded, {at});
   });
   const teams = new Teams(engine, (side, text) => {
     find(`play-team-${side}`, HTMLTextAreaElement).value = text;
@@ -165,12 +170,16 @@ async function begin() {
     done(`Side ${side} has the team.`);
   });
   const route = () => guarded(() => {
-    const { tab: name, values } = address();
+    const {tab: name, values} = address();
     turnTo(TABS.includes(name) ? name : heldBattle() ? "replay" : "home");
-    if (tab === "replay") return replay.route(values, heldBattle());
-    else if (tab === "play") play.route(values);
-    else if (tab === "teams") teams.route(values);
-    else if (tab === "calculator") calculator.route(values);
+    if (tab === "replay")
+      return replay.route(values, heldBattle());
+    else if (tab === "play")
+      play.route(values);
+    else if (tab === "teams")
+      teams.route(values);
+    else if (tab === "calculator")
+      calculator.route(values);
   });
   drawHome(engine, {
     "home-watch": () => {
@@ -194,8 +203,10 @@ async function begin() {
   listenTabs(open);
   listenDrops(replay, open);
   listenKeys((event) => {
-    if (tab === "replay") replay.key(event);
-    else if (tab === "play") play.key(event);
+    if (tab === "replay")
+      replay.key(event);
+    else if (tab === "play")
+      play.key(event);
   }, () => play.drawAgain());
   window.addEventListener("hashchange", () => void route());
   await route();

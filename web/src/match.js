@@ -1,8 +1,9 @@
 // A battle that is played: its updates, and what each side is told and shown of them.
-import { byteOf } from "gen1";
-import { joined } from "./bytes.js";
-import { Problem } from "./dom.js";
-import { guessed } from "./guesses.js";
+import {byteOf} from "gen1";
+
+import {joined} from "./bytes.js";
+import {Problem} from "./dom.js";
+import {guessed} from "./guesses.js";
 
 /**
  * @typedef {import("./engine.js").GameEvent} GameEvent
@@ -28,9 +29,15 @@ export class Match {
     const [one, two] = [terms.one, terms.two];
     /** @type {Step} before the first update */
     this.before = {
-      pair: [], battle: engine.begin(terms), log: new Uint8Array(), told: [], views: [], usual: [],
-      tellers: SIDES.map((side) => engine.gen1.teller({ side, pixels: true })),
-      players: SIDES.map((side) => engine.gen1.player({ side, team: side === 1 ? one : two, foes: (side === 1 ? two : one).length })),
+      pair: [],
+      battle: engine.begin(terms),
+      log: new Uint8Array(),
+      told: [],
+      views: [],
+      usual: [],
+      tellers: SIDES.map((side) => engine.gen1.teller({side, pixels: true})),
+      players: SIDES.map(
+          (side) => engine.gen1.player({side, team: side === 1 ? one : two, foes: (side === 1 ? two : one).length})),
     };
   }
 
@@ -48,8 +55,8 @@ export class Match {
    * @param {number[]} pair
    */
   update(pair) {
-    const { last, engine } = this;
-    const { refused, battle, log } = engine.update(last.battle, pair[0], pair[1]);
+    const {last, engine} = this;
+    const {refused, battle, log} = engine.update(last.battle, pair[0], pair[1]);
     if (refused) throw new Problem(`The choices ${pair.join(" and ")} are refused: the battle cannot continue.`);
     const [tellers, players] = [last.tellers.map((it) => it.clone()), last.players.map((it) => it.clone())];
     const told = tellers.map((teller) => teller.tell(log));
@@ -58,7 +65,7 @@ export class Match {
       player.feed(told[at]);
       player.show(loaded);
     });
-    this.steps.push({ pair, battle, log, told, tellers, players, views: [], usual: [] });
+    this.steps.push({pair, battle, log, told, tellers, players, views: [], usual: []});
   }
 
   /** Everything about the battle. */
@@ -71,7 +78,7 @@ export class Match {
    * @param {Side} side
    */
   view(side) {
-    const { players, views } = this.last;
+    const {players, views} = this.last;
     return (views[side - 1] ??= players[side - 1].view);
   }
 
@@ -110,8 +117,14 @@ export class Match {
     const player = this.who[side - 1];
     const isCheating = player === "cheating";
     return {
-      side, player, seed, offered: this.offered(side), rules: this.terms.rules, limit: this.terms.limit,
-      sight: isCheating ? null : this.sight(side), battle: isCheating ? this.last.battle : null,
+      side,
+      player,
+      seed,
+      offered: this.offered(side),
+      rules: this.terms.rules,
+      limit: this.terms.limit,
+      sight: isCheating ? null : this.sight(side),
+      battle: isCheating ? this.last.battle : null,
     };
   }
 
@@ -122,7 +135,7 @@ export class Match {
    */
   sight(side) {
     const [team, others] = side === 1 ? [this.terms.one, this.terms.two] : [this.terms.two, this.terms.one];
-    return { side, team, foes: others.length, told: this.log(side), guess: this.usual(side).bytes };
+    return {side, team, foes: others.length, told: this.log(side), guess: this.usual(side).bytes};
   }
 
   /**
@@ -130,10 +143,11 @@ export class Match {
    * @param {Side} side
    */
   usual(side) {
-    const { terms: { rules, limit }, last } = this;
+    const {terms: {rules, limit}, last} = this;
     let drawn = 0;
     const draw = (/** @type {number} */ bound) => drawn++ % bound;
-    return (last.usual[side - 1] ??= guessed(this.engine, last.players[side - 1], draw, { seed: Array(10).fill(0), rules, limit }));
+    return (last.usual[side - 1] ??=
+                guessed(this.engine, last.players[side - 1], draw, {seed: Array(10).fill(0), rules, limit}));
   }
 
   /**
@@ -166,11 +180,12 @@ export class Match {
    */
   pieces(step) {
     let at = 0;
-    return this.engine.events(step.told[0]).map(({ side, size }) => step.told[side === 1 ? 1 : 0].slice(at, (at += size)));
+    return this.engine.events(step.told[0]).map(({side,
+      size}) => step.told[side === 1 ? 1 : 0].slice(at, (at += size)));
   }
 
   /** @returns {import("./inputs.js").Input} */
   input() {
-    return { ...this.terms, choices: this.steps.map((step) => step.pair) };
+    return {...this.terms, choices: this.steps.map((step) => step.pair)};
   }
 }

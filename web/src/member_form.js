@@ -1,7 +1,7 @@
 // The form for a member: species, level, moves, DVs and stat experience, with its stats as they change.
-import { make, Problem } from "./dom.js";
-import { badge } from "./sides.js";
-import { plain, Search } from "./search.js";
+import {make, Problem} from "./dom.js";
+import {plain, Search} from "./search.js";
+import {badge} from "./sides.js";
 
 const DVS = ["Attack", "Defense", "Speed", "Special"];
 export const STATS = ["HP", ...DVS];
@@ -11,27 +11,30 @@ const SLOTS = [0, 1, 2, 3];
 export function labelled(label, field, shown = field) {
   const id = field.id || `field-${++fields}`;
   field.id = id;
-  return make("div", { class: "labelled" }, make("label", { for: id }, label), shown);
+  return make("div", {class: "labelled"}, make("label", { for: id
+  }, label), shown);
 }
 
 let fields = 0;
 
 /** @param {string} name @param {number} most @param {number} value @param {number} [least] */
 function number(name, most, value, least = 0) {
-  return make("input", { type: "number", name, min: least, max: most, value, inputmode: "numeric", required: true });
+  return make("input", {type: "number", name, min: least, max: most, value, inputmode: "numeric", required: true});
 }
 
 /** @param {string} name */
-const searched = (name) => make("input", { name, spellcheck: false });
+const searched = (name) => make("input", {name, spellcheck: false});
 
 /**
  * The species to choose from.
  * @param {import("./engine.js").Engine} engine
  * @returns {import("./search.js").Option[]}
  */
-function speciesOptions({ tables }) {
+function speciesOptions({tables}) {
   return Object.entries(tables.species).map(([name, types]) => ({
-    name, words: types, shown: () => [make("span", { class: "facts" }, ...[...new Set(types)].map(badge))],
+    name,
+    words: types,
+    shown: () => [make("span", {class: "facts"}, ...[...new Set(types)].map(badge))],
   }));
 }
 
@@ -39,8 +42,8 @@ function speciesOptions({ tables }) {
  * A move's type, power, accuracy and PP.
  * @param {import("./engine.js").Move} move
  */
-export function moveFacts({ type, power, accuracy, pp }) {
-  return make("span", { class: "facts" }, badge(type), ` ${power > 1 ? power : "—"} · ${accuracy}% · ${pp} PP`);
+export function moveFacts({type, power, accuracy, pp}) {
+  return make("span", {class: "facts"}, badge(type), ` ${power > 1 ? power : "—"} · ${accuracy}% · ${pp} PP`);
 }
 
 /**
@@ -48,9 +51,10 @@ export function moveFacts({ type, power, accuracy, pp }) {
  * @param {import("./engine.js").Engine} engine
  * @returns {import("./search.js").Option[]}
  */
-function moveOptions({ tables }) {
-  const known = Object.values(tables.moves).filter(({ isKnown }) => isKnown);
-  return known.sort((one, two) => one.name.localeCompare(two.name)).map((move) => ({ name: move.name, words: [move.type], shown: () => [moveFacts(move)] }));
+function moveOptions({tables}) {
+  const known = Object.values(tables.moves).filter(({isKnown}) => isKnown);
+  return known.sort((one, two) => one.name.localeCompare(two.name))
+      .map((move) => ({name: move.name, words: [move.type], shown: () => [moveFacts(move)]}));
 }
 
 /** A member. */
@@ -68,33 +72,42 @@ export class MemberForm {
     this.dvs = DVS.map((name) => number(`dv-${name}`, 15, 15));
     this.exp = STATS.map((name) => number(`exp-${name}`, 65535, 65535));
     this.moves = SLOTS.map((slot) => searched(`move-${slot + 1}`));
-    this.facts = SLOTS.map(() => make("span", { class: "move-facts" }));
-    this.types = make("span", { class: "types" });
+    this.facts = SLOTS.map(() => make("span", {class: "move-facts"}));
+    this.types = make("span", {class: "types"});
     this.ups = SLOTS.map(() => 3);
-    this.name = make("div", { class: "name-row" },
-      labelled("Species", this.species, new Search(this.species, speciesOptions(engine), picked).element), labelled("Level", this.level));
+    this.name = make("div", {class: "name-row"},
+        labelled("Species", this.species, new Search(this.species, speciesOptions(engine), picked).element),
+        labelled("Level", this.level));
     const options = moveOptions(engine);
-    this.moveList = make("div", { class: "move-fields" }, ...this.moves.map((field, slot) => (
-      make("div", {}, labelled(`Move ${slot + 1}`, field, new Search(field, options).element), this.facts[slot]))));
+    this.moveList = make("div", {class: "move-fields"},
+        ...this.moves.map(
+            (field, slot) => (make("div", {}, labelled(`Move ${slot + 1}`, field, new Search(field, options).element),
+                this.facts[slot]))));
     this.advanced = this.drawAdvanced();
   }
 
   drawAdvanced() {
-    const grid = (/** @type {string} */ name, /** @type {HTMLElement[]} */ items) => make("fieldset", { class: "numbers" }, make("legend", {}, name), ...items);
+    const grid = (/** @type {string} */ name, /** @type {HTMLElement[]} */ items) =>
+        make("fieldset", {class: "numbers"}, make("legend", {}, name), ...items);
     const set = (/** @type {number} */ value) => make("button", {
-      type: "button", class: "small", click: () => {
+      type: "button",
+      class: "small",
+      click: () => {
         this.exp.forEach((field) => (field.value = String(value)));
-        this.exp[0].dispatchEvent(new Event("change", { bubbles: true }));
+        this.exp[0].dispatchEvent(new Event("change", {bubbles: true}));
       },
-    }, value ? "All at the most" : "All 0");
+    },
+        value ? "All at the most" : "All 0");
     return make("details", {}, make("summary", {}, "Advanced: DVs and stat experience"),
-      grid("DVs, 0 to 15", this.dvs.map((field, at) => labelled(DVS[at], field))),
-      grid("Stat experience, 0 to 65535", [...this.exp.map((field, at) => labelled(STATS[at], field)), make("div", { class: "row" }, set(65535), set(0))]));
+        grid("DVs, 0 to 15", this.dvs.map((field, at) => labelled(DVS[at], field))),
+        grid("Stat experience, 0 to 65535", [
+          ...this.exp.map((field, at) => labelled(STATS[at], field)), make("div", {class: "row"}, set(65535), set(0))
+        ]));
   }
 
   /** Shows the types and the facts of the moves. */
   tell() {
-    const { tables } = this.engine;
+    const {tables} = this.engine;
     const species = this.found(tables.species, this.species);
     this.types.replaceChildren(...[...new Set(species ? tables.species[species] : [])].map(badge));
     this.moves.forEach((field, slot) => {
@@ -122,7 +135,7 @@ export class MemberForm {
 
   /** @param {string} message @param {HTMLElement} field */
   problem(message, field) {
-    return new Problem(`${this.whose}: ${message}.`, { field });
+    return new Problem(`${this.whose}: ${message}.`, {field});
   }
 
   /**
@@ -153,10 +166,13 @@ export class MemberForm {
    */
   member() {
     const species = this.found(this.engine.tables.species, this.species);
-    if (!species) throw this.problem(this.species.value ? `there is no species "${this.species.value}"` : "choose a species", this.species);
+    if (!species)
+      throw this.problem(
+          this.species.value ? `there is no species "${this.species.value}"` : "choose a species", this.species);
     const slots = SLOTS.filter((slot) => this.moves[slot].value.trim());
     return {
-      species, level: this.whole(this.level, "the level"),
+      species,
+      level: this.whole(this.level, "the level"),
       moves: slots.map((slot) => [this.moveIn(this.moves[slot]), this.ups[slot]]),
       dvs: this.dvs.map((field, at) => this.whole(field, `the DV of ${DVS[at]}`)),
       exp: this.exp.map((field, at) => this.whole(field, `the experience of ${STATS[at]}`)),

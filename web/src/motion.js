@@ -1,13 +1,28 @@
 // The events of an update, shown one after the other.
-import { isHeard, sound } from "./sounds.js";
+import {isHeard, sound} from "./sounds.js";
 
 /** @typedef {import("./engine.js").GameEvent} GameEvent */
 
 /** @type {Record<string, number>} milliseconds that events of a kind take */
-const TIMES = { switch: 550, move: 480, "-damage": 700, "-heal": 600, faint: 700, turn: 150, "-status": 500, "-boost": 500, "-unboost": 500 };
+const TIMES = {
+  switch: 550,
+  move: 480,
+  "-damage": 700,
+  "-heal": 600,
+  faint: 700,
+  turn: 150,
+  "-status": 500,
+  "-boost": 500,
+  "-unboost": 500
+};
 const USUAL = 420;
 /** @type {Record<string, number>} */
-const SPEEDS = { slow: 1.7, normal: 1, fast: 0.45, off: 0 };
+const SPEEDS = {
+  slow: 1.7,
+  normal: 1,
+  fast: 0.45,
+  off: 0
+};
 const REDUCED = window.matchMedia("(prefers-reduced-motion: reduce)");
 
 /** Shows events on a field and in a log. */

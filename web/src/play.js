@@ -1,18 +1,18 @@
 // Play: two persons at one screen, or against the computer. What is shown is what the person who plays may know.
-import { find, guarded, keepingFocus, make, Problem } from "./dom.js";
-import { link, setAddress } from "./address.js";
-import { choiceButtons } from "./choices.js";
-import { Field } from "./field.js";
-import { ofAddress, toAddress } from "./inputs.js";
-import { Log } from "./log.js";
-import { Match, SIDES } from "./match.js";
-import { Motion } from "./motion.js";
-import { randomSeed } from "./random.js";
-import { Setup } from "./setup.js";
-import { shareButtons } from "./share.js";
-import { own, seen, whole } from "./sides.js";
-import { kept, keepForTab } from "./storage.js";
-import { OUTCOMES } from "./words.js";
+import {link, setAddress} from "./address.js";
+import {choiceButtons} from "./choices.js";
+import {find, guarded, keepingFocus, make, Problem} from "./dom.js";
+import {Field} from "./field.js";
+import {ofAddress, toAddress} from "./inputs.js";
+import {Log} from "./log.js";
+import {Match, SIDES} from "./match.js";
+import {Motion} from "./motion.js";
+import {randomSeed} from "./random.js";
+import {Setup} from "./setup.js";
+import {shareButtons} from "./share.js";
+import {own, seen, whole} from "./sides.js";
+import {keepForTab, kept} from "./storage.js";
+import {OUTCOMES} from "./words.js";
 
 /**
  * @typedef {import("./match.js").Side} Side
@@ -40,7 +40,8 @@ export class Play {
     this.watch = watch;
     this.setup = new Setup(engine);
     this.field = new Field(engine, find("play-field", HTMLElement));
-    this.log = new Log(find("play-lines", HTMLElement), find("play-search", HTMLInputElement), find("play-found", HTMLElement));
+    this.log = new Log(
+        find("play-lines", HTMLElement), find("play-search", HTMLInputElement), find("play-found", HTMLElement));
     this.motion = new Motion(this.field, find("speed", HTMLSelectElement), find("sounds", HTMLInputElement));
     /** @type {Match | null} */
     this.match = null;
@@ -63,7 +64,7 @@ export class Play {
 
   listen() {
     const click = (/** @type {string} */ id, /** @type {() => unknown} */ work) =>
-      find(id, HTMLElement).addEventListener("click", () => void guarded(async () => void (await work())));
+        find(id, HTMLElement).addEventListener("click", () => void guarded(async () => void (await work())));
     find("play-setup", HTMLFormElement).addEventListener("submit", (event) => {
       event.preventDefault();
       void guarded(() => this.start());
@@ -76,8 +77,11 @@ export class Play {
     click("play-return", () => this.goBack());
     click("play-watch", () => this.watch(this.recorded(), this.game.steps.length));
     shareButtons(find("play-share", HTMLElement), () => ({
-      recorded: this.recorded(), log: this.game.log(this.knower), updates: this.game.steps.map((step) => this.game.events(step, this.knower)),
-      inputs: this.inputs, link: this.link(),
+      recorded: this.recorded(),
+      log: this.game.log(this.knower),
+      updates: this.game.steps.map((step) => this.game.events(step, this.knower)),
+      inputs: this.inputs,
+      link: this.link(),
     }));
     find("play-return", HTMLElement).hidden = !kept(SAVED, true);
   }
@@ -95,7 +99,7 @@ export class Play {
 
   /** Who tells the lines, which stays the same for a whole battle. @returns {import("./match.js").Viewer} */
   get teller() {
-    const { persons } = this.game;
+    const {persons} = this.game;
     if (this.isOpen || !persons.length) return "all";
     return persons.length === 1 ? persons[0] : 0;
   }
@@ -107,24 +111,24 @@ export class Play {
 
   /** @returns {import("./inputs.js").Recorded} */
   recorded() {
-    return this.isBare ? { input: this.game.input() } : { log: this.game.log(this.teller) };
+    return this.isBare ? {input: this.game.input()} : {log: this.game.log(this.teller)};
   }
 
   link() {
-    return this.isBare ? link("play", this.values()) : link("replay", { b: toAddress(this.recorded()) });
+    return this.isBare ? link("play", this.values()) : link("replay", {b: toAddress(this.recorded())});
   }
 
   /** Begins the battle that the form asks for. */
   start() {
-    const { terms, who, isOpen } = this.setup.read();
+    const {terms, who, isOpen} = this.setup.read();
     this.setup.blamingTeams(() => this.begin(terms, [[0, 0]], who, isOpen));
     find("play-now", HTMLElement).focus();
   }
 
   /** Begins a battle of the same teams, with another seed. */
   rematch() {
-    const { terms, who } = this.game;
-    this.begin({ ...terms, seed: randomSeed() }, [[0, 0]], who, this.isOpen);
+    const {terms, who} = this.game;
+    this.begin({...terms, seed: randomSeed()}, [[0, 0]], who, this.isOpen);
     find("play-now", HTMLElement).focus();
   }
 
@@ -157,8 +161,8 @@ export class Play {
 
   /** Writes the log anew. */
   retell() {
-    const { game, teller } = this;
-    this.log.clear({ you: typeof teller === "number" ? teller : 0, hasPixels: teller !== "all" });
+    const {game, teller} = this;
+    this.log.clear({you: typeof teller === "number" ? teller : 0, hasPixels: teller !== "all"});
     this.log.add(game.steps.flatMap((step) => game.events(step, teller)));
   }
 
@@ -171,8 +175,9 @@ export class Play {
     if (!code || code === this.code) return;
     const recorded = ofAddress(code, this.inputs);
     if (!("input" in recorded)) throw new Problem("The address is damaged: a log cannot be played on.");
-    const who = ["p1", "p2"].map((key, at) => (PLAYERS.includes(values.get(key) ?? "") ? String(values.get(key)) : this.setup.who[at]));
-    const { choices, ...terms } = recorded.input;
+    const who = ["p1", "p2"].map(
+        (key, at) => (PLAYERS.includes(values.get(key) ?? "") ? String(values.get(key)) : this.setup.who[at]));
+    const {choices, ...terms} = recorded.input;
     this.begin(terms, choices.length ? choices : [[0, 0]], who, values.get("hands") === "open");
   }
 
@@ -181,7 +186,7 @@ export class Play {
     this.asked++;
     this.revealed = 0;
     this.chosen = [null, null];
-    const { game } = this;
+    const {game} = this;
     const isWatched = !game.persons.length;
     keepingFocus(find("play-now", HTMLElement), () => {
       this.draw();
@@ -194,10 +199,11 @@ export class Play {
 
   /** Has the computer begin to think, while the person does. */
   think() {
-    const { game } = this;
+    const {game} = this;
     this.thinking = SIDES.map((side) => {
       if (game.who[side - 1] === "person" || game.offered(side).length < 2) return null;
-      const choice = this.players.choice(game.question(side, randomSeed().reduce((sum, byte) => (sum * 256 + byte) % 0x7fffffff, 1)));
+      const choice = this.players.choice(
+          game.question(side, randomSeed().reduce((sum, byte) => (sum * 256 + byte) % 0x7fffffff, 1)));
       // An error is shown when the choice is waited for.
       choice.catch(() => {});
       return choice;
@@ -206,7 +212,7 @@ export class Play {
 
   /** @param {Side} side @param {number} choice */
   choose(side, choice) {
-    const { game } = this;
+    const {game} = this;
     if (this.isMoving || !game.offered(side).includes(choice)) return;
     this.chosen[side - 1] = choice;
     if (!this.isOpen && game.persons.length === 2) {
@@ -215,14 +221,16 @@ export class Play {
     }
     for (const button of document.querySelectorAll(`#play-choices-${side} [data-choice]`))
       button.setAttribute("aria-pressed", String(button.getAttribute("data-choice") === String(choice)));
-    if (SIDES.every((it) => !game.isAsked(it) || this.chosen[it - 1] !== null)) void guarded(() => this.goOn());
-    else if (!this.isOpen) find("play-reveal", HTMLElement).focus();
+    if (SIDES.every((it) => !game.isAsked(it) || this.chosen[it - 1] !== null))
+      void guarded(() => this.goOn());
+    else if (!this.isOpen)
+      find("play-reveal", HTMLElement).focus();
   }
 
   /** Has the computer choose where a person does not, updates the battle, and shows what happens. */
   async goOn() {
     const asked = ++this.asked;
-    const { game } = this;
+    const {game} = this;
     const pair = await Promise.all(SIDES.map((side) => this.choiceOf(side)));
     // A choice that comes after the battle was left, an update undone, or a mind changed, is dropped.
     if (asked !== this.asked) return;
@@ -254,7 +262,7 @@ export class Play {
 
   /** Takes back what happened since a person last had a choice. */
   undo() {
-    const { game } = this;
+    const {game} = this;
     if (!this.isOpen) return;
     this.drop();
     do {
@@ -280,10 +288,11 @@ export class Play {
 
   /** Back to the battle that was left, or that the tab showed before it was loaded anew. */
   goBack() {
-    if (this.left) this.open(this.left, this.isOpen);
+    if (this.left)
+      this.open(this.left, this.isOpen);
     else {
       /** @type {Saved} */
-      const { terms, pairs, who, isOpen } = JSON.parse(kept(SAVED, true) ?? "null");
+      const {terms, pairs, who, isOpen} = JSON.parse(kept(SAVED, true) ?? "null");
       this.begin(terms, pairs, who, isOpen);
     }
     find("play-now", HTMLElement).focus();
@@ -299,7 +308,7 @@ export class Play {
    * @param {Side} side
    */
   shownOf(side) {
-    const { game, engine: { tables } } = this;
+    const {game, engine: {tables}} = this;
     if (this.isBare) return whole(tables, game.state().sides[side - 1]);
     const isOwn = side === (this.revealed || this.teller);
     const self = game.view(side).own;
@@ -314,18 +323,21 @@ export class Play {
    * @returns {import("./field.js").Hidden}
    */
   hiddenOf(side) {
-    const { game } = this;
+    const {game} = this;
     // The foe sees that a member charges, not whether it can be reached.
     if (!game.view(side === 1 ? 2 : 1).foe.active?.announced.includes("charging")) return "";
-    const prepared = game.events(game.last, "all").find((event) => event.kind === "-prepare" && event.side === side)?.line.split("|")[3];
+    const prepared = game.events(game.last, "all")
+                         .find((event) => event.kind === "-prepare" && event.side === side)
+                         ?.line.split("|")[3];
     return prepared === "Fly" ? "above" : prepared === "Dig" ? "under" : "";
   }
 
   draw() {
-    const { game } = this;
+    const {game} = this;
     const isAlone = game.persons.length === 1 && !this.isOpen;
     const titles = SIDES.map((side) => (isAlone ? (side === this.near ? "You" : "The foe") : `Side ${side}`));
-    this.field.show(SIDES.map((side) => this.shownOf(side)), titles, this.near, SIDES.map((side) => this.hiddenOf(side)));
+    this.field.show(
+        SIDES.map((side) => this.shownOf(side)), titles, this.near, SIDES.map((side) => this.hiddenOf(side)));
     const outcome = OUTCOMES[game.outcome];
     find("play-now", HTMLElement).textContent = `Turn ${game.view(1).turn}${outcome ? `. ${outcome}.` : ""}`;
     find("play-undo", HTMLButtonElement).hidden = !this.isOpen;
@@ -340,13 +352,18 @@ export class Play {
   drawCurious() {
     const place = find("play-curious", HTMLDetailsElement);
     place.hidden = !this.isBare;
-    const { terms } = this.game;
-    const clauses = ["", " with the sleep clause", " with the freeze clause", " with the sleep and the freeze clause"][terms.rules];
-    find("play-rules", HTMLElement).textContent = `A battle${clauses}, which ends at the latest after turn ${terms.limit}.`;
+    const {terms} = this.game;
+    const clauses =
+        ["", " with the sleep clause", " with the freeze clause", " with the sleep and the freeze clause"][terms.rules];
+    find("play-rules", HTMLElement).textContent =
+        `A battle${clauses}, which ends at the latest after turn ${terms.limit}.`;
     if (!this.isBare) return find("play-terms", HTMLElement).replaceChildren();
-    const { numbers, index } = this.game.state();
-    const texts = [`Seed ${terms.seed.join(" ")}.`, `The next link number is ${numbers[index]}, number ${index + 1} of ${numbers.slice(0, 9).join(" ")}.`];
-    find("play-terms", HTMLElement).replaceChildren(...texts.map((text) => make("p", { class: "quiet" }, text)));
+    const {numbers, index} = this.game.state();
+    const texts = [
+      `Seed ${terms.seed.join(" ")}.`,
+      `The next link number is ${numbers[index]}, number ${index + 1} of ${numbers.slice(0, 9).join(" ")}.`
+    ];
+    find("play-terms", HTMLElement).replaceChildren(...texts.map((text) => make("p", {class: "quiet"}, text)));
   }
 
   /** Shows what can be pressed anew, with its keys or without. */
@@ -356,14 +373,14 @@ export class Play {
 
   /** The sides whose choices are shown. */
   get showing() {
-    const { game } = this;
+    const {game} = this;
     if (this.isMoving || game.isOver) return [];
     if (this.isOpen || game.persons.length < 2) return game.persons.filter((side) => game.isAsked(side));
     return SIDES.filter((side) => side === this.revealed);
   }
 
   drawChoices() {
-    const { game } = this;
+    const {game} = this;
     find("play-skip", HTMLElement).hidden = !this.isMoving || !this.motion.share;
     for (const side of SIDES) {
       const place = find(`play-choices-${side}`, HTMLElement);
@@ -385,8 +402,10 @@ export class Play {
   focus(place, hadFocus) {
     const heading = find("play-now", HTMLElement);
     const button = /** @type {HTMLElement | null} */ (place.querySelector("button[aria-pressed='true'], button"));
-    if (hadFocus) (button ?? heading).focus();
-    else if (button && this.isLent && document.activeElement === heading) button.focus();
+    if (hadFocus)
+      (button ?? heading).focus();
+    else if (button && this.isLent && document.activeElement === heading)
+      button.focus();
     this.isLent = hadFocus && !button;
   }
 
@@ -399,22 +418,25 @@ export class Play {
 
   /** The screen between two persons, which says who chooses. */
   drawCover() {
-    const { game } = this;
+    const {game} = this;
     const place = find("play-cover", HTMLElement);
     const side = SIDES.find((it) => game.isAsked(it) && this.chosen[it - 1] === null);
-    const isCovered = !this.isOpen && game.persons.length === 2 && !this.isMoving && !this.revealed && !game.isOver && side !== undefined;
+    const isCovered = !this.isOpen && game.persons.length === 2 && !this.isMoving && !this.revealed && !game.isOver &&
+        side !== undefined;
     place.hidden = !isCovered && !game.isOver;
-    if (game.isOver) return place.replaceChildren(make("p", { class: "end" }, `${this.ending()}`));
+    if (game.isOver) return place.replaceChildren(make("p", {class: "end"}, `${this.ending()}`));
     if (!isCovered || side === undefined) return place.replaceChildren();
     place.replaceChildren(
-      make("p", {}, make("strong", {}, `Side ${side} chooses.`), ` Hand the screen to side ${side}; side ${3 - side} looks away.`),
-      make("button", { type: "button", id: "play-reveal", class: "main", click: () => this.reveal(side) }, `Show the choices of side ${side}`),
+        make("p", {}, make("strong", {}, `Side ${side} chooses.`),
+            ` Hand the screen to side ${side}; side ${3 - side} looks away.`),
+        make("button", {type: "button", id: "play-reveal", class: "main", click: () => this.reveal(side)},
+            `Show the choices of side ${side}`),
     );
   }
 
   ending() {
-    const { persons, outcome } = this.game;
-    const won = { "win one": 1, "win two": 2 }[/** @type {string} */ (outcome)];
+    const {persons, outcome} = this.game;
+    const won = {"win one": 1, "win two": 2}[/** @type {string} */ (outcome)];
     if (persons.length !== 1 || !won) return `${OUTCOMES[outcome]}.`;
     return won === persons[0] ? "You have won." : "The foe has won.";
   }
@@ -428,7 +450,11 @@ export class Play {
 
   /** @param {Side} side */
   buttons(side) {
-    const use = { chosen: this.chosen[side - 1], keys: this.keysOf(side), choose: (/** @type {number} */ choice) => this.choose(side, choice) };
+    const use = {
+      chosen: this.chosen[side - 1],
+      keys: this.keysOf(side),
+      choose: (/** @type {number} */ choice) => this.choose(side, choice)
+    };
     return choiceButtons(this.engine, this.offer(side), use);
   }
 
@@ -438,14 +464,19 @@ export class Play {
    * @returns {import("./choices.js").Offer}
    */
   offer(side) {
-    const { game, engine } = this;
+    const {game, engine} = this;
     const view = game.view(side);
     const battle = this.isOpen ? engine.gen1.load(game.last.battle) : game.usual(side);
     const foe = battle.state[side === 1 ? "two" : "one"];
-    const { members, active } = view.own ?? { members: [], active: null };
+    const {members, active} = view.own ?? {members: [], active: null};
     return {
-      offered: game.offered(side), members, place: active?.place ?? 1, going: this.going(side), odds: engine.oddsOf(battle, side),
-      foeHp: foe.active ? foe.members[foe.active.place - 1].maxHp : 0, isGuess: !this.isOpen,
+      offered: game.offered(side),
+      members,
+      place: active?.place ?? 1,
+      going: this.going(side),
+      odds: engine.oddsOf(battle, side),
+      foeHp: foe.active ? foe.members[foe.active.place - 1].maxHp : 0,
+      isGuess: !this.isOpen,
     };
   }
 
@@ -454,12 +485,14 @@ export class Play {
    * @param {Side} side
    */
   going(side) {
-    const { game } = this;
+    const {game} = this;
     const conditions = game.view(side).own?.active?.conditions ?? [];
     if (!conditions.some((it) => GOING.includes(it))) return "";
     if (!conditions.includes("charging")) return game.view(side).ownPublic.active?.lastMove ?? "";
     // A move that is charged is not the last one that was used.
-    const prepared = game.steps.flatMap((step) => game.events(step, side)).filter((event) => event.kind === "-prepare" && event.side === side).pop();
+    const prepared = game.steps.flatMap((step) => game.events(step, side))
+                         .filter((event) => event.kind === "-prepare" && event.side === side)
+                         .pop();
     return prepared?.line.split("|")[3] ?? "";
   }
 
@@ -473,16 +506,16 @@ export class Play {
 
   /** What stands here, as an address holds it. */
   values() {
-    const { who } = this.game;
-    return { b: toAddress({ input: this.game.input() }), p1: who[0], p2: who[1], hands: this.isOpen ? "open" : "" };
+    const {who} = this.game;
+    return {b: toAddress({input: this.game.input()}), p1: who[0], p2: who[1], hands: this.isOpen ? "open" : ""};
   }
 
   /** In covered hands the address does not hold the battle, and the tab keeps it. */
   toAddress() {
-    const { match } = this;
+    const {match} = this;
     if (!match) return;
-    const { terms, who } = match;
-    keepForTab(SAVED, JSON.stringify({ terms, who, pairs: match.steps.map((step) => step.pair), isOpen: this.isOpen }));
+    const {terms, who} = match;
+    keepForTab(SAVED, JSON.stringify({terms, who, pairs: match.steps.map((step) => step.pair), isOpen: this.isOpen}));
     const values = this.isBare ? this.values() : null;
     this.code = values?.b ?? "";
     setAddress("play", values ?? {});

@@ -1,6 +1,6 @@
 // The computer's choices, in a worker, so that the page stays responsive.
-import { choose } from "./computer.js";
-import { find } from "./dom.js";
+import {choose} from "./computer.js";
+import {find} from "./dom.js";
 
 /** @typedef {import("./computer.js").Asked} Asked */
 
@@ -23,19 +23,19 @@ export class Players {
     if (this.worker || this.hasFailed) return this.worker;
     try {
       // The worker runs the page's own script (page.js).
-      const url = URL.createObjectURL(new Blob([find("script", HTMLScriptElement).text], { type: "text/javascript" }));
+      const url = URL.createObjectURL(new Blob([find("script", HTMLScriptElement).text], {type: "text/javascript"}));
       this.worker = new Worker(url);
       this.worker.onerror = (event) => {
         event.preventDefault();
         this.giveUp(event.message);
       };
       this.worker.onmessageerror = () => this.giveUp("a message could not be read");
-      this.worker.onmessage = ({ data }) => {
+      this.worker.onmessage = ({data}) => {
         if (data.fault) return this.giveUp(data.fault);
         this.waiting.get(data.id)?.settle(data.choice);
         this.waiting.delete(data.id);
       };
-      this.worker.postMessage({ module: this.module });
+      this.worker.postMessage({module: this.module});
     } catch (error) {
       this.giveUp(String(error));
     }
@@ -51,7 +51,7 @@ export class Players {
     this.hasFailed = true;
     this.worker?.terminate();
     this.worker = null;
-    for (const { asked, settle } of this.waiting.values()) settle(this.own(asked));
+    for (const {asked, settle} of this.waiting.values()) settle(this.own(asked));
     this.waiting.clear();
   }
 
@@ -73,8 +73,8 @@ export class Players {
     if (!worker) return this.own(asked);
     const id = ++this.count;
     return new Promise((settle) => {
-      this.waiting.set(id, { asked, settle });
-      worker.postMessage({ id, asked });
+      this.waiting.set(id, {asked, settle});
+      worker.postMessage({id, asked});
     });
   }
 

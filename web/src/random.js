@@ -35,7 +35,7 @@ const FITTING = 3;
  */
 export function randomMoves(tables, types, draw, had) {
   const known = Object.values(tables.moves).filter((it) => it.isKnown);
-  const fitting = known.filter(({ type, power }) => power >= 80 || (power >= 50 && types.includes(type)));
+  const fitting = known.filter(({type, power}) => power >= 80 || (power >= 50 && types.includes(type)));
   const chosen = new Set(had);
   while (chosen.size < 4) {
     const pool = draw(FITTING) ? fitting : known;
@@ -50,7 +50,7 @@ export function randomMoves(tables, types, draw, had) {
  * @param {number} count
  */
 export function randomTeam(tables, count) {
-  const members = Array.from({ length: count }, () => {
+  const members = Array.from({length: count}, () => {
     const species = randomSpecies(tables);
     return [species, ...randomMoves(tables, tables.species[species], below, []).map((name) => `- ${name}`)].join("\n");
   });

@@ -1,5 +1,5 @@
 // A recorded battle: its state after each update, from an input or from log bytes.
-import { Problem } from "./dom.js";
+import {Problem} from "./dom.js";
 
 /**
  * @typedef {import("./engine.js").Engine} Engine
@@ -17,7 +17,7 @@ const ENDS = ["turn", "win", "tie", "fault"];
  * A log doesn't have the teams, so these take their places until a member comes out.
  * @type {Member[]}
  */
-const PLACEHOLDERS = Array(6).fill({ species: 1, level: 100, dvs: [0, 0, 0, 0], exp: [0, 0, 0, 0, 0], moves: [[1, 0]] });
+const PLACEHOLDERS = Array(6).fill({species: 1, level: 100, dvs: [0, 0, 0, 0], exp: [0, 0, 0, 0, 0], moves: [[1, 0]]});
 
 /**
  * The events of each update of a log: an update ends with a turn, an outcome, or faints.
@@ -47,7 +47,7 @@ function updatesOf(events) {
 function toldBy(line, since) {
   const [, , , name, health] = line.split("|");
   const [species, level] = name.split(", L");
-  return { species, level: Number(level ?? 100), max: Number(health.split(" ")[0].split("/")[1] ?? 0), since };
+  return {species, level: Number(level ?? 100), max: Number(health.split(" ")[0].split("/")[1] ?? 0), since};
 }
 
 /** A battle with all its frames. `begun` and then `steps` make it, in pieces of work that take about a millisecond each. */
@@ -62,14 +62,16 @@ export class Recording {
     this.fault = "";
     /** @type {Map<string, Known>} the members that a switch has shown, by "side place" */
     this.told = new Map();
-    const { one, two } = "log" in recorded ? { one: PLACEHOLDERS, two: PLACEHOLDERS } : recorded.input;
+    const {one, two} = "log" in recorded ? {one: PLACEHOLDERS, two: PLACEHOLDERS} : recorded.input;
     this.spectator = engine.spectator(one, two);
   }
 
   /** Adds the frames, and yields after each piece of work the share that is done. */
-  *steps() {
-    if ("log" in this.recorded) yield* this.follow(this.recorded.log);
-    else yield* this.play(this.recorded.input);
+  * steps() {
+    if ("log" in this.recorded)
+      yield* this.follow(this.recorded.log);
+    else
+      yield* this.play(this.recorded.input);
   }
 
   get last() {
@@ -77,13 +79,14 @@ export class Recording {
   }
 
   /** @param {import("./inputs.js").Input} input @returns {Generator<number>} */
-  *play(input) {
+  * play(input) {
     let battle = this.engine.begin(input);
     this.add(new Uint8Array(), [], battle);
     for (const [number, [one, two]] of input.choices.entries()) {
       const update = this.engine.update(battle, one, two);
       if (update.refused) {
-        this.fault = `Pair ${number} of the choices (${one}, ${two}) is refused: ${update.refused}. The battle is shown up to that pair.`;
+        this.fault = `Pair ${number} of the choices (${one}, ${two}) is refused: ${
+            update.refused}. The battle is shown up to that pair.`;
         return;
       }
       battle = update.battle;
@@ -93,7 +96,7 @@ export class Recording {
   }
 
   /** @param {Uint8Array} log @returns {Generator<number>} */
-  *follow(log) {
+  * follow(log) {
     /** @type {GameEvent[]} */
     const all = [];
     for (const events of this.engine.pieces(log)) {
@@ -117,7 +120,7 @@ export class Recording {
       const key = `${event.side} ${event.place}`;
       if (event.kind === "switch" && !this.told.has(key)) this.told.set(key, toldBy(event.line, this.frames.length));
     }
-    this.frames.push({ log, events, battle, view: this.engine.watch(this.spectator, log) });
+    this.frames.push({log, events, battle, view: this.engine.watch(this.spectator, log)});
   }
 
   /**
@@ -141,7 +144,7 @@ export class Recording {
   wholeLog() {
     const whole = new Uint8Array(this.frames.reduce((sum, frame) => sum + frame.log.length, 0));
     let at = 0;
-    for (const { log } of this.frames) {
+    for (const {log} of this.frames) {
       whole.set(log, at);
       at += log.length;
     }

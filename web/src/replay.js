@@ -1,12 +1,12 @@
 // Replay: a recorded battle, forward and back by update and by turn.
-import { find, guarded, inField, keepingFocus, make, Problem } from "./dom.js";
-import { link, setAddress } from "./address.js";
-import { isShort, mayBeShort, ofAddress, toAddress } from "./inputs.js";
-import { Recording } from "./recording.js";
-import { shareButtons } from "./share.js";
-import { Slices } from "./slices.js";
-import { showSide, watched, whole } from "./sides.js";
-import { inWords, OUTCOMES, sideOf } from "./words.js";
+import {link, setAddress} from "./address.js";
+import {find, guarded, inField, keepingFocus, make, Problem} from "./dom.js";
+import {isShort, mayBeShort, ofAddress, toAddress} from "./inputs.js";
+import {Recording} from "./recording.js";
+import {shareButtons} from "./share.js";
+import {showSide, watched, whole} from "./sides.js";
+import {Slices} from "./slices.js";
+import {inWords, OUTCOMES, sideOf} from "./words.js";
 
 /**
  * @param {import("./engine.js").GameEvent[]} events
@@ -14,8 +14,10 @@ import { inWords, OUTCOMES, sideOf } from "./words.js";
  * @param {import("./words.js").Voice} [voice]
  */
 export function lineItems(events, raw, voice) {
-  return events.map((event) => make("li", { class: `line side-${sideOf(event.line)}${event.kind === "turn" ? " turn" : ""}`, "data-line": event.line },
-    raw ? event.line : inWords(event.line, voice)));
+  return events.map(
+      (event) => make("li",
+          {class: `line side-${sideOf(event.line)}${event.kind === "turn" ? " turn" : ""}`, "data-line": event.line},
+          raw ? event.line : inWords(event.line, voice)));
 }
 
 /** The part of the page that replays. */
@@ -42,7 +44,8 @@ export class Replay {
   }
 
   listen() {
-    const click = (/** @type {string} */ id, /** @type {() => void} */ work) => find(id, HTMLButtonElement).addEventListener("click", work);
+    const click = (/** @type {string} */ id, /** @type {() => void} */ work) =>
+        find(id, HTMLButtonElement).addEventListener("click", work);
     click("replay-first", () => this.go(0));
     click("replay-turn-back", () => this.goTurns(-1));
     click("replay-back", () => this.go(this.at - 1));
@@ -53,7 +56,7 @@ export class Replay {
     click("replay-example", () => void this.example());
     click("replay-read", () => void guarded(() => {
       const text = find("replay-text", HTMLTextAreaElement);
-      return inField(text, () => this.show(this.inputs.parse(text.value), { at: 1 }));
+      return inField(text, () => this.show(this.inputs.parse(text.value), {at: 1}));
     }));
     this.slider.addEventListener("input", () => this.go(Number(this.slider.value)));
     this.turn.addEventListener("change", () => this.go(this.recording?.updateOf(Number(this.turn.value)) ?? 0));
@@ -70,16 +73,16 @@ export class Replay {
       if (!this.recording) throw new Problem("There is no battle yet.");
       const log = this.recording.wholeLog();
       // What is shared in the spectator's view holds no seed, and no more of the teams than the log.
-      const recorded = this.see.value === "all" ? this.recording.recorded : { log };
-      const values = this.see.value === "all" ? this.values() : { ...this.values(), b: toAddress(recorded), see: "" };
+      const recorded = this.see.value === "all" ? this.recording.recorded : {log};
+      const values = this.see.value === "all" ? this.values() : {...this.values(), b: toAddress(recorded), see: ""};
       const updates = this.recording.frames.slice(1).map((frame) => frame.events);
-      return { recorded, log, updates, inputs: this.inputs, link: link("replay", values) };
+      return {recorded, log, updates, inputs: this.inputs, link: link("replay", values)};
     });
   }
 
   /** Shows the page's own example. */
   example() {
-    return guarded(() => this.show(this.inputs.parse(find("example", HTMLScriptElement).text), { at: 1 }));
+    return guarded(() => this.show(this.inputs.parse(find("example", HTMLScriptElement).text), {at: 1}));
   }
 
   /**
@@ -87,7 +90,7 @@ export class Replay {
    * @param {File} file
    */
   async open(file) {
-    await this.show(await this.inputs.readFile(file), { at: 1 });
+    await this.show(await this.inputs.readFile(file), {at: 1});
   }
 
   /**
@@ -104,7 +107,7 @@ export class Replay {
 
   /** @param {Recording} recording @param {{ at: number, code?: string, isHeld?: boolean }} how */
   put(recording, how) {
-    const { recorded } = recording;
+    const {recorded} = recording;
     this.recording = recording;
     this.code = how.code ?? (mayBeShort(recorded) ? toAddress(recorded) : "");
     this.isHeld = Boolean(how.isHeld);
@@ -135,8 +138,8 @@ export class Replay {
     if (!this.see.options[0].disabled) this.see.value = this.wanted;
     this.raw.value = values.get("lines") === "raw" ? "raw" : "words";
     const at = Number(values.get("u") ?? 1);
-    if (code && code !== this.code) return this.show(ofAddress(code, this.inputs), { at, code });
-    if (!code && held && !this.recording) return this.show(this.inputs.parse(held), { at, code: "", isHeld: true });
+    if (code && code !== this.code) return this.show(ofAddress(code, this.inputs), {at, code});
+    if (!code && held && !this.recording) return this.show(this.inputs.parse(held), {at, code: "", isHeld: true});
     if (this.recording) this.go(at);
   }
 
@@ -152,8 +155,11 @@ export class Replay {
   goTurns(turns) {
     if (!this.recording) return;
     const turn = this.recording.turn(this.at) + turns;
-    if (turn < 0) this.go(0);
-    else this.go(turns < 0 ? Math.min(this.recording.updateOf(turn), this.at - 1) : Math.max(this.recording.updateOf(turn), this.at + 1));
+    if (turn < 0)
+      this.go(0);
+    else
+      this.go(turns < 0 ? Math.min(this.recording.updateOf(turn), this.at - 1) :
+                          Math.max(this.recording.updateOf(turn), this.at + 1));
   }
 
   /** Begins to play, unless the person wants no motion. */
@@ -183,17 +189,19 @@ export class Replay {
    * @param {number} side
    */
   shown(side) {
-    const { frames, recorded, told } = /** @type {Recording} */ (this.recording);
-    const { battle, view } = frames[this.at];
-    const { tables } = this.engine;
+    const {frames, recorded, told} = /** @type {Recording} */ (this.recording);
+    const {battle, view} = frames[this.at];
+    const {tables} = this.engine;
     if (battle && this.see.value === "all") return whole(tables, this.engine.state(battle).sides[side - 1]);
     if ("input" in recorded && frames[0].battle) {
       // A spectator knows both teams from the beginning.
-      const { members } = this.engine.state(frames[0].battle).sides[side - 1];
-      return watched(tables, view.sides[side - 1], members.map(({ species, level, maxHp }) => ({ species, level, max: maxHp })));
+      const {members} = this.engine.state(frames[0].battle).sides[side - 1];
+      return watched(
+          tables, view.sides[side - 1], members.map(({species, level, maxHp}) => ({species, level, max: maxHp})));
     }
-    const places = Math.max(0, ...[...told.keys()].filter((key) => key[0] === String(side)).map((key) => Number(key[2])));
-    return watched(tables, view.sides[side - 1], Array.from({ length: places }, (_, place) => {
+    const places =
+        Math.max(0, ...[...told.keys()].filter((key) => key[0] === String(side)).map((key) => Number(key[2])));
+    return watched(tables, view.sides[side - 1], Array.from({length: places}, (_, place) => {
       const known = told.get(`${side} ${place + 1}`);
       return known && known.since <= this.at ? known : null;
     }));
@@ -201,18 +209,23 @@ export class Replay {
 
   draw() {
     if (!this.recording) return;
-    const { frames, last } = this.recording;
+    const {frames, last} = this.recording;
     const frame = frames[this.at];
     for (const side of [1, 2]) showSide(find(`replay-side-${side}`, HTMLElement), side, this.engine, this.shown(side));
     const outcome = OUTCOMES[frame.view.outcome];
-    find("replay-now", HTMLElement).textContent = `${this.at ? `Turn ${frame.view.turn}` : "Before the battle"}, update ${this.at} of ${last}${outcome ? `. ${outcome}.` : ""}`;
+    find("replay-now", HTMLElement).textContent =
+        `${this.at ? `Turn ${frame.view.turn}` : "Before the battle"}, update ${this.at} of ${last}${
+            outcome ? `. ${outcome}.` : ""}`;
     this.slider.value = String(this.at);
     this.slider.setAttribute("aria-valuetext", `update ${this.at} of ${last}`);
     this.turn.value = String(frame.view.turn);
-    for (const id of ["first", "turn-back", "back"]) find(`replay-${id}`, HTMLButtonElement).setAttribute("aria-disabled", String(this.at === 0));
-    for (const id of ["last", "turn-forward", "forward"]) find(`replay-${id}`, HTMLButtonElement).setAttribute("aria-disabled", String(this.at === last));
+    for (const id of ["first", "turn-back", "back"])
+      find(`replay-${id}`, HTMLButtonElement).setAttribute("aria-disabled", String(this.at === 0));
+    for (const id of ["last", "turn-forward", "forward"])
+      find(`replay-${id}`, HTMLButtonElement).setAttribute("aria-disabled", String(this.at === last));
     const items = lineItems(frame.events, this.raw.value === "raw");
-    find("replay-lines", HTMLElement).replaceChildren(...(items.length ? items : [make("li", { class: "quiet" }, "No member has been sent out.")]));
+    find("replay-lines", HTMLElement).replaceChildren(...(items.length ? items : [make("li", {class: "quiet"},
+                                                                                     "No member has been sent out.")]));
     this.drawWhole();
     this.toAddress();
   }
@@ -227,7 +240,7 @@ export class Replay {
   }
 
   /** @param {HTMLElement} place @returns {Generator<number>} */
-  *writeWhole(place) {
+  * writeWhole(place) {
     const frames = this.recording?.frames.slice(0, this.at + 1) ?? [];
     for (const [at, frame] of frames.entries()) {
       place.append(...lineItems(frame.events, this.raw.value === "raw"));
@@ -238,7 +251,9 @@ export class Replay {
   /** What stands here, as an address holds it. */
   values() {
     return {
-      b: this.isHeld || !isShort(this.code) ? "" : this.code, u: this.at, see: this.wanted === "spectator" ? "spectator" : "",
+      b: this.isHeld || !isShort(this.code) ? "" : this.code,
+      u: this.at,
+      see: this.wanted === "spectator" ? "spectator" : "",
       lines: this.raw.value === "raw" ? "raw" : "",
     };
   }

@@ -1,6 +1,6 @@
 // The sample teams that the page is built with (examples/teams), as texts of Showdown's team builder.
-import { find } from "./dom.js";
-import { savedTeams } from "./saved_teams.js";
+import {find} from "./dom.js";
+import {savedTeams} from "./saved_teams.js";
 
 /** @typedef {{ name: string, text: string }} NamedTeam */
 
@@ -19,7 +19,7 @@ export function sampleTeams() {
  * @param {string} species
  */
 export function setOf(engine, species) {
-  const samples = sampleTeams().map(({ name, text }) => engine.team(text, `The team ${name}`, 0));
+  const samples = sampleTeams().map(({name, text}) => engine.team(text, `The team ${name}`, 0));
   const members = [...savedTeams(engine).map((team) => team.members), ...samples].flat();
   return members.find((member) => member.species === species && member.moves.length) ?? null;
 }

@@ -6,7 +6,8 @@ const KEY = "teams";
 
 /** @param {any} value */
 function isTeam(value) {
-  const isMember = (/** @type {any} */ it) => typeof it?.species === "string" && [it.dvs, it.exp, it.moves].every(Array.isArray);
+  const isMember = (/** @type {any} */ it) =>
+      typeof it?.species === "string" && [it.dvs, it.exp, it.moves].every(Array.isArray);
   return typeof value?.name === "string" && Array.isArray(value.members) && value.members.every(isMember);
 }
 
@@ -18,7 +19,7 @@ function isTeam(value) {
 export function areKnown(engine, members) {
   try {
     members.forEach((member) => engine.stats(member));
-    return members.every(({ moves }) => moves.every(([move]) => Object.hasOwn(engine.tables.moves, move)));
+    return members.every(({moves}) => moves.every(([move]) => Object.hasOwn(engine.tables.moves, move)));
   } catch {
     return false;
   }

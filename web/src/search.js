@@ -1,5 +1,5 @@
 // A field that searches names: a list opens below it, filtered by what is typed, and a name is picked by click or by keys.
-import { make } from "./dom.js";
+import {make} from "./dom.js";
 
 /**
  * @typedef {{ name: string, words: readonly string[], shown: () => Node[] }} Option a name, further words by which it is found, and how the list shows
@@ -26,10 +26,13 @@ export function matches(options, text) {
   const wanted = plain(text);
   const ranked = options.map((option) => {
     const name = plain(option.name);
-    const isOf = [name === wanted, name.startsWith(wanted), option.words.some((word) => plain(word).startsWith(wanted)), name.includes(wanted)];
-    return { option, rank: isOf.indexOf(true) };
+    const isOf = [
+      name === wanted, name.startsWith(wanted), option.words.some((word) => plain(word).startsWith(wanted)),
+      name.includes(wanted)
+    ];
+    return {option, rank: isOf.indexOf(true)};
   });
-  return ranked.filter(({ rank }) => rank >= 0).sort((one, two) => one.rank - two.rank).map(({ option }) => option);
+  return ranked.filter(({rank}) => rank >= 0).sort((one, two) => one.rank - two.rank).map(({option}) => option);
 }
 
 let count = 0;
@@ -48,9 +51,16 @@ export class Search {
     this.at = -1;
     /** @type {Option[]} */
     this.shown = [];
-    this.list = make("div", { role: "listbox", id: `found-${++count}`, class: "found", hidden: true, "aria-label": "Matches" });
-    this.element = make("span", { class: "search" }, field, this.list);
-    for (const [key, value] of Object.entries({ role: "combobox", "aria-expanded": "false", "aria-controls": this.list.id, "aria-autocomplete": "list", autocomplete: "off" }))
+    this.list =
+        make("div", {role: "listbox", id: `found-${++count}`, class: "found", hidden: true, "aria-label": "Matches"});
+    this.element = make("span", {class: "search"}, field, this.list);
+    for (const [key, value] of Object.entries({
+           role: "combobox",
+           "aria-expanded": "false",
+           "aria-controls": this.list.id,
+           "aria-autocomplete": "list",
+           autocomplete: "off"
+         }))
       field.setAttribute(key, value);
     this.listen();
   }
@@ -59,7 +69,8 @@ export class Search {
     this.field.addEventListener("input", (event) => event.isTrusted && this.open(this.field.value));
     this.field.addEventListener("click", () => this.list.hidden && this.open(""));
     this.field.addEventListener("focus", () => this.field.select());
-    this.field.addEventListener("blur", () => window.setTimeout(() => document.activeElement !== this.field && this.close(), LEAVE));
+    this.field.addEventListener(
+        "blur", () => window.setTimeout(() => document.activeElement !== this.field && this.close(), LEAVE));
     this.field.addEventListener("keydown", (event) => this.press(event));
     // The field keeps the focus while its list is clicked.
     this.list.addEventListener("mousedown", (event) => event.preventDefault());
@@ -71,11 +82,13 @@ export class Search {
 
   /** @param {KeyboardEvent} event */
   press(event) {
-    const by = { ArrowDown: 1, ArrowUp: -1 }[event.key];
+    const by = {ArrowDown: 1, ArrowUp: -1}[event.key];
     if (by) {
       event.preventDefault();
-      if (this.list.hidden) this.open("");
-      else this.mark((this.at + by + this.shown.length) % this.shown.length);
+      if (this.list.hidden)
+        this.open("");
+      else
+        this.mark((this.at + by + this.shown.length) % this.shown.length);
     } else if ((event.key === "Enter" || event.key === "Tab") && !this.list.hidden && this.at >= 0) {
       // Tab picks too, and goes on to the next field.
       if (event.key === "Enter") event.preventDefault();
@@ -89,11 +102,12 @@ export class Search {
   /** @param {string} text */
   open(text) {
     this.shown = matches(this.options, text).slice(0, text ? MOST : undefined);
-    this.list.replaceChildren(...this.shown.map(({ name, shown }, at) => (
-      make("div", { role: "option", id: `${this.list.id}-${at}`, "aria-selected": "false" }, make("span", { class: "name" }, name), ...shown()))));
+    this.list.replaceChildren(...this.shown.map(
+        ({name, shown}, at) => (make("div", {role: "option", id: `${this.list.id}-${at}`, "aria-selected": "false"},
+            make("span", {class: "name"}, name), ...shown()))));
     this.list.hidden = !this.shown.length;
     this.field.setAttribute("aria-expanded", String(!this.list.hidden));
-    const current = this.shown.findIndex(({ name }) => plain(name) === plain(this.field.value));
+    const current = this.shown.findIndex(({name}) => plain(name) === plain(this.field.value));
     this.mark(text ? 0 : current);
   }
 
@@ -112,15 +126,15 @@ export class Search {
     if (!option) return this.field.removeAttribute("aria-activedescendant");
     option.setAttribute("aria-selected", "true");
     this.field.setAttribute("aria-activedescendant", option.id);
-    option.scrollIntoView({ block: "nearest" });
+    option.scrollIntoView({block: "nearest"});
   }
 
   /** @param {number} at */
   pick(at) {
-    const { name } = this.shown[at];
+    const {name} = this.shown[at];
     this.field.value = name;
     this.close();
     this.picked(name);
-    this.field.dispatchEvent(new Event("change", { bubbles: true }));
+    this.field.dispatchEvent(new Event("change", {bubbles: true}));
   }
 }

@@ -1,8 +1,8 @@
 // The form that starts a battle: who plays, the teams, and the rules.
-import { find, inField, Problem } from "./dom.js";
-import { below, randomSeed, randomTeam } from "./random.js";
-import { sampleTeams } from "./sample_teams.js";
-import { SIDES } from "./match.js";
+import {find, inField, Problem} from "./dom.js";
+import {SIDES} from "./match.js";
+import {below, randomSeed, randomTeam} from "./random.js";
+import {sampleTeams} from "./sample_teams.js";
 
 /**
  * The ten numbers of a seed; drawn if the field is empty.
@@ -12,7 +12,7 @@ function seedOf(field) {
   if (!field.value.trim()) return randomSeed();
   const numbers = field.value.trim().split(/[\s,]+/).map(Number);
   if (numbers.length !== 10 || numbers.some((it) => !Number.isInteger(it) || it < 0 || it > 255))
-    throw new Problem("The seed must be ten whole numbers from 0 to 255, with spaces between them.", { field });
+    throw new Problem("The seed must be ten whole numbers from 0 to 255, with spaces between them.", {field});
   return numbers;
 }
 
@@ -20,7 +20,8 @@ function seedOf(field) {
 function limitOf(field) {
   const limit = field.value.trim() === "" ? NaN : Number(field.value);
   if (!Number.isInteger(limit) || limit < 1 || limit > 9999)
-    throw new Problem(`The turn limit is ${field.value || "missing"}: it must be a whole number from 1 to 9999.`, { field });
+    throw new Problem(
+        `The turn limit is ${field.value || "missing"}: it must be a whole number from 1 to 9999.`, {field});
   return limit;
 }
 
@@ -39,8 +40,10 @@ export class Setup {
   constructor(engine) {
     this.engine = engine;
     for (const side of SIDES)
-      find(`play-random-${side}`, HTMLButtonElement).addEventListener("click", () => (this.field(side).value = this.randomTeam()));
-    find("play-new-seed", HTMLButtonElement).addEventListener("click", () => (find("play-seed", HTMLInputElement).value = randomSeed().join(" ")));
+      find(`play-random-${side}`, HTMLButtonElement)
+          .addEventListener("click", () => (this.field(side).value = this.randomTeam()));
+    find("play-new-seed", HTMLButtonElement)
+        .addEventListener("click", () => (find("play-seed", HTMLInputElement).value = randomSeed().join(" ")));
     // The team of the computer, on side 2, is drawn when the battle starts, so that the person does not know it.
     this.field(1).value = surprise(6);
   }
@@ -72,7 +75,7 @@ export class Setup {
     const isDrawn = !field.value.trim() && this.who[side - 1] !== "person";
     const text = isDrawn ? surprise(this.count(3 - side)) : field.value;
     const members = inField(field, () => this.engine.team(text, `Side ${side}'s team`, side));
-    if (!members.length) throw new Problem(`Side ${side}'s team has no member.`, { field });
+    if (!members.length) throw new Problem(`Side ${side}'s team has no member.`, {field});
     return members;
   }
 
@@ -80,10 +83,13 @@ export class Setup {
   read() {
     const checked = (/** @type {string} */ id) => (find(id, HTMLInputElement).checked ? 1 : 0);
     const terms = {
-      one: this.team(1), two: this.team(2), seed: seedOf(find("play-seed", HTMLInputElement)),
-      rules: checked("play-sleep") + 2 * checked("play-freeze"), limit: limitOf(find("play-limit", HTMLInputElement)),
+      one: this.team(1),
+      two: this.team(2),
+      seed: seedOf(find("play-seed", HTMLInputElement)),
+      rules: checked("play-sleep") + 2 * checked("play-freeze"),
+      limit: limitOf(find("play-limit", HTMLInputElement)),
     };
-    return { terms, who: this.who, isOpen: Boolean(checked("play-open")) };
+    return {terms, who: this.who, isOpen: Boolean(checked("play-open"))};
   }
 
   /**

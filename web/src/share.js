@@ -1,7 +1,7 @@
 // Sharing a battle: as a page that holds it, as a link, as an input and as log bytes.
-import { copy, guarded, Problem, save } from "./dom.js";
-import { isShort, toAddress } from "./inputs.js";
-import { showdownPage } from "./showdown.js";
+import {copy, guarded, Problem, save} from "./dom.js";
+import {isShort, toAddress} from "./inputs.js";
+import {showdownPage} from "./showdown.js";
 
 // The source of the page, copied before anything in it changes.
 const SOURCE = `<!doctype html>\n${document.documentElement.outerHTML}`;
@@ -36,7 +36,8 @@ export function shareButtons(place, shown) {
   const actions = {
     page: () => save("battle.html", pageWith(shown().inputs.text(shown().recorded)), "text/html"),
     link: () => {
-      if (!isShort(toAddress(shown().recorded))) throw new Problem("The battle is too long for an address: save it as a page.");
+      if (!isShort(toAddress(shown().recorded)))
+        throw new Problem("The battle is too long for an address: save it as a page.");
       return copy(shown().link, "The link is copied.");
     },
     input: () => save("battle.json", shown().inputs.text(shown().recorded), "application/json"),

@@ -27,18 +27,24 @@ document.write('<script src="https://play.pokemonshowdown.com/js/replay-embed.js
  * Showdown names the Special by one of the two stats that it became, and has no short names of accuracy and evasion.
  * @type {Record<string, string>}
  */
-const STATS = { spc: "spa", acc: "accuracy", eva: "evasion" };
+const STATS = {
+  spc: "spa",
+  acc: "accuracy",
+  eva: "evasion"
+};
 const RULES = ["rule|Sleep Clause Mod: Limit one foe put to sleep", "rule|Freeze Clause Mod: Limit one foe frozen"];
 
 /**
  * The species of each side: those of the teams, or of the members that came out.
  * @param {Told} told
  */
-function speciesOf({ updates, recorded }) {
-  if ("input" in recorded) return [recorded.input.one, recorded.input.two].map((team) => team.map(({ species }) => String(species)));
+function speciesOf({updates, recorded}) {
+  if ("input" in recorded)
+    return [recorded.input.one, recorded.input.two].map((team) => team.map(({species}) => String(species)));
   /** @type {string[][]} */
   const found = [[], []];
-  for (const { kind, side, place, line } of updates.flat()) if (kind === "switch") found[side - 1][place - 1] = line.split("|")[3].split(", L")[0];
+  for (const {kind, side, place, line} of updates.flat())
+    if (kind === "switch") found[side - 1][place - 1] = line.split("|")[3].split(", L")[0];
   return found.map((names) => Array.from(names, (name) => name ?? ""));
 }
 
@@ -62,13 +68,17 @@ function numbered(species) {
  * The lines of an event, with the name of the member that is out in place of its species.
  * @param {GameEvent} event @param {string[][]} names @param {number[]} out the places of the members that are out
  */
-function linesOf({ kind, line }, names, out) {
+function linesOf({kind, line}, names, out) {
   const fields = line.split("|").slice(1);
   if (kind === "turn") return [...(fields[1] === "1" ? [] : ["", "upkeep"]), `turn|${fields[1]}`];
   if (kind === "win") return [`win|Side ${fields[1][1]}`];
   if (kind === "fault") return [`-message|The battle cannot go on (fault ${fields[1]}).`, "tie"];
   if (kind.endsWith("boost")) fields[2] = STATS[fields[2]] ?? fields[2];
-  return [fields.map((field) => (/^p[12]a: /.test(field) ? field.slice(0, 5) + names[Number(field[1]) - 1][out[Number(field[1]) - 1] - 1] : field)).join("|")];
+  return [fields
+              .map((field) => (/^p[12]a: /.test(field) ?
+                           field.slice(0, 5) + names[Number(field[1]) - 1][out[Number(field[1]) - 1] - 1] :
+                           field))
+              .join("|")];
 }
 
 /**
@@ -76,9 +86,13 @@ function linesOf({ kind, line }, names, out) {
  * @param {Told} told
  */
 export function showdownPage(told) {
-  const [names, rules, out] = [speciesOf(told).map(numbered), "input" in told.recorded ? told.recorded.input.rules : 0, [1, 1]];
-  const lines = ["gametype|singles", "player|p1|Side 1||", "player|p2|Side 2||", `teamsize|p1|${names[0].length}`, `teamsize|p2|${names[1].length}`, "gen|1",
-    "tier|[Gen 1] Link battle", ...RULES.filter((_, bit) => (rules >> bit) & 1), "", "start"];
+  const [names, rules, out] =
+      [speciesOf(told).map(numbered), "input" in told.recorded ? told.recorded.input.rules : 0, [1, 1]];
+  const lines = [
+    "gametype|singles", "player|p1|Side 1||", "player|p2|Side 2||", `teamsize|p1|${names[0].length}`,
+    `teamsize|p2|${names[1].length}`, "gen|1", "tier|[Gen 1] Link battle",
+    ...RULES.filter((_, bit) => (rules >> bit) & 1), "", "start"
+  ];
   for (const events of told.updates) {
     for (const event of events) {
       if (event.kind === "switch") out[event.side - 1] = event.place;

@@ -1,5 +1,5 @@
 // Long work in slices, between which the page stays responsive.
-import { find } from "./dom.js";
+import {find} from "./dom.js";
 
 /** How long a slice lasts, in milliseconds; and the first one, after which the bar is shown. */
 const [SLICE, FIRST] = [12, 40];
@@ -11,7 +11,7 @@ const [SLICE, FIRST] = [12, 40];
 function slice(steps, time) {
   const end = performance.now() + time;
   for (;;) {
-    const { done, value } = steps.next();
+    const {done, value} = steps.next();
     if (done) return null;
     if (performance.now() >= end) return value;
   }

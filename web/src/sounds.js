@@ -2,9 +2,18 @@
 
 /** @type {Record<string, [OscillatorType, number, number, number]>} a wave, its first and last frequency in Hz, and its seconds */
 const SOUNDS = {
-  switch: ["triangle", 330, 660, 0.18], move: ["square", 240, 180, 0.08], "-damage": ["sawtooth", 190, 60, 0.22], "-heal": ["sine", 440, 880, 0.3],
-  "-crit": ["square", 880, 440, 0.15], "-supereffective": ["square", 520, 700, 0.16], "-miss": ["sine", 500, 350, 0.12], "-status": ["triangle", 300, 150, 0.25],
-  "-boost": ["sine", 400, 700, 0.2], "-unboost": ["sine", 500, 250, 0.2], faint: ["triangle", 400, 50, 0.55], win: ["triangle", 523, 1046, 0.5],
+  switch: ["triangle", 330, 660, 0.18],
+  move: ["square", 240, 180, 0.08],
+  "-damage": ["sawtooth", 190, 60, 0.22],
+  "-heal": ["sine", 440, 880, 0.3],
+  "-crit": ["square", 880, 440, 0.15],
+  "-supereffective": ["square", 520, 700, 0.16],
+  "-miss": ["sine", 500, 350, 0.12],
+  "-status": ["triangle", 300, 150, 0.25],
+  "-boost": ["sine", 400, 700, 0.2],
+  "-unboost": ["sine", 500, 250, 0.2],
+  faint: ["triangle", 400, 50, 0.55],
+  win: ["triangle", 523, 1046, 0.5],
 };
 const LOUD = 0.08;
 

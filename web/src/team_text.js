@@ -16,7 +16,7 @@ const FULL = 31;
  * The EVs that give the stats of the experience.
  * @param {Member} member
  */
-function evsOf({ exp }) {
+function evsOf({exp}) {
   return STATS.map(([, at]) => Math.min(HIGHEST, Math.ceil(Math.sqrt(exp[at]))));
 }
 
@@ -24,7 +24,7 @@ function evsOf({ exp }) {
  * The IVs that give the DVs. That of HP follows from the others.
  * @param {Member} member
  */
-function ivsOf({ dvs: [attack, defense, speed, special] }) {
+function ivsOf({dvs: [attack, defense, speed, special]}) {
   const hp = 8 * (attack & 1) + 4 * (defense & 1) + 2 * (speed & 1) + (special & 1);
   return [hp, attack, defense, special, special, speed].map((dv) => (dv === 15 ? FULL : 2 * dv));
 }

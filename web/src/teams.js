@@ -1,12 +1,12 @@
 // The team builder: a person's teams and the sample teams, a member at a time, and the team as text.
-import { link, setAddress } from "./address.js";
-import { decoded, encoded, joined, MEMBER, memberBytes, memberOf } from "./bytes.js";
-import { blame, copy, done, find, guarded, inField, make, Problem } from "./dom.js";
-import { MemberForm, STATS } from "./member_form.js";
-import { setOf, sampleTeams } from "./sample_teams.js";
-import { areKnown, savedTeams, saveTeams } from "./saved_teams.js";
-import { badge } from "./sides.js";
-import { textOf, titleOf } from "./team_text.js";
+import {link, setAddress} from "./address.js";
+import {decoded, encoded, joined, MEMBER, memberBytes, memberOf} from "./bytes.js";
+import {blame, copy, done, find, guarded, inField, make, Problem} from "./dom.js";
+import {MemberForm, STATS} from "./member_form.js";
+import {sampleTeams, setOf} from "./sample_teams.js";
+import {areKnown, savedTeams, saveTeams} from "./saved_teams.js";
+import {badge} from "./sides.js";
+import {textOf, titleOf} from "./team_text.js";
 
 /**
  * @typedef {import("./engine.js").Member} Member
@@ -18,7 +18,11 @@ const MOST = 6;
 const WIDEST = 550;
 /** How many milliseconds after the last keystroke an error is shown. */
 const PAUSE = 700;
-const FULL = { level: 100, dvs: [15, 15, 15, 15], exp: [65535, 65535, 65535, 65535, 65535] };
+const FULL = {
+  level: 100,
+  dvs: [15, 15, 15, 15],
+  exp: [65535, 65535, 65535, 65535, 65535]
+};
 
 /** The part of the page that builds teams. */
 export class Teams {
@@ -30,9 +34,9 @@ export class Teams {
     this.engine = engine;
     this.saved = savedTeams(engine);
     /** @type {Team[]} */
-    this.samples = sampleTeams().map(({ name, text }) => ({ name, members: engine.team(text, `The team ${name}`, 0) }));
+    this.samples = sampleTeams().map(({name, text}) => ({name, members: engine.team(text, `The team ${name}`, 0)}));
     /** @type {Team} */
-    this.team = this.saved[0] ?? this.samples[0] ?? { name: "My team", members: [] };
+    this.team = this.saved[0] ?? this.samples[0] ?? {name: "My team", members: []};
     this.at = 0;
     this.timer = 0;
     this.isShown = false;
@@ -40,7 +44,7 @@ export class Teams {
     this.name = find("teams-name", HTMLInputElement);
     this.text = find("teams-text", HTMLTextAreaElement);
     this.form = new MemberForm(engine, "This member", (species) => this.offer(species));
-    this.stats = make("div", { class: "stat-bars", role: "group", "aria-label": "Stats" });
+    this.stats = make("div", {class: "stat-bars", role: "group", "aria-label": "Stats"});
     find("teams-member", HTMLElement).append(this.form.name, this.form.moveList, this.stats, this.form.advanced);
     this.listen(play);
   }
@@ -48,20 +52,22 @@ export class Teams {
   /** @param {(side: number, text: string) => void} play */
   listen(play) {
     const member = find("teams-member", HTMLElement);
-    for (const type of ["input", "change"]) member.addEventListener(type, () => this.changed(type === "input" ? PAUSE : 0));
+    for (const type of ["input", "change"])
+      member.addEventListener(type, () => this.changed(type === "input" ? PAUSE : 0));
     this.which.addEventListener("change", () => this.open([...this.saved, ...this.samples][Number(this.which.value)]));
     this.name.addEventListener("change", () => this.edit(() => (this.team.name = this.name.value.trim() || "My team")));
-    const click = (/** @type {string} */ id, /** @type {() => void | Promise<void>} */ work) => (
-      find(id, HTMLButtonElement).addEventListener("click", () => void guarded(work)));
-    click("teams-new", () => this.add({ name: "My team", members: [] }));
-    click("teams-copy", () => this.add({ name: `${this.team.name} (copy)`, members: structuredClone(this.team.members) }));
+    const click = (/** @type {string} */ id, /** @type {() => void | Promise<void>} */ work) =>
+        (find(id, HTMLButtonElement).addEventListener("click", () => void guarded(work)));
+    click("teams-new", () => this.add({name: "My team", members: []}));
+    click(
+        "teams-copy", () => this.add({name: `${this.team.name} (copy)`, members: structuredClone(this.team.members)}));
     click("teams-delete", () => this.remove());
     click("teams-left", () => this.move(-1));
     click("teams-right", () => this.move(1));
     click("teams-drop", () => this.drop());
     click("teams-read", () => inField(this.text, () => this.read()));
     click("teams-export", () => copy(this.text.value, "The team is copied as text."));
-    click("teams-link", () => copy(link("teams", { t: this.code() }), "The link is copied. It holds the team."));
+    click("teams-link", () => copy(link("teams", {t: this.code()}), "The link is copied. It holds the team."));
     for (const side of [1, 2]) click(`teams-play-${side}`, () => play(side, this.whole()));
   }
 
@@ -72,8 +78,10 @@ export class Teams {
   route(values) {
     this.isShown = true;
     const code = values.get("t") ?? "";
-    if (code && code !== this.code()) this.open({ name: "Team from a link", members: this.ofCode(code) });
-    else this.open(this.team);
+    if (code && code !== this.code())
+      this.open({name: "Team from a link", members: this.ofCode(code)});
+    else
+      this.open(this.team);
   }
 
   code() {
@@ -84,8 +92,9 @@ export class Teams {
   ofCode(code) {
     const bytes = decoded(code);
     const count = bytes.length / MEMBER;
-    if (!Number.isInteger(count) || count < 1 || count > MOST) throw new Problem("The address is damaged: it does not hold a team.");
-    const members = Array.from({ length: count }, (_, at) => memberOf(bytes.subarray(MEMBER * at, MEMBER * (at + 1))));
+    if (!Number.isInteger(count) || count < 1 || count > MOST)
+      throw new Problem("The address is damaged: it does not hold a team.");
+    const members = Array.from({length: count}, (_, at) => memberOf(bytes.subarray(MEMBER * at, MEMBER * (at + 1))));
     if (!areKnown(this.engine, members)) throw new Problem("The address is damaged: it does not hold a team.");
     return members;
   }
@@ -133,7 +142,8 @@ export class Teams {
 
   save() {
     const isKept = saveTeams(this.saved);
-    find("teams-kept", HTMLElement).textContent = isKept ? "" : "This browser does not keep teams for the page: copy the text or a link before you close it.";
+    find("teams-kept", HTMLElement).textContent =
+        isKept ? "" : "This browser does not keep teams for the page: copy the text or a link before you close it.";
   }
 
   /** The text of a team that can battle. */
@@ -145,7 +155,7 @@ export class Teams {
 
   /** Puts the member into the form. */
   fill() {
-    this.form.set(this.team.members[this.at] ?? { ...FULL, species: "", moves: [] });
+    this.form.set(this.team.members[this.at] ?? {...FULL, species: "", moves: []});
   }
 
   /**
@@ -163,13 +173,16 @@ export class Teams {
     try {
       const member = this.form.member();
       this.say("");
-      if (JSON.stringify(member) !== JSON.stringify(this.team.members[this.at])) this.edit(() => (this.team.members[this.at] = member));
+      if (JSON.stringify(member) !== JSON.stringify(this.team.members[this.at]))
+        this.edit(() => (this.team.members[this.at] = member));
     } catch (error) {
       if (!(error instanceof Problem)) throw error;
-      const { message, field } = error;
+      const {message, field} = error;
       const say = () => this.say(message, field);
-      if (pause) this.timer = window.setTimeout(say, pause);
-      else say();
+      if (pause)
+        this.timer = window.setTimeout(say, pause);
+      else
+        say();
     }
   }
 
@@ -184,7 +197,7 @@ export class Teams {
   /** @param {number} by */
   move(by) {
     const to = this.at + by;
-    const { members } = this.team;
+    const {members} = this.team;
     if (!members[this.at] || !members[to]) return;
     this.edit(() => {
       const own = this.team.members;
@@ -202,7 +215,7 @@ export class Teams {
 
   /** Takes the team in the text. */
   read() {
-    const { value } = this.text;
+    const {value} = this.text;
     const members = this.engine.team(value, "The text", 0);
     if (!members.length) throw new Problem("The text has no member.");
     this.edit(() => {
@@ -225,43 +238,50 @@ export class Teams {
 
   /** Shows the team; the form has the member already. */
   draw() {
-    const { team } = this;
+    const {team} = this;
     this.drawList();
     this.name.value = team.name;
     this.text.value = textOf(team.members);
-    const slots = Array.from({ length: Math.min(MOST, team.members.length + 1) }, (_, at) => this.slot(at));
+    const slots = Array.from({length: Math.min(MOST, team.members.length + 1)}, (_, at) => this.slot(at));
     const place = find("teams-slots", HTMLElement);
     const hadFocus = place.contains(document.activeElement);
     place.replaceChildren(...slots);
     if (hadFocus) slots[this.at]?.focus();
     const isThere = Boolean(team.members[this.at]);
     for (const [id, isOn] of Object.entries({
-      "teams-left": isThere && this.at > 0, "teams-right": this.at < team.members.length - 1, "teams-drop": isThere, "teams-delete": this.saved.includes(team),
-    })) find(id, HTMLButtonElement).disabled = !isOn;
+           "teams-left": isThere && this.at > 0,
+           "teams-right": this.at < team.members.length - 1,
+           "teams-drop": isThere,
+           "teams-delete": this.saved.includes(team),
+         }))
+      find(id, HTMLButtonElement).disabled = !isOn;
     this.form.tell();
     this.drawStats();
     const fault = team.members.length ? this.engine.fault(team.members) : "";
     find("teams-state", HTMLElement).textContent = fault ? `${fault}.` : "";
-    if (this.isShown) setAddress("teams", { t: team.members.length ? this.code() : "" });
+    if (this.isShown) setAddress("teams", {t: team.members.length ? this.code() : ""});
   }
 
   /** The list of all teams. A team from a link is in it until another is chosen. */
   drawList() {
     const all = [...this.saved, ...this.samples];
-    const options = (/** @type {Team[]} */ teams) => teams.map((team) => make("option", { value: all.indexOf(team), selected: team === this.team }, team.name));
-    const group = (/** @type {string} */ label, /** @type {Node[]} */ items) => (items.length ? [make("optgroup", { label }, ...items)] : []);
+    const options = (/** @type {Team[]} */ teams) =>
+        teams.map((team) => make("option", {value: all.indexOf(team), selected: team === this.team}, team.name));
+    const group = (/** @type {string} */ label, /** @type {Node[]} */ items) =>
+        (items.length ? [make("optgroup", {label}, ...items)] : []);
     const isOther = !all.includes(this.team);
     this.which.replaceChildren(
-      ...(isOther ? [make("option", { value: -1, selected: true, disabled: true }, this.team.name)] : []),
-      ...group("Your teams", options(this.saved)), ...group("Sample teams", options(this.samples)));
+        ...(isOther ? [make("option", {value: -1, selected: true, disabled: true}, this.team.name)] : []),
+        ...group("Your teams", options(this.saved)), ...group("Sample teams", options(this.samples)));
   }
 
   /** @param {number} at */
   slot(at) {
     const member = this.team.members[at];
     const types = member ? [...new Set(this.engine.tables.species[String(member.species)])].map(badge) : [];
-    return make("button", { type: "button", class: "slot", "aria-pressed": String(at === this.at), click: () => this.choose(at) },
-      make("strong", {}, member ? String(member.species) : "Add a member"), make("span", {}, ...types));
+    return make("button",
+        {type: "button", class: "slot", "aria-pressed": String(at === this.at), click: () => this.choose(at)},
+        make("strong", {}, member ? String(member.species) : "Add a member"), make("span", {}, ...types));
   }
 
   /** The stats of the member in the form; none before it has a species. */
@@ -271,7 +291,8 @@ export class Teams {
     this.stats.replaceChildren(...values.map((value, at) => {
       const bar = make("span", {});
       bar.style.width = `${Math.min(100, (100 * value) / WIDEST)}%`;
-      return make("div", {}, make("span", {}, STATS[at]), make("strong", {}, value), make("span", { class: "stat-bar", "aria-hidden": "true" }, bar));
+      return make("div", {}, make("span", {}, STATS[at]), make("strong", {}, value),
+          make("span", {class: "stat-bar", "aria-hidden": "true"}, bar));
     }));
   }
 }

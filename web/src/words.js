@@ -4,39 +4,102 @@
  * The statuses as the lines write them.
  * @type {Record<import("gen1").Status, string>}
  */
-export const STATUS_TAGS = { none: "", sleep: "slp", poison: "psn", burn: "brn", freeze: "frz", paralysis: "par" };
+export const STATUS_TAGS = {
+  none: "",
+  sleep: "slp",
+  poison: "psn",
+  burn: "brn",
+  freeze: "frz",
+  paralysis: "par"
+};
 /** @type {Record<string, string>} */
-export const STATUS_WORDS = { slp: "asleep", psn: "poisoned", brn: "burned", frz: "frozen", par: "paralysed" };
+export const STATUS_WORDS = {
+  slp: "asleep",
+  psn: "poisoned",
+  brn: "burned",
+  frz: "frozen",
+  par: "paralysed"
+};
 /** @type {Record<string, string>} */
-const STATUS_BEGINS = { slp: "falls asleep", psn: "is poisoned", brn: "is burned", frz: "is frozen", par: "is paralysed" };
+const STATUS_BEGINS = {
+  slp: "falls asleep",
+  psn: "is poisoned",
+  brn: "is burned",
+  frz: "is frozen",
+  par: "is paralysed"
+};
 /** @type {Record<string, string>} */
-const STATUS_ENDS = { slp: "wakes up", psn: "is no longer poisoned", brn: "is no longer burned", frz: "thaws", par: "is no longer paralysed" };
+const STATUS_ENDS = {
+  slp: "wakes up",
+  psn: "is no longer poisoned",
+  brn: "is no longer burned",
+  frz: "thaws",
+  par: "is no longer paralysed"
+};
 /** @type {Record<string, string>} */
-const STATS = { atk: "Attack", def: "Defense", spe: "Speed", spc: "Special", acc: "accuracy", eva: "evasion" };
+const STATS = {
+  atk: "Attack",
+  def: "Defense",
+  spe: "Speed",
+  spc: "Special",
+  acc: "accuracy",
+  eva: "evasion"
+};
 /** @type {Record<string, string>} */
 const STOPS = {
-  slp: "is asleep", frz: "is frozen", partiallytrapped: "is trapped and cannot act", flinch: "flinches", recharge: "has to recharge",
-  Disable: "cannot use its move, which is disabled", par: "is fully paralysed",
+  slp: "is asleep",
+  frz: "is frozen",
+  partiallytrapped: "is trapped and cannot act",
+  flinch: "flinches",
+  recharge: "has to recharge",
+  Disable: "cannot use its move, which is disabled",
+  par: "is fully paralysed",
 };
 /** @type {Record<string, string>} */
 const SOURCES = {
-  "[from] psn": " by poison", "[from] brn": " by its burn", "[from] Leech Seed": " by Leech Seed", "[from] Recoil": " by recoil",
+  "[from] psn": " by poison",
+  "[from] brn": " by its burn",
+  "[from] Leech Seed": " by Leech Seed",
+  "[from] Recoil": " by recoil",
   "[from] confusion": " by hitting itself",
 };
 /** @type {Record<string, string>} */
 const STARTS = {
-  confusion: "is confused", Bide: "begins to bide", Substitute: "puts up a Substitute", "Leech Seed": "is seeded",
-  Mist: "is shrouded in Mist", "Focus Energy": "focuses its energy", "Light Screen": "is behind a Light Screen",
-  Reflect: "is behind Reflect", Disable: "has a move disabled", typechange: "takes its foe's types", trapped: "is trapped",
-  Rage: "begins to rage", Splash: "splashes",
+  confusion: "is confused",
+  Bide: "begins to bide",
+  Substitute: "puts up a Substitute",
+  "Leech Seed": "is seeded",
+  Mist: "is shrouded in Mist",
+  "Focus Energy": "focuses its energy",
+  "Light Screen": "is behind a Light Screen",
+  Reflect: "is behind Reflect",
+  Disable: "has a move disabled",
+  typechange: "takes its foe's types",
+  trapped: "is trapped",
+  Rage: "begins to rage",
+  Splash: "splashes",
 };
 /** @type {Record<string, string>} */
-const ENDS = { confusion: "is no longer confused", Bide: "releases its energy", Substitute: "loses its Substitute", Disable: "may use its move again" };
+const ENDS = {
+  confusion: "is no longer confused",
+  Bide: "releases its energy",
+  Substitute: "loses its Substitute",
+  Disable: "may use its move again"
+};
 /** @type {Record<string, string>} */
-const ACTS = { confusion: "is confused", Bide: "bides its time", Substitute: "has its Substitute hit", Splash: "splashes: nothing happens" };
+const ACTS = {
+  confusion: "is confused",
+  Bide: "bides its time",
+  Substitute: "has its Substitute hit",
+  Splash: "splashes: nothing happens"
+};
 /** @type {Record<string, string>} */
 export const OUTCOMES = {
-  ongoing: "", "win one": "Side 1 has won", "win two": "Side 2 has won", tie: "A tie", "fault 1": "The battle stopped by a division by 0",
+  ongoing: "",
+  "win one": "Side 1 has won",
+  "win two": "Side 2 has won",
+  tie: "A tie",
+  "fault 1": "The battle stopped by a division by 0",
   "fault 2": "The battle stopped at a Psywave of level 1",
 };
 
@@ -45,7 +108,10 @@ export const OUTCOMES = {
  */
 
 /** @type {Voice} */
-const PLAIN = { you: 0, hasPixels: false };
+const PLAIN = {
+  you: 0,
+  hasPixels: false
+};
 /** Who tells the line that is being put into words. */
 let voice = PLAIN;
 
@@ -106,7 +172,8 @@ const SENTENCES = {
   },
   move: (who, move) => `${named(who)} uses ${move}.`,
   cant: (who, why) => `${named(who)} ${STOPS[why] ?? "cannot act"}.`,
-  "-damage": (who, health, source) => `${named(who)} is down to ${hp(health, who)}${source ? SOURCES[source] ?? "" : ""}.`,
+  "-damage": (who, health, source) =>
+      `${named(who)} is down to ${hp(health, who)}${source ? SOURCES[source] ?? "" : ""}.`,
   "-heal": (who, health) => `${named(who)} is healed to ${hp(health, who)}.`,
   "-crit": (who) => `It is a critical hit on ${inside(who)}.`,
   "-supereffective": () => "It is super effective.",

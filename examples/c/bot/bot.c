@@ -36,20 +36,17 @@ static const uint8_t members[MEMBERS][5] = {
 /* Random numbers of the players, which are independent of those that a battle draws. */
 static uint64_t state;
 
-static uint32_t draw(uint32_t bound)
-{
+static uint32_t draw(uint32_t bound) {
     state = state * 6364136223846793005u + 1442695040888963407u;
     return (uint32_t)(state >> 32) % bound;
 }
 
-static void draw_seed(uint8_t seed[10])
-{
+static void draw_seed(uint8_t seed[10]) {
     for (int at = 0; at < 10; at++)
         seed[at] = (uint8_t)draw(256);
 }
 
-static gen1_team draw_team(void)
-{
+static gen1_team draw_team(void) {
     gen1_team team = {.count = MEMBERS_OF_A_SIDE};
     uint32_t first = draw(MEMBERS);
     for (int at = 0; at < team.count; at++) {
@@ -64,35 +61,28 @@ static gen1_team draw_team(void)
     return team;
 }
 
-static uint8_t outcome(const gen1_battle *battle)
-{
-    return GEN1_RESULT_OUTCOME(gen1_result(battle));
-}
+static uint8_t outcome(const gen1_battle *battle) { return GEN1_RESULT_OUTCOME(gen1_result(battle)); }
 
-static uint8_t random_choice(const gen1_battle *battle, uint8_t side)
-{
+static uint8_t random_choice(const gen1_battle *battle, uint8_t side) {
     uint8_t choices[9];
     uint8_t count = gen1_choices(battle, side, choices);
     return count == 0 ? GEN1_CHOICE_PASS : choices[draw(count)];
 }
 
 /* Ends the program if a call returns a code, which none here should. */
-static void stop_if_refused(uint8_t code)
-{
+static void stop_if_refused(uint8_t code) {
     if (code != 0) {
         fprintf(stderr, "error: refused %d\n", code);
         exit(1);
     }
 }
 
-static void update(gen1_battle *battle, uint8_t one, uint8_t two)
-{
+static void update(gen1_battle *battle, uint8_t one, uint8_t two) {
     stop_if_refused(gen1_update_silent(battle, one, two));
 }
 
 /* A copy that draws other numbers than the battle, so that the bot doesn't know its luck. */
-static gen1_battle fork_of(const gen1_battle *battle)
-{
+static gen1_battle fork_of(const gen1_battle *battle) {
     gen1_battle fork = *battle;
     uint8_t seed[10];
     draw_seed(seed);
@@ -101,8 +91,7 @@ static gen1_battle fork_of(const gen1_battle *battle)
 }
 
 /* The score of side 1 in a fork, after its choice and random ones up to the end: 2 for a win, 1 for a tie. */
-static int played_out(gen1_battle fork, uint8_t choice)
-{
+static int played_out(gen1_battle fork, uint8_t choice) {
     update(&fork, choice, random_choice(&fork, GEN1_TWO));
     while (outcome(&fork) == GEN1_OUTCOME_ONGOING) {
         uint8_t one = random_choice(&fork, GEN1_ONE);
@@ -112,8 +101,7 @@ static int played_out(gen1_battle fork, uint8_t choice)
 }
 
 /* The choice of side 1 with the highest score in its forks. */
-static uint8_t best_choice(const gen1_battle *battle)
-{
+static uint8_t best_choice(const gen1_battle *battle) {
     uint8_t choices[9], best = GEN1_CHOICE_PASS;
     uint8_t count = gen1_choices(battle, GEN1_ONE, choices);
     int most = -1;
@@ -130,8 +118,7 @@ static uint8_t best_choice(const gen1_battle *battle)
 }
 
 /* Plays a battle, and returns its outcome. */
-static uint8_t played(void)
-{
+static uint8_t played(void) {
     gen1_team team = draw_team();
     gen1_battle battle;
     uint8_t seed[10];
@@ -148,12 +135,12 @@ static uint8_t played(void)
     return outcome(&battle);
 }
 
-int main(int count, char **words)
-{
+int main(int count, char **words) {
     int battles = count > 1 ? atoi(words[1]) : 100, ended[6] = {0};
     state = count > 2 ? strtoull(words[2], NULL, 10) : 1;
     for (int battle = 0; battle < battles; battle++)
         ended[played()]++;
-    printf("bot %d, random %d, ties %d\n", ended[GEN1_OUTCOME_WIN_ONE], ended[GEN1_OUTCOME_WIN_TWO], battles - ended[GEN1_OUTCOME_WIN_ONE] - ended[GEN1_OUTCOME_WIN_TWO]);
+    printf("bot %d, random %d, ties %d\n", ended[GEN1_OUTCOME_WIN_ONE], ended[GEN1_OUTCOME_WIN_TWO],
+           battles - ended[GEN1_OUTCOME_WIN_ONE] - ended[GEN1_OUTCOME_WIN_TWO]);
     return 0;
 }

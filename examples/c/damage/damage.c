@@ -15,14 +15,12 @@
 #include "battle_file.h"
 
 /* Prints the least and the most damage, and their percentages of the foe's HP. */
-static void print_range(const char *before, const gen1_damages *it, uint16_t hp)
-{
+static void print_range(const char *before, const gen1_damages *it, uint16_t hp) {
     uint16_t least = it->numbers[0], most = it->numbers[it->count - 1];
     printf("%s%3d to %3d, %3d to %3d%%", before, least, most, least * 100 / hp, most * 100 / hp);
 }
 
-static void print_row(const gen1_odds *odds, uint8_t move, uint16_t hp)
-{
+static void print_row(const gen1_odds *odds, uint8_t move, uint16_t hp) {
     printf("  move %3d: ", move);
     if (odds->usual.count == 0 || odds->critical.count == 0) {
         printf("no usual damage (code %d)", odds->usual.count == 0 ? odds->usual.code : odds->critical.code);
@@ -43,18 +41,17 @@ static void print_row(const gen1_odds *odds, uint8_t move, uint16_t hp)
 }
 
 /* Prints the table of a member against a foe with this many HP. */
-static void print_table(const gen1_member *user, const gen1_member *foe, uint16_t hp)
-{
+static void print_table(const gen1_member *user, const gen1_member *foe, uint16_t hp) {
     gen1_odds odds;
-    printf("species %d at level %d on species %d at level %d, %d HP\n", user->species, user->level, foe->species, foe->level, hp);
+    printf("species %d at level %d on species %d at level %d, %d HP\n", user->species, user->level, foe->species,
+           foe->level, hp);
     for (int at = 0; at < 4; at++)
         if (gen1_odds_between(user, foe, user->moves[at], &odds) == 0)
             print_row(&odds, user->moves[at], hp);
 }
 
 /* Reads both teams, from two text files or from standard input; prints errors. */
-static bool read_teams(int count, char **words, battle_file *to)
-{
+static bool read_teams(int count, char **words, battle_file *to) {
     *to = (battle_file){.limit = GEN1_LIMIT};
     if (count == 3)
         return read_team_text(words[1], &to->one) && read_team_text(words[2], &to->two);
@@ -64,8 +61,7 @@ static bool read_teams(int count, char **words, battle_file *to)
     return is_read;
 }
 
-int main(int count, char **words)
-{
+int main(int count, char **words) {
     battle_file file;
     gen1_spectator spectator;
     if (!read_teams(count, words, &file))

@@ -16,8 +16,7 @@
 enum { MOST = (9999 + 11) * GEN1_LOG_ROOM };
 
 /* All bytes of a file, which the caller frees; NULL if they cannot be read, or are more than any battle has. */
-static uint8_t *read_all(FILE *from, size_t *count)
-{
+static uint8_t *read_all(FILE *from, size_t *count) {
     uint8_t *bytes = malloc(MOST + 1);
     *count = 0;
     if (bytes == NULL)
@@ -31,8 +30,7 @@ static uint8_t *read_all(FILE *from, size_t *count)
 }
 
 /* Reads all events. Returns GEN1_ERROR_LOG_END for a log, else the code of the first error, with `*at` at the event where it is. */
-static uint8_t tested(const uint8_t *log, size_t count, size_t *at)
-{
+static uint8_t tested(const uint8_t *log, size_t count, size_t *at) {
     gen1_event event;
     uint8_t code;
     do
@@ -41,16 +39,14 @@ static uint8_t tested(const uint8_t *log, size_t count, size_t *at)
     return code;
 }
 
-static void print_lines(const uint8_t *log, size_t count)
-{
+static void print_lines(const uint8_t *log, size_t count) {
     char line[GEN1_LINE_ROOM];
     size_t at = 0, length = 0;
     while (gen1_next_line(log, count, &at, line, sizeof line, &length) == 0)
         fputs(line, stdout);
 }
 
-int main(int count, char **words)
-{
+int main(int count, char **words) {
     FILE *from = count > 1 ? fopen(words[1], "rb") : stdin;
     size_t length = 0, at = 0;
     uint8_t *log = from == NULL ? NULL : read_all(from, &length);

@@ -7,8 +7,7 @@
 #include <stdio.h>
 #include <stdlib.h>
 
-int main(int count, char **words)
-{
+int main(int count, char **words) {
     char line[256];
     int next = 1;
     while (fgets(line, sizeof line, stdin) != NULL) {

@@ -51,16 +51,14 @@ typedef struct player {
 /* ---- writing to the players ---- */
 
 /* Closes an end of a pipe, if it is open. */
-static void close_end(int *end)
-{
+static void close_end(int *end) {
     if (*end >= 0)
         close(*end);
     *end = -1;
 }
 
 /* Sends a line. If the player does not read, the line is dropped: the room never waits. */
-static void send(player *to, const char *format, ...)
-{
+static void send(player *to, const char *format, ...) {
     char text[GEN1_LINE_ROOM + 16];
     va_list arguments;
     va_start(arguments, format);
@@ -71,8 +69,7 @@ static void send(player *to, const char *format, ...)
 }
 
 /* Asks a player for its choice, if it has to make one. */
-static void ask(player *of, const gen1_room *at)
-{
+static void ask(player *of, const gen1_room *at) {
     uint8_t choices[9];
     char words[9 * 4 + 1] = "";
     uint8_t count = gen1_room_choices(at, of->side, choices);
@@ -83,8 +80,7 @@ static void ask(player *of, const gen1_room *at)
 }
 
 /* Prints the lines of the last update, and sends them to both. */
-static void tell_both(player players[2], const gen1_room *at)
-{
+static void tell_both(player players[2], const gen1_room *at) {
     char line[GEN1_LINE_ROOM];
     size_t place = 0, length = 0;
     while (gen1_next_line(at->log, at->log_length, &place, line, sizeof line, &length) == 0) {
@@ -99,13 +95,12 @@ static void tell_both(player players[2], const gen1_room *at)
 /* ---- reading from the players ---- */
 
 /* Reads the two numbers of a line; returns whether it has exactly these. */
-static bool read_line(const char *line, uint32_t *number, uint8_t *choice)
-{
+static bool read_line(const char *line, uint32_t *number, uint8_t *choice) {
     unsigned long pair;
     unsigned byte;
     int end = -1;
-    if (strspn(line, "0123456789 ") != strlen(line) || sscanf(line, "%10lu %3u%n", &pair, &byte, &end) != 2 || line[end] != '\0'
-        || pair > UINT32_MAX || byte > 255)
+    if (strspn(line, "0123456789 ") != strlen(line) || sscanf(line, "%10lu %3u%n", &pair, &byte, &end) != 2 ||
+        line[end] != '\0' || pair > UINT32_MAX || byte > 255)
         return false;
     *number = (uint32_t)pair;
     *choice = (uint8_t)byte;
@@ -113,8 +108,7 @@ static bool read_line(const char *line, uint32_t *number, uint8_t *choice)
 }
 
 /* Handles a line of a player: it is accepted, or refused with a code. */
-static void take_line(player players[2], player *from, gen1_room *at)
-{
+static void take_line(player players[2], player *from, gen1_room *at) {
     uint32_t number, before = at->number;
     uint8_t choice, code = RUBBISH;
     from->line[from->filled < LINE_MOST ? from->filled : LINE_MOST - 1] = '\0';
@@ -131,8 +125,7 @@ static void take_line(player players[2], player *from, gen1_room *at)
 }
 
 /* Reads what a player has sent, up to a limit at a time. */
-static void listen_to(player players[2], player *from, gen1_room *at)
-{
+static void listen_to(player players[2], player *from, gen1_room *at) {
     char bytes[READ_AT_ONCE];
     ssize_t count = read(from->from, bytes, sizeof bytes);
     if (count <= 0)
@@ -145,8 +138,7 @@ static void listen_to(player players[2], player *from, gen1_room *at)
 }
 
 /* Makes the first choice for each player that has left, or, if the time is up, for each that has not chosen. */
-static void choose_for_missing(player players[2], gen1_room *at, bool is_time_up)
-{
+static void choose_for_missing(player players[2], gen1_room *at, bool is_time_up) {
     uint32_t before = at->number;
     for (int k = 0; k < 2 && at->number == before; k++) {
         uint8_t choices[9];
@@ -160,16 +152,14 @@ static void choose_for_missing(player players[2], gen1_room *at, bool is_time_up
 /* ---- the battle ---- */
 
 /* Seconds of a clock that is never adjusted. */
-static time_t now(void)
-{
+static time_t now(void) {
     struct timespec it;
     clock_gettime(CLOCK_MONOTONIC, &it);
     return it.tv_sec;
 }
 
 /* Waits for either player until a time, and reads what they sent. */
-static void listen_to_both(player players[2], gen1_room *at, time_t until)
-{
+static void listen_to_both(player players[2], gen1_room *at, time_t until) {
     struct pollfd ends[2] = {{.fd = players[0].from, .events = POLLIN}, {.fd = players[1].from, .events = POLLIN}};
     time_t left = until - now();
     if (poll(ends, 2, left > 0 ? (int)left * 1000 : 0) > 0)
@@ -178,8 +168,7 @@ static void listen_to_both(player players[2], gen1_room *at, time_t until)
                 listen_to(players, &players[k], at);
 }
 
-static void run_room(player players[2], gen1_room *at, int patience)
-{
+static void run_room(player players[2], gen1_room *at, int patience) {
     time_t until = now() + patience;
     tell_both(players, at);
     while (GEN1_RESULT_OUTCOME(gen1_result(&at->battle)) == GEN1_OUTCOME_ONGOING) {
@@ -194,8 +183,7 @@ static void run_room(player players[2], gen1_room *at, int patience)
 
 /* ---- processes ---- */
 
-static void or_stop(bool is_done, const char *what)
-{
+static void or_stop(bool is_done, const char *what) {
     if (!is_done) {
         perror(what);
         exit(1);
@@ -203,8 +191,7 @@ static void or_stop(bool is_done, const char *what)
 }
 
 /* Starts a player's process, in its own process group, with pipes that the other player does not inherit. */
-static player begin(uint8_t side, const char *command)
-{
+static player begin(uint8_t side, const char *command) {
     int to[2], from[2];
     or_stop(pipe(to) == 0 && pipe(from) == 0, "pipe");
     fcntl(to[1], F_SETFD, FD_CLOEXEC);
@@ -228,16 +215,15 @@ static player begin(uint8_t side, const char *command)
 }
 
 /* Gives a process time to end. It is not reaped yet, so that its process ID stays reserved. */
-static void let_end(pid_t pid)
-{
+static void let_end(pid_t pid) {
     siginfo_t it = {0};
-    for (int look = 0; look < LOOKS && waitid(P_PID, (id_t)pid, &it, WEXITED | WNOHANG | WNOWAIT) == 0 && it.si_pid == 0; look++)
+    for (int look = 0;
+         look < LOOKS && waitid(P_PID, (id_t)pid, &it, WEXITED | WNOHANG | WNOWAIT) == 0 && it.si_pid == 0; look++)
         poll(NULL, 0, LOOK_EVERY);
 }
 
 /* Ends a player's process and the processes that it started, and prints how often it was refused. */
-static void end(player *of)
-{
+static void end(player *of) {
     kill(-of->pid, SIGTERM);
     close_end(&of->to);
     close_end(&of->from);
@@ -250,15 +236,13 @@ static void end(player *of)
 }
 
 /* The number of seconds in an argument, or 0 if it is not a number from 1 to MOST_PATIENCE. */
-static int seconds_of(const char *word)
-{
+static int seconds_of(const char *word) {
     bool is_number = word[0] != '\0' && strspn(word, "0123456789") == strlen(word) && strlen(word) <= 5;
     long seconds = is_number ? strtol(word, NULL, 10) : 0;
     return seconds <= MOST_PATIENCE ? (int)seconds : 0;
 }
 
-int main(int count, char **words)
-{
+int main(int count, char **words) {
     battle_file file;
     gen1_room at;
     int patience = count == 5 ? seconds_of(words[4]) : USUAL_PATIENCE;

@@ -97,12 +97,17 @@ def solved(table: list[list[float]]) -> Play:
     The greatest sum of such weights is 1 / value, and the weights over their sum are side 2's best play.
     """
     rows, columns = len(table), len(table[0])
-    lines = [[entry + 1 for entry in row] + [float(k == at) for k in range(rows)] + [1.0] for at, row in enumerate(table)]
+    lines = [
+        [entry + 1 for entry in row] + [float(k == at) for k in range(rows)] + [1.0] for at, row in enumerate(table)
+    ]
     goal = [-1.0] * columns + [0.0] * (rows + 1)
     basis = list(range(columns, columns + rows))
     while min(goal[:-1]) < -1e-12:
         enters = next(k for k, gain in enumerate(goal) if gain < -1e-12)
-        leaves = min((k for k in range(rows) if lines[k][enters] > 1e-12), key=lambda k: (lines[k][-1] / lines[k][enters], basis[k]))
+        leaves = min(
+            (k for k in range(rows) if lines[k][enters] > 1e-12),
+            key=lambda k: (lines[k][-1] / lines[k][enters], basis[k]),
+        )
         basis[leaves] = enters
         lines[leaves] = pivot = [entry / lines[leaves][enters] for entry in lines[leaves]]
         lines = [line if k == leaves else minus(line, line[enters], pivot) for k, line in enumerate(lines)]
@@ -140,7 +145,9 @@ def values(found: dict[Position, Game], ends: dict[Position, float], tolerance: 
 
 def by_hp(plays: dict[Position, Play]) -> dict[tuple[int, int], Play]:
     """The positions in which nothing but HP matters."""
-    return {(one.hp, two.hp): play for (one, two), play in plays.items() if (one, two) == (Fighter(one.hp), Fighter(two.hp))}
+    return {
+        (one.hp, two.hp): play for (one, two), play in plays.items() if (one, two) == (Fighter(one.hp), Fighter(two.hp))
+    }
 
 
 def groups(plays: dict[tuple[int, int], Play]) -> list[list[int]]:
@@ -179,7 +186,9 @@ def draw(plays: dict[tuple[int, int], Play], path: str) -> None:
 
     figure, axes = plt.subplots(figsize=(6, 5), layout="constrained")
     ones, twos = zip(*plays)
-    dots = axes.scatter(twos, ones, c=[play.value for play in plays.values()], cmap="RdBu", vmin=0, vmax=1, marker="s", s=120)
+    dots = axes.scatter(
+        twos, ones, c=[play.value for play in plays.values()], cmap="RdBu", vmin=0, vmax=1, marker="s", s=120
+    )
     axes.set(title="How often side 1 wins, if both play best", xlabel="HP of side 2", ylabel="HP of side 1")
     figure.colorbar(dots)
     figure.savefig(path, dpi=120)
@@ -189,9 +198,23 @@ def options() -> argparse.Namespace:
     """The arguments of the command line."""
     parser = argparse.ArgumentParser(description=__doc__, formatter_class=argparse.RawDescriptionHelpFormatter)
     parser.add_argument("--species", default="Tauros", metavar="NAME", help="of both members (default: %(default)s)")
-    parser.add_argument("--moves", nargs="+", default=["Body Slam", "Hyper Beam", "Blizzard"], metavar="NAME", help="of both, up to four")
-    parser.add_argument("--level", type=int, default=5, metavar="N", help="of both (default: %(default)s); higher levels have more positions")
-    parser.add_argument("--tolerance", type=float, default=1e-9, metavar="X", help="the change at which to stop (default: %(default)s)")
+    parser.add_argument(
+        "--moves",
+        nargs="+",
+        default=["Body Slam", "Hyper Beam", "Blizzard"],
+        metavar="NAME",
+        help="of both, up to four",
+    )
+    parser.add_argument(
+        "--level",
+        type=int,
+        default=5,
+        metavar="N",
+        help="of both (default: %(default)s); higher levels have more positions",
+    )
+    parser.add_argument(
+        "--tolerance", type=float, default=1e-9, metavar="X", help="the change at which to stop (default: %(default)s)"
+    )
     parser.add_argument("--plot", metavar="FILE", help="also write a picture, as PNG, SVG or PDF; needs matplotlib")
     given = parser.parse_args()
     if given.tolerance <= 0:

@@ -45,7 +45,9 @@ def mean(battle: Battle, one: Choice, two: Choice, depth: int) -> float:
 def endgame(hp_one: int, hp_two: int) -> Battle:
     """Alakazam, which is faster, against Tauros, with these HP."""
     battle = Battle(
-        [Member("Alakazam", ["Psychic", "Recover", "Thunder Wave"])], [Member("Tauros", ["Body Slam", "Hyper Beam"])], seed=bytes(10)
+        [Member("Alakazam", ["Psychic", "Recover", "Thunder Wave"])],
+        [Member("Tauros", ["Body Slam", "Hyper Beam"])],
+        seed=bytes(10),
     )
     battle.update(Choice.PASS, Choice.PASS)
     return battle.with_hp(Side.ONE, 1, hp_one).with_hp(Side.TWO, 1, hp_two)
@@ -54,8 +56,12 @@ def endgame(hp_one: int, hp_two: int) -> Battle:
 def main() -> int:
     """Prints the table, and the best choice."""
     parser = argparse.ArgumentParser(description=__doc__, formatter_class=argparse.RawDescriptionHelpFormatter)
-    parser.add_argument("--depth", type=int, default=2, metavar="N", help="how many updates are looked ahead (default: %(default)s)")
-    parser.add_argument("--hp", type=int, nargs=2, default=(140, 165), metavar=("ONE", "TWO"), help="the HP of both (default: 140 165)")
+    parser.add_argument(
+        "--depth", type=int, default=2, metavar="N", help="how many updates are looked ahead (default: %(default)s)"
+    )
+    parser.add_argument(
+        "--hp", type=int, nargs=2, default=(140, 165), metavar=("ONE", "TWO"), help="the HP of both (default: 140 165)"
+    )
     asked = parser.parse_args()
     if asked.depth < 1:
         parser.error("--depth must be 1 or more")
@@ -64,7 +70,9 @@ def main() -> int:
     twos = battle.choices(Side.TWO)
     print(f"{'':24}" + "".join(f"{battle.words(Side.TWO, two):>20}" for two in twos) + f"{'worst':>10}")
     for one, row in found.items():
-        print(f"{battle.words(Side.ONE, one):24}" + "".join(f"{row[two]:20.4f}" for two in twos) + f"{worst(row):10.4f}")
+        print(
+            f"{battle.words(Side.ONE, one):24}" + "".join(f"{row[two]:20.4f}" for two in twos) + f"{worst(row):10.4f}"
+        )
     print("best:", battle.words(Side.ONE, max(found, key=lambda one: worst(found[one]))))
     return 0
 

@@ -19,7 +19,9 @@ os.environ.setdefault("OPENBLAS_NUM_THREADS", "1")
 try:
     import numpy as np
 except ImportError:
-    sys.exit(f"linear_value: {sys.executable} has no numpy (tools/setup python installs Debian's, for /usr/bin/python3)")
+    sys.exit(
+        f"linear_value: {sys.executable} has no numpy (tools/setup python installs Debian's, for /usr/bin/python3)"
+    )
 try:
     from gen1 import Error
 except ImportError:
@@ -41,14 +43,22 @@ def at_least(least):
 
 
 def parser():
-    made = argparse.ArgumentParser(prog="linear_value", description=__doc__, formatter_class=argparse.RawDescriptionHelpFormatter)
+    made = argparse.ArgumentParser(
+        prog="linear_value", description=__doc__, formatter_class=argparse.RawDescriptionHelpFormatter
+    )
     made.add_argument("--rounds", type=at_least(1), default=120, metavar="N", help="rounds of self-play (%(default)s)")
     made.add_argument("--battles", type=at_least(1), default=16, metavar="N", help="battles of a round (%(default)s)")
-    made.add_argument("--every", type=at_least(1), default=4, metavar="N", help="rounds between two tests (%(default)s)")
+    made.add_argument(
+        "--every", type=at_least(1), default=4, metavar="N", help="rounds between two tests (%(default)s)"
+    )
     made.add_argument("--tested", type=at_least(2), default=400, metavar="N", help="battles of a test (%(default)s)")
     made.add_argument("--rate", type=float, default=0.02, metavar="R", help="of learning (%(default)s)")
-    made.add_argument("--chance", type=float, default=0.1, metavar="P", help="of a random choice in self-play (%(default)s)")
-    made.add_argument("--seed", type=at_least(0), default=1, metavar="N", help="another seed gives another curve (%(default)s)")
+    made.add_argument(
+        "--chance", type=float, default=0.1, metavar="P", help="of a random choice in self-play (%(default)s)"
+    )
+    made.add_argument(
+        "--seed", type=at_least(0), default=1, metavar="N", help="another seed gives another curve (%(default)s)"
+    )
     made.add_argument("--out", type=Path, metavar="OUT", help="the folder for the files; none is written without it")
     return made
 
@@ -71,14 +81,19 @@ def trained(asked, each):
 
 def shown(point):
     """Prints a point."""
-    print(f"{point.battles:7} {point.won:5} of {point.tested}  {point.share:6.1%}  {point.low:.1%} to {point.high:.1%}", flush=True)
+    print(
+        f"{point.battles:7} {point.won:5} of {point.tested}  {point.share:6.1%}  {point.low:.1%} to {point.high:.1%}",
+        flush=True,
+    )
 
 
 def write(weights, points, out):
     """Writes the files."""
     out.mkdir(parents=True, exist_ok=True)
     (out / "curve.csv").write_text(curve.as_csv(points))
-    (out / "weights.csv").write_text("feature,weight\n" + "".join(f"{name},{weight:.6f}\n" for name, weight in weights.items()))
+    (out / "weights.csv").write_text(
+        "feature,weight\n" + "".join(f"{name},{weight:.6f}\n" for name, weight in weights.items())
+    )
     print(curve.draw(points, out))
 
 

@@ -77,8 +77,13 @@ def as_svg(points, width=640, height=360, edge=48):
         return f"{edge + battles / most * (width - 2 * edge):.1f},{height - edge - share * (height - 2 * edge):.1f}"
 
     band = [at(it.battles, it.high) for it in points] + [at(it.battles, it.low) for it in reversed(points)]
-    rows = [f'<svg xmlns="http://www.w3.org/2000/svg" width="{width}" height="{height}" font-family="sans-serif" font-size="12">']
-    rows += ['<rect width="100%" height="100%" fill="white"/>', f'<text x="{width / 2}" y="24" text-anchor="middle">{HEADING}</text>']
+    rows = [
+        f'<svg xmlns="http://www.w3.org/2000/svg" width="{width}" height="{height}" font-family="sans-serif" font-size="12">'
+    ]
+    rows += [
+        '<rect width="100%" height="100%" fill="white"/>',
+        f'<text x="{width / 2}" y="24" text-anchor="middle">{HEADING}</text>',
+    ]
     for share in (0, 0.25, 0.5, 0.75, 1):
         (x, y), (end, _) = (at(battles, share).split(",") for battles in (0, most))
         rows.append(f'<line x1="{x}" y1="{y}" x2="{end}" y2="{y}" stroke="#ccc"/>')
@@ -86,7 +91,11 @@ def as_svg(points, width=640, height=360, edge=48):
     for battles in (0, most // 2, most):
         x, y = at(battles, 0).split(",")
         rows.append(f'<text x="{x}" y="{float(y) + 18}" text-anchor="middle">{battles}</text>')
-    rows.append(f'<text x="{width / 2}" y="{height - 8}" text-anchor="middle">{ACROSS} ({UP}, with its 95 % interval)</text>')
+    rows.append(
+        f'<text x="{width / 2}" y="{height - 8}" text-anchor="middle">{ACROSS} ({UP}, with its 95 % interval)</text>'
+    )
     rows.append(f'<polygon points="{" ".join(band)}" fill="#1f77b4" fill-opacity="0.25"/>')
-    rows.append(f'<polyline points="{" ".join(at(it.battles, it.share) for it in points)}" fill="none" stroke="#1f77b4" stroke-width="2"/>')
+    rows.append(
+        f'<polyline points="{" ".join(at(it.battles, it.share) for it in points)}" fill="none" stroke="#1f77b4" stroke-width="2"/>'
+    )
     return "\n".join([*rows, "</svg>", ""])

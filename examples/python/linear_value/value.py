@@ -30,7 +30,9 @@ def columns(side):
 
 NAMES = [*columns("own"), *columns("foe")]
 AT = np.array([COLUMNS.index(name) for name in NAMES])
-HP = np.array([COLUMNS.index(f"{side} {place} hp / max_hp") for side in ("own", "foe") for place in range(1, len(TEAM) + 1)])
+HP = np.array(
+    [COLUMNS.index(f"{side} {place} hp / max_hp") for side in ("own", "foe") for place in range(1, len(TEAM) + 1)]
+)
 WON, LOST = COLUMNS.index("won"), COLUMNS.index("lost")
 NAMES += [f"{COLUMNS[at].removesuffix(' hp / max_hp')} can fight" for at in HP] + ["always"]
 
@@ -101,7 +103,9 @@ def learn(weights, count, dice, rate, chance):
         pair = []
         for side in (1, 2):
             by_chance = dice.random(count) < chance
-            pair.append(np.where(by_chance, random_choices(array, side, dice), best_choices(weights, array, side, dice)))
+            pair.append(
+                np.where(by_chance, random_choices(array, side, dice), best_choices(weights, array, side, dice))
+            )
         array.step(*pair)
         then = [array.observe(side) for side in (1, 2)]
         before, behind = (np.concatenate([it[going_on] for it in both]) for both in (seen, then))

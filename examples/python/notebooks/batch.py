@@ -16,7 +16,10 @@ import matplotlib.pyplot as plt
 import numpy as np
 from gen1 import Battle, BattleArray, Member, Outcome
 
-team = [Member("Starmie", ["Surf", "Thunderbolt", "Recover"]), Member("Tauros", ["Body Slam", "Hyper Beam", "Earthquake"])]
+team = [
+    Member("Starmie", ["Surf", "Thunderbolt", "Recover"]),
+    Member("Tauros", ["Body Slam", "Hyper Beam", "Earthquake"]),
+]
 dice = np.random.default_rng(1)
 count = 10_000
 battles = BattleArray(count, Battle(team, team, bytes(10)), dice.integers(0, 256, (count, 10), np.uint8))

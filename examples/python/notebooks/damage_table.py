@@ -19,7 +19,11 @@ defender = Member("Starmie", ["Surf"])
 
 # %% The numbers: for each move without and with a critical hit, and the defender's HP
 told = {move.label: odds(attacker, defender, move) for move in attacker.moves}
-rows = {(name, critical): (it.critical if critical else it.usual).numbers for name, it in told.items() for critical in (False, True)}
+rows = {
+    (name, critical): (it.critical if critical else it.usual).numbers
+    for name, it in told.items()
+    for critical in (False, True)
+}
 battle = Battle([attacker], [defender], bytes(10))
 hp = battle.update(Choice.PASS, Choice.PASS).events[1].health.max_hp
 for (name, critical), numbers in rows.items():

@@ -19,7 +19,9 @@ os.environ.setdefault("OPENBLAS_NUM_THREADS", "1")
 try:
     import numpy as np
 except ImportError:
-    sys.exit(f"policy_gradient: {sys.executable} has no numpy (tools/setup python installs Debian's, for /usr/bin/python3)")
+    sys.exit(
+        f"policy_gradient: {sys.executable} has no numpy (tools/setup python installs Debian's, for /usr/bin/python3)"
+    )
 try:
     from gen1 import Encoding, Error, Member, VectorEnv
 except ImportError:
@@ -51,7 +53,12 @@ def columns(name):
 
 
 OWN_OUT, OWN_HP, OWN_STATUS = columns("own is out"), columns("own hp / max_hp"), columns("own status")
-FOE_OUT, FOE_HP, FOE_STATUS, FOE_SPECIES = columns("foe is out"), columns("foe hp / max_hp"), columns("foe status"), columns("foe species")
+FOE_OUT, FOE_HP, FOE_STATUS, FOE_SPECIES = (
+    columns("foe is out"),
+    columns("foe hp / max_hp"),
+    columns("foe status"),
+    columns("foe species"),
+)
 FLAGS = [NAMES.index(it) for it in ("own recharge", "foe recharging", "own reflect", "foe reflect")]
 
 
@@ -138,7 +145,11 @@ class Learner:
 
 def tested(policy, battles, seed):
     """How many of a number of new battles are won with actions by their chances."""
-    env, won, left = VectorEnv(battles, TEAM, TEAM, "random", limit=300, autoreset="disabled"), 0, np.ones(battles, bool)
+    env, won, left = (
+        VectorEnv(battles, TEAM, TEAM, "random", limit=300, autoreset="disabled"),
+        0,
+        np.ones(battles, bool),
+    )
     rows, infos = env.reset(seed=seed)
     dice = np.random.default_rng(seed)
     while left.any():
@@ -152,11 +163,15 @@ def tested(policy, battles, seed):
 
 
 def main():
-    parser = argparse.ArgumentParser(prog="policy_gradient", description=__doc__, formatter_class=argparse.RawDescriptionHelpFormatter)
+    parser = argparse.ArgumentParser(
+        prog="policy_gradient", description=__doc__, formatter_class=argparse.RawDescriptionHelpFormatter
+    )
     parser.add_argument("--rounds", type=int, default=150, metavar="N", help="changes of the weights (%(default)s)")
     parser.add_argument("--battles", type=int, default=256, metavar="N", help="battles at once (%(default)s)")
     parser.add_argument("--tested", type=int, default=1000, metavar="N", help="battles of a test (%(default)s)")
-    parser.add_argument("--seed", type=int, default=1, metavar="N", help="another seed gives other numbers (%(default)s)")
+    parser.add_argument(
+        "--seed", type=int, default=1, metavar="N", help="another seed gives other numbers (%(default)s)"
+    )
     asked = parser.parse_args()
     for name in ("rounds", "battles", "tested", "seed"):
         if getattr(asked, name) < (name != "seed"):

@@ -36,17 +36,28 @@ def at_least(least):
 
 
 def parser():
-    made = argparse.ArgumentParser(prog="selfplay", description=__doc__, formatter_class=argparse.RawDescriptionHelpFormatter)
+    made = argparse.ArgumentParser(
+        prog="selfplay", description=__doc__, formatter_class=argparse.RawDescriptionHelpFormatter
+    )
     names = sorted(arena.PLAYERS)
     said = f"two or more of {', '.join(names)}"
     made.add_argument("--players", nargs="+", choices=names, default=list(arena.PLAYERS), metavar="NAME", help=said)
-    made.add_argument("--battles", type=at_least(1), default=200, metavar="N", help="battles of each pair (%(default)s)")
+    made.add_argument(
+        "--battles", type=at_least(1), default=200, metavar="N", help="battles of each pair (%(default)s)"
+    )
     made.add_argument("--job", type=at_least(1), default=100, metavar="N", help="battles of a job (%(default)s)")
     made.add_argument("--seed", type=int, default=1, metavar="N", help="another seed gives other battles (%(default)s)")
-    made.add_argument("--workers", type=at_least(1), default=1, metavar="N", help="processes of this machine (%(default)s)")
+    made.add_argument(
+        "--workers", type=at_least(1), default=1, metavar="N", help="processes of this machine (%(default)s)"
+    )
     made.add_argument("--dask", metavar="ADDRESS", help="the scheduler of Dask workers, in the place of processes")
     made.add_argument("--out", type=Path, metavar="OUT", help="the folder for the files; none is written without it")
-    made.add_argument("--format", choices=("npz", "parquet"), default="npz", help="of the data set (%(default)s); parquet takes pyarrow")
+    made.add_argument(
+        "--format",
+        choices=("npz", "parquet"),
+        default="npz",
+        help="of the data set (%(default)s); parquet takes pyarrow",
+    )
     return made
 
 
@@ -69,7 +80,13 @@ def played(jobs, asked):
 def write(rows, records, asked):
     """Writes the files, each completely or not at all."""
     asked.out.mkdir(parents=True, exist_ok=True)
-    about = {"players": asked.players, "battles": asked.battles, "seed": asked.seed, "limit": arena.LIMIT, "rounds": arena.ROUNDS}
+    about = {
+        "players": asked.players,
+        "battles": asked.battles,
+        "seed": asked.seed,
+        "limit": arena.LIMIT,
+        "rounds": arena.ROUNDS,
+    }
     (asked.out / "table.csv").write_text(results.as_csv(rows))
     (asked.out / "table.json").write_text(results.as_json(rows, **about))
     put = results.write_parquet if asked.format == "parquet" else results.write_npz

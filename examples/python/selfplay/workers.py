@@ -47,7 +47,9 @@ def by_dask(jobs, address):
 
     with Client(address) as client:
         send(client)
-        running = {it.key: (it, job) for job in jobs for it in [client.submit(arena.play_job, job, pure=False, retries=TRIES)]}
+        running = {
+            it.key: (it, job) for job in jobs for it in [client.submit(arena.play_job, job, pure=False, retries=TRIES)]
+        }
         for done in as_done([it for it, _ in running.values()]):
             yield running[done.key][1], done.result()
 

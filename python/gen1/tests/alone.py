@@ -40,7 +40,8 @@ def raw_damages(held, side, move, critical):
 def raw_team(team):
     """The bytes of a gen1_team."""
     rows = b"".join(
-        struct.pack("<2B4B4B4B5H", it.species, it.level, *it.dvs, *_four(it.moves), *_four(it.pp_ups), *it.exp) for it in team
+        struct.pack("<2B4B4B4B5H", it.species, it.level, *it.dvs, *_four(it.moves), *_four(it.pp_ups), *it.exp)
+        for it in team
     )
     return rows.ljust(6 * 24, b"\0") + bytes([len(team), 0])
 

@@ -57,7 +57,9 @@ class Both:
                 self._refused(*wild)
         if dice.random() < 0.1:
             self.battle = dice.choice(COPIES)(self.battle)
-            self.players, self.tellers = ([pickle.loads(pickle.dumps(it)) for it in of] for of in (self.players, self.tellers))
+            self.players, self.tellers = (
+                [pickle.loads(pickle.dumps(it)) for it in of] for of in (self.players, self.tellers)
+            )
             self._hit(dice)
         self._update(*pair, dice)
         return pair
@@ -76,7 +78,9 @@ class Both:
         lines = update.lines
         assert (code, log) == (0, update.log), "another log"
         assert raw_lines(log) == (35, "".join(f"{it}\n" for it in lines)), "other lines"
-        assert len(update.events) == len(lines) and (dice.random() < 0.9 or log_bytes(update.events) == log), "other events"
+        assert len(update.events) == len(lines) and (
+            dice.random() < 0.9 or log_bytes(update.events) == log
+        ), "other events"
         assert self.battle.bytes == self.alone.battle.raw, "other bytes"
         assert (update.result.outcome, *update.result.requests) == self.alone.result, "another result"
         for teller, player in zip(self.tellers, self.players):
@@ -152,8 +156,12 @@ class Group:
         array, players, going = self.array, self.players, self.going
         assert array.bytes[going].tobytes() == b"".join(it.battle.raw for it in alone), "other bytes in an array"
         assert (array.codes == np.where(going, 0, int(Refusal.OVER))).all(), "other codes"
-        assert [(it & 7, it >> 3 & 3, it >> 5) for it in array.results[going].tolist()] == [it.result for it in alone], "other results"
-        assert players.battles == array and all((players.masks(side) == mask).all() for side, mask in zip(Side, array.masks())), "other masks"
+        assert [(it & 7, it >> 3 & 3, it >> 5) for it in array.results[going].tolist()] == [
+            it.result for it in alone
+        ], "other results"
+        assert players.battles == array and all(
+            (players.masks(side) == mask).all() for side, mask in zip(Side, array.masks())
+        ), "other masks"
         told = b"".join(player.raw for it in alone for player in it.players)
         assert players._players.view(np.uint8)[going].tobytes() == told, "other players in an array"
 
@@ -175,7 +183,10 @@ def stepped(count, seed):
             battle.reseed(dice.randbytes(10))
         update = battle.update(*(dice.choice(battle.choices(side)) for side in Side))
         if step % 64 == 0:
-            assert len(update.events) == len(update.lines) and Battle.from_state(pickle.loads(pickle.dumps(battle.state))) == battle
+            assert (
+                len(update.events) == len(update.lines)
+                and Battle.from_state(pickle.loads(pickle.dumps(battle.state))) == battle
+            )
 
 
 def stepped_in_arrays(count, seed):

@@ -19,7 +19,10 @@ from gen1.observations import COLUMNS  # noqa: E402
 
 def random_battles(count, seed, limit=30):
     dice = random.Random(seed)
-    return [Battle(random_team(dice), random_team(dice), dice.randbytes(10), dice.randint(0, 3), limit) for _ in range(count)]
+    return [
+        Battle(random_team(dice), random_team(dice), dice.randbytes(10), dice.randint(0, 3), limit)
+        for _ in range(count)
+    ]
 
 
 def test_the_array(battle):
@@ -61,7 +64,10 @@ def test_what_a_step_answers_is_the_callers(battle):
     array.reset()
     assert all(np.array_equal(one, two) for one, two in zip(before, kept)) and not array.over.any()
     array[3] = battle
-    assert list(array.results) == [int(battle.result.outcome) | battle.result.requests[0] << 3 | battle.result.requests[1] << 5] * 20
+    assert (
+        list(array.results)
+        == [int(battle.result.outcome) | battle.result.requests[0] << 3 | battle.result.requests[1] << 5] * 20
+    )
 
 
 def test_the_arrays_can_only_be_read(battle):
@@ -151,7 +157,8 @@ def test_steps_against_single_updates():
         for side in (0, 1):
             assert [list(CHOICES[row]) for row in bits(masks)[side]] == [list(map(int, it)) for it in offered[side]]
         pairs = [
-            [dice.randint(0, 255) if dice.random() < 0.2 or not it else int(dice.choice(it)) for it in both] for both in zip(*offered)
+            [dice.randint(0, 255) if dice.random() < 0.2 or not it else int(dice.choice(it)) for it in both]
+            for both in zip(*offered)
         ]
         ones, twos = np.array(pairs).T
         results = array.step(ones, twos)
@@ -186,7 +193,11 @@ def drawn(state, count):
 def test_random_steps_are_those_of_single_battles(reset):
     """The draws, choices, updates and restored battles are those that single calls make of the same numbers."""
     battles = random_battles(60, 51, limit=6)
-    array, starts, dice = BattleArray.of(battles), [it.copy() for it in battles], [np.random.default_rng(8) for _ in range(2)]
+    array, starts, dice = (
+        BattleArray.of(battles),
+        [it.copy() for it in battles],
+        [np.random.default_rng(8) for _ in range(2)],
+    )
     for _ in range(40):
         taken, states = array.random_step(dice[0], reset=reset), dice[1].integers(0, 1 << 64, len(battles), np.uint64)
         for at, state in enumerate(states.tolist()):
@@ -317,8 +328,20 @@ def test_nothing_else_of_the_foe_can_be_seen():
                 foe["members"][name] = dice.integers(0, 256, foe["members"][name].shape)
             asleep = (foe["members"]["status"] > 0) & (foe["members"]["status"] < 8)
             foe["members"]["status"][asleep] = dice.integers(1, 8)
-            for name in ("types", "stats", "substitute", "confusion", "disabled_slot", "disabled_turns", "bad_poison", "turns", "energy",
-                         "current_move", "picked_move", "kept_accuracy"):
+            for name in (
+                "types",
+                "stats",
+                "substitute",
+                "confusion",
+                "disabled_slot",
+                "disabled_turns",
+                "bad_poison",
+                "turns",
+                "energy",
+                "current_move",
+                "picked_move",
+                "kept_accuracy",
+            ):
                 foe["active"][name] = dice.integers(0, 256, foe["active"][name].shape)
             own = changed._fields["sides"][:, side - 1]
             for name in ("confusion", "disabled_turns", "turns"):
@@ -332,8 +355,12 @@ def test_the_columns(battle):
     row = array.observe(1)
     assert row.shape == (3, len(COLUMNS)) and row.dtype == np.float32 and len(set(COLUMNS)) == len(COLUMNS) == 224
     named = dict(zip(COLUMNS, row[0].tolist()))
-    assert named["own 1 species / 151"] == pytest.approx(128 / 151) and named["own 2 level / 100"] == pytest.approx(0.73)
-    assert named["own 1 max_hp / 999"] == pytest.approx(353 / 999) and named["own 1 attack / 999"] == pytest.approx(298 / 999)
+    assert named["own 1 species / 151"] == pytest.approx(128 / 151) and named["own 2 level / 100"] == pytest.approx(
+        0.73
+    )
+    assert named["own 1 max_hp / 999"] == pytest.approx(353 / 999) and named["own 1 attack / 999"] == pytest.approx(
+        298 / 999
+    )
     assert named["own 1 is out"] == named["asked to move"] == named["offered move 4"] == named["offered switch 2"] == 1
     assert named["own 3 species / 151"] == named["offered pass"] == named["won"] == 0
     for battle in observed(11):
@@ -355,15 +382,31 @@ def test_the_fields_are_what_the_library_shows():
                 member = side["members"][at]
                 names = "species", "level", "hp", "max_hp"
                 assert [int(member[name]) for name in names] == [int(getattr(it, name)) for name in names]
-                assert (asleep[int(member["status"])], bool(member["mark"]), tuple(member["stats"])) == (it.status, it.marked, it.stats)
+                assert (asleep[int(member["status"])], bool(member["mark"]), tuple(member["stats"])) == (
+                    it.status,
+                    it.marked,
+                    it.stats,
+                )
                 slots = member["moves"] > 0
                 assert (tuple(member["moves"][slots]), tuple(member["pp"][slots])) == (it.moves, it.pp)
             active, out = side["active"], shown.active
             for name in ("types", "stats"):
                 assert tuple(active[name]) == getattr(out, name)
             assert tuple(active["stages"].astype(int) - 6) == out.stages
-            for name in ("place", "conditions", "substitute", "confusion", "disabled_slot", "disabled_turns", "bad_poison", "turns",
-                         "energy", "current_move", "picked_move", "kept_accuracy"):
+            for name in (
+                "place",
+                "conditions",
+                "substitute",
+                "confusion",
+                "disabled_slot",
+                "disabled_turns",
+                "bad_poison",
+                "turns",
+                "energy",
+                "current_move",
+                "picked_move",
+                "kept_accuracy",
+            ):
                 assert int(active[name]) == int(getattr(out, name)), name
 
 
@@ -396,11 +439,22 @@ def test_outcomes_of_many(threads):
     for at, (battle, one, two, each) in enumerate(zip(array, ones, twos, found)):
         first, past = found.offsets[at : at + 2]
         if battle.result.is_over or 255 in (one, two):
-            over = Refusal.OVER if battle.result.is_over else Refusal.NOT_OFFERED_ONE if one == 255 else Refusal.NOT_OFFERED_TWO
+            over = (
+                Refusal.OVER
+                if battle.result.is_over
+                else Refusal.NOT_OFFERED_ONE
+                if one == 255
+                else Refusal.NOT_OFFERED_TWO
+            )
             assert (found.codes[at], len(each), first, found.wholes[at]) == (over, 0, past, 0)
             continue
         alone = battle.outcomes(int(one), int(two), damage_classes=2)
-        assert (found.codes[at], each.battles, each.weights, each.whole) == (0, alone.battles, alone.weights, alone.whole)
+        assert (found.codes[at], each.battles, each.weights, each.whole) == (
+            0,
+            alone.battles,
+            alone.weights,
+            alone.whole,
+        )
         assert found.weights[first:past] == alone.weights and found.wholes[at] == alone.whole
         assert np.array_equal(found.states[first:past], alone.states)
         assert np.allclose(found.probabilities[first:past], alone.probabilities, rtol=1e-14, atol=0)
@@ -416,7 +470,11 @@ def test_what_is_left_out_of_many_outcomes():
     found = array.outcomes_many([0x11, 0xFF, 0x11], [0x11] * 3, least_probability=0.01)
     assert found.offsets.tolist() == [0, 2, 2, 4] and found.left_out_probabilities.tolist() == [1 / 256, 0.0, 1 / 256]
     alone = battle.outcomes(0x11, 0x11, least_probability=0.01)
-    assert (found[2].weights, found[2].left_out, found.left_out) == (alone.weights, alone.left_out, [alone.left_out, 0, alone.left_out])
+    assert (found[2].weights, found[2].left_out, found.left_out) == (
+        alone.weights,
+        alone.left_out,
+        [alone.left_out, 0, alone.left_out],
+    )
     assert found.probabilities.sum() == pytest.approx(2 * 255 / 256)
 
 

@@ -31,24 +31,30 @@ def test_the_table():
     assert done.stdout == re.search(r"(?s)```text\n(.*?)```", (FOLDER / "README.md").read_text())[1]
 
 
-@pytest.mark.parametrize(("words", "message"), [
-    (["--tolerance", "0"], "--tolerance must be above 0"),
-    (["--level", "0"], "level must be 1 to 100, not 0"),
-    (["--species", "Tauro"], "did you mean 'Tauros'?"),
-])
+@pytest.mark.parametrize(
+    ("words", "message"),
+    [
+        (["--tolerance", "0"], "--tolerance must be above 0"),
+        (["--level", "0"], "level must be 1 to 100, not 0"),
+        (["--species", "Tauro"], "did you mean 'Tauros'?"),
+    ],
+)
 def test_wrong_arguments(words, message):
     """An error names what is wrong, without a traceback."""
     wrong = subprocess.run([sys.executable, FOLDER, *words], capture_output=True, text=True)
     assert wrong.returncode != 0 and message in wrong.stderr and "Traceback" not in wrong.stderr
 
 
-@pytest.mark.parametrize(("table", "value", "one", "two"), [
-    ([[1, 0], [0, 1]], 0.5, [0.5, 0.5], [0.5, 0.5]),
-    ([[0.75, 0], [0.25, 0.5]], 0.375, [0.25, 0.75], [0.5, 0.5]),
-    ([[0.5, 0.75], [0.25, 0]], 0.5, [1, 0], [1, 0]),
-    ([[0.5, 0, 1], [1, 0.5, 0], [0, 1, 0.5]], 0.5, [1 / 3] * 3, [1 / 3] * 3),
-    ([[0.25], [0.5]], 0.5, [0, 1], [1]),
-])
+@pytest.mark.parametrize(
+    ("table", "value", "one", "two"),
+    [
+        ([[1, 0], [0, 1]], 0.5, [0.5, 0.5], [0.5, 0.5]),
+        ([[0.75, 0], [0.25, 0.5]], 0.375, [0.25, 0.75], [0.5, 0.5]),
+        ([[0.5, 0.75], [0.25, 0]], 0.5, [1, 0], [1, 0]),
+        ([[0.5, 0, 1], [1, 0.5, 0], [0, 1, 0.5]], 0.5, [1 / 3] * 3, [1 / 3] * 3),
+        ([[0.25], [0.5]], 0.5, [0, 1], [1]),
+    ],
+)
 def test_games(example, table, value, one, two):
     """Matching pennies, a mixed best play, a choice that is always better, rock, paper, scissors, and a side with one choice."""
     play = example["solved"](table)
@@ -75,6 +81,10 @@ def test_frozen(example):
     tauros = Member("Tauros", ["Blizzard", "Body Slam"], level=3)
     for each in (member, tauros):
         plays = example["values"](*example["games"](example["start"](each)), 1e-9)
-        frozen = [play.value for (one, two), play in plays.items() if one.status is not Status.FREEZE and two.status is Status.FREEZE]
+        frozen = [
+            play.value
+            for (one, two), play in plays.items()
+            if one.status is not Status.FREEZE and two.status is Status.FREEZE
+        ]
         assert all(value == pytest.approx(1, abs=1e-6) for value in frozen)
         assert bool(frozen) == (each is tauros)  # Ice types aren't frozen

@@ -69,7 +69,12 @@ def test_reset_by_the_checker():
 def test_spaces_by_the_checker():
     env = BattleEnv()
     box, discrete = env.observation_space, env.action_space
-    assert box.shape == (len(COLUMNS),) and box.dtype == np.float32 and (box.low <= box.high).all() and np.isfinite(box.low).all()
+    assert (
+        box.shape == (len(COLUMNS),)
+        and box.dtype == np.float32
+        and (box.low <= box.high).all()
+        and np.isfinite(box.low).all()
+    )
     assert discrete.n == 12 and discrete.start == 0
     assert box.contains(box.sample()) and discrete.contains(discrete.sample())
     assert env.render_mode is None and "ansi" in env.metadata["render_modes"]
@@ -225,7 +230,10 @@ def test_an_opponent_sees_what_its_player_knows():
 @pytest.mark.parametrize("env", [BattleEnv(), TwoPlayerEnv()])
 def test_before_the_first_reset(env):
     """A step is refused, and so are masks; it says what to do."""
-    for call in (lambda: env.step({"one": 2, "two": 2} if isinstance(env, TwoPlayerEnv) else 2), lambda: env.action_masks(*env_agent(env))):
+    for call in (
+        lambda: env.step({"one": 2, "two": 2} if isinstance(env, TwoPlayerEnv) else 2),
+        lambda: env.action_masks(*env_agent(env)),
+    ):
         with pytest.raises(ResetNeeded, match=r"^call reset\(\) before step\(\)"):
             call()
     env.reset(seed=1)
@@ -273,7 +281,9 @@ def test_two_players_by_the_checker():
     env, dice = TwoPlayerEnv(), np.random.default_rng(4)
     assert env.agents == [] and env.possible_agents == ["one", "two"] and env.unwrapped is env
     for agent in env.possible_agents:
-        assert env.observation_space(agent) is env.observation_space(agent) and env.action_space(agent) is env.action_space(agent)
+        assert env.observation_space(agent) is env.observation_space(agent) and env.action_space(
+            agent
+        ) is env.action_space(agent)
     for seed in range(8):
         observations, infos = env.reset(seed=seed)
         assert set(env.agents) == set(observations) == set(infos) == set(env.possible_agents)
@@ -306,7 +316,14 @@ def test_actions_of_two_players_that_are_wrong():
     env = TwoPlayerEnv(render_mode="ansi")
     env.reset(seed=1)
     before = env.battle
-    for actions in ({}, {"one": 1}, {"one": 1, "two": 1, "three": 1}, {1: 1, "two": 1}, {"one": 12, "two": 1}, {"one": 1, "two": -1}):
+    for actions in (
+        {},
+        {"one": 1},
+        {"one": 1, "two": 1, "three": 1},
+        {1: 1, "two": 1},
+        {"one": 12, "two": 1},
+        {"one": 1, "two": -1},
+    ):
         with pytest.raises(BadArgument):
             env.step(actions)
         assert env.battle == before
@@ -321,14 +338,27 @@ def test_our_spaces():
     assert {int(discrete.sample()) for _ in range(100)} == {0, 1, 2}
     assert {int(discrete.sample(np.array([0, 1, 1], np.int8))) for _ in range(100)} == {1, 2}
     assert discrete.sample(np.zeros(3, np.int8)) == 0
-    assert 2 in discrete and np.int64(2) in discrete and 3 not in discrete and True not in discrete and 1.0 not in discrete
-    assert np.zeros(2, np.float32) in box and np.full(2, 2, np.float32) not in box and np.zeros(3, np.float32) not in box
+    assert (
+        2 in discrete and np.int64(2) in discrete and 3 not in discrete and True not in discrete and 1.0 not in discrete
+    )
+    assert (
+        np.zeros(2, np.float32) in box and np.full(2, 2, np.float32) not in box and np.zeros(3, np.float32) not in box
+    )
     assert [0, 0] not in box and np.full(2, np.nan, np.float32) not in box
-    assert discrete == Discrete(3) != Discrete(4) and box == Box(-1, 1, (2,)) and "Box" in repr(box) and "3" in repr(discrete)
+    assert (
+        discrete == Discrete(3) != Discrete(4)
+        and box == Box(-1, 1, (2,))
+        and "Box" in repr(box)
+        and "3" in repr(discrete)
+    )
     many = MultiDiscrete([2, 3])
     many.seed(1)
     assert many.shape == (2,) and all(many.sample() in many for _ in range(20)) and np.array([1, 3]) not in many
-    assert np.array([1.0, 2.0]) not in many and [1, 2] not in many and many == MultiDiscrete([2, 3]) != MultiDiscrete([3, 2])
+    assert (
+        np.array([1.0, 2.0]) not in many
+        and [1, 2] not in many
+        and many == MultiDiscrete([2, 3]) != MultiDiscrete([3, 2])
+    )
     assert many.sample((np.array([0, 1]), np.array([0, 0, 0]))).tolist() == [1, 0] and "MultiDiscrete" in repr(many)
     for other in (Box(-2, 1, (2,)), Box(-1, 2, (2,)), Box(-1, 1, (3,)), Box(-1, 1, (2,), np.float64), discrete):
         assert box != other

@@ -6,7 +6,21 @@ import pickle
 import gen1
 import pytest
 from conftest import BIG, NO_NUMBERS
-from gen1 import BadArgument, BadBytes, BadLog, BadTeam, BadType, Battle, Choice, Member, Move, NoDamage, Refused, Species, Team
+from gen1 import (
+    BadArgument,
+    BadBytes,
+    BadLog,
+    BadTeam,
+    BadType,
+    Battle,
+    Choice,
+    Member,
+    Move,
+    NoDamage,
+    Refused,
+    Species,
+    Team,
+)
 from gen1.names import DamageFault, LoadFault, LogFault, NewFault, Refusal
 
 
@@ -127,7 +141,11 @@ def test_choices_that_are_not_offered(battle, choice):
             with pytest.raises(Refused) as fault:
                 call(*pair)
             it = fault.value
-            assert (it.code, it.side, it.choice) == ((Refusal.NOT_OFFERED_ONE, Refusal.NOT_OFFERED_TWO)[side - 1], side, choice) and it.offered == battle.choices(side)
+            assert (it.code, it.side, it.choice) == (
+                (Refusal.NOT_OFFERED_ONE, Refusal.NOT_OFFERED_TWO)[side - 1],
+                side,
+                choice,
+            ) and it.offered == battle.choices(side)
             assert f"side {side}" in said(fault) and "move 1" in said(fault) and battle.bytes == before
 
 
@@ -184,7 +202,10 @@ MEMBER_FAULTS = (
     (dict(moves=[1, 2, 3, 4, 5]), "moves", None),
     (dict(moves=["Pound", "Pound"]), "moves", NewFault.REPEATED_MOVE),
     (dict(moves=["Struggle"]), "moves", NewFault.STRUGGLE),
-    *((dict(moves=[name]), "moves", NewFault.MOVE_LEFT_OUT) for name in ("Mimic", "Metronome", "Mirror Move", "Transform")),
+    *(
+        (dict(moves=[name]), "moves", NewFault.MOVE_LEFT_OUT)
+        for name in ("Mimic", "Metronome", "Mirror Move", "Transform")
+    ),
     *((dict(level=level), "level", NewFault.LEVEL) for level in (0, 101, 255, *BIG)),
     *((dict(dvs=[15, dv, 15, 15]), "dvs", NewFault.DV) for dv in (16, 255, *BIG)),
     (dict(dvs=[15] * 3), "dvs", None),
@@ -230,7 +251,13 @@ def test_dicts_without_a_key(tauros, left_out):
 
 
 def test_moves_that_are_no_pairs(tauros):
-    for moves, kind in (([["Pound"]], BadTeam), ([["Pound", 3, 3]], BadTeam), ([None], BadType), ("Pound", BadType), (5, BadType)):
+    for moves, kind in (
+        ([["Pound"]], BadTeam),
+        ([["Pound", 3, 3]], BadTeam),
+        ([None], BadType),
+        ("Pound", BadType),
+        (5, BadType),
+    ):
         with pytest.raises(kind):
             Team([tauros.to_dict() | {"moves": moves}])
 
@@ -243,7 +270,12 @@ def test_an_empty_team():
 
 @pytest.mark.parametrize(
     "given, code",
-    [(b"", LoadFault.LENGTH), (bytes(383), LoadFault.LENGTH), (bytes(385), LoadFault.LENGTH), (bytes(384), LoadFault.VERSION)],
+    [
+        (b"", LoadFault.LENGTH),
+        (bytes(383), LoadFault.LENGTH),
+        (bytes(385), LoadFault.LENGTH),
+        (bytes(384), LoadFault.VERSION),
+    ],
 )
 def test_bytes_that_are_no_battle(given, code):
     with pytest.raises(BadBytes) as fault:
@@ -262,7 +294,10 @@ def test_no_bytes(given):
 def test_logs_with_a_fault():
     good = bytes([0x1A, 1])
     for given, code, at in (
-        (good + b"\0", LogFault.TAG, 2), (good + b"\x1d", LogFault.TAG, 2), (good + b"\x1a\x03", LogFault.FIELD, 2), (good + b"\x1a", LogFault.CUT, 2)
+        (good + b"\0", LogFault.TAG, 2),
+        (good + b"\x1d", LogFault.TAG, 2),
+        (good + b"\x1a\x03", LogFault.FIELD, 2),
+        (good + b"\x1a", LogFault.CUT, 2),
     ):
         for call in (gen1.lines, gen1.events):
             with pytest.raises(BadLog) as fault:
@@ -275,7 +310,11 @@ def test_events_as_bytes():
     tauros, foe = (gen1.Who(side, Species.TAUROS) for side in (gen1.Side.ONE, gen1.Side.TWO))
     fallen = gen1.Health(0, 353, gen1.Status.NONE)
     log = bytes.fromhex("030180460280 070280 050280000061010000 190280 1a01")
-    told = [gen1.MoveEvent(tauros, Move.STRENGTH, foe), gen1.CritEvent(foe), gen1.DamageEvent(foe, fallen, gen1.Source.DIRECT)]
+    told = [
+        gen1.MoveEvent(tauros, Move.STRENGTH, foe),
+        gen1.CritEvent(foe),
+        gen1.DamageEvent(foe, fallen, gen1.Source.DIRECT),
+    ]
     told += [gen1.FaintEvent(foe), gen1.WinEvent(gen1.Side.ONE)]
     assert gen1.log_bytes(told) == log and gen1.events(log) == tuple(told) and gen1.log_bytes([]) == b""
     for number in (-1, 0, 10_000, 65_536, *BIG[4:], LONG):
@@ -293,7 +332,17 @@ def test_events_as_bytes():
     ):
         with pytest.raises(BadArgument):
             gen1.log_bytes([wrong])
-    for wrong in (None, 5, b"\x1b", [None], [tauros], [gen1.Event()], [gen1.CritEvent(None)], [gen1.HealEvent(tauros, 5)], [gen1.TurnEvent("1")]):
+    for wrong in (
+        None,
+        5,
+        b"\x1b",
+        [None],
+        [tauros],
+        [gen1.Event()],
+        [gen1.CritEvent(None)],
+        [gen1.HealEvent(tauros, 5)],
+        [gen1.TurnEvent("1")],
+    ):
         with pytest.raises(BadType):
             gen1.log_bytes(wrong)
 

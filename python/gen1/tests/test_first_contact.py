@@ -22,7 +22,9 @@ POUND = ["Pound"]
 def test_help(before):
     """`help(gen1)` works, with numpy and without it. No class of names lists what int has."""
     script = f"{before}import gen1; help(gen1)"
-    done = subprocess.run([sys.executable, "-c", script], capture_output=True, text=True, stdin=subprocess.DEVNULL, check=True)
+    done = subprocess.run(
+        [sys.executable, "-c", script], capture_output=True, text=True, stdin=subprocess.DEVNULL, check=True
+    )
     assert done.stderr == "" and "Help on package gen1" in done.stdout
     told = done.stdout.splitlines()
     assert "conjugate" not in done.stdout and done.stdout.count("'Hyper Beam'") == 0 and len(told) < 8000
@@ -39,7 +41,11 @@ def test_docstrings_fit_a_terminal():
         docs = [(72, it)] if isinstance(it, type) or callable(it) else []
         if isinstance(it, type) and it.__module__.startswith("gen1."):
             methods = [value for key, value in vars(it).items() if not key.startswith("_") or key == "__init__"]
-            docs += [(68, value) for value in methods if isinstance(value, (FunctionType, property, classmethod, cached_property))]
+            docs += [
+                (68, value)
+                for value in methods
+                if isinstance(value, (FunctionType, property, classmethod, cached_property))
+            ]
         for most, value in docs:
             told = inspect.getdoc(value) or ""
             assert all(len(line) <= most for line in told.splitlines()), (name, told)
@@ -77,7 +83,15 @@ def test_names_of_species(name, species):
 
 
 @pytest.mark.parametrize(
-    "name, move", [("body slam", 34), ("BodySlam", 34), ("soft boiled", 135), ("Vise Grip", 11), ("hi jump kick", 136), ("double-edge", 38)]
+    "name, move",
+    [
+        ("body slam", 34),
+        ("BodySlam", 34),
+        ("soft boiled", 135),
+        ("Vise Grip", 11),
+        ("hi jump kick", 136),
+        ("double-edge", 38),
+    ],
 )
 def test_names_of_moves(battle, name, move):
     assert Member("Mew", [name]).moves == (move,) and gen1.move_data(name) == gen1.move_data(move)
@@ -117,13 +131,22 @@ def test_dicts_with_few_keys():
 
 @pytest.mark.parametrize(
     "key, said",
-    [("levl", "did you mean 'level'?"), ("DVs", "did you mean 'dvs'?"), ("lvl", "a member has species, "), (5, "a member has")],
+    [
+        ("levl", "did you mean 'level'?"),
+        ("DVs", "did you mean 'dvs'?"),
+        ("lvl", "a member has species, "),
+        (5, "a member has"),
+    ],
 )
 def test_keys_that_are_wrong(key, said):
     """A key that would be ignored is refused: a member with `lvl` would have level 100."""
     with pytest.raises(BadTeam) as fault:
         Team([{"species": "Tauros", "moves": POUND, key: 50}])
-    assert fault.value.member == 1 and str(fault.value).startswith(f"member 1: there is no key {key!r}; ") and said in str(fault.value)
+    assert (
+        fault.value.member == 1
+        and str(fault.value).startswith(f"member 1: there is no key {key!r}; ")
+        and said in str(fault.value)
+    )
 
 
 def test_a_member_shows_itself_in_short():
@@ -205,7 +228,10 @@ def test_messages_say_each_thing_once(team):
         (lambda: Member("Tauros", POUND, dvs=[16, 0, 0, 0]), "dvs must be 0 to 15 each, not [16, 0, 0, 0]"),
         (lambda: Member("Tauros", []), "moves must be one to four, not []"),
         (lambda: Member("Tauros", ["Pound", "pound"]), "moves must be different, not [Pound, Pound]"),
-        (lambda: Member("Tauros", ["Mimic"]), "moves must be without Mimic, Metronome, Mirror Move and Transform, not [Mimic]"),
+        (
+            lambda: Member("Tauros", ["Mimic"]),
+            "moves must be without Mimic, Metronome, Mirror Move and Transform, not [Mimic]",
+        ),
         (lambda: Team([]), "a team has 1 to 6 members, not 0"),
         (lambda: Battle(team, [], range(10)), "side 2: a team has 1 to 6 members, not 0"),
     ):

@@ -4,7 +4,21 @@ import random
 
 import pytest
 from conftest import BIG, NO_NUMBERS, random_team
-from gen1 import BadArgument, BadState, BadTeam, BadType, Battle, Choice, Conditions, Error, Member, Player, Side, Status, Teller
+from gen1 import (
+    BadArgument,
+    BadState,
+    BadTeam,
+    BadType,
+    Battle,
+    Choice,
+    Conditions,
+    Error,
+    Member,
+    Player,
+    Side,
+    Status,
+    Teller,
+)
 
 SEED = bytes([1, 36, 255, 7, 31, 100, 179, 254, 127, 10])
 TAUROS = Member("Tauros", ["Body Slam"])
@@ -23,16 +37,26 @@ def player():
 
 def test_what_is_known_and_what_is_guessed(player):
     """The log of the first turn: Tauros is left with 5 of 353 HP and a lower Special, Alakazam with 32 of 313."""
-    guess = [Member("Alakazam", ["Recover", "Psychic"], exp=[0, 65535, 65535, 65535, 65535]), Member("Gengar", ["Hypnosis"])]
+    guess = [
+        Member("Alakazam", ["Recover", "Psychic"], exp=[0, 65535, 65535, 65535, 65535]),
+        Member("Gengar", ["Hypnosis"]),
+    ]
     copy = Battle.from_player(player, guess, range(20, 30), rules=3, limit=50)
     state = copy.state
-    assert copy.own_side(1) == player.own and copy.choices(1) == player.choices and (state.turn, state.limit, state.rules) == (2, 50, 3)
+    assert (
+        copy.own_side(1) == player.own
+        and copy.choices(1) == player.choices
+        and (state.turn, state.limit, state.rules) == (2, 50, 3)
+    )
     assert state.numbers == tuple(range(20, 30)) and copy.choices(2) == (Choice.MOVE_1, Choice.MOVE_2, Choice.SWITCH_2)
     # Without HP experience Alakazam has (55 + 15) * 2 + 110 = 250 HP, of which 32 of 313 are 25.6. Of 16 PP of Psychic one was used.
     alakazam = state.member(2, 1)
     assert (alakazam.max_hp, alakazam.hp, alakazam.pp, alakazam.status) == (250, 26, (32, 15), Status.NONE)
     assert (state.member(2, 2).hp, state.member(2, 2).max_hp, state.two.active.current_move) == (323, 323, 2)
-    assert copy.update(17, 18).log and type(type("Noted", (Battle,), {}).from_player(player, guess, SEED)).__name__ == "Noted"
+    assert (
+        copy.update(17, 18).log
+        and type(type("Noted", (Battle,), {}).from_player(player, guess, SEED)).__name__ == "Noted"
+    )
 
 
 def test_conditions_that_were_announced(player):
@@ -50,7 +74,9 @@ def test_random_battles():
     dice, count = random.Random(31), 0
     for _ in range(20):
         teams = random_team(dice), random_team(dice)
-        battle, tellers = Battle(*teams, dice.randbytes(10), dice.randint(0, 3), limit=40), [Teller(it) for it in (1, 2)]
+        battle, tellers = Battle(*teams, dice.randbytes(10), dice.randint(0, 3), limit=40), [
+            Teller(it) for it in (1, 2)
+        ]
         players = [Player(it, teams[it - 1]) for it in (1, 2)]
         while not battle.result.is_over:
             log = battle.update(*(dice.choice(battle.choices(it)) for it in (1, 2))).log
@@ -60,7 +86,9 @@ def test_random_battles():
                     continue
                 foes = teams[side.foe - 1]
                 order = [*teller.places, *(it for it in range(1, len(foes) + 1) if it not in teller.places)]
-                copy = Battle.from_player(player, [foes[it - 1] for it in order], dice.randbytes(10), battle.state.rules, 40)
+                copy = Battle.from_player(
+                    player, [foes[it - 1] for it in order], dice.randbytes(10), battle.state.rules, 40
+                )
                 agrees(copy, battle, side, teller.places)
                 count += 1
     assert count > 500
@@ -69,12 +97,30 @@ def test_random_battles():
 def agrees(copy, battle, side, places):
     """What the side knows of both battles is the same."""
     state, true = copy.state, battle.state
-    assert copy.choices(side) == battle.choices(side) and copy.result.requests[side - 1] == battle.result.requests[side - 1]
+    assert (
+        copy.choices(side) == battle.choices(side)
+        and copy.result.requests[side - 1] == battle.result.requests[side - 1]
+    )
     own, known = copy.own_side(side), battle.own_side(side)
-    assert (own.members, own.place, own.stats, own.stages, own.types, own.turn) == (known.members, known.place, known.stats, known.stages, known.types, known.turn)
+    assert (own.members, own.place, own.stats, own.stages, own.types, own.turn) == (
+        known.members,
+        known.place,
+        known.stats,
+        known.stages,
+        known.types,
+        known.turn,
+    )
     for at, place in enumerate(places, 1):
         one, two = state.member(side.foe, at), true.member(side.foe, place)
-        assert (one.species, one.level, one.hp, one.max_hp, one.status, one.moves, one.stats) == (two.species, two.level, two.hp, two.max_hp, two.status, two.moves, two.stats)
+        assert (one.species, one.level, one.hp, one.max_hp, one.status, one.moves, one.stats) == (
+            two.species,
+            two.level,
+            two.hp,
+            two.max_hp,
+            two.status,
+            two.moves,
+            two.stats,
+        )
     assert state.side(side.foe).active.stages == true.side(side.foe).active.stages
     copy.update(*(copy.choices(it)[0] for it in (1, 2)))
 
@@ -83,7 +129,10 @@ def test_guesses_that_do_not_fit(player):
     before = player.copy()
     for foes, said in (
         ([CHANSEY], "foes: member 1 must be Alakazam of level 100, which appeared, not Chansey of level 100"),
-        ([Member("Alakazam", ["Psychic"], level=99)], "foes: member 1 must be Alakazam of level 100, which appeared, not Alakazam of level 99"),
+        (
+            [Member("Alakazam", ["Psychic"], level=99)],
+            "foes: member 1 must be Alakazam of level 100, which appeared, not Alakazam of level 99",
+        ),
         ([Member("Alakazam", ["Recover"])], "foes: member 1 must know Psychic, which it was seen to use"),
     ):
         with pytest.raises(BadArgument) as fault:
@@ -106,10 +155,14 @@ def test_wrong_arguments(player):
     calls = [(lambda it=it: Battle.from_player(it, [ALAKAZAM], SEED), BadType) for it in (None, 5, Teller(1), [TAUROS])]
     calls += [(lambda it=it: Battle.from_player(player, it, SEED), BadType) for it in (None, 5, "Alakazam", [5])]
     calls += [(lambda: Battle.from_player(player, [], SEED), BadTeam)]
-    calls += [(lambda it=it: Battle.from_player(player, [ALAKAZAM], it), BadArgument) for it in (b"", bytes(9), [256] * 10)]
+    calls += [
+        (lambda it=it: Battle.from_player(player, [ALAKAZAM], it), BadArgument) for it in (b"", bytes(9), [256] * 10)
+    ]
     calls += [(lambda it=it: Battle.from_player(player, [ALAKAZAM], it), BadType) for it in (None, 5, "0123456789")]
     calls += [(lambda it=it: Battle.from_player(player, [ALAKAZAM], SEED, it), BadState) for it in (4, *BIG)]
-    calls += [(lambda it=it: Battle.from_player(player, [ALAKAZAM], SEED, 0, it), BadState) for it in (0, 1, 10_000, *BIG[4:])]
+    calls += [
+        (lambda it=it: Battle.from_player(player, [ALAKAZAM], SEED, 0, it), BadState) for it in (0, 1, 10_000, *BIG[4:])
+    ]
     for it in NO_NUMBERS:
         calls += [(lambda it=it: Battle.from_player(player, [ALAKAZAM], SEED, it), BadType)]
         calls += [(lambda it=it: Battle.from_player(player, [ALAKAZAM], SEED, 0, it), BadType)]

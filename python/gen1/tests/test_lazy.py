@@ -44,7 +44,11 @@ def test_events_that_are_kept_are_those_that_the_library_reads():
 def test_a_log_that_is_wrong_after_events_that_are_kept(battle):
     """The fault and its place are the same each time."""
     log = battle.update(Choice.MOVE_1, Choice.MOVE_1).log
-    for wrong, code in ((b"\x00" + log, LogFault.TAG), (b"\x0d\x01\x80\x00" + log, LogFault.FIELD), (log[:3], LogFault.CUT)):
+    for wrong, code in (
+        (b"\x00" + log, LogFault.TAG),
+        (b"\x0d\x01\x80\x00" + log, LogFault.FIELD),
+        (log[:3], LogFault.CUT),
+    ):
         for read in (gen1.events, gen1.lines) * 2:
             with pytest.raises(BadLog) as found:
                 read(log + wrong)
@@ -77,7 +81,12 @@ def test_states_in_any_order_of_use():
 
 def test_a_state_is_frozen(battle):
     state = battle.state
-    for it, name in ((state, "turn"), (state.one, "members"), (state.one.active, "place"), (state.one.members[0], "hp")):
+    for it, name in (
+        (state, "turn"),
+        (state.one, "members"),
+        (state.one.active, "place"),
+        (state.one.members[0], "hp"),
+    ):
         with pytest.raises(dataclasses.FrozenInstanceError):
             setattr(it, name, 1)
         with pytest.raises(AttributeError, match="has no attribute 'hitpoints'"):

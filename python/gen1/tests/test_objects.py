@@ -26,7 +26,11 @@ def test_choices_and_their_bytes():
         assert Choice.move(slot) == 0x10 + slot and Choice.move(slot).is_move and not Choice.move(slot).is_switch
         assert Choice.move(slot).slot == slot
     for place in range(1, 7):
-        assert Choice.switch(place) == 0x20 + place and Choice.switch(place).is_switch and Choice.switch(place).slot == place
+        assert (
+            Choice.switch(place) == 0x20 + place
+            and Choice.switch(place).is_switch
+            and Choice.switch(place).slot == place
+        )
     assert not Choice.PASS.is_move and not Choice.PASS.is_switch and Choice.PASS.slot == 0
     assert str(Choice.MOVE_2) == "move 2"
 
@@ -144,7 +148,17 @@ def test_without_numpy():
         "    except ImportError as fault:\n"
         "        print(isinstance(fault, Error), fault.name, fault)\n"
     ).splitlines()
-    names = ("BattleArray", "BattleArray", "BattleEnv", "TwoPlayerEnv", "Mine", "Encoding", "PlayerArray", "VectorEnv", "TwoPlayerVectorEnv")
+    names = (
+        "BattleArray",
+        "BattleArray",
+        "BattleEnv",
+        "TwoPlayerEnv",
+        "Mine",
+        "Encoding",
+        "PlayerArray",
+        "VectorEnv",
+        "TwoPlayerVectorEnv",
+    )
     assert told[0] == "0 False True" and len(told) == 1 + len(names)
     for name, line in zip(names, told[1:]):
         assert line == f"True numpy {name} needs numpy: install numpy, or gen1 with its extra, as gen1[arrays]"
@@ -154,7 +168,11 @@ def test_the_classes_of_events_are_exported():
     from gen1.events import DamageEvent, Who
 
     assert gen1.DamageEvent is DamageEvent and gen1.Who is Who and callable(gen1.events)
-    kinds = {it for it in vars(sys.modules["gen1.events"]).values() if isinstance(it, type) and it.__module__ == "gen1.events"}
+    kinds = {
+        it
+        for it in vars(sys.modules["gen1.events"]).values()
+        if isinstance(it, type) and it.__module__ == "gen1.events"
+    }
     assert len(kinds) == 32 and all(getattr(gen1, it.__name__) is it and it.__name__ in gen1.__all__ for it in kinds)
 
 
@@ -163,11 +181,19 @@ def test_the_version_of_the_library(tmp_path):
     assert gen1.library_version == (ROOT / "VERSION").read_text().strip()
     if not shutil.which("cc"):
         pytest.skip("there is no cc")
-    for number, said in ((0x020000, "has version 2.0.0, but this package needs version 1"), (None, "has no gen1_version")):
+    for number, said in (
+        (0x020000, "has version 2.0.0, but this package needs version 1"),
+        (None, "has no gen1_version"),
+    ):
         library = tmp_path / f"{number}.so"
         source = "int other;" if number is None else f"unsigned gen1_version(void) {{ return {number}; }}"
         subprocess.run(["cc", "-shared", "-fPIC", "-x", "c", "-", "-o", library], input=source, text=True, check=True)
-        done = subprocess.run([sys.executable, "-c", "import gen1"], capture_output=True, text=True, env={**os.environ, "GEN1_LIBRARY": library})
+        done = subprocess.run(
+            [sys.executable, "-c", "import gen1"],
+            capture_output=True,
+            text=True,
+            env={**os.environ, "GEN1_LIBRARY": library},
+        )
         assert done.returncode == 1 and "LibraryMissing" in done.stderr and said in done.stderr
 
 

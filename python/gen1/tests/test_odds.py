@@ -73,7 +73,10 @@ def test_chances_of_the_rules():
     assert odds(persian, chansey, "Strength").critical_chance == Fraction(57, 256)
     focused = facing(Member("Persian", ["Focus Energy"]), chansey)
     focused.update_silent(Choice.MOVE_1, Choice.MOVE_1)
-    assert [focused.odds(1, it).critical_chance for it in ("Slash", "Strength")] == [Fraction(112, 256), Fraction(14, 256)]
+    assert [focused.odds(1, it).critical_chance for it in ("Slash", "Strength")] == [
+        Fraction(112, 256),
+        Fraction(14, 256),
+    ]
     assert odds(persian, chansey, "Swift").hit_chance == 1 and odds(persian, chansey, "Swift").reason is None
     for move in ("Strength", "Hydro Pump", "Thunder", "Sing"):
         assert odds(persian, chansey, move).hit_chance == Fraction(move_data(move).accuracy * 255 // 100, 256)
@@ -104,14 +107,30 @@ def test_uses_that_cannot_hit():
 def test_fixed_damage_hits_and_charging():
     """docs/MECHANICS.md, "Fixed damage and one-hit moves", "Many hits" and "Charging"; Chansey has 703 HP."""
     gengar, chansey = Member("Gengar", ["Splash"], level=73), Member("Chansey", ["Splash"])
-    fixed = {"Night Shade": (73, 73), "Seismic Toss": (73, 73), "Sonic Boom": (20, 20), "Dragon Rage": (40, 40), "Psywave": (1, 108), "Super Fang": (351, 351)}
+    fixed = {
+        "Night Shade": (73, 73),
+        "Seismic Toss": (73, 73),
+        "Sonic Boom": (20, 20),
+        "Dragon Rage": (40, 40),
+        "Psywave": (1, 108),
+        "Super Fang": (351, 351),
+    }
     for move, damage_of in {**fixed, "Strength": (0, 0), "Splash": (0, 0)}.items():
         assert odds(gengar, chansey, move).fixed == damage_of, move
     # Of the two low bits of a draw, 2 and 3 are drawn once more: 2 and 3 hits have 1/4 + 1/2 * 1/4, 4 and 5 hits 1/2 * 1/4.
-    hits = {"Strength": (0, 8, 0, 0, 0, 0), "Double Kick": (0, 0, 8, 0, 0, 0), "Twineedle": (0, 0, 8, 0, 0, 0), "Fury Attack": (0, 0, 3, 3, 1, 1)}
+    hits = {
+        "Strength": (0, 8, 0, 0, 0, 0),
+        "Double Kick": (0, 0, 8, 0, 0, 0),
+        "Twineedle": (0, 0, 8, 0, 0, 0),
+        "Fury Attack": (0, 0, 3, 3, 1, 1),
+    }
     for move, eighths in hits.items():
         assert odds(gengar, chansey, move).hits == eighths, move
-    charges = [it for it in ("Solar Beam", "Fly", "Dig", "Sky Attack", "Hyper Beam", "Bide") if odds(gengar, chansey, it).charges_first]
+    charges = [
+        it
+        for it in ("Solar Beam", "Fly", "Dig", "Sky Attack", "Hyper Beam", "Bide")
+        if odds(gengar, chansey, it).charges_first
+    ]
     assert charges == ["Solar Beam", "Fly", "Dig", "Sky Attack"]
 
 
@@ -154,7 +173,9 @@ def test_chances_to_knock_out():
         found = facing(tauros, tauros).with_hp(2, 1, hp).knock_out(1, "Body Slam")
         assert found == Chances(once, twice, False), hp
     # By hand: 1 of 39 usual hits deals 112, and each critical one more.
-    assert facing(tauros, tauros).with_hp(2, 1, 112).knock_out(1, "Body Slam").once == Fraction(255 * (201 + 55 * 39), 256 * 256 * 39)
+    assert facing(tauros, tauros).with_hp(2, 1, 112).knock_out(1, "Body Slam").once == Fraction(
+        255 * (201 + 55 * 39), 256 * 256 * 39
+    )
     shade = facing(Member("Gengar", ["Splash"]), tauros).with_hp(2, 1, 200).knock_out(1, "Night Shade")
     assert shade == Chances(Fraction(0), Fraction(255 * 255, 256 * 256), False)
 
@@ -180,7 +201,13 @@ def felled(hp, changes, uses):
 def test_chances_in_three_uses():
     tauros = Member("Tauros", ["Body Slam"])
     none, poison, toxic, recover = HpChange(), HpChange(lost=22), HpChange(lost=44), HpChange(gained=176, lost=22)
-    for hp, changes in ((95, (none, none)), (353, (none, none)), (353, (poison, toxic)), (300, (recover, poison)), (224, (toxic, recover))):
+    for hp, changes in (
+        (95, (none, none)),
+        (353, (none, none)),
+        (353, (poison, toxic)),
+        (300, (recover, poison)),
+        (224, (toxic, recover)),
+    ):
         due = [felled(hp, changes, uses) for uses in (1, 2, 3)]
         battle = facing(tauros, tauros).with_hp(2, 1, hp)
         assert battle.knock_out_in_three(1, "Body Slam", *changes) == ThreeChances(*due, False), (hp, changes)
@@ -188,7 +215,9 @@ def test_chances_in_three_uses():
     assert (found.once, found.twice) == (two.once, two.twice) and two.twice <= found.thrice
     # A foe that has fallen gains nothing; one that loses all HP between the uses has fallen.
     assert battle.with_hp(2, 1, 40).knock_out_in_three(1, "Sonic Boom", HpChange(lost=40)).twice == Fraction(1)
-    assert battle.with_hp(2, 1, 20).knock_out_in_three(1, "Sonic Boom", HpChange(gained=300)).twice == Fraction(229, 256)
+    assert battle.with_hp(2, 1, 20).knock_out_in_three(1, "Sonic Boom", HpChange(gained=300)).twice == Fraction(
+        229, 256
+    )
 
 
 def test_chances_to_break_a_substitute():
@@ -203,7 +232,9 @@ def test_chances_to_break_a_substitute():
     assert tougher.knock_out(1, "Body Slam").once == Fraction(255 * 55, 256 * 256)
     # A Substitute of 221 HP breaks at 222, with three hits of 100; it loses and gains nothing between the uses.
     toughest, change = Battle.from_state(battle.state.with_active(2, substitute=221)), HpChange(gained=50, lost=222)
-    assert toughest.knock_out_in_three(1, "Seismic Toss", change, change) == ThreeChances(Fraction(0), Fraction(0), Fraction(255, 256) ** 3, True)
+    assert toughest.knock_out_in_three(1, "Seismic Toss", change, change) == ThreeChances(
+        Fraction(0), Fraction(0), Fraction(255, 256) ** 3, True
+    )
 
 
 def test_moves_that_take_no_hit_test():
@@ -254,13 +285,22 @@ def test_odds_of_random_battles():
         while not battle.result.is_over:
             side, move, raw = dice.randint(1, 2), dice.choice(list(Move)), OddsStruct()
             before, found = battle.bytes, battle.odds(side, move)
-            assert LIB.gen1_odds_now(battle.bytes, side, int(move), ctypes.byref(raw)) & 0xFF == 0 and battle.bytes == before
-            assert (found.critical_chance, found.hit_chance) == (Fraction(raw.critical_draws, 256), Fraction(raw.hit_draws, 256))
+            assert (
+                LIB.gen1_odds_now(battle.bytes, side, int(move), ctypes.byref(raw)) & 0xFF == 0
+                and battle.bytes == before
+            )
+            assert (found.critical_chance, found.hit_chance) == (
+                Fraction(raw.critical_draws, 256),
+                Fraction(raw.hit_draws, 256),
+            )
             assert (found.reason or 0, found.fixed, found.hits) == (raw.reason, (raw.least, raw.most), tuple(raw.hits))
             ways = ChancesStruct()
             assert LIB.gen1_knock_out(battle.bytes, side, int(move), ctypes.byref(ways)) & 0xFF == 0
             chances = Fraction(ways.once, ways.once_of), Fraction(ways.twice, ways.twice_of)
-            assert battle.knock_out(side, move) == Chances(*chances, ways.breaks_substitute == 1) and battle.bytes == before
+            assert (
+                battle.knock_out(side, move) == Chances(*chances, ways.breaks_substitute == 1)
+                and battle.bytes == before
+            )
             for critical, told in ((False, found.usual), (True, found.critical)):
                 try:
                     assert told == Damages(battle.damage(side, move, critical), None)
@@ -280,14 +320,30 @@ def test_odds_with_wrong_arguments(battle, team, tauros):
     calls += [(lambda it=it: battle.knock_out(it, "Pound"), BadArgument) for it in (0, 3, *BIG)]
     calls += [(lambda it=it: battle.knock_out(it, "Pound"), BadType) for it in NO_NUMBERS]
     calls += [(lambda it=it: battle.knock_out_in_three(it, "Pound"), BadArgument) for it in (0, 3, *BIG)]
-    calls += [(lambda it=it: battle.knock_out_in_three(1, "Pound", HpChange(lost=it)), BadArgument) for it in (-1, 65_536, 2**70)]
-    calls += [(lambda it=it: battle.knock_out_in_three(1, "Pound", HpChange(), HpChange(gained=it)), BadType) for it in NO_NUMBERS]
-    calls += [(lambda it=it: battle.knock_out_in_three(1, "Pound", it), BadType) for it in (None, 22, (0, 22), {"lost": 22})]
-    for call in (lambda it: battle.odds(1, it), lambda it: battle.knock_out(1, it), lambda it: battle.knock_out_in_three(1, it), lambda it: odds(tauros, tauros, it)):
+    calls += [
+        (lambda it=it: battle.knock_out_in_three(1, "Pound", HpChange(lost=it)), BadArgument)
+        for it in (-1, 65_536, 2**70)
+    ]
+    calls += [
+        (lambda it=it: battle.knock_out_in_three(1, "Pound", HpChange(), HpChange(gained=it)), BadType)
+        for it in NO_NUMBERS
+    ]
+    calls += [
+        (lambda it=it: battle.knock_out_in_three(1, "Pound", it), BadType) for it in (None, 22, (0, 22), {"lost": 22})
+    ]
+    for call in (
+        lambda it: battle.odds(1, it),
+        lambda it: battle.knock_out(1, it),
+        lambda it: battle.knock_out_in_three(1, it),
+        lambda it: odds(tauros, tauros, it),
+    ):
         calls += [(lambda call=call, it=it: call(it), BadTeam) for it in (0, 166, *BIG, "Pond", "1")]
         calls += [(lambda call=call, it=it: call(it), BadType) for it in NO_NUMBERS if it != "1"]
     for it in (None, 5, "Tauros", tauros.to_dict(), team):
-        calls += [(lambda it=it: odds(it, tauros, "Pound"), BadType), (lambda it=it: odds(tauros, it, "Pound"), BadType)]
+        calls += [
+            (lambda it=it: odds(it, tauros, "Pound"), BadType),
+            (lambda it=it: odds(tauros, it, "Pound"), BadType),
+        ]
     for at, (call, kind) in enumerate(calls):
         with pytest.raises(kind) as fault:
             call()
@@ -311,7 +367,10 @@ def draws(state):
 
 def leader(battle):
     """The outcome by the shares of the HP left."""
-    one, two = (Fraction(sum(it.hp for it in side.members), sum(it.max_hp for it in side.members)) for side in (battle.state.one, battle.state.two))
+    one, two = (
+        Fraction(sum(it.hp for it in side.members), sum(it.max_hp for it in side.members))
+        for side in (battle.state.one, battle.state.two)
+    )
     return Outcome.WIN_ONE if one > two else Outcome.WIN_TWO if two > one else Outcome.TIE
 
 
@@ -338,7 +397,12 @@ def played_out(battle, seed, rounds, depth=math.inf, weights=None):
         it, updates = battle.copy(), 0
         it.reseed([next(draw) % 256 for _ in range(10)])
         while not it.result.is_over and updates < depth:
-            it.update_silent(*[offered[next(draw) % len(offered)] for offered in (weighted(it, 1, weights), weighted(it, 2, weights))])
+            it.update_silent(
+                *[
+                    offered[next(draw) % len(offered)]
+                    for offered in (weighted(it, 1, weights), weighted(it, 2, weights))
+                ]
+            )
             updates += 1
         ends[min(it.result.outcome or leader(it), Outcome.FAULT_ONE) - 1] += 1
     return Playouts(*ends)
@@ -350,8 +414,15 @@ def test_playouts_update_by_update():
         battle, seed = Battle(random_team(dice), random_team(dice), dice.randbytes(10), limit=60), dice.getrandbits(64)
         before, raw = battle.bytes, PlayoutsStruct()
         found = battle.playout(seed, 9)
-        assert found == played_out(battle, seed, 9) == battle.playout(seed, 9) and found.rounds == 9 and battle.bytes == before
-        assert LIB.gen1_playout(battle.bytes, ctypes.byref(PlayoutOptionsStruct(seed, 9, 0)), ctypes.byref(raw)) & 0xFF == 0
+        assert (
+            found == played_out(battle, seed, 9) == battle.playout(seed, 9)
+            and found.rounds == 9
+            and battle.bytes == before
+        )
+        assert (
+            LIB.gen1_playout(battle.bytes, ctypes.byref(PlayoutOptionsStruct(seed, 9, 0)), ctypes.byref(raw)) & 0xFF
+            == 0
+        )
         assert found == Playouts(raw.wins_one, raw.wins_two, raw.ties, raw.faults)
         for depth in (1, 2, 15, 40):
             assert battle.playout(seed, 9, depth=depth) == played_out(battle, seed, 9, depth)
@@ -361,17 +432,30 @@ def test_playouts_by_weights():
     dice = random.Random(6)
     for turn in range(40):
         battle, seed = Battle(random_team(dice), random_team(dice), dice.randbytes(10), limit=60), dice.getrandbits(64)
-        known = [move.label for side in (battle.state.one, battle.state.two) for member in side.members for move in member.moves]
+        known = [
+            move.label
+            for side in (battle.state.one, battle.state.two)
+            for member in side.members
+            for move in member.moves
+        ]
         keys = dice.sample([*known, "move", "switch", "Struggle"], dice.randrange(6))
         weights = {key: dice.choice((0, 1, 2, 7, 255)) for key in keys}
         depth = dice.choice((None, 8))
-        assert battle.playout(seed, 9, depth=depth, weights=weights) == played_out(battle, seed, 9, depth or math.inf, weights), (turn, weights)
+        assert battle.playout(seed, 9, depth=depth, weights=weights) == played_out(
+            battle, seed, 9, depth or math.inf, weights
+        ), (turn, weights)
 
 
 def test_weights_that_are_all_alike(battle):
     """Weights of 1, and of 0 alone, change nothing, also not by their own numbers. Weights of 0 are never chosen."""
     plain, raw = battle.playout(9, 500), PlayoutsStruct()
-    for weights in ({}, {"move": 1}, {"move": 0, "switch": 0}, {it: 1 for it in Move}, {it.label: 0 for it in Move} | {"switch": 0}):
+    for weights in (
+        {},
+        {"move": 1},
+        {"move": 0, "switch": 0},
+        {it: 1 for it in Move},
+        {it.label: 0 for it in Move} | {"switch": 0},
+    ):
         assert battle.playout(9, 500, weights=weights) == plain, weights
     for weight in (0, 1):
         options = PlayoutOptionsStruct(9, 500, 0, (ctypes.c_uint8 * 166)(*[weight] * 166), (ctypes.c_uint8 * 2)(7, 255))
@@ -395,7 +479,11 @@ def test_playouts_in_slices(battle):
     dice, counts = random.Random(5), [0, 0, 0, 0]
     for seed, rounds in ((5, 1000), (dice.getrandbits(64), 1000), (dice.getrandbits(64), 400)):
         raw = (ctypes.c_uint32 * 4)()
-        assert LIB.gen1_playout(battle.bytes, ctypes.byref(PlayoutOptionsStruct(seed, rounds, 0)), ctypes.byref(raw)) & 0xFF == 0
+        assert (
+            LIB.gen1_playout(battle.bytes, ctypes.byref(PlayoutOptionsStruct(seed, rounds, 0)), ctypes.byref(raw))
+            & 0xFF
+            == 0
+        )
         counts = [known + new for known, new in zip(counts, raw)]
     found = battle.playout(5, 2400)
     assert [found.wins_one, found.wins_two, found.ties, found.faults] == counts
@@ -430,9 +518,13 @@ def test_playouts_with_wrong_arguments(battle):
     calls += [(lambda it=it: battle.playout(it, 1), BadType) for it in NO_NUMBERS]
     calls += [(lambda it=it: battle.playout(1, 1, depth=it), BadType) for it in NO_NUMBERS if it is not None]
     calls += [(lambda it=it: battle.playout(1, it), BadType) for it in NO_NUMBERS]
-    calls += [(lambda it=it: battle.playout(1, 1, weights=it), BadType) for it in (5, "move", ["Pound"], [("Pound", 1)])]
+    calls += [
+        (lambda it=it: battle.playout(1, 1, weights=it), BadType) for it in (5, "move", ["Pound"], [("Pound", 1)])
+    ]
     for key in ("move", "switch", "Pound", Move.POUND, 1):
-        calls += [(lambda key=key, it=it: battle.playout(1, 1, weights={key: it}), BadArgument) for it in (-1, 256, 1 << 64)]
+        calls += [
+            (lambda key=key, it=it: battle.playout(1, 1, weights={key: it}), BadArgument) for it in (-1, 256, 1 << 64)
+        ]
         calls += [(lambda key=key, it=it: battle.playout(1, 1, weights={key: it}), BadType) for it in NO_NUMBERS]
     calls += [(lambda it=it: battle.playout(1, 1, weights={it: 1}), BadTeam) for it in (0, 166, -1)]
     for at, (call, kind) in enumerate(calls):

@@ -141,7 +141,9 @@ def test_least_probability(least, left_out):
     battle = facing(("Tauros", "Thunder Wave"), ("Slowbro", "Amnesia"))
     found = battle.outcomes(FIRST, FIRST, least_probability=least)
     assert sum(found.weights) + found.left_out == found.whole
-    assert Fraction(found.left_out, found.whole) == left_out and found.left_out_probability == pytest.approx(float(left_out))
+    assert Fraction(found.left_out, found.whole) == left_out and found.left_out_probability == pytest.approx(
+        float(left_out)
+    )
     every = (MISSES, IS_STOPPED, 1 - MISSES - IS_STOPPED)
     assert sorted(Fraction(it, found.whole) for it in found.weights) == [it for it in every if it >= least]
     assert len(found) == len(found.battles) == len(found.probabilities) == len(found.weights)
@@ -169,7 +171,9 @@ def test_what_is_left_out_of_random_battles():
         for least in (1e-6, 1e-4, 0.01, 0.5):
             found = battle.outcomes(*pair, least_probability=least)
             assert sum(found.weights) + found.left_out == found.whole
-            assert all(Fraction(weight, found.whole) <= every[it.bytes] for it, weight in zip(found.battles, found.weights))
+            assert all(
+                Fraction(weight, found.whole) <= every[it.bytes] for it, weight in zip(found.battles, found.weights)
+            )
             assert before <= Fraction(found.left_out, found.whole)
             before = Fraction(found.left_out, found.whole)
 
@@ -183,7 +187,9 @@ def test_sleep_and_confusion():
     """Sleep lasts 1 to 7 turns, which are equally likely; confusion 2 to 5. The slower foe counts one of them at once."""
     slept = chances(facing(("Tauros", "Spore"), ("Snorlax", "Splash")), lambda it: it.state.two.members[0].sleep)
     assert [slept[turns] for turns in range(1, 7)] == [Fraction(255, 256 * 7)] * 6
-    confused = chances(facing(("Tauros", "Confuse Ray"), ("Snorlax", "Splash")), lambda it: it.state.two.active.confusion)
+    confused = chances(
+        facing(("Tauros", "Confuse Ray"), ("Snorlax", "Splash")), lambda it: it.state.two.active.confusion
+    )
     assert [confused[turns] for turns in range(1, 5)] == [Fraction(255, 256 * 4)] * 4
 
 
@@ -199,7 +205,11 @@ def test_equal_speed():
     """Which of two equal members acts first is a toss."""
     battle = facing(("Tauros", "Seismic Toss"), ("Tauros", "Seismic Toss")).with_hp(1, 1, 50).with_hp(2, 1, 50)
     found = chances(battle, lambda it: (hp(it, 1), hp(it, 2)))
-    assert found == {(50, 50): Fraction(1, 65536), (50, 0): Fraction(255 * 257, 131072), (0, 50): Fraction(255 * 257, 131072)}
+    assert found == {
+        (50, 50): Fraction(1, 65536),
+        (50, 0): Fraction(255 * 257, 131072),
+        (0, 50): Fraction(255 * 257, 131072),
+    }
 
 
 def test_one_outcome():
@@ -218,8 +228,22 @@ REPEATED = {
     "poisoned": ("Tauros", "Strength", "Tauros", lambda it: it, POISON, TOXIC),
     "recovering": ("Tauros", "Strength", "Tauros", lambda it: it.with_hp(2, 1, 240), RECOVER, POISON),
     "often critical": ("Kingler", "Crabhammer", "Tauros", lambda it: it.with_hp(2, 1, 260), POISON, NONE),
-    "less accurate": ("Tauros", "Strength", "Tauros", lambda it: it.with_hp(2, 1, 150).with_stage(1, Stat.ACCURACY, -2), NONE, POISON),
-    "burned": ("Tauros", "Strength", "Tauros", lambda it: it.with_hp(2, 1, 120).with_status(1, 1, Status.BURN), NONE, NONE),
+    "less accurate": (
+        "Tauros",
+        "Strength",
+        "Tauros",
+        lambda it: it.with_hp(2, 1, 150).with_stage(1, Stat.ACCURACY, -2),
+        NONE,
+        POISON,
+    ),
+    "burned": (
+        "Tauros",
+        "Strength",
+        "Tauros",
+        lambda it: it.with_hp(2, 1, 120).with_status(1, 1, Status.BURN),
+        NONE,
+        NONE,
+    ),
     "no hit test": ("Jolteon", "Swift", "Tauros", lambda it: it.with_hp(2, 1, 120), NONE, POISON),
     "two hits": ("Hitmonlee", "Double Kick", "Tauros", lambda it: it.with_hp(2, 1, 353), POISON, RECOVER),
     "two to five hits": ("Jolteon", "Pin Missile", "Tauros", lambda it: it.with_hp(2, 1, 150), TOXIC, RECOVER),
@@ -247,7 +271,9 @@ def in_turn(battle, changes):
 
     def left(it):
         active = it.state.two.active
-        return (active.substitute + 1 if active.conditions & Conditions.SUBSTITUTE else 0) if has_substitute else hp(it, 2)
+        return (
+            (active.substitute + 1 if active.conditions & Conditions.SUBSTITUTE else 0) if has_substitute else hp(it, 2)
+        )
 
     def uses_from(amount):
         return chances(covered(battle, amount - 1) if has_substitute else battle.with_hp(2, 1, amount), left)

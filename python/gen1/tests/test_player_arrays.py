@@ -86,7 +86,19 @@ def test_it_knows_what_single_players_know(pixels):
     assert array.over.sum() == 0 and all(array.player(at, 1).turn == 1 for at in range(n))
 
 
-OWN = "members", "place", "stages", "stats", "types", "conditions", "disabled_slot", "held", "request", "turn", "outcome"
+OWN = (
+    "members",
+    "place",
+    "stages",
+    "stats",
+    "types",
+    "conditions",
+    "disabled_slot",
+    "held",
+    "request",
+    "turn",
+    "outcome",
+)
 
 
 def noted(player):
@@ -218,7 +230,9 @@ def test_each_column_is_what_the_player_knows(pixels):
         known = noted(player)
         values = [float(expected(it.name, known)) for it in COLUMNS]
         assert Encoding().row(player) == pytest.approx(values, abs=1e-6)
-        assert Encoding("uint8").row(player).tolist() == [as_byte(it, value, known) for it, value in zip(COLUMNS, values)]
+        assert Encoding("uint8").row(player).tolist() == [
+            as_byte(it, value, known) for it, value in zip(COLUMNS, values)
+        ]
 
 
 def test_a_row_is_that_of_its_player():
@@ -254,7 +268,9 @@ def test_the_columns_are_those_of_the_version():
     assert (VERSION, hashlib.sha256(told.encode()).hexdigest()[:16]) == (1, "2747dbe088f359f7")
     assert len({it.name for it in COLUMNS}) == len(COLUMNS) and all(it.says for it in COLUMNS)
     lines = encoded.described().splitlines()
-    assert len(lines) == 1 + len(COLUMNS) and all(it.name in line and it.says in line for it, line in zip(COLUMNS, lines[1:]))
+    assert len(lines) == 1 + len(COLUMNS) and all(
+        it.name in line and it.says in line for it, line in zip(COLUMNS, lines[1:])
+    )
 
 
 def test_rows_are_within_their_bounds():
@@ -263,7 +279,9 @@ def test_rows_are_within_their_bounds():
         low, high = encoding.bounds
         for side in Side:
             rows = array.observe(side, encoding)
-            assert rows.dtype == low.dtype == high.dtype == encoding.dtype and (rows >= low).all() and (rows <= high).all()
+            assert (
+                rows.dtype == low.dtype == high.dtype == encoding.dtype and (rows >= low).all() and (rows <= high).all()
+            )
             out = np.ones_like(rows)
             assert array.observe(side, encoding, out) is out and (out == rows).all()
 
@@ -272,7 +290,10 @@ def test_what_a_side_may_not_know_changes_no_row():
     """Numbers to be drawn, and moves, DVs and PP of the foe, until they are shown."""
     dice = random.Random(35)
     one, two = random_team(dice), random_team(dice)
-    changed = [type(it)(it.species, [164 if 164 not in map(int, it.moves) else 33], it.level, dvs=it.dvs, exp=it.exp) for it in two]
+    changed = [
+        type(it)(it.species, [164 if 164 not in map(int, it.moves) else 33], it.level, dvs=it.dvs, exp=it.exp)
+        for it in two
+    ]
     rows = [
         PlayerArray(3, one, foes, seeds(3, seed)).observe(1, encoding)
         for foes, seed in ((two, 1), (two, 2), (changed, 1))
@@ -298,12 +319,20 @@ def test_threads_change_nothing(threads, battle):
     """Steps, masks, players and rows are those of one thread."""
     n, team = 2500, random_team(random.Random(37))
     alone, apart = (BattleArray(n, battle, seeds(n, 1), threads=it) for it in (1, threads))
-    assert apart.threads == apart.copy().threads == pickle.loads(pickle.dumps(apart)).threads == apart.take([0]).threads == threads
+    assert (
+        apart.threads
+        == apart.copy().threads
+        == pickle.loads(pickle.dumps(apart)).threads
+        == apart.take([0]).threads
+        == threads
+    )
     players = [PlayerArray(n, team, team, seeds(n, 2), threads=it) for it in (1, threads)]
     dice = [np.random.default_rng(3) for _ in range(2)]
     for _ in range(40):
         drawn = [it.random_step(of, reset=True) for it, of in zip((alone, apart), dice)]
-        assert (np.array(drawn[0]) == np.array(drawn[1])).all() and alone == apart and (alone.codes == apart.codes).all()
+        assert (
+            (np.array(drawn[0]) == np.array(drawn[1])).all() and alone == apart and (alone.codes == apart.codes).all()
+        )
         assert (alone.masks() == apart.masks()).all()
         ones, twos = at_random(players[0], dice[0])
         at_random(players[1], dice[1])

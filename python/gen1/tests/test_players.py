@@ -71,11 +71,30 @@ def test_before_the_battle(player):
         (Species.TAUROS, 100, 353, 353, ()),
         (Species.CHANSEY, 100, 703, 703, ()),
     ]
-    assert player.foe == player.public(Side.TWO) == PublicSide((), 0, None, (0,) * 6, (Type.NORMAL, Type.NORMAL), None, NOTHING)
-    assert (player.side, player.foes, player.turn, player.outcome, player.choices, player.held) == (Side.ONE, None, 0, Outcome.ONGOING, (), b"")
-    assert (player.own.members, player.own.active, player.own.place, player.own.request) == ((), None, 0, Request.NOTHING)
+    assert (
+        player.foe
+        == player.public(Side.TWO)
+        == PublicSide((), 0, None, (0,) * 6, (Type.NORMAL, Type.NORMAL), None, NOTHING)
+    )
+    assert (player.side, player.foes, player.turn, player.outcome, player.choices, player.held) == (
+        Side.ONE,
+        None,
+        0,
+        Outcome.ONGOING,
+        (),
+        b"",
+    )
+    assert (player.own.members, player.own.active, player.own.place, player.own.request) == (
+        (),
+        None,
+        0,
+        Request.NOTHING,
+    )
     assert Player(2, [TAUROS], foes=6).foes == 6 and Player(2, [TAUROS], 1).side is Side.TWO
-    assert repr(player) == "<Player of side 1, turn 0, ongoing>" and repr(Teller(2, True)) == "<Teller of side 2, in pixels>"
+    assert (
+        repr(player) == "<Player of side 1, turn 0, ongoing>"
+        and repr(Teller(2, True)) == "<Teller of side 2, in pixels>"
+    )
 
 
 def test_places_of_the_foe_are_told_by_appearance():
@@ -92,16 +111,30 @@ def test_pixels():
     for hp, told in ((322, 47), (323, 48), (6, 1), (7, 1), (0, 0)):
         teller = Teller(1, pixels=True)
         assert teller.tell(switch(2, 113, 3, hp, 323)) == switch(2, 113, 1, told, 48)
-        assert teller.tell(damage(2, 113, hp, 323) + damage(1, 113, hp, 323)) == damage(2, 113, told, 48) + damage(1, 113, hp, 323)
+        assert teller.tell(damage(2, 113, hp, 323) + damage(1, 113, hp, 323)) == damage(2, 113, told, 48) + damage(
+            1, 113, hp, 323
+        )
 
 
 def test_what_events_make_public(player):
     """Each event of the foe that changes what is public of it (docs/MECHANICS.md, "What the log makes public")."""
     gyarados = Seen(Species.GYARADOS, 100, 393, 393, Status.NONE, ())
     foe = seen_by(player, switch(1, 128, 1, 353, 353), switch(2, 130, 1, 393, 393), [1, 1, 0])
-    assert foe == PublicSide((gyarados,), 1, gyarados, (0,) * 6, (Type.WATER, Type.FLYING), None, NOTHING) and player.turn == 1
-    foe = seen_by(player, [3, 2, 130, 56, 1, 128], damage(2, 130, 40, 393), [13, 2, 130, 5], [3, 2, 130, 57, 1, 128], [3, 2, 130, 56, 1, 128])
-    assert foe.active == Seen(Species.GYARADOS, 100, 40, 393, Status.PARALYSIS, (SeenMove(Move(56), 2), SeenMove(Move(57), 1)))
+    assert (
+        foe == PublicSide((gyarados,), 1, gyarados, (0,) * 6, (Type.WATER, Type.FLYING), None, NOTHING)
+        and player.turn == 1
+    )
+    foe = seen_by(
+        player,
+        [3, 2, 130, 56, 1, 128],
+        damage(2, 130, 40, 393),
+        [13, 2, 130, 5],
+        [3, 2, 130, 57, 1, 128],
+        [3, 2, 130, 56, 1, 128],
+    )
+    assert foe.active == Seen(
+        Species.GYARADOS, 100, 40, 393, Status.PARALYSIS, (SeenMove(Move(56), 2), SeenMove(Move(57), 1))
+    )
     assert foe.last_move is Move.HYDRO_PUMP and foe.members == (foe.active,)
     foe = seen_by(player, [15, 2, 130, 2, 2], [16, 2, 130, 3, 1], [18, 2, 130, 1], [18, 2, 130, 9], [21, 2, 130, 19])
     assert (foe.stages, foe.stage(Stat.DEFENSE), foe.stage(Stat.SPEED)) == ((0, 2, -1, 0, 0, 0), 2, -1)
@@ -110,7 +143,10 @@ def test_what_events_make_public(player):
     assert (foe.stages, foe.announced) == ((0,) * 6, dataclasses.replace(NOTHING, charging=True))
     foe = seen_by(player, [14, 2, 130, 5], switch(2, 113, 2, 703, 703, 2))
     assert (foe.place, foe.last_move, foe.announced, foe.types) == (2, None, NOTHING, (Type.NORMAL, Type.NORMAL))
-    assert [(it.species, it.hp, it.status) for it in foe.members] == [(Species.GYARADOS, 40, Status.NONE), (Species.CHANSEY, 703, Status.POISON)]
+    assert [(it.species, it.hp, it.status) for it in foe.members] == [
+        (Species.GYARADOS, 40, Status.NONE),
+        (Species.CHANSEY, 703, Status.POISON),
+    ]
     foe = seen_by(player, [25, 2, 113], [26, 1])
     assert (foe.active.hp, foe.active.status, player.outcome) == (0, Status.NONE, Outcome.WIN_ONE)
     assert player.public(1).active == Seen(Species.TAUROS, 100, 353, 353, Status.NONE, ())
@@ -120,7 +156,18 @@ def test_each_condition_that_is_announced():
     """Start of each (volatiles of docs/MECHANICS.md, "Events"), Prepare and MustRecharge; and poison after Toxic."""
     begun = Player(1, [TAUROS])
     begun.feed(switch(1, 128, 1, 353, 353) + switch(2, 130, 1, 393, 393))
-    starts = {1: "confused", 2: "bide", 3: "substitute", 4: "seeded", 5: "mist", 6: "focus_energy", 7: "light_screen", 8: "reflect", 9: "disabled", 12: "rage"}
+    starts = {
+        1: "confused",
+        2: "bide",
+        3: "substitute",
+        4: "seeded",
+        5: "mist",
+        6: "focus_energy",
+        7: "light_screen",
+        8: "reflect",
+        9: "disabled",
+        12: "rage",
+    }
     for events, name in (
         *((bytes([18, 2, 130, number]), name) for number, name in starts.items()),
         (bytes([21, 2, 130, 19]), "charging"),
@@ -141,12 +188,28 @@ def test_what_a_side_is_shown_of_itself():
     battle = begun_battle()
     own = battle.own_side(1)
     assert (own.turn, own.place, own.request, own.outcome, own.held) == (1, 1, Request.MOVE, Outcome.ONGOING, False)
-    assert (own.stats[:3], own.types, own.stages, own.conditions) == ((298, 288, 318), (Type.NORMAL, Type.NORMAL), (0,) * 6, Conditions.NONE)
+    assert (own.stats[:3], own.types, own.stages, own.conditions) == (
+        (298, 288, 318),
+        (Type.NORMAL, Type.NORMAL),
+        (0,) * 6,
+        Conditions.NONE,
+    )
     tauros = own.members[0]
-    assert own.active == tauros and tauros.stats[:3] == (298, 288, 318) and (tauros.moves, tauros.pp) == ((Move.STRENGTH,), (24,))
-    assert (own.members[1].species, own.members[1].hp, own.members[1].max_hp, own.disabled_slot) == (Species.CHANSEY, 703, 703, 0)
+    assert (
+        own.active == tauros
+        and tauros.stats[:3] == (298, 288, 318)
+        and (tauros.moves, tauros.pp) == ((Move.STRENGTH,), (24,))
+    )
+    assert (own.members[1].species, own.members[1].hp, own.members[1].max_hp, own.disabled_slot) == (
+        Species.CHANSEY,
+        703,
+        703,
+        0,
+    )
     fast = battle.with_stage(1, Stat.SPEED, 1)
-    assert (fast.own_side(1).stats[2], fast.own_side(1).stage(Stat.SPEED)) == (477, 1) and fast.own_side(2) == battle.own_side(2)
+    assert (fast.own_side(1).stats[2], fast.own_side(1).stage(Stat.SPEED)) == (477, 1) and fast.own_side(
+        2
+    ) == battle.own_side(2)
     slow = fast.with_status(1, 1, Status.PARALYSIS).own_side(1)
     assert (slow.stats[2], slow.members[0].stats[2], slow.members[0].status) == (119, 318, Status.PARALYSIS)
     assert repr(own) == "<OwnSide, turn 1, Tauros out, asked move>"
@@ -157,9 +220,13 @@ def test_what_a_side_is_not_shown():
     battle = begun_battle(two=[Member("Tauros", ["Wrap"])])
     shown = {battle.with_status(1, 1, Status.SLEEP, turns).own_side(1) for turns in range(1, 8)}
     assert len(shown) == 1 and shown.pop().members[0].status is Status.SLEEP
-    holds = [battle.state.with_active(2, conditions=Conditions.TRAPPING, current_move=1, turns=turns) for turns in (0, 4)]
+    holds = [
+        battle.state.with_active(2, conditions=Conditions.TRAPPING, current_move=1, turns=turns) for turns in (0, 4)
+    ]
     held = [Battle.from_state(it).own_side(1) for it in holds]
-    assert held[0] == held[1] != battle.own_side(1) and held[0].held and not Battle.from_state(holds[0]).own_side(2).held
+    assert (
+        held[0] == held[1] != battle.own_side(1) and held[0].held and not Battle.from_state(holds[0]).own_side(2).held
+    )
     other = battle.with_hp(2, 1, 5).with_status(2, 1, Status.BURN).with_stage(2, Stat.SPEED, 3)
     assert other.own_side(1) == battle.own_side(1) and hash(other.own_side(1)) == hash(battle.own_side(1))
     flinched = Battle.from_state(battle.state.with_active(1, conditions=Conditions.FLINCH))
@@ -168,7 +235,14 @@ def test_what_a_side_is_not_shown():
 
 def test_before_the_first_update():
     own = Battle([TAUROS], [CHANSEY], SEED).own_side(2)
-    assert (own.place, own.active, own.stages, own.stats, own.turn, len(own.members)) == (0, None, (0,) * 6, (0,) * 4, 0, 1)
+    assert (own.place, own.active, own.stages, own.stats, own.turn, len(own.members)) == (
+        0,
+        None,
+        (0,) * 6,
+        (0,) * 4,
+        0,
+        1,
+    )
     assert repr(own) == "<OwnSide, turn 0, nobody out, asked nothing>"
 
 
@@ -231,7 +305,14 @@ def test_random_battles():
             teller.report(battle, log, player)
             spectator.feed(log)
             own, length = OwnSideStruct(), ctypes.c_size_t(0)
-            LIB.gen1_tell(ctypes.byref(raw_teller), log, ctypes.c_size_t(len(log)), buffer, ctypes.c_size_t(512), ctypes.byref(length))
+            LIB.gen1_tell(
+                ctypes.byref(raw_teller),
+                log,
+                ctypes.c_size_t(len(log)),
+                buffer,
+                ctypes.c_size_t(512),
+                ctypes.byref(length),
+            )
             LIB.gen1_player_feed(ctypes.byref(raw), buffer, length)
             LIB.gen1_get_own_side(battle.bytes, side, ctypes.byref(own))
             LIB.gen1_player_show(ctypes.byref(raw), ctypes.byref(own), LIB.gen1_offered(battle.bytes, side))
@@ -246,15 +327,38 @@ def agrees(player, teller, battle, shown, side):
     assert (player.turn, player.outcome) == (state.turn, state.outcome) and player.choices == battle.choices(side)
     for place, seen in zip(teller.places, foe.members, strict=True):
         member = theirs.members[place - 1]
-        assert (seen.species, seen.level, seen.hp, seen.max_hp, seen.status) == (member.species, member.level, member.hp, member.max_hp, member.status)
-    assert teller.places[foe.place - 1] == theirs.active.place and (foe.stages, foe.types) == (theirs.active.stages, theirs.active.types)
+        assert (seen.species, seen.level, seen.hp, seen.max_hp, seen.status) == (
+            member.species,
+            member.level,
+            member.hp,
+            member.max_hp,
+            member.status,
+        )
+    assert teller.places[foe.place - 1] == theirs.active.place and (foe.stages, foe.types) == (
+        theirs.active.stages,
+        theirs.active.types,
+    )
     eye = (shown.one, shown.two)[2 - side]
     told = foe.announced
-    assert (told.substitute, told.confused, told.light_screen, told.reflect) == (eye.substitute, eye.confused, eye.light_screen, eye.reflect)
+    assert (told.substitute, told.confused, told.light_screen, told.reflect) == (
+        eye.substitute,
+        eye.confused,
+        eye.light_screen,
+        eye.reflect,
+    )
     own, active = player.own, mine.active
-    assert (own.place, own.stats, own.stages, own.types, own.disabled_slot) == (active.place, active.stats, active.stages, active.types, active.disabled_slot)
+    assert (own.place, own.stats, own.stages, own.types, own.disabled_slot) == (
+        active.place,
+        active.stats,
+        active.stages,
+        active.types,
+        active.disabled_slot,
+    )
     assert own.conditions == active.conditions & ~Conditions.FLINCH and own.request == state.requests[side - 1]
-    assert own.held == bool(theirs.active.conditions & Conditions.TRAPPING) and (own.turn, own.outcome) == (state.turn, state.outcome)
+    assert own.held == bool(theirs.active.conditions & Conditions.TRAPPING) and (own.turn, own.outcome) == (
+        state.turn,
+        state.outcome,
+    )
     for one, two in zip(own.members, mine.members, strict=True):
         assert all(getattr(one, it.name) == getattr(two, it.name) for it in dataclasses.fields(one))
 
@@ -269,10 +373,15 @@ def test_bytes_that_come_in_pieces(player):
     assert player == whole and player.held == b"" and player.foe.active.hp == 40
 
 
-@pytest.mark.parametrize("copied", [copy.copy, copy.deepcopy, lambda it: it.copy(), lambda it: pickle.loads(pickle.dumps(it))])
+@pytest.mark.parametrize(
+    "copied", [copy.copy, copy.deepcopy, lambda it: it.copy(), lambda it: pickle.loads(pickle.dumps(it))]
+)
 def test_copies(player, copied):
     teller = Teller(1, True)
-    for it, change in ((player, lambda it: it.feed(bytes([1, 5, 0]))), (teller, lambda it: it.tell(switch(2, 113, 4, 5, 703)))):
+    for it, change in (
+        (player, lambda it: it.feed(bytes([1, 5, 0]))),
+        (teller, lambda it: it.tell(switch(2, 113, 4, 5, 703))),
+    ):
         other = copied(it)
         assert other == it and other is not it and type(other) is type(it) and it != "one"
         change(other)
@@ -312,7 +421,12 @@ def test_logs_that_are_wrong(player):
     for call in (lambda: player.feed(bytes(7)), lambda: teller.report(begun_battle(), bytes([17] * 7), player)):
         with pytest.raises(BadLog) as fault:
             call()
-        assert fault.value.at == -3 and "3 bytes before these" in str(fault.value) and player == held and teller == Teller(1)
+        assert (
+            fault.value.at == -3
+            and "3 bytes before these" in str(fault.value)
+            and player == held
+            and teller == Teller(1)
+        )
 
 
 def test_wrong_arguments(player):
@@ -325,12 +439,16 @@ def test_wrong_arguments(player):
         calls += [(lambda call=call, it=it: call(it), BadType) for it in NO_NUMBERS]
     calls += [(lambda it=it: Player(1, [TAUROS], it), BadArgument) for it in (0, 7, *BIG)]
     calls += [(lambda it=it: Player(1, [TAUROS], it), BadType) for it in NO_NUMBERS if it is not None]
-    calls += [(lambda it=it: Player(1, it), BadType) for it in (None, 5, "Tauros", [None])] + [(lambda: Player(1, []), BadTeam)]
+    calls += [(lambda it=it: Player(1, it), BadType) for it in (None, 5, "Tauros", [None])] + [
+        (lambda: Player(1, []), BadTeam)
+    ]
     calls += [(lambda it=it: Teller(1, it), BadType) for it in (None, 1, 0, "yes")]
     for call in (player.feed, teller.tell, lambda it: teller.report(battle, it, player)):
         calls += [(lambda call=call, it=it: call(it), BadType) for it in (None, 5, "log", [1, 2])]
     calls += [(lambda it=it: player.show(it, ()), BadType) for it in (None, 5, battle, player)]
-    calls += [(lambda it=it: player.show(own, it), BadType) for it in (None, 5, "17", b"\x11", [None], [True], ["move 1"])]
+    calls += [
+        (lambda it=it: player.show(own, it), BadType) for it in (None, 5, "17", b"\x11", [None], [True], ["move 1"])
+    ]
     calls += [(lambda it=it: player.show(own, [17, it]), BadArgument) for it in (1, 0x15, 0x20, 0x27, *BIG)]
     calls += [(lambda it=it: teller.report(it, b"", player), BadType) for it in (None, 5, battle.bytes, Room(battle))]
     calls += [(lambda it=it: teller.report(battle, b"", it), BadType) for it in (None, 5, teller, battle)]
@@ -353,7 +471,11 @@ def test_wrong_arguments(player):
 
 def test_nothing_can_be_assigned(player):
     own = begun_battle().own_side(1)
-    for it, names in ((player, ("side", "own", "foe", "choices", "unknown")), (own, ("members", "turn", "unknown")), (Teller(1), ("side", "pixels"))):
+    for it, names in (
+        (player, ("side", "own", "foe", "choices", "unknown")),
+        (own, ("members", "turn", "unknown")),
+        (Teller(1), ("side", "pixels")),
+    ):
         for name in names:
             with pytest.raises(AttributeError):
                 setattr(it, name, None)

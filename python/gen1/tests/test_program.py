@@ -102,7 +102,12 @@ def test_state(monkeypatch, capsys, team):
     battle.update(0, 0)
     it = json.loads(ran(monkeypatch, capsys, battle.bytes, "state")[0])
     assert it["one"]["members"][0]["species"] == "Tauros" and it["one"]["members"][0]["moves"][0] == "Body Slam"
-    assert (it["turn"], it["outcome"], it["requests"], it["two"]["active"]["conditions"]) == (1, "ongoing", ["move", "move"], [])
+    assert (it["turn"], it["outcome"], it["requests"], it["two"]["active"]["conditions"]) == (
+        1,
+        "ongoing",
+        ["move", "move"],
+        [],
+    )
     assert it["choices"]["one"][:2] == ["move 1 Body Slam", "move 2 Hyper Beam"] and it["numbers"] == list(range(10))
     out, status, err = ran(monkeypatch, capsys, bytes(384), "state")
     assert (out, status) == ("", 1) and "version" in err
@@ -112,7 +117,12 @@ def test_explain(monkeypatch, capsys):
     given = (ROOT / "crates" / "battle_tool" / "stdin").read_bytes()
     out, status, err = ran(monkeypatch, capsys, given, "explain")
     assert status == 0 and "error" not in err and "Update 2: side 1 move 1, side 2 move 1." in out
-    sayings = ("The hit on side 2's Tauros is critical.", "Side 2's Tauros faints.", "Side 1 wins.", "draw 4 is 252; with another")
+    sayings = (
+        "The hit on side 2's Tauros is critical.",
+        "Side 2's Tauros faints.",
+        "Side 1 wins.",
+        "draw 4 is 252; with another",
+    )
     for said in sayings:
         assert said in out
 
@@ -154,7 +164,12 @@ def test_play(monkeypatch, capsys):
         (b"[" * 100000, ["run"], 1, "JSON"),
         (b"", ["run", "/no/such/file"], 3, "No such file"),
         (b"", ["fly"], 2, "fly"),
-        (b'{"attacker":5,"defender":5,"move":1,"critical":false}', ["calc"], 1, "attacker: it must be a Member or a dict"),
+        (
+            b'{"attacker":5,"defender":5,"move":1,"critical":false}',
+            ["calc"],
+            1,
+            "attacker: it must be a Member or a dict",
+        ),
         (b"", [], 2, "SUBCOMMAND"),
     ],
 )
@@ -183,7 +198,12 @@ def test_input_that_is_wrong_says_where(monkeypatch, capsys, tmp_path, tauros):
 
 def test_choices_that_are_refused(monkeypatch, capsys):
     asked = json.loads((ROOT / "crates" / "battle_tool" / "stdin").read_text())
-    for choices, said in (([[0, 0], [18, 17]], "pair 1: side 1's"), ([[0]], "two numbers"), ([[0, 256]], "0 to 255"), (5, "list")):
+    for choices, said in (
+        ([[0, 0], [18, 17]], "pair 1: side 1's"),
+        ([[0]], "two numbers"),
+        ([[0, 256]], "0 to 255"),
+        (5, "list"),
+    ):
         given = json.dumps(asked | {"choices": choices}).encode()
         out, status, err = ran(monkeypatch, capsys, given, "run")
         assert status == 1 and said in err
@@ -247,7 +267,10 @@ def test_replay(monkeypatch, capsys, tmp_path):
     assert (status, err) == (0, "") and text.startswith(before) and text.endswith(after)
     held = text[len(before) : -len(after)]
     assert json.loads(held) == asked and "<" not in held and held == given.decode().replace("<", "\\u003c")
-    assert ran(monkeypatch, capsys, given, "replay", "--page", str(page), "--out", str(out))[:2] == ("", 0) and out.read_text() == text
+    assert (
+        ran(monkeypatch, capsys, given, "replay", "--page", str(page), "--out", str(out))[:2] == ("", 0)
+        and out.read_text() == text
+    )
     log = bytes([1, 1, 0, 26, 1])
     assert '{"log":"0101001a01"}' in ran(monkeypatch, capsys, log, "replay", "--page", str(page))[0]
 

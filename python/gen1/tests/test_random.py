@@ -56,6 +56,10 @@ def test_logs(team):
             given[dice.randrange(len(given))] = dice.randint(0, 255)
         code, text = raw_lines(bytes(given))
         try:
-            assert "".join(f"{it}\n" for it in lines(given)) == text and code == 35 and len(events(given)) == text.count("\n")
+            assert (
+                "".join(f"{it}\n" for it in lines(given)) == text
+                and code == 35
+                and len(events(given)) == text.count("\n")
+            )
         except BadLog as fault:
             assert fault.code == code

@@ -5,7 +5,21 @@ from dataclasses import fields
 
 import pytest
 from conftest import RECORDED, ROOT, recorded_only
-from gen1 import BadArgument, BadBytes, BadLog, BadTeam, Battle, Member, NoDamage, Refused, Team, damage, events, lines, log_bytes
+from gen1 import (
+    BadArgument,
+    BadBytes,
+    BadLog,
+    BadTeam,
+    Battle,
+    Member,
+    NoDamage,
+    Refused,
+    Team,
+    damage,
+    events,
+    lines,
+    log_bytes,
+)
 from gen1.names import EventKind, LoadFault, LogFault, Refusal
 
 pytestmark = recorded_only

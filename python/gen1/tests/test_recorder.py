@@ -19,7 +19,9 @@ PAGE = '<html><script id="battle" type="application/json">null</script><p>null</
 
 def a_recorder(dice, updates=20):
     """A random battle after some updates."""
-    made = Recorder(random_team(dice), random_team(dice), dice.randbytes(10), rules=dice.randrange(4), limit=dice.randint(1, 9999))
+    made = Recorder(
+        random_team(dice), random_team(dice), dice.randbytes(10), rules=dice.randrange(4), limit=dice.randint(1, 9999)
+    )
     while not made.battle.result.is_over and len(made.pairs) < updates:
         made.update(*(dice.choice(made.choices(side)) for side in (1, 2)))
     return made
@@ -53,7 +55,10 @@ def test_from_json():
         again = Recorder.from_json(made.json())
         assert (again.battle, again.pairs, again.input) == (made.battle, made.pairs, made.input)
         assert again.battle.bytes == Recorder.from_json(made.json().encode()).battle.bytes
-        noted = made.input | {"note": "a key more", "one": [it | {"nickname": "a key more"} for it in made.input["one"]]}
+        noted = made.input | {
+            "note": "a key more",
+            "one": [it | {"nickname": "a key more"} for it in made.input["one"]],
+        }
         assert Recorder.from_json(json.dumps(noted)).input == made.input
 
 
@@ -87,7 +92,9 @@ def test_a_replay(tmp_path):
     made.write_replay(out, page)
     before, after = PAGE.split("null", 1)
     text = out.read_text()
-    assert text.startswith(before) and text.endswith(after) and json.loads(text[len(before) : -len(after)]) == made.input
+    assert (
+        text.startswith(before) and text.endswith(after) and json.loads(text[len(before) : -len(after)]) == made.input
+    )
     with pytest.raises(BadArgument, match="cannot be read"):
         made.write_replay(out, tmp_path / "missing.html")
     with pytest.raises(OSError):
@@ -105,7 +112,9 @@ def test_a_refused_pair_is_not_recorded(team):
     made.battle.update(Choice.MOVE_1, Choice.MOVE_1)
     battle = Battle(team, team, range(10))
     battle.update(Choice.PASS, Choice.PASS)
-    assert made.battle == before[1] == battle and made.pairs == ((0, 0),) and repr(made) == "<Recorder, 1 update, ongoing>"
+    assert (
+        made.battle == before[1] == battle and made.pairs == ((0, 0),) and repr(made) == "<Recorder, 1 update, ongoing>"
+    )
 
 
 def test_texts_that_are_no_inputs(team):

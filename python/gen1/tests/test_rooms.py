@@ -11,7 +11,23 @@ import time
 
 import pytest
 from conftest import BIG, LIB, NO_NUMBERS, RECORDED, random_team, recorded_only
-from gen1 import BadArgument, BadType, Battle, Choice, Error, Member, Outcome, Request, Result, Room, RoomRefusal, RoomRefused, Side, Team, Update
+from gen1 import (
+    BadArgument,
+    BadType,
+    Battle,
+    Choice,
+    Error,
+    Member,
+    Outcome,
+    Request,
+    Result,
+    Room,
+    RoomRefusal,
+    RoomRefused,
+    Side,
+    Team,
+    Update,
+)
 from gen1._structs import RoomStruct
 
 if RECORDED.is_dir():
@@ -34,7 +50,11 @@ def reply(room, *submission):
         told = room.submit(*submission)
     except RoomRefused as fault:
         it = fault
-        assert room == before and (it.side, it.number, it.current, it.choice) == (*submission[:2], room.number, submission[2])
+        assert room == before and (it.side, it.number, it.current, it.choice) == (
+            *submission[:2],
+            room.number,
+            submission[2],
+        )
         assert it.offered == room.choices(it.side) and len(str(it)) > 10 and "\n" not in str(it)
         return list(RoomRefusal).index(it.code) + 1
     if told is None:
@@ -119,7 +139,10 @@ def test_what_a_refusal_says():
     room.submit(1, 0, 17)
     with pytest.raises(RoomRefused) as fault:
         room.submit(1, 0, 17)
-    assert str(fault.value) == "the side's choice is there: side 1 can submit nothing more for pair 0" and fault.value.offered == ()
+    assert (
+        str(fault.value) == "the side's choice is there: side 1 can submit nothing more for pair 0"
+        and fault.value.offered == ()
+    )
 
 
 def test_a_battle_that_is_over_takes_nothing():
@@ -157,7 +180,15 @@ def test_no_answer_tells_what_the_foe_has_chosen(team):
     assert len(rooms) == 5
     tried = [(side, number, choice) for side in (1, 2) for number in (0, 1) for choice in (0, 99, 255)]
     for submission in [*tried, (1, 0, 17), (2, 1, 17)]:
-        assert len({(reply(room, *submission), room.log, room.number, room.choices(1), room.choices(2), repr(room)) for room in rooms}) == 1
+        assert (
+            len(
+                {
+                    (reply(room, *submission), room.log, room.number, room.choices(1), room.choices(2), repr(room))
+                    for room in rooms
+                }
+            )
+            == 1
+        )
 
 
 @pytest.mark.parametrize("side, winner", [(1, Outcome.WIN_TWO), (2, Outcome.WIN_ONE)])
@@ -172,16 +203,28 @@ def test_forfeits(side, winner, chosen):
     update = room.forfeit(side)
     assert (update.log, update.lines) == (bytes([26, 3 - side]), [f"|win|p{3 - side}"])
     assert (room.log, room.number, room.forfeited, room.battle) == (update.log, 1, side, before.battle)
-    assert update.result == room.result == Result(winner, (Request.NOTHING, Request.NOTHING)) and room.forfeited is Side(side)
+    assert update.result == room.result == Result(
+        winner, (Request.NOTHING, Request.NOTHING)
+    ) and room.forfeited is Side(side)
     assert room.choices(1) == room.choices(2) == () and before.forfeited is None and room != before
     for call in (lambda: room.forfeit(1), lambda: room.forfeit(2), lambda: room.submit(1, 1, 17)):
         kept = pickle.loads(pickle.dumps(room))
         with pytest.raises(RoomRefused) as fault:
             call()
-        assert fault.value.code is RoomRefusal.OVER and str(fault.value) == f"the battle is over: {winner.label}" and room == kept
+        assert (
+            fault.value.code is RoomRefusal.OVER
+            and str(fault.value) == f"the battle is over: {winner.label}"
+            and room == kept
+        )
     with pytest.raises(RoomRefused) as fault:
         room.forfeit(1)
-    assert (fault.value.side, fault.value.number, fault.value.current, fault.value.choice, fault.value.offered) == (1, 1, 1, None, ())
+    assert (fault.value.side, fault.value.number, fault.value.current, fault.value.choice, fault.value.offered) == (
+        1,
+        1,
+        1,
+        None,
+        (),
+    )
 
 
 def test_rooms_whose_other_sides_forfeited_are_not_equal():
@@ -206,7 +249,9 @@ def test_random_rooms():
     """Rooms against direct calls of the library, with any numbers and bytes; each pair is the update of a single battle."""
     dice = random.Random(7)
     for _ in range(60):
-        battle = Battle(random_team(dice), random_team(dice), dice.randbytes(10), dice.randint(0, 3), dice.randint(1, 40))
+        battle = Battle(
+            random_team(dice), random_team(dice), dice.randbytes(10), dice.randint(0, 3), dice.randint(1, 40)
+        )
         raw, room = RoomStruct(), Room(battle)
         ctypes.memmove(ctypes.byref(raw), battle.bytes, 384)
         LIB.gen1_room_begin(ctypes.byref(raw))
@@ -221,11 +266,17 @@ def test_random_rooms():
                 offered.append(list(front[:count]))
                 assert list(room.choices(it)) == offered[-1]
             number = room.number if dice.random() < 0.9 else dice.choice((0, room.number + 1, (1 << 32) - 1))
-            choice = dice.choice(offered[side - 1]) if offered[side - 1] and dice.random() < 0.9 else dice.randint(0, 255)
+            choice = (
+                dice.choice(offered[side - 1]) if offered[side - 1] and dice.random() < 0.9 else dice.randint(0, 255)
+            )
             code = LIB.gen1_room_submit(ctypes.byref(raw), side, number, choice) & 0xFF
             before, answer = room.number, reply(room, side, number, choice)
             assert (list(RoomRefusal)[answer - 1] if isinstance(answer, int) else 0) == code
-            assert (room.number, room.battle.bytes, room.log) == (raw.number, bytes(raw.battle), bytes(raw.log[: raw.log_length]))
+            assert (room.number, room.battle.bytes, room.log) == (
+                raw.number,
+                bytes(raw.battle),
+                bytes(raw.log[: raw.log_length]),
+            )
             chosen |= {} if code else {side: choice}
             if room.number != before:
                 assert room.log == battle.update(chosen.get(1, 0), chosen.get(2, 0)).log and room.battle == battle
@@ -320,7 +371,10 @@ def test_arguments_that_are_wrong():
         calls += [(lambda it=it: room.submit(1, 0, it), BadType), (lambda it=it: room.choices(it), BadType)]
         calls += [(lambda it=it: room.forfeit(it), BadType)]
     for it in BIG:
-        calls += [(lambda it=it: room.submit(it, 0, 17), BadArgument), (lambda it=it: room.submit(1, 0, it), BadArgument)]
+        calls += [
+            (lambda it=it: room.submit(it, 0, 17), BadArgument),
+            (lambda it=it: room.submit(1, 0, it), BadArgument),
+        ]
         calls += [(lambda it=it: room.choices(it), BadArgument)]
     calls += [(lambda it=it: room.submit(it, 0, 17), BadArgument) for it in (0, 3)]
     calls += [(lambda it=it: room.forfeit(it), BadArgument) for it in (0, 3, *BIG)]

@@ -67,7 +67,9 @@ def test_four_workers(alone, tmp_path):
 
 def test_a_worker_is_killed(alone, tmp_path):
     """Two workers are killed, one after the other, while jobs are running."""
-    running = subprocess.Popen(command(tmp_path, "--workers", "4"), stdout=subprocess.PIPE, stderr=subprocess.PIPE, text=True)
+    running = subprocess.Popen(
+        command(tmp_path, "--workers", "4"), stdout=subprocess.PIPE, stderr=subprocess.PIPE, text=True
+    )
     killed = set()
     while len(killed) < 2 and running.poll() is None:
         time.sleep(BATTLES / 100)
@@ -82,9 +84,14 @@ def test_a_worker_is_killed(alone, tmp_path):
 def test_dask(alone, tmp_path):
     """Two of Dask's workers, of which one is killed."""
     distributed = pytest.importorskip("distributed")
-    with distributed.LocalCluster(n_workers=2, threads_per_worker=1, dashboard_address=None, silence_logs=50) as cluster:
+    with distributed.LocalCluster(
+        n_workers=2, threads_per_worker=1, dashboard_address=None, silence_logs=50
+    ) as cluster:
         running = subprocess.Popen(
-            command(tmp_path, "--dask", cluster.scheduler_address), stdout=subprocess.PIPE, stderr=subprocess.PIPE, text=True
+            command(tmp_path, "--dask", cluster.scheduler_address),
+            stdout=subprocess.PIPE,
+            stderr=subprocess.PIPE,
+            text=True,
         )
         pid = next(iter(cluster.workers.values())).pid
         time.sleep(1.5)
@@ -135,7 +142,9 @@ def test_better_players_win(alone):
         assert row["high"] < 0.5 or (BATTLES < 200 and row["one"] == "greedy"), row
 
 
-@pytest.mark.parametrize("words", [["--players", "random"], ["--players", "random", "random"], ["--battles", "0"], ["--workers", "x"]])
+@pytest.mark.parametrize(
+    "words", [["--players", "random"], ["--players", "random", "random"], ["--battles", "0"], ["--workers", "x"]]
+)
 def test_wrong_words(words):
     done = subprocess.run([sys.executable, str(SELFPLAY), *words], capture_output=True, text=True)
     assert done.returncode == 2 and "error: " in done.stderr and "Traceback" not in done.stderr

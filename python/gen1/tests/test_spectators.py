@@ -112,12 +112,19 @@ def test_a_log_is_followed_however_it_is_cut():
         spectator.feed(LOG[first:])
         state = spectator.state
         assert (state.one.members[0].hp, state.two.members[0].hp, state.turn) == (263, 0, 2), first
-        assert state.outcome is Outcome.WIN_ONE and spectator.held == b"" and repr(spectator) == "<Spectator, turn 2, win one>"
+        assert (
+            state.outcome is Outcome.WIN_ONE
+            and spectator.held == b""
+            and repr(spectator) == "<Spectator, turn 2, win one>"
+        )
 
 
 def test_what_each_event_changes():
     who = 1, 128
-    assert shown(begun((2, *who, 2, 100, 244, 1, 191, 2, 5)).one)[:2] == (2, [(353, Status.NONE), (500, Status.PARALYSIS)])
+    assert shown(begun((2, *who, 2, 100, 244, 1, 191, 2, 5)).one)[:2] == (
+        2,
+        [(353, Status.NONE), (500, Status.PARALYSIS)],
+    )
     # A switch to a place without a member changes nothing.
     assert shown(begun((2, *who, 3, 100, 11, 0, 11, 0, 0)).one) == shown(begun().one)
     # If no member is out, only a switch changes a side.
@@ -151,7 +158,11 @@ def test_the_bytes_of_a_fault_are_not_taken_in():
         ):
             with pytest.raises(BadLog) as fault:
                 spectator.feed(given)
-            assert (fault.value.code, fault.value.at) == (code, at) and spectator == before and f"byte {at}" in str(fault.value)
+            assert (
+                (fault.value.code, fault.value.at) == (code, at)
+                and spectator == before
+                and f"byte {at}" in str(fault.value)
+            )
     spectator.feed(LOG[22:26])
     before = spectator.copy()
     assert spectator.held == LOG[23:26]
@@ -179,9 +190,15 @@ def test_any_bytes():
             except BadLog as fault:
                 changed += 1
                 assert fault.code == code and spectator == before and -9 <= fault.at < len(given)
-            assert (spectator.state.turn, spectator.state.outcome, spectator.held) == (raw.turn, raw.outcome, bytes(raw.held[: raw.held_count]))
+            assert (spectator.state.turn, spectator.state.outcome, spectator.held) == (
+                raw.turn,
+                raw.outcome,
+                bytes(raw.held[: raw.held_count]),
+            )
             for side, of in zip((spectator.state.one, spectator.state.two), raw.sides):
-                assert [(it.hp, it.status) for it in side.members] == [(it.hp, it.status) for it in of.members[: of.count]]
+                assert [(it.hp, it.status) for it in side.members] == [
+                    (it.hp, it.status) for it in of.members[: of.count]
+                ]
     assert changed > 500
 
 
@@ -189,7 +206,9 @@ def test_the_struct_is_that_of_the_header():
     assert ctypes.sizeof(SpectatorStruct) == 86 and ctypes.alignment(SpectatorStruct) == 2
 
 
-@pytest.mark.parametrize("copied", [copy.copy, copy.deepcopy, Spectator.copy, lambda it: pickle.loads(pickle.dumps(it))])
+@pytest.mark.parametrize(
+    "copied", [copy.copy, copy.deepcopy, Spectator.copy, lambda it: pickle.loads(pickle.dumps(it))]
+)
 def test_a_copy_is_an_independent_spectator(copied):
     spectator = Spectator(TEAM, TEAM)
     spectator.feed(LOG[:40])
@@ -221,7 +240,13 @@ def test_arguments_that_are_wrong():
         with pytest.raises(BadTeam) as fault:
             Spectator(TEAM, [TEAM[0]] * count)
         assert fault.value.side == 2 and str(fault.value).startswith("side 2: ")
-    for it, name in ((spectator, "state"), (spectator, "held"), (spectator, "unknown"), (spectator.state, "turn"), (spectator.state.one, "place")):
+    for it, name in (
+        (spectator, "state"),
+        (spectator, "held"),
+        (spectator, "unknown"),
+        (spectator.state, "turn"),
+        (spectator.state.one, "place"),
+    ):
         with pytest.raises(AttributeError):
             setattr(it, name, None)
     # Any bytes-like object is accepted.

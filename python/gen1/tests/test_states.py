@@ -6,7 +6,20 @@ import random
 
 import pytest
 from conftest import BIG, NO_NUMBERS, random_team
-from gen1 import BadArgument, BadState, BadType, Battle, Choice, Conditions, Error, Member, Stat, State, StateField, Status
+from gen1 import (
+    BadArgument,
+    BadState,
+    BadType,
+    Battle,
+    Choice,
+    Conditions,
+    Error,
+    Member,
+    Stat,
+    State,
+    StateField,
+    Status,
+)
 from gen1.states import ActiveState, MemberState
 
 
@@ -19,7 +32,9 @@ def test_a_state_and_back():
     """Each state of random battles gives the same 384 bytes, before the first update and after the last."""
     dice = random.Random(12)
     for _ in range(30):
-        battle = Battle(random_team(dice), random_team(dice), dice.randbytes(10), dice.randint(0, 3), dice.randint(1, 40))
+        battle = Battle(
+            random_team(dice), random_team(dice), dice.randbytes(10), dice.randint(0, 3), dice.randint(1, 40)
+        )
         assert Battle.from_state(battle.state) == battle
         while not battle.result.is_over:
             battle.update_silent(*(dice.choice(battle.choices(it)) for it in (1, 2)))
@@ -121,7 +136,17 @@ FIELDS = (
     (active(substitute=88), StateField.SUBSTITUTE, "active.substitute", 1, 0, None, 88, 0, 0),
     (active(conditions=Conditions.CONFUSED), StateField.CONFUSION, "active.confusion", 1, 0, None, 0, 1, 5),
     (active(conditions=Conditions.DISABLED), StateField.DISABLED_SLOT, "active.disabled_slot", 1, 0, None, 0, 1, 4),
-    (active(conditions=Conditions.DISABLED, disabled_slot=1), StateField.DISABLED_TURNS, "active.disabled_turns", 1, 0, None, 0, 1, 8),
+    (
+        active(conditions=Conditions.DISABLED, disabled_slot=1),
+        StateField.DISABLED_TURNS,
+        "active.disabled_turns",
+        1,
+        0,
+        None,
+        0,
+        1,
+        8,
+    ),
     (active(bad_poison=1), StateField.BAD_POISON, "active.bad_poison", 1, 0, None, 1, 0, 0),
     (active(turns=1), StateField.TURNS, "active.turns", 1, 0, None, 1, 0, 0),
     (active(energy=1), StateField.ENERGY, "active.energy", 1, 0, None, 1, 0, 0),
@@ -132,7 +157,17 @@ FIELDS = (
     (active(picked_move=7), StateField.PICKED_MOVE, "active.picked_move", 1, 0, None, 7, 0, 5),
     (active(stats=(298, 288, 1000, 238)), StateField.CURRENT_STAT, "active.stats[2]", 1, 0, 2, 1000, 1, 318),
     (active(stats=(298, 287, 318, 238)), StateField.CURRENT_STAT, "active.stats[1]", 1, 0, 1, 287, 288, 288),
-    (active(conditions=Conditions.RAGE, kept_accuracy=9), StateField.TIED_CONDITION, "active.conditions", 1, 0, 11, 1, 0, 0),
+    (
+        active(conditions=Conditions.RAGE, kept_accuracy=9),
+        StateField.TIED_CONDITION,
+        "active.conditions",
+        1,
+        0,
+        11,
+        1,
+        0,
+        0,
+    ),
 )
 
 
@@ -142,7 +177,16 @@ def test_fields_that_are_wrong(battle, change, code, field, side, place, index, 
     with pytest.raises(BadState) as fault:
         Battle.from_state(change(battle.state))
     it = fault.value
-    assert (it.code, it.field, it.side, it.place, it.index, it.value, it.low, it.high) == (code, field, side, place, index, value, low, high)
+    assert (it.code, it.field, it.side, it.place, it.index, it.value, it.low, it.high) == (
+        code,
+        field,
+        side,
+        place,
+        index,
+        value,
+        low,
+        high,
+    )
     text = str(it)
     assert field in text and "\n" not in text and len(text) < 120 and battle.bytes == before
     assert text.startswith(f"side {side}, member {place}: " if place else f"side {side}: " if side else field)
@@ -159,9 +203,18 @@ def test_what_a_fault_says(battle):
         (active(stages=(0, 0, 7, 0, 0, 0)), "side 1: active.stages[2] must be -6 to 6, not 7"),
         (active(stats=(298, 287, 318, 238)), "side 1: active.stats[1] must be 288, not 287"),
         (active(energy=-1), "side 1: active.energy must be 0 to 65,535, not -1"),
-        (active(conditions=Conditions.RAGE, kept_accuracy=9), "side 1: active.conditions has RAGE, which does not belong to the current move"),
-        (lambda it: dataclasses.replace(it, one=dataclasses.replace(it.one, active=None)), "side 1: active.place must be 1 to 2, not 0"),
-        (lambda it: dataclasses.replace(it, two=dataclasses.replace(it.two, members=())), "side 2, member 1: species must be 1 to 151, not 0"),
+        (
+            active(conditions=Conditions.RAGE, kept_accuracy=9),
+            "side 1: active.conditions has RAGE, which does not belong to the current move",
+        ),
+        (
+            lambda it: dataclasses.replace(it, one=dataclasses.replace(it.one, active=None)),
+            "side 1: active.place must be 1 to 2, not 0",
+        ),
+        (
+            lambda it: dataclasses.replace(it, two=dataclasses.replace(it.two, members=())),
+            "side 2, member 1: species must be 1 to 151, not 0",
+        ),
     ):
         with pytest.raises(BadState) as fault:
             Battle.from_state(change(battle.state))
@@ -205,14 +258,29 @@ def test_calls_with_wrong_arguments(battle, team):
     """Of `with_hp`, `with_status`, `with_stage`, `with_state` and of the state's own methods; nothing changes."""
     before, state = battle.bytes, battle.state
     calls = []
-    for call in (lambda it: battle.with_hp(it, 1, 5), lambda it: battle.with_status(it, 1, 0), lambda it: battle.with_stage(it, 1, 0),
-                 state.side, lambda it: state.member(it, 1), lambda it: state.with_active(it), lambda it: state.with_member(it, 1)):
+    for call in (
+        lambda it: battle.with_hp(it, 1, 5),
+        lambda it: battle.with_status(it, 1, 0),
+        lambda it: battle.with_stage(it, 1, 0),
+        state.side,
+        lambda it: state.member(it, 1),
+        lambda it: state.with_active(it),
+        lambda it: state.with_member(it, 1),
+    ):
         calls += [(lambda call=call, it=it: call(it), BadArgument) for it in (0, 3, *BIG)]
         calls += [(lambda call=call, it=it: call(it), BadType) for it in NO_NUMBERS]
-    for call in (lambda it: battle.with_hp(1, it, 5), lambda it: battle.with_status(1, it, 0), lambda it: state.member(1, it)):
+    for call in (
+        lambda it: battle.with_hp(1, it, 5),
+        lambda it: battle.with_status(1, it, 0),
+        lambda it: state.member(1, it),
+    ):
         calls += [(lambda call=call, it=it: call(it), BadArgument) for it in (0, 3, *BIG)]
         calls += [(lambda call=call, it=it: call(it), BadType) for it in NO_NUMBERS]
-    for call in (lambda it: battle.with_hp(1, 1, it), lambda it: battle.with_stage(1, 1, it), lambda it: battle.with_status(1, 1, 1, it)):
+    for call in (
+        lambda it: battle.with_hp(1, 1, it),
+        lambda it: battle.with_stage(1, 1, it),
+        lambda it: battle.with_status(1, 1, 1, it),
+    ):
         calls += [(lambda call=call, it=it: call(it), BadState) for it in (-7, 354, *BIG[4:])]
         calls += [(lambda call=call, it=it: call(it), BadType) for it in NO_NUMBERS]
     calls += [(lambda it=it: battle.with_status(1, 1, it), BadArgument) for it in (-1, 6, *BIG)]
@@ -226,7 +294,9 @@ def test_calls_with_wrong_arguments(battle, team):
         assert isinstance(fault.value, Error) and 10 < len(str(fault.value)) < 330 and battle.bytes == before, at
     with pytest.raises(BadType) as fault:
         state.with_active(1, stage=1)
-    assert str(fault.value).startswith("ActiveState has no field 'stage' (str); its fields: place, types, stats, stages, conditions,")
+    assert str(fault.value).startswith(
+        "ActiveState has no field 'stage' (str); its fields: place, types, stats, stages, conditions,"
+    )
     with pytest.raises(BadArgument) as fault:
         Battle(team, team, range(10)).with_stage(2, Stat.SPEED, 1)
     assert str(fault.value) == "side 2 has nobody out: the battle is before its first update"
@@ -252,7 +322,13 @@ def test_fields_of_a_wrong_type(battle):
         with pytest.raises(BadArgument) as fault:
             Battle.from_state(active(**{name: (1,)})(state))
         assert str(fault.value).startswith(f"side 1: active.{name} must have ")
-    for changes in ({"numbers": (0,) * 9}, {"numbers": (256, *[0] * 9)}, {"last_damage": 65_536}, {"last_damage": -1}, {"requests": (1,)}):
+    for changes in (
+        {"numbers": (0,) * 9},
+        {"numbers": (256, *[0] * 9)},
+        {"last_damage": 65_536},
+        {"last_damage": -1},
+        {"requests": (1,)},
+    ):
         with pytest.raises(BadArgument):
             battle.with_state(**changes)
     with pytest.raises(BadArgument):

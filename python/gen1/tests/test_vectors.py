@@ -37,7 +37,11 @@ def some(mask, dice):
 def test_the_spaces():
     for encoding in (Encoding(), Encoding("uint8"), Encoding("uint8", True)):
         env = VectorEnv(3, observations=encoding)
-        assert env.num_envs == 3 and env.single_observation_space.shape == (encoding.width,) and env.single_action_space.n == 12
+        assert (
+            env.num_envs == 3
+            and env.single_observation_space.shape == (encoding.width,)
+            and env.single_action_space.n == 12
+        )
         assert env.observation_space.shape == (3, encoding.width) and env.action_space.shape == (3,)
         assert env.observation_space.dtype == env.single_observation_space.dtype == encoding.dtype
         observations, infos = env.reset(seed=1)
@@ -52,19 +56,30 @@ def test_the_spaces():
 @pytest.mark.parametrize("opponent", ["random", "greedy", lambda observations, masks: masks.argmax(1)])
 def test_steps(mode, opponent):
     """Types and shapes of what a step returns, what follows an end in each mode, and that a seed gives the same again."""
-    n, env, again = 20, VectorEnv(20, opponent=opponent, autoreset=mode), VectorEnv(20, opponent=opponent, autoreset=mode, threads=3)
+    n, env, again = (
+        20,
+        VectorEnv(20, opponent=opponent, autoreset=mode),
+        VectorEnv(20, opponent=opponent, autoreset=mode, threads=3),
+    )
     dice = np.random.default_rng(1)
     observations, infos = env.reset(seed=7)
     assert np.array_equal(observations, again.reset(seed=7)[0])
     over, ends = np.zeros(n, bool), 0
     for _ in range(120):
         masks = infos["action_mask"]
-        assert masks.shape == (n, 12) and masks.dtype == bool and infos["_action_mask"].all() and np.array_equal(masks, env.action_masks())
+        assert (
+            masks.shape == (n, 12)
+            and masks.dtype == bool
+            and infos["_action_mask"].all()
+            and np.array_equal(masks, env.action_masks())
+        )
         actions = some(masks, dice)
         observations, rewards, terminations, truncations, infos = told = env.step(actions)
         other = again.step(actions)
         assert all(np.array_equal(one, two) for one, two in zip(told[:4], other[:4])) and env.battles == again.battles
-        assert observations in env.observation_space and rewards.shape == terminations.shape == truncations.shape == (n,)
+        assert observations in env.observation_space and rewards.shape == terminations.shape == truncations.shape == (
+            n,
+        )
         assert rewards.dtype == np.float64 and terminations.dtype == truncations.dtype == bool and not truncations.any()
         assert not rewards[~terminations].any() and set(np.unique(rewards)) <= {-1, 0, 1}
         ends += terminations.sum()
@@ -93,7 +108,9 @@ def test_steps(mode, opponent):
             for it in (env, again):
                 observations, infos = it.reset(options={"reset_mask": terminations})
             turns = np.array([env.player(at).turn for at in range(n)])
-            assert (turns[terminations] == 1).all() and [env.battles[at] == before[at] for at in range(n)] == (~terminations).tolist()
+            assert (turns[terminations] == 1).all() and [env.battles[at] == before[at] for at in range(n)] == (
+                ~terminations
+            ).tolist()
         over = terminations
     assert ends > 20
 
@@ -108,7 +125,9 @@ def test_one_battle_is_that_of_a_single_environment():
                 (observations, infos), (row, info) = many.reset(seed=seed), one.reset(seed=seed)
                 over = False
                 while not over:
-                    assert np.array_equal(observations[0], row) and np.array_equal(infos["action_mask"][0], info["action_mask"])
+                    assert np.array_equal(observations[0], row) and np.array_equal(
+                        infos["action_mask"][0], info["action_mask"]
+                    )
                     actions = some(infos["action_mask"], dice)
                     observations, rewards, overs, _, infos = many.step(actions)
                     row, reward, over, _, info = one.step(actions[0])
@@ -121,16 +140,23 @@ def test_two_players():
     many, one, dice = TwoPlayerVectorEnv(1, autoreset="same_step"), TwoPlayerEnv(), np.random.default_rng(4)
     assert many.possible_agents == many.agents == ["one", "two"] and many.unwrapped is many
     for agent in many.agents:
-        assert many.observation_space(agent) is many.observation_space(agent) and many.action_space(agent) is many.action_space(agent)
+        assert many.observation_space(agent) is many.observation_space(agent) and many.action_space(
+            agent
+        ) is many.action_space(agent)
     observations, infos = many.reset(seed=5)
     rows, _ = one.reset(seed=5)
     for _ in range(300):
-        assert all(np.array_equal(observations[it][0], rows[it]) and observations[it] in many.observation_space(it) for it in many.agents)
+        assert all(
+            np.array_equal(observations[it][0], rows[it]) and observations[it] in many.observation_space(it)
+            for it in many.agents
+        )
         assert many.state()[0].tobytes() == one.state().tobytes()
         actions = {it: some(many.action_masks(it), dice) for it in many.agents}
         observations, rewards, terminations, truncations, infos = many.step(actions)
         rows, reward, over, _, info = one.step({it: actions[it][0] for it in one.agents})
-        assert {it: value[0] for it, value in rewards.items()} == reward and {it: value[0] for it, value in terminations.items()} == over
+        assert {it: value[0] for it, value in rewards.items()} == reward and {
+            it: value[0] for it, value in terminations.items()
+        } == over
         assert not any(value.any() for value in truncations.values())
         if over["one"]:
             assert all(np.array_equal(infos[it]["final_obs"][0], rows[it]) for it in many.agents)
@@ -226,7 +252,9 @@ def test_actions_that_are_wrong():
         with pytest.raises(kind):
             env.step(actions)
         assert env.battles == before
-    with pytest.raises(Refused, match="^battle 1: side 1's choice is not offered: move 0; it can choose move 1, ") as fault:
+    with pytest.raises(
+        Refused, match="^battle 1: side 1's choice is not offered: move 0; it can choose move 1, "
+    ) as fault:
         env.step([2, 1, 2])
     assert fault.value.choice == CHOICES[1]
     two = TwoPlayerVectorEnv(2)

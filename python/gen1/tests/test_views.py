@@ -51,7 +51,9 @@ def compare_member(it, given):
 def compare_active(it, given):
     """The active block (docs/LAYOUT.md, "Active block")."""
     assert (it.place, *it.types) == tuple(given[:3]) and it.stages == tuple(byte - 6 for byte in given[3:9])
-    assert it.stats == tuple(u16(given, at) for at in (9, 11, 13, 15)) and it.conditions == int.from_bytes(given[17:21], "little")
+    assert it.stats == tuple(u16(given, at) for at in (9, 11, 13, 15)) and it.conditions == int.from_bytes(
+        given[17:21], "little"
+    )
     counters = it.substitute, it.confusion, it.disabled_slot, it.disabled_turns, it.bad_poison, it.turns
     assert counters == tuple(given[21:27]) and it.energy == u16(given, 27)
     assert (it.current_move, it.picked_move, it.kept_accuracy) == tuple(given[29:32])
@@ -86,14 +88,24 @@ def test_a_state(team):
     state = battle.state
     assert state.one.active.types == (Type.NORMAL, Type.NORMAL) and state.one.active.conditions == Conditions.NONE
     assert (state.outcome, state.requests, state.limit) == (Outcome.ONGOING, (Request.MOVE, Request.MOVE), 99)
-    assert state.two.members[1].moves == (Move.HYPNOSIS, Move.NIGHT_SHADE) and state.one.members[0].status is Status.NONE
+    assert (
+        state.two.members[1].moves == (Move.HYPNOSIS, Move.NIGHT_SHADE) and state.one.members[0].status is Status.NONE
+    )
 
 
 def test_choices_in_words(battle, team):
     assert [battle.words(1, it) for it in battle.choices(1)] == [
-        "move 1 Body Slam", "move 2 Hyper Beam", "move 3 Earthquake", "move 4 Blizzard", "switch 2 Gengar"
+        "move 1 Body Slam",
+        "move 2 Hyper Beam",
+        "move 3 Earthquake",
+        "move 4 Blizzard",
+        "switch 2 Gengar",
     ]
-    assert (battle.words(2, Choice.PASS), battle.words(2, Choice.MOVE_0), battle.words(2, 0x21)) == ("pass", "move 0", "switch 1 Tauros")
+    assert (battle.words(2, Choice.PASS), battle.words(2, Choice.MOVE_0), battle.words(2, 0x21)) == (
+        "pass",
+        "move 0",
+        "switch 1 Tauros",
+    )
     for side, choice in ((1, 0x23), (1, 5), (1, 256), (3, 0)):
         with pytest.raises(BadArgument):
             battle.words(side, choice)
@@ -107,7 +119,11 @@ def test_choices_in_words(battle, team):
 def rows(heading):
     text = (ROOT / "docs" / "TABLES.md").read_text()
     section = re.search(rf"^## {heading}\n(.*?)(?=^## |\Z)", text, re.M | re.S)[1]
-    return [[cell.strip() for cell in line.strip("|").split("|")] for line in section.splitlines() if re.match(r"\| *\d", line)]
+    return [
+        [cell.strip() for cell in line.strip("|").split("|")]
+        for line in section.splitlines()
+        if re.match(r"\| *\d", line)
+    ]
 
 
 @recorded_only
@@ -141,7 +157,13 @@ IVs: 6 HP / 0 Atk / 20 Def
 
 def test_effectiveness():
     """docs/TABLES.md, "Type rows", for a few; and each of both numbers."""
-    for attack, foe, factor in (("WATER", "FIRE", 2), ("FIRE", "WATER", Fraction(1, 2)), ("NORMAL", "GHOST", 0), ("GHOST", "PSYCHIC", 0), ("NORMAL", "NORMAL", 1)):
+    for attack, foe, factor in (
+        ("WATER", "FIRE", 2),
+        ("FIRE", "WATER", Fraction(1, 2)),
+        ("NORMAL", "GHOST", 0),
+        ("GHOST", "PSYCHIC", 0),
+        ("NORMAL", "NORMAL", 1),
+    ):
         assert effectiveness(Type[attack], Type[foe]) == factor == effectiveness(int(Type[attack]), int(Type[foe]))
     for it in (-1, 15, *BIG):
         for call in (lambda it=it: effectiveness(it, 0), lambda it=it: effectiveness(0, it)):
@@ -154,7 +176,10 @@ def test_effectiveness():
 
 def test_stats_of_members():
     """docs/MECHANICS.md, "Stats"."""
-    assert Member("Tauros", ["Strength"]).stats[:4] == (353, 298, 288, 318) and Member("Chansey", ["Strength"]).stats[0] == 703
+    assert (
+        Member("Tauros", ["Strength"]).stats[:4] == (353, 298, 288, 318)
+        and Member("Chansey", ["Strength"]).stats[0] == 703
+    )
     # Level 1 without DVs and experience: Chansey has 250 * 2 * 1 / 100 + 1 + 10 HP, and 5 * 2 * 1 / 100 + 5 Attack.
     assert Member("Chansey", ["Pound"], level=1, dvs=[0] * 4, exp=[0] * 5).stats[:2] == (16, 5)
 
@@ -165,7 +190,9 @@ def test_a_team_from_text():
     assert (it.species, it.level, it.moves, it.pp_ups) == (Species.TAUROS, 88, (Move.BODY_SLAM,), (3,))
     assert it.exp == (252 * 252, 16, 0, 0, 10000) and it.dvs == (0, 10, 15, 15)
     assert Team.from_text("Starmie\n- Surf\n") == Team([Member("Starmie", ["Surf"], exp=[63504] * 5)])
-    packed = Team.from_packed("Bob|Tauros||NoAbility|bodyslam,hyperbeam||,4,,,,|M|,0,,,,||88|]Starmie||||psychic,recover|||||||")
+    packed = Team.from_packed(
+        "Bob|Tauros||NoAbility|bodyslam,hyperbeam||,4,,,,|M|,0,,,,||88|]Starmie||||psychic,recover|||||||"
+    )
     assert [it.species.label for it in packed] == ["Tauros", "Starmie"] and packed[0].exp == (0, 16, 0, 0, 0)
 
 
@@ -187,12 +214,18 @@ def test_a_team_from_text():
 def test_texts_with_a_fault(text, line, code):
     with pytest.raises(BadText) as fault:
         Team.from_text(text)
-    assert (fault.value.line, fault.value.text_code) == (line, code) and str(fault.value).startswith(f"line {line}: expected: ")
+    assert (fault.value.line, fault.value.text_code) == (line, code) and str(fault.value).startswith(
+        f"line {line}: expected: "
+    )
 
 
 def test_texts_that_are_no_team():
     mimic = "Tauros\n- Mimic\n"
-    for text, member, code in (("", 0, NewFault.EMPTY), (mimic, 1, NewFault.MOVE_LEFT_OUT), ("Tauros\n", 1, NewFault.NO_MOVE)):
+    for text, member, code in (
+        ("", 0, NewFault.EMPTY),
+        (mimic, 1, NewFault.MOVE_LEFT_OUT),
+        ("Tauros\n", 1, NewFault.NO_MOVE),
+    ):
         with pytest.raises(BadText) as fault:
             Team.from_text(text)
         assert (fault.value.text_code, fault.value.code, fault.value.member) == (TextFault.TEAM, code, member)

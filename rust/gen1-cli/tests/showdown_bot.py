@@ -10,10 +10,15 @@ import subprocess
 import sys
 
 MOVES = {
-    "Tauros": "bodyslam,hyperbeam,blizzard,earthquake", "Chansey": "icebeam,thunderwave,softboiled,counter",
-    "Alakazam": "psychic,recover,thunderwave,seismictoss", "Cloyster": "explosion,clamp,blizzard,surf",
-    "Charizard": "fly,firespin,rage,substitute", "Gengar": "hypnosis,nightshade,confuseray,megadrain",
-    "Kangaskhan": "thrash,bide,disable,pinmissile", "Jynx": "lovelykiss,rest,haze,leechseed", "Ditto": "bodyslam",
+    "Tauros": "bodyslam,hyperbeam,blizzard,earthquake",
+    "Chansey": "icebeam,thunderwave,softboiled,counter",
+    "Alakazam": "psychic,recover,thunderwave,seismictoss",
+    "Cloyster": "explosion,clamp,blizzard,surf",
+    "Charizard": "fly,firespin,rage,substitute",
+    "Gengar": "hypnosis,nightshade,confuseray,megadrain",
+    "Kangaskhan": "thrash,bide,disable,pinmissile",
+    "Jynx": "lovelykiss,rest,haze,leechseed",
+    "Ditto": "bodyslam",
 }
 
 
@@ -60,12 +65,15 @@ class Side:
         if "forceSwitch" in self.request:
             return random.choice(switches)
         active = self.request["active"][0]
-        moves = [f"move {random.choice([at, it['id']])}" for at, it in enumerate(active["moves"], 1) if not it["disabled"]]
+        moves = [
+            f"move {random.choice([at, it['id']])}" for at, it in enumerate(active["moves"], 1) if not it["disabled"]
+        ]
         return random.choice(moves + ["default"] + ([] if active.get("trapped") or random.random() < 0.7 else switches))
 
 
 def battle(program):
     """Plays a battle, and returns its object and the number of wrong choices that were refused."""
+
     def send(text):
         program.stdin.write(text + "\n")
         program.stdin.flush()

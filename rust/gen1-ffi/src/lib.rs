@@ -2,6 +2,7 @@
 #![cfg_attr(not(feature = "std"), no_std)]
 
 #[allow(unused_imports, unused_variables, dead_code, unreachable_pub, clippy::all)]
+#[rustfmt::skip]
 mod generated;
 mod origin;
 mod panic;

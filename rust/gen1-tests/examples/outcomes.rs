@@ -5,8 +5,8 @@
 use gen1::generated::engine::packed::update_silent;
 use gen1::generated::layout::Packed;
 use gen1::generated::machine::{Choice, Side};
-use gen1::generated::outcomes::{OutcomeOptions, Outcomes, Successor, list_outcomes};
 use gen1::generated::offers::offered;
+use gen1::generated::outcomes::{OutcomeOptions, Outcomes, Successor, list_outcomes};
 use gen1::generated::stats::{MemberSpec, Team};
 use gen1::generated::tables::{MoveId, Species};
 use std::hint::black_box;
@@ -190,7 +190,10 @@ fn main() {
     let calls: usize = words[1].parse().unwrap();
     let options = OutcomeOptions {
         damage_classes: words.get(2).map_or(0, |word| word.parse().unwrap()),
-        least: words.get(3).map_or(0.0, |word| word.parse::<f64>().unwrap() * 4_294_967_296.0) as u32,
+        least: words
+            .get(3)
+            .map_or(0.0, |word| word.parse::<f64>().unwrap() * 4_294_967_296.0)
+            as u32,
     };
     let mut random = Numbers(0x9E37_79B9_7F4A_7C15);
     let mut successors: Vec<Successor> = Vec::new();
@@ -208,11 +211,22 @@ fn main() {
             update += 1;
             if update % EVERY == 0 {
                 // With a table of twice as many places as there are outcomes, which a call that is not counted finds.
-                let count =
-                    list_outcomes(&battle, (one, two), options, &mut successors, &mut vec![0; 2 * PLACES])
-                        .unwrap()
-                        .count;
-                let outcomes = list(&battle, (one, two), options, &mut successors, &mut vec![0; 2 * count]);
+                let count = list_outcomes(
+                    &battle,
+                    (one, two),
+                    options,
+                    &mut successors,
+                    &mut vec![0; 2 * PLACES],
+                )
+                .unwrap()
+                .count;
+                let outcomes = list(
+                    &battle,
+                    (one, two),
+                    options,
+                    &mut successors,
+                    &mut vec![0; 2 * count],
+                );
                 found.push((outcomes.ways, outcomes.count));
             }
             update_silent(&mut battle, one, two).unwrap();

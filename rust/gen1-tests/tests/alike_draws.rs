@@ -3,17 +3,19 @@
 //! Random turns are played, part by part. Then each draw of a turn is given every byte in turn, while the other draws keep theirs. Each
 //! place of the engine that draws has to come up, and has to be given bytes that differ, but for the factor of a one-hit move, which is
 //! not used.
-use gen1::generated::hits::Known;
 use gen1::generated::engine::packed::update_events;
+use gen1::generated::hits::Known;
 use gen1::generated::layout::Packed;
 use gen1::generated::machine::{Choice, EventList, Rules, Side};
 use gen1::generated::offers::offered;
-use gen1::generated::switching::close;
 use gen1::generated::rolls::{Look, Rolls};
 use gen1::generated::stats::{MemberSpec, Team};
 use gen1::generated::status::pick;
+use gen1::generated::switching::close;
 use gen1::generated::tables::{MoveId, Species};
-use gen1::generated::turn::{act_and_suffer_as, end_flinch, end_turn, first_side, set_picked, turn};
+use gen1::generated::turn::{
+    act_and_suffer_as, end_flinch, end_turn, first_side, set_picked, turn,
+};
 use std::collections::{HashMap, HashSet};
 use std::panic::Location;
 
@@ -58,7 +60,10 @@ struct Script<'a> {
 
 impl<'a> Script<'a> {
     fn new(bytes: &'a [u8]) -> Self {
-        Script { bytes, draws: Vec::new() }
+        Script {
+            bytes,
+            draws: Vec::new(),
+        }
     }
 
     fn next(&mut self, draw: Draw) -> u8 {
@@ -80,13 +85,21 @@ impl Rolls for Script<'_> {
 
     #[track_caller]
     fn draw_as(&mut self, look: Look) -> u8 {
-        self.next(Draw { site: Location::caller(), look, accepted: [true; 256] })
+        self.next(Draw {
+            site: Location::caller(),
+            look,
+            accepted: [true; 256],
+        })
     }
 
     #[track_caller]
     fn until_as<F: Fn(u8) -> bool>(&mut self, test: F, look: Look) -> Option<u8> {
         let accepted = std::array::from_fn(|byte| test(byte as u8));
-        Some(self.next(Draw { site: Location::caller(), look, accepted }))
+        Some(self.next(Draw {
+            site: Location::caller(),
+            look,
+            accepted,
+        }))
     }
 }
 
@@ -103,10 +116,12 @@ struct Position {
 impl Position {
     /// Plays the turn by its parts.
     fn play(&self, script: &mut Script<'_>) -> Played {
-        let (mut battle, mut known, mut events) = (self.battle.clone(), Known::new(), EventList::new());
+        let (mut battle, mut known, mut events) =
+            (self.battle.clone(), Known::new(), EventList::new());
         end_flinch(&mut battle, Side::One);
         end_flinch(&mut battle, Side::Two);
-        let [one, two] = [(Side::One, self.one), (Side::Two, self.two)].map(|(side, choice)| pick(&battle, side, choice));
+        let [one, two] = [(Side::One, self.one), (Side::Two, self.two)]
+            .map(|(side, choice)| pick(&battle, side, choice));
         set_picked(&mut battle, Side::One, one);
         set_picked(&mut battle, Side::Two, two);
         let first = first_side(&battle, script);
@@ -114,7 +129,9 @@ impl Position {
             Side::One => [(Side::One, one), (Side::Two, two)],
             Side::Two => [(Side::Two, two), (Side::One, one)],
         };
-        let mut act = |(side, pick)| act_and_suffer_as(&mut battle, side, pick, &mut known, script, &mut events);
+        let mut act = |(side, pick)| {
+            act_and_suffer_as(&mut battle, side, pick, &mut known, script, &mut events)
+        };
         if !order.into_iter().any(&mut act) {
             end_turn(&mut battle);
         }
@@ -138,7 +155,11 @@ fn moves(random: &mut Bytes) -> arrayvec::ArrayVec<(MoveId, u8), 4> {
     const RARE: [u8; 7] = [117, 37, 50, 32, 149, 109, 95];
     let mut moves = arrayvec::ArrayVec::new();
     while !moves.is_full() {
-        let number = if random.one_in(4) { RARE[random.below(7) as usize] } else { 1 + random.below(164) as u8 };
+        let number = if random.one_in(4) {
+            RARE[random.below(7) as usize]
+        } else {
+            1 + random.below(164) as u8
+        };
         let id = MoveId::new(number).unwrap();
         if moves.iter().all(|(other, _)| *other != id) {
             moves.push((id, 0));
@@ -167,11 +188,21 @@ fn team(random: &mut Bytes) -> Team {
 /// A battle after its first update. In one of three both sides have the same team, so the same Speed.
 fn begun(random: &mut Bytes) -> Packed {
     let one = team(random);
-    let two = if random.one_in(3) { one.clone() } else { team(random) };
+    let two = if random.one_in(3) {
+        one.clone()
+    } else {
+        team(random)
+    };
     let seed = std::array::from_fn(|_| random.below(256) as u8);
     let rules = Rules::new(random.below(4) as u8).unwrap();
     let mut battle = Packed::with_rules(&one, &two, seed, rules);
-    update_events(&mut battle, Choice::Pass, Choice::Pass, &mut EventList::new()).unwrap();
+    update_events(
+        &mut battle,
+        Choice::Pass,
+        Choice::Pass,
+        &mut EventList::new(),
+    )
+    .unwrap();
     if random.one_in(12) {
         for slot in 1..=4 {
             battle.put_pp(Side::Two, slot, 0);
@@ -201,7 +232,14 @@ fn for_turns(random: &mut Bytes, mut with: impl FnMut(&mut Bytes, &Position)) {
             }
             let [one, two] = [Side::One, Side::Two].map(|side| chosen(random, &battle, side));
             if let (Choice::Move(_), Choice::Move(_)) = (one, two) {
-                with(random, &Position { battle: battle.clone(), one, two });
+                with(
+                    random,
+                    &Position {
+                        battle: battle.clone(),
+                        one,
+                        two,
+                    },
+                );
                 left = left.saturating_sub(1);
             }
             update_events(&mut battle, one, two, &mut EventList::new()).unwrap();
@@ -217,9 +255,16 @@ fn bytes_differ(it: &Position, bytes: &[u8], place: usize, draw: &Draw) -> bool 
         let mut bytes = bytes.to_vec();
         bytes[place] = byte;
         let played = it.play(&mut Script::new(&bytes));
-        let (first, wanted) = firsts.entry(draw.look.sees(byte)).or_insert_with(|| (byte, played.clone()));
+        let (first, wanted) = firsts
+            .entry(draw.look.sees(byte))
+            .or_insert_with(|| (byte, played.clone()));
         assert!(draw.look.alike(*first, byte));
-        assert!(*wanted == played, "{}: {first} and {byte} differ, but {:?} sees the same", draw.site, draw.look);
+        assert!(
+            *wanted == played,
+            "{}: {first} and {byte} differ, but {:?} sees the same",
+            draw.site,
+            draw.look
+        );
     }
     let mut played = firsts.into_values().map(|(_, played)| played);
     let first = played.next();
@@ -233,7 +278,10 @@ fn bytes_that_are_alike_do_the_same() {
         let bytes: Vec<u8> = (0..64).map(|_| random.below(256) as u8).collect();
         let mut script = Script::new(&bytes);
         let played = it.play(&mut script);
-        assert!(played == it.play_whole(Script::new(&bytes)), "the parts of a turn do what the turn does");
+        assert!(
+            played == it.play_whole(Script::new(&bytes)),
+            "the parts of a turn do what the turn does"
+        );
         for (place, draw) in script.draws.iter().enumerate() {
             sites.insert(draw.site);
             if bytes_differ(it, &bytes, place, draw) {

@@ -7,11 +7,13 @@ use gen1::generated::events::{LogBuf, Silent};
 use gen1::generated::layout::Packed;
 use gen1::generated::machine::{Choice, Request, Side, UsedMove};
 use gen1::generated::odds::odds_of;
-use gen1::generated::outcomes::{OutcomeOptions, Outcomes, OutcomesFault, Successor, Ways, list_outcomes, plain, play};
 use gen1::generated::offers::offered;
-use gen1::generated::switching::start;
+use gen1::generated::outcomes::{
+    OutcomeOptions, Outcomes, OutcomesFault, Successor, Ways, list_outcomes, plain, play,
+};
 use gen1::generated::rolls::{Look, Rolls};
 use gen1::generated::stats::{MemberSpec, Status, Team};
+use gen1::generated::switching::start;
 use gen1::generated::tables::{MoveId, Species};
 use std::collections::{BTreeMap, HashMap};
 use std::fmt::Debug;
@@ -19,7 +21,10 @@ use std::fmt::Debug;
 const ONE: Side = Side::One;
 const TWO: Side = Side::Two;
 /// Each damage of a roll is an outcome of its own, and nothing is left out.
-const ALL: OutcomeOptions = OutcomeOptions { damage_classes: 0, least: 0 };
+const ALL: OutcomeOptions = OutcomeOptions {
+    damage_classes: 0,
+    least: 0,
+};
 
 /// Independent bytes: xoshiro256**, a word for eight of them.
 #[derive(Clone)]
@@ -39,7 +44,11 @@ impl Bytes {
             z = (z ^ (z >> 27)).wrapping_mul(0x94D0_49BB_1331_11EB);
             z ^ (z >> 31)
         });
-        Bytes { state, word: 0, left: 0 }
+        Bytes {
+            state,
+            word: 0,
+            left: 0,
+        }
     }
 
     fn next(&mut self) -> u64 {
@@ -91,12 +100,18 @@ impl List {
     fn with(options: OutcomeOptions, battle: &Packed, one: Choice, two: Choice) -> Self {
         let mut places = 1 << 8;
         loop {
-            let mut successors: Vec<Successor> = (0..places).map(|_| Successor::new(battle.clone(), 0)).collect();
+            let mut successors: Vec<Successor> = (0..places)
+                .map(|_| Successor::new(battle.clone(), 0))
+                .collect();
             let mut table = vec![0; 2 * places];
             match list_outcomes(battle, (one, two), options, &mut successors, &mut table) {
                 Ok(outcomes) => {
                     successors.truncate(outcomes.count);
-                    return List { successors, table, outcomes };
+                    return List {
+                        successors,
+                        table,
+                        outcomes,
+                    };
                 }
                 Err(OutcomesFault::Places) => places *= 4,
                 Err(fault) => panic!("{fault}"),
@@ -106,9 +121,20 @@ impl List {
 
     /// The weights by the bytes of the battles, which all differ.
     fn weights(&self) -> HashMap<&[u8], u128> {
-        let weights: HashMap<_, _> = self.successors.iter().map(|it| (it.battle.as_bytes(), it.weight())).collect();
-        assert_eq!(weights.len(), self.outcomes.count, "each battle is there once");
-        assert_eq!(weights.values().sum::<u128>() + self.outcomes.left_out, self.outcomes.whole);
+        let weights: HashMap<_, _> = self
+            .successors
+            .iter()
+            .map(|it| (it.battle.as_bytes(), it.weight()))
+            .collect();
+        assert_eq!(
+            weights.len(),
+            self.outcomes.count,
+            "each battle is there once"
+        );
+        assert_eq!(
+            weights.values().sum::<u128>() + self.outcomes.left_out,
+            self.outcomes.whole
+        );
         assert!(self.table.len() >= self.outcomes.count);
         weights
     }
@@ -127,18 +153,30 @@ fn common_divisor(a: u128, b: u128) -> u128 {
 }
 
 /// The probability of each value of `of` after an update, in lowest terms.
-fn chances<T: Ord>(battle: &Packed, one: Choice, two: Choice, of: impl Fn(&Packed) -> T) -> BTreeMap<T, Fraction> {
+fn chances<T: Ord>(
+    battle: &Packed,
+    one: Choice,
+    two: Choice,
+    of: impl Fn(&Packed) -> T,
+) -> BTreeMap<T, Fraction> {
     let list = List::of(battle, one, two);
     let mut found: BTreeMap<T, u128> = BTreeMap::new();
     for successor in &list.successors {
         *found.entry(of(&successor.battle)).or_default() += successor.weight();
     }
     assert_eq!(found.values().sum::<u128>(), list.outcomes.whole);
-    found.into_iter().map(|(value, num)| (value, reduced(num, list.outcomes.whole))).collect()
+    found
+        .into_iter()
+        .map(|(value, num)| (value, reduced(num, list.outcomes.whole)))
+        .collect()
 }
 
 /// Side 1 and side 2 use their first move: what of the battle afterwards has which probability.
-fn expect<T: Ord + Debug>(battle: &Packed, of: impl Fn(&Packed) -> T, wanted: impl IntoIterator<Item = (T, Fraction)>) {
+fn expect<T: Ord + Debug>(
+    battle: &Packed,
+    of: impl Fn(&Packed) -> T,
+    wanted: impl IntoIterator<Item = (T, Fraction)>,
+) {
     expect_of(battle, (slot(1), slot(1)), of, wanted);
 }
 
@@ -148,7 +186,10 @@ fn expect_of<T: Ord + Debug>(
     of: impl Fn(&Packed) -> T,
     wanted: impl IntoIterator<Item = (T, Fraction)>,
 ) {
-    let wanted: BTreeMap<T, Fraction> = wanted.into_iter().map(|(value, (num, whole))| (value, reduced(num, whole))).collect();
+    let wanted: BTreeMap<T, Fraction> = wanted
+        .into_iter()
+        .map(|(value, (num, whole))| (value, reduced(num, whole)))
+        .collect();
     assert_eq!(chances(battle, one, two, of), wanted);
 }
 
@@ -166,14 +207,21 @@ fn member(species: &str, moves: &[&str]) -> MemberSpec {
         ..Default::default()
     };
     for name in moves {
-        spec.moves.push((MoveId::from_name(name).unwrap_or_else(|| panic!("{name}")), 3));
+        spec.moves.push((
+            MoveId::from_name(name).unwrap_or_else(|| panic!("{name}")),
+            3,
+        ));
     }
     spec
 }
 
 /// A battle after its first update, of one member each.
 fn begun(one: MemberSpec, two: MemberSpec) -> Packed {
-    let mut battle = Packed::new(&Team::new(&[one]).unwrap(), &Team::new(&[two]).unwrap(), [0; 10]);
+    let mut battle = Packed::new(
+        &Team::new(&[one]).unwrap(),
+        &Team::new(&[two]).unwrap(),
+        [0; 10],
+    );
     start(&mut battle, &mut Silent);
     battle
 }
@@ -186,19 +234,31 @@ fn uses(species: &str, name: &str, foe: &str) -> Packed {
 fn full_paralysis() {
     let mut battle = uses("Tauros", "Splash", "Snorlax");
     battle.put_status(ONE, Status::Paralysed);
-    expect(&battle, |next| next.pp(ONE, 1) < battle.pp(ONE, 1), [(false, (63, 256)), (true, (193, 256))]);
+    expect(
+        &battle,
+        |next| next.pp(ONE, 1) < battle.pp(ONE, 1),
+        [(false, (63, 256)), (true, (193, 256))],
+    );
 }
 
 #[test]
 fn the_best_accuracy_misses_once_in_256() {
     let battle = uses("Tauros", "Thunder Wave", "Snorlax");
-    expect(&battle, |next| next.status(TWO) == Status::Paralysed, [(false, (1, 256)), (true, (255, 256))]);
+    expect(
+        &battle,
+        |next| next.status(TWO) == Status::Paralysed,
+        [(false, (1, 256)), (true, (255, 256))],
+    );
 }
 
 #[test]
 fn one_hit_moves_hit_by_their_accuracy() {
     // 30 % is 76.
-    expect(&uses("Tauros", "Horn Drill", "Snorlax"), |next| next.hp(TWO) == 0, [(false, (180, 256)), (true, (76, 256))]);
+    expect(
+        &uses("Tauros", "Horn Drill", "Snorlax"),
+        |next| next.hp(TWO) == 0,
+        [(false, (180, 256)), (true, (76, 256))],
+    );
 }
 
 #[test]
@@ -217,7 +277,11 @@ fn critical_hits() {
         expect(
             &battle,
             hit,
-            [("miss", (1, 256)), ("usual", (255 * (256 - bound), 65536)), ("critical", (255 * bound, 65536))],
+            [
+                ("miss", (1, 256)),
+                ("usual", (255 * (256 - bound), 65536)),
+                ("critical", (255 * bound, 65536)),
+            ],
         );
     }
 }
@@ -232,7 +296,13 @@ fn damage_by_its_39_factors() {
         *wanted.entry((112 * factor / 255) as u16).or_default() += 255 * (256 - 55);
         *wanted.entry((217 * factor / 255) as u16).or_default() += 255 * 55;
     }
-    expect(&battle, |next| 353 - next.hp(TWO), wanted.into_iter().map(|(damage, num)| (damage, (num, 65536 * 39))));
+    expect(
+        &battle,
+        |next| 353 - next.hp(TWO),
+        wanted
+            .into_iter()
+            .map(|(damage, num)| (damage, (num, 65536 * 39))),
+    );
 }
 
 #[test]
@@ -243,22 +313,39 @@ fn sleep_of_one_to_seven_turns() {
     };
     // The slower foe then counts one turn. So 0 is a miss, or a count of 1.
     let wanted = (1..=6).map(|turns| (turns, (255, 1792)));
-    expect(&uses("Tauros", "Spore", "Snorlax"), turns, wanted.chain([(0, (7 + 255, 1792))]));
+    expect(
+        &uses("Tauros", "Spore", "Snorlax"),
+        turns,
+        wanted.chain([(0, (7 + 255, 1792))]),
+    );
 }
 
 #[test]
 fn disable() {
     // 55 % is 140. Of three moves one has no PP. Counts are 1 to 8, and the slower foe counts one: 1 ends.
-    let mut battle = begun(member("Tauros", &["Disable"]), member("Snorlax", &["Splash", "Growl", "Tackle"]));
+    let mut battle = begun(
+        member("Tauros", &["Disable"]),
+        member("Snorlax", &["Splash", "Growl", "Tackle"]),
+    );
     battle.put_pp(TWO, 3, 0);
     let disabled = |next: &Packed| next.disabled(TWO).map(|it| (it.slot, it.turns));
-    let lasting = (1..=2).flat_map(|slot| (1..=7).map(move |turns| (Some((slot, turns)), (140, 256 * 16))));
-    expect(&battle, disabled, lasting.chain([(None, ((256 - 140) * 8 + 140, 2048))]));
+    let lasting =
+        (1..=2).flat_map(|slot| (1..=7).map(move |turns| (Some((slot, turns)), (140, 256 * 16))));
+    expect(
+        &battle,
+        disabled,
+        lasting.chain([(None, ((256 - 140) * 8 + 140, 2048))]),
+    );
     // No move has PP.
     for slot in 1..=3 {
         battle.put_pp(TWO, slot, 0);
     }
-    expect_of(&battle, (slot(1), slot(0)), |next| next.disabled(TWO).is_some(), [(false, (1, 1))]);
+    expect_of(
+        &battle,
+        (slot(1), slot(0)),
+        |next| next.disabled(TWO).is_some(),
+        [(false, (1, 1))],
+    );
 }
 
 #[test]
@@ -270,26 +357,49 @@ fn two_to_five_hits() {
         (_, 0) => 0,
         (all, each) => all / each,
     };
-    let wanted = [(0, (1, 256)), (2, (255 * 3, 2048)), (3, (255 * 3, 2048)), (4, (255, 2048)), (5, (255, 2048))];
+    let wanted = [
+        (0, (1, 256)),
+        (2, (255 * 3, 2048)),
+        (3, (255 * 3, 2048)),
+        (4, (255, 2048)),
+        (5, (255, 2048)),
+    ];
     expect(&battle, hits, wanted);
 }
 
 #[test]
 fn equal_speed() {
     // The first that hits wins, and both miss once in 65,536.
-    let mut battle = begun(member("Tauros", &["Seismic Toss"]), member("Tauros", &["Seismic Toss"]));
+    let mut battle = begun(
+        member("Tauros", &["Seismic Toss"]),
+        member("Tauros", &["Seismic Toss"]),
+    );
     battle.put_hp(ONE, 50);
     battle.put_hp(TWO, 50);
     let standing = |next: &Packed| (next.hp(ONE) > 0, next.hp(TWO) > 0);
     let wins = (255 * 257, 131072);
-    expect(&battle, standing, [((true, true), (1, 65536)), ((true, false), wins), ((false, true), wins)]);
+    expect(
+        &battle,
+        standing,
+        [
+            ((true, true), (1, 65536)),
+            ((true, false), wins),
+            ((false, true), wins),
+        ],
+    );
 }
 
 #[test]
 fn psywave() {
     // 80 % is 204. At level 100 the damage is 1 to 149.
-    let wanted = (1..=149).map(|damage| (damage, (204, 256 * 149))).chain([(0, (52, 256))]);
-    expect(&uses("Tauros", "Psywave", "Chansey"), |next| 703 - next.hp(TWO), wanted);
+    let wanted = (1..=149)
+        .map(|damage| (damage, (204, 256 * 149)))
+        .chain([(0, (52, 256))]);
+    expect(
+        &uses("Tauros", "Psywave", "Chansey"),
+        |next| 703 - next.hp(TWO),
+        wanted,
+    );
 }
 
 #[test]
@@ -297,15 +407,24 @@ fn confusion() {
     // Counts are 2 to 5. The slower foe counts one, and hits itself one time in two.
     let battle = uses("Tauros", "Confuse Ray", "Snorlax");
     let confused = |next: &Packed| (next.confused(TWO), next.hp(TWO) < battle.hp(TWO));
-    let wanted = (1..=4).flat_map(|left| [false, true].map(|hurt| ((Some(left), hurt), (255, 256 * 8))));
+    let wanted =
+        (1..=4).flat_map(|left| [false, true].map(|hurt| ((Some(left), hurt), (255, 256 * 8))));
     expect(&battle, confused, wanted.chain([((None, false), (1, 256))]));
 }
 
 #[test]
 fn bide_and_thrash() {
     let wanted = [(Some(2), (1, 2)), (Some(3), (1, 2))];
-    expect(&uses("Tauros", "Bide", "Snorlax"), |next| next.bide(ONE), wanted);
-    expect(&uses("Tauros", "Thrash", "Chansey"), |next| next.thrash(ONE), wanted);
+    expect(
+        &uses("Tauros", "Bide", "Snorlax"),
+        |next| next.bide(ONE),
+        wanted,
+    );
+    expect(
+        &uses("Tauros", "Thrash", "Chansey"),
+        |next| next.thrash(ONE),
+        wanted,
+    );
 }
 
 #[test]
@@ -314,31 +433,71 @@ fn thrash_ends_in_confusion() {
     battle.put_thrash(ONE, 1);
     battle.put_kept_accuracy(ONE, 255);
     battle.put_current_move(ONE, UsedMove::Slot(1));
-    expect_of(&battle, (slot(0), slot(1)), |next| next.confused(ONE), (2..=5).map(|turns| (Some(turns), (1, 4))));
+    expect_of(
+        &battle,
+        (slot(0), slot(1)),
+        |next| next.confused(ONE),
+        (2..=5).map(|turns| (Some(turns), (1, 4))),
+    );
 }
 
 #[test]
 fn wrap() {
     // 85 % is 216.
-    let wanted = [(None, (40, 256)), (Some(1), (216 * 3, 2048)), (Some(2), (216 * 3, 2048)), (Some(3), (216, 2048)), (Some(4), (216, 2048))];
-    expect(&uses("Tauros", "Wrap", "Chansey"), |next| next.trapping(ONE), wanted);
+    let wanted = [
+        (None, (40, 256)),
+        (Some(1), (216 * 3, 2048)),
+        (Some(2), (216 * 3, 2048)),
+        (Some(3), (216, 2048)),
+        (Some(4), (216, 2048)),
+    ];
+    expect(
+        &uses("Tauros", "Wrap", "Chansey"),
+        |next| next.trapping(ONE),
+        wanted,
+    );
 }
 
 #[test]
 fn side_effects() {
-    let of = |bound: u128| [(false, (65536 - 255 * bound, 65536)), (true, (255 * bound, 65536))];
-    expect(&uses("Tauros", "Ice Beam", "Chansey"), |next| next.status(TWO) == Status::Frozen, of(26));
-    expect(&uses("Beedrill", "Twineedle", "Chansey"), |next| next.status(TWO) == Status::Poisoned, of(52));
+    let of = |bound: u128| {
+        [
+            (false, (65536 - 255 * bound, 65536)),
+            (true, (255 * bound, 65536)),
+        ]
+    };
+    expect(
+        &uses("Tauros", "Ice Beam", "Chansey"),
+        |next| next.status(TWO) == Status::Frozen,
+        of(26),
+    );
+    expect(
+        &uses("Beedrill", "Twineedle", "Chansey"),
+        |next| next.status(TWO) == Status::Poisoned,
+        of(52),
+    );
     let battle = uses("Tauros", "Stomp", "Chansey");
     expect(&battle, |next| next.pp(TWO, 1) == battle.pp(TWO, 1), of(77));
 }
 
 #[test]
 fn updates_without_draws_have_one_outcome() {
-    let team = Team::new(&[member("Tauros", &["Splash"]), member("Snorlax", &["Splash"])]).unwrap();
+    let team = Team::new(&[
+        member("Tauros", &["Splash"]),
+        member("Snorlax", &["Splash"]),
+    ])
+    .unwrap();
     let mut battle = Packed::new(&team, &team, [0; 10]);
     let list = List::of(&battle, Choice::Pass, Choice::Pass);
-    assert_eq!(list.outcomes, Outcomes { count: 1, whole: 1, left_out: 0, ways: 1 });
+    assert_eq!(
+        list.outcomes,
+        Outcomes {
+            count: 1,
+            whole: 1,
+            left_out: 0,
+            ways: 1
+        }
+    );
     start(&mut battle, &mut Silent);
     assert!(list.successors[0].battle.as_bytes() == battle.as_bytes());
 }
@@ -347,7 +506,10 @@ fn updates_without_draws_have_one_outcome() {
 fn left_out(battle: &Packed, least: u32) -> (Fraction, usize) {
     let list = List::with(OutcomeOptions { least, ..ALL }, battle, slot(1), slot(1));
     assert_eq!(list.weights().len(), list.outcomes.count);
-    (reduced(list.outcomes.left_out, list.outcomes.whole), list.outcomes.count)
+    (
+        reduced(list.outcomes.left_out, list.outcomes.whole),
+        list.outcomes.count,
+    )
 }
 
 #[test]
@@ -365,29 +527,60 @@ fn what_is_less_probable_is_left_out() {
     assert_eq!(left_out(&wave, (1 << 24) + 1), ((1, 256), 2));
     // Paralysed, Snorlax can't act with 63 of 256: 255 * 63 of 65,536 in all.
     assert_eq!(left_out(&wave, 255 * 63 << 16), ((1, 256), 2));
-    assert_eq!(left_out(&wave, (255 * 63 << 16) + 1), ((256 + 255 * 63, 65536), 1));
+    assert_eq!(
+        left_out(&wave, (255 * 63 << 16) + 1),
+        ((256 + 255 * 63, 65536), 1)
+    );
     // Nothing may be left, unless the update draws nothing.
     assert_eq!(left_out(&wave, u32::MAX), ((1, 1), 0));
-    assert_eq!(left_out(&uses("Tauros", "Splash", "Snorlax"), u32::MAX), ((0, 1), 1));
+    assert_eq!(
+        left_out(&uses("Tauros", "Splash", "Snorlax"), u32::MAX),
+        ((0, 1), 1)
+    );
 }
 
 #[test]
 fn faults() {
     let battle = uses("Tauros", "Body Slam", "Tauros");
-    let places = |count: usize| (0..count).map(|_| Successor::new(battle.clone(), 0)).collect::<Vec<_>>();
-    let ask = |one, two, places: &mut [Successor], table: usize| list_outcomes(&battle, (one, two), ALL, places, &mut vec![0; table]);
+    let places = |count: usize| {
+        (0..count)
+            .map(|_| Successor::new(battle.clone(), 0))
+            .collect::<Vec<_>>()
+    };
+    let ask = |one, two, places: &mut [Successor], table: usize| {
+        list_outcomes(&battle, (one, two), ALL, places, &mut vec![0; table])
+    };
     let refused = |side| Err(OutcomesFault::Refused(Refusal::NotOffered(side)));
     assert_eq!(ask(slot(2), slot(3), &mut places(1), 1), refused(ONE));
     assert_eq!(ask(slot(1), Choice::Pass, &mut places(1), 1), refused(TWO));
     let count = List::of(&battle, slot(1), slot(1)).outcomes.count;
     assert!(ask(slot(1), slot(1), &mut places(count), count).is_ok());
-    assert_eq!(ask(slot(1), slot(1), &mut places(count - 1), count), Err(OutcomesFault::Places));
-    assert_eq!(ask(slot(1), slot(1), &mut places(count), count - 1), Err(OutcomesFault::Table));
-    assert_eq!(ask(slot(1), slot(1), &mut places(count), 0), Err(OutcomesFault::Table));
+    assert_eq!(
+        ask(slot(1), slot(1), &mut places(count - 1), count),
+        Err(OutcomesFault::Places)
+    );
+    assert_eq!(
+        ask(slot(1), slot(1), &mut places(count), count - 1),
+        Err(OutcomesFault::Table)
+    );
+    assert_eq!(
+        ask(slot(1), slot(1), &mut places(count), 0),
+        Err(OutcomesFault::Table)
+    );
     let mut over = battle.clone();
     over.put_hp(TWO, 1);
-    let over = List::of(&over, slot(1), slot(1)).successors.into_iter().find(|next| next.battle.outcome().is_over()).unwrap();
-    let fault = list_outcomes(&over.battle, (slot(1), slot(1)), ALL, &mut places(1), &mut [0]);
+    let over = List::of(&over, slot(1), slot(1))
+        .successors
+        .into_iter()
+        .find(|next| next.battle.outcome().is_over())
+        .unwrap();
+    let fault = list_outcomes(
+        &over.battle,
+        (slot(1), slot(1)),
+        ALL,
+        &mut places(1),
+        &mut [0],
+    );
     assert_eq!(fault, Err(OutcomesFault::Refused(Refusal::Over)));
     assert_eq!(fault.unwrap_err().number(), 1);
 }
@@ -404,7 +597,11 @@ fn team(random: &mut Bytes) -> Team {
         let specs: [MemberSpec; 6] = std::array::from_fn(|_| {
             let mut spec = MemberSpec {
                 species: Species::new(1 + random.below(151) as u8).unwrap(),
-                level: if random.below(2) == 0 { 100 } else { 30 + random.below(71) as u8 },
+                level: if random.below(2) == 0 {
+                    100
+                } else {
+                    30 + random.below(71) as u8
+                },
                 dvs: std::array::from_fn(|_| random.below(16) as u8),
                 exp: [65535; 5],
                 ..Default::default()
@@ -426,7 +623,11 @@ fn team(random: &mut Bytes) -> Team {
 
 fn chosen(battle: &Packed, side: Side, random: &mut Bytes) -> Choice {
     let choices = offered(battle, side);
-    let moves: Vec<Choice> = choices.iter().copied().filter(|choice| matches!(choice, Choice::Move(_))).collect();
+    let moves: Vec<Choice> = choices
+        .iter()
+        .copied()
+        .filter(|choice| matches!(choice, Choice::Move(_)))
+        .collect();
     if moves.is_empty() || random.below(8) == 0 {
         choices[random.below(choices.len())]
     } else {
@@ -442,7 +643,11 @@ fn positions(count: usize, random: &mut Bytes) -> Vec<Position> {
         while !battle.outcome().is_over() {
             let [one, two] = [ONE, TWO].map(|side| chosen(&battle, side, random));
             if random.below(12) == 0 {
-                found.push(Position { battle: battle.clone(), one, two });
+                found.push(Position {
+                    battle: battle.clone(),
+                    one,
+                    two,
+                });
             }
             let mut bytes = random.clone();
             bytes.left = 0;
@@ -480,7 +685,11 @@ fn by_all_strings(it: &Position, length: usize) -> Option<HashMap<Vec<u8>, u128>
     let mut counts = HashMap::new();
     for string in 0..1u32 << (8 * length) {
         let mut battle = it.battle.clone();
-        let bytes = These { bytes: string.to_le_bytes(), at: 0, searched: false };
+        let bytes = These {
+            bytes: string.to_le_bytes(),
+            at: 0,
+            searched: false,
+        };
         let left = play(&mut battle, it.one, it.two, bytes, &mut Silent);
         if left.searched || left.at > length {
             return None;
@@ -495,7 +704,11 @@ fn all_strings_give_the_same(wanted: [usize; 4], random: &mut Bytes) {
     while left.iter().any(|&left| left > 0) {
         for it in positions(200, random) {
             let Some((length, counts)) = (0..=3).find_map(|length| {
-                if left[length] > 0 { by_all_strings(&it, length).map(|counts| (length, counts)) } else { None }
+                if left[length] > 0 {
+                    by_all_strings(&it, length).map(|counts| (length, counts))
+                } else {
+                    None
+                }
             }) else {
                 continue;
             };
@@ -505,7 +718,10 @@ fn all_strings_give_the_same(wanted: [usize; 4], random: &mut Bytes) {
             assert_eq!(counts.len(), weights.len());
             for (bytes, count) in &counts {
                 // count of 256 ^ length is weight of whole.
-                assert_eq!(count * list.outcomes.whole, weights[&bytes[..]] << (8 * length));
+                assert_eq!(
+                    count * list.outcomes.whole,
+                    weights[&bytes[..]] << (8 * length)
+                );
             }
         }
     }
@@ -529,7 +745,9 @@ fn tail(chi: f64, free: f64) -> f64 {
     // 1 minus the normal distribution.
     let t = 1.0 / (1.0 + 0.231_641_9 * z.abs());
     let d = 0.398_942_3 * (-z * z / 2.0).exp();
-    let p = d * t * (0.319_381_5 + t * (-0.356_563_8 + t * (1.781_478 + t * (-1.821_256 + t * 1.330_274))));
+    let p = d
+        * t
+        * (0.319_381_5 + t * (-0.356_563_8 + t * (1.781_478 + t * (-1.821_256 + t * 1.330_274))));
     if z > 0.0 { p } else { 1.0 - p }
 }
 
@@ -545,7 +763,10 @@ fn tail_of_samples(it: &Position, samples: u32, random: &mut Bytes) -> Option<f6
         *seen.entry(battle.as_bytes().to_vec()).or_default() += 1;
     }
     for bytes in seen.keys() {
-        assert!(weights.contains_key(&bytes[..]), "an outcome that is not listed");
+        assert!(
+            weights.contains_key(&bytes[..]),
+            "an outcome that is not listed"
+        );
     }
     let (mut chi, mut cells, mut rare) = (0.0, 0, (0.0, 0.0));
     let add = |chi: &mut f64, expected: f64, got: f64| *chi += (got - expected).powi(2) / expected;
@@ -576,12 +797,23 @@ fn samples_fall_on_the_list(count: usize, samples: u32, random: &mut Bytes) {
         }
     }
     tails.sort_by(f64::total_cmp);
-    let under = |bound: f64| tails.iter().filter(|&&tail| tail < bound).count() as f64 / tails.len() as f64;
-    println!("{} positions: least {:.5}, under 0.1: {:.3}, under 0.5: {:.3}, under 0.9: {:.3}", tails.len(), tails[0], under(0.1), under(0.5), under(0.9));
+    let under =
+        |bound: f64| tails.iter().filter(|&&tail| tail < bound).count() as f64 / tails.len() as f64;
+    println!(
+        "{} positions: least {:.5}, under 0.1: {:.3}, under 0.5: {:.3}, under 0.9: {:.3}",
+        tails.len(),
+        tails[0],
+        under(0.1),
+        under(0.5),
+        under(0.9)
+    );
     // The seed is fixed. The bounds are some four standard errors away.
     let error = 4.0 / (tails.len() as f64).sqrt();
     for bound in [0.1f64, 0.5, 0.9] {
-        assert!((under(bound) - bound).abs() < error * (bound * (1.0 - bound)).sqrt() + 0.01, "{bound}");
+        assert!(
+            (under(bound) - bound).abs() < error * (bound * (1.0 - bound)).sqrt() + 0.01,
+            "{bound}"
+        );
     }
     assert!(tails[0] > 0.01 / tails.len() as f64);
 }
@@ -608,9 +840,12 @@ fn ways_sum_to_the_outcomes() {
         let mut played = 0;
         loop {
             let mut log = LogBuf::new();
-            let Some(chance) = ways.next(&mut next, &mut log).unwrap() else { break };
+            let Some(chance) = ways.next(&mut next, &mut log).unwrap() else {
+                break;
+            };
             assert_eq!(list.outcomes.whole % chance.whole, 0);
-            *sums.entry(next.as_bytes().to_vec()).or_default() += chance.num * (list.outcomes.whole / chance.whole);
+            *sums.entry(next.as_bytes().to_vec()).or_default() +=
+                chance.num * (list.outcomes.whole / chance.whole);
             played += 1;
         }
         assert_eq!(played, list.outcomes.ways);
@@ -634,7 +869,10 @@ fn what_is_left_out_of_positions() {
             let part = |weight: u128, of: u128| weight as f64 / of as f64;
             let listed = list.weights();
             for (bytes, &weight) in &listed {
-                assert!(part(weight, list.outcomes.whole) <= part(weights[bytes], whole) * (1.0 + 1e-12));
+                assert!(
+                    part(weight, list.outcomes.whole)
+                        <= part(weights[bytes], whole) * (1.0 + 1e-12)
+                );
             }
             fewer += weights.len() - listed.len();
             let mut least_weights: HashMap<Vec<u8>, f64> = HashMap::new();
@@ -642,7 +880,8 @@ fn what_is_left_out_of_positions() {
             let mut next = it.battle.clone();
             while let Some(chance) = ways.next(&mut next, &mut Silent).unwrap() {
                 if part(chance.num, chance.whole) * 4_294_967_296.0 >= f64::from(least) {
-                    *least_weights.entry(next.as_bytes().to_vec()).or_default() += part(chance.num, chance.whole);
+                    *least_weights.entry(next.as_bytes().to_vec()).or_default() +=
+                        part(chance.num, chance.whole);
                 }
             }
             for (bytes, kept) in least_weights {
@@ -658,14 +897,20 @@ fn what_is_left_out_of_positions() {
 fn plain_walks_have_the_same_ways() {
     for it in positions(20, &mut Bytes::new(8)) {
         for classes in [0, 3] {
-            let options = OutcomeOptions { damage_classes: classes, ..ALL };
+            let options = OutcomeOptions {
+                damage_classes: classes,
+                ..ALL
+            };
             let mut ways = Ways::new(&it.battle, it.one, it.two, options).unwrap();
             let mut walk = plain::first(&it.battle, it.one.byte(), it.two.byte(), classes);
             let (mut next, mut other) = (it.battle.clone(), it.battle.clone());
             loop {
                 let (mut log, mut told) = (LogBuf::new(), LogBuf::new());
                 let chance = ways.next(&mut next, &mut log).unwrap();
-                assert_eq!(plain::next(&mut walk, &mut other, &mut told).unwrap(), chance);
+                assert_eq!(
+                    plain::next(&mut walk, &mut other, &mut told).unwrap(),
+                    chance
+                );
                 if chance.is_none() {
                     break;
                 }

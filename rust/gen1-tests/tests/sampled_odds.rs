@@ -5,14 +5,15 @@
 //! and in each action, the damage, and what it gives back or costs. A frequency has to be within six standard deviations.
 //!
 //! `SAMPLES=20000 cargo test --release -p gen1-tests --test sampled_odds` plays more than the usual number.
-use gen1::generated::hits::Known;
 use gen1::generated::engine::packed::update_events;
+use gen1::generated::hits::Known;
 use gen1::generated::layout::{Conditions, Packed};
 use gen1::generated::machine::{
     Choice, DisabledSlot, Event, EventList, Pick, Rules, Side, UsedMove, now,
 };
 use gen1::generated::odds::{
-    Between, HpChange, Odds, Reason, ThreeChances, Wide, drained, knock_out, knock_out_in_three, odds_of, recoil,
+    Between, HpChange, Odds, Reason, ThreeChances, Wide, drained, knock_out, knock_out_in_three,
+    odds_of, recoil,
 };
 use gen1::generated::rolls::Rolls;
 use gen1::generated::stats::{MemberSpec, Status, Team};
@@ -149,11 +150,21 @@ fn prepare_foe(random: &mut Bytes, battle: &mut Packed) {
         battle.put_pp(FOE, 2, 0);
     }
     if random.one_in(3) {
-        let types = [Element::Ghost, Element::Poison, Element::Grass, Element::Ground];
+        let types = [
+            Element::Ghost,
+            Element::Poison,
+            Element::Grass,
+            Element::Ground,
+        ];
         let [first, second] = [(); 2].map(|()| types[random.below(4) as usize]);
         battle.put_types(FOE, first, second);
     }
-    let picked = [UsedMove::Nothing, UsedMove::Slot(1), UsedMove::Slot(2), UsedMove::Struggle];
+    let picked = [
+        UsedMove::Nothing,
+        UsedMove::Slot(1),
+        UsedMove::Slot(2),
+        UsedMove::Struggle,
+    ];
     battle.put_picked_move(FOE, picked[random.below(4) as usize]);
 }
 
@@ -216,7 +227,13 @@ fn situation(random: &mut Bytes, id: MoveId) -> Situation {
     let (user, foe) = (team_of(random, id, one), team_of(random, strength, two));
     let rules = Rules::new(random.below(2) as u8).unwrap();
     let mut battle = Packed::with_rules(&user, &foe, [0; 10], rules);
-    update_events(&mut battle, Choice::Pass, Choice::Pass, &mut EventList::new()).unwrap();
+    update_events(
+        &mut battle,
+        Choice::Pass,
+        Choice::Pass,
+        &mut EventList::new(),
+    )
+    .unwrap();
     for _ in 0..random.below(5) {
         shift_stages(random, &mut battle, USER);
         shift_stages(random, &mut battle, FOE);
@@ -244,14 +261,21 @@ fn play(battle: &mut Packed, pick: Pick, random: &mut Bytes) -> Outcome {
     let covered = battle.substitute(FOE).is_some();
     let (mut known, mut events) = (Known::new(), EventList::new());
     let faults = act(battle, USER, pick, &mut known, random, &mut events);
-    let failed = |event: &Event| matches!(event, Event::Fail(_) | Event::Miss(_) | Event::Immune(_));
+    let failed =
+        |event: &Event| matches!(event, Event::Fail(_) | Event::Miss(_) | Event::Immune(_));
     Outcome {
         hit: !known.missed && !faults && !events.iter().any(failed),
-        over: if covered { battle.substitute(FOE).is_none() } else { battle.hp(FOE) == 0 },
+        over: if covered {
+            battle.substitute(FOE).is_none()
+        } else {
+            battle.hp(FOE) == 0
+        },
         hits: known.hits_planned.map(|_| known.hits_made),
         lost: hp - battle.hp(FOE),
         gained: i32::from(battle.hp(USER)) - i32::from(own),
-        charged: events.iter().any(|event| matches!(event, Event::Prepare(..))),
+        charged: events
+            .iter()
+            .any(|event| matches!(event, Event::Prepare(..))),
     }
 }
 
@@ -260,7 +284,11 @@ fn fits(count: u32, samples: u32, part: f64) -> bool {
     let mean = f64::from(samples) * part;
     let deviation = (mean * (1.0 - part)).max(0.0).sqrt();
     let apart = (f64::from(count) - mean).abs();
-    if part == 0.0 || part == 1.0 { apart < 0.5 } else { apart <= 6.0 * deviation + 1.0 }
+    if part == 0.0 || part == 1.0 {
+        apart < 0.5
+    } else {
+        apart <= 6.0 * deviation + 1.0
+    }
 }
 
 /// The part of uses that hit: by the hit test, and with damage.
@@ -271,7 +299,8 @@ fn part_that_hits(odds: &Odds) -> f64 {
     }
     let critical = f64::from(odds.critical_draws) / 256.0;
     let hurts = |first: u16, part: f64| if first > 0 { part } else { 0.0 };
-    test * (hurts(odds.usual.numbers[0], 1.0 - critical) + hurts(odds.critical.numbers[0], critical))
+    test * (hurts(odds.usual.numbers[0], 1.0 - critical)
+        + hurts(odds.critical.numbers[0], critical))
 }
 
 /// Whether a hit may have taken this many HP.
@@ -279,7 +308,9 @@ fn may_lose(odds: &Odds, hp: u16, lost: u16) -> bool {
     if odds.usual.code == 48 {
         return odds.least.min(hp) <= lost && lost <= odds.most.min(hp);
     }
-    [odds.usual, odds.critical].iter().any(|it| it.numbers.iter().any(|n| (*n).min(hp) == lost))
+    [odds.usual, odds.critical]
+        .iter()
+        .any(|it| it.numbers.iter().any(|n| (*n).min(hp) == lost))
 }
 
 /// What a hit gives and costs the user, for the HP that the foe lost.
@@ -294,8 +325,14 @@ fn may_gain(battle: &Packed, id: MoveId, lost: u16, gained: i32) -> bool {
 fn is_steady(id: MoveId) -> bool {
     matches!(
         id.effect(),
-        Effect::DamageOnly | Effect::PayDay | Effect::MultiHit | Effect::DoubleHit | Effect::FixedDamage
-            | Effect::SuperFang | Effect::OneHitKnockOut | Effect::NeverMisses
+        Effect::DamageOnly
+            | Effect::PayDay
+            | Effect::MultiHit
+            | Effect::DoubleHit
+            | Effect::FixedDamage
+            | Effect::SuperFang
+            | Effect::OneHitKnockOut
+            | Effect::NeverMisses
     )
 }
 
@@ -305,7 +342,10 @@ fn some_between(random: &mut Bytes) -> Between {
         gained: [0, 0, 60, 400][random.below(4) as usize],
         lost: [0, 22, 44, 90][random.below(4) as usize],
     };
-    Between { after_first: change(), after_second: change() }
+    Between {
+        after_first: change(),
+        after_second: change(),
+    }
 }
 
 /// Changes the foe's HP, and returns whether it has none left.
@@ -327,7 +367,13 @@ struct Counts {
     numbers: [u32; 6],
 }
 
-fn sampled(it: &Situation, odds: &Odds, between: &Between, random: &mut Bytes, samples: u32) -> Counts {
+fn sampled(
+    it: &Situation,
+    odds: &Odds,
+    between: &Between,
+    random: &mut Bytes,
+    samples: u32,
+) -> Counts {
     let mut counts = Counts::default();
     let covered = it.battle.substitute(FOE).is_some();
     let single = odds.hits == [0, 8, 0, 0, 0, 0];
@@ -337,16 +383,31 @@ fn sampled(it: &Situation, odds: &Odds, between: &Between, random: &mut Bytes, s
         counts.hits += u32::from(outcome.hit);
         counts.once += u32::from(outcome.over);
         if outcome.hit && !covered && single {
-            assert!(may_lose(odds, it.battle.hp(FOE), outcome.lost), "{} took {}", it.id, outcome.lost);
-            if matches!(it.id.effect(), Effect::Drain | Effect::DreamEater | Effect::Recoil) {
-                assert!(may_gain(&it.battle, it.id, outcome.lost, outcome.gained), "{}", it.id);
+            assert!(
+                may_lose(odds, it.battle.hp(FOE), outcome.lost),
+                "{} took {}",
+                it.id,
+                outcome.lost
+            );
+            if matches!(
+                it.id.effect(),
+                Effect::Drain | Effect::DreamEater | Effect::Recoil
+            ) {
+                assert!(
+                    may_gain(&it.battle, it.id, outcome.lost, outcome.gained),
+                    "{}",
+                    it.id
+                );
             }
         }
         if let (true, Some(made)) = (outcome.hit, outcome.hits) {
             counts.numbers[usize::from(made)] += 1;
         }
         let mut over = outcome.over;
-        for (count, change) in [(&mut counts.twice, between.after_first), (&mut counts.thrice, between.after_second)] {
+        for (count, change) in [
+            (&mut counts.twice, between.after_first),
+            (&mut counts.thrice, between.after_second),
+        ] {
             if !over && is_steady(it.id) {
                 over = change_hp(&mut battle, change) || play(&mut battle, it.pick, random).over;
             }
@@ -356,23 +417,49 @@ fn sampled(it: &Situation, odds: &Odds, between: &Between, random: &mut Bytes, s
     counts
 }
 
-fn compare(it: &Situation, odds: &Odds, chances: &ThreeChances, counts: &Counts, samples: u32, at: &str) {
+fn compare(
+    it: &Situation,
+    odds: &Odds,
+    chances: &ThreeChances,
+    counts: &Counts,
+    samples: u32,
+    at: &str,
+) {
     let part = part_that_hits(odds);
-    assert!(fits(counts.hits, samples, part), "{at}: {} of {samples} hit, and not {part}", counts.hits);
+    assert!(
+        fits(counts.hits, samples, part),
+        "{at}: {} of {samples} hit, and not {part}",
+        counts.hits
+    );
     let once = chances.once as f64 / chances.once_of as f64;
-    assert!(fits(counts.once, samples, once), "{at}: {} of {samples} knock out, and not {once}", counts.once);
+    assert!(
+        fits(counts.once, samples, once),
+        "{at}: {} of {samples} knock out, and not {once}",
+        counts.once
+    );
     if is_steady(it.id) {
         let twice = chances.twice as f64 / chances.twice_of as f64;
-        assert!(fits(counts.twice, samples, twice), "{at}: {} of {samples} by two, and not {twice}", counts.twice);
+        assert!(
+            fits(counts.twice, samples, twice),
+            "{at}: {} of {samples} by two, and not {twice}",
+            counts.twice
+        );
         let whole = |it: Wide| u128::from(it.high) << 64 | u128::from(it.low);
         let thrice = whole(chances.thrice) as f64 / whole(chances.thrice_of) as f64;
-        assert!(fits(counts.thrice, samples, thrice), "{at}: {} of {samples} by three, and not {thrice}", counts.thrice);
+        assert!(
+            fits(counts.thrice, samples, thrice),
+            "{at}: {} of {samples} by three, and not {thrice}",
+            counts.thrice
+        );
     }
     // A fall or a break would cut the number of hits.
     if odds.hits[1] == 0 && chances.once == 0 {
         for (made, eighths) in counts.numbers.iter().zip(odds.hits) {
             let part = part * f64::from(eighths) / 8.0;
-            assert!(fits(*made, samples, part), "{at}: {made} of {samples} make so many hits, and not {part}");
+            assert!(
+                fits(*made, samples, part),
+                "{at}: {made} of {samples} make so many hits, and not {part}"
+            );
         }
     }
 }
@@ -389,9 +476,21 @@ fn try_move(id: MoveId, samples: u32, seen: &mut [u32; 24]) {
         let between = some_between(&mut changes);
         let chances = knock_out_in_three(&it.battle, USER, id, &between);
         let none = HpChange { gained: 0, lost: 0 };
-        let at_once = knock_out_in_three(&it.battle, USER, id, &Between { after_first: none, after_second: none });
+        let at_once = knock_out_in_three(
+            &it.battle,
+            USER,
+            id,
+            &Between {
+                after_first: none,
+                after_second: none,
+            },
+        );
         let two = knock_out(&it.battle, USER, id);
-        assert_eq!([two.once, two.twice, two.twice_of], [at_once.once, at_once.twice, at_once.twice_of], "{id}");
+        assert_eq!(
+            [two.once, two.twice, two.twice_of],
+            [at_once.once, at_once.twice, at_once.twice_of],
+            "{id}"
+        );
         let at = format!("{id}, situation {number}, reason {}", odds.reason);
         seen[usize::from(odds.reason)] += 1;
         if odds.reason == Reason::Fallen.number() {
@@ -399,7 +498,10 @@ fn try_move(id: MoveId, samples: u32, seen: &mut [u32; 24]) {
             continue;
         }
         if odds.charges_first == 1 {
-            assert!(play(&mut it.battle.clone(), it.pick, &mut random).charged, "{at}");
+            assert!(
+                play(&mut it.battle.clone(), it.pick, &mut random).charged,
+                "{at}"
+            );
             continue;
         }
         let counts = sampled(&it, &odds, &between, &mut random, samples);

@@ -232,7 +232,12 @@ impl Battle {
     ) -> Result<BattleResult, Refusal> {
         let (one, two) = (one.checked(self, Side::One)?, two.checked(self, Side::Two)?);
         sink.begin();
-        Ok(packed::update_offered(&mut self.packed, one, two, &mut Pushed(sink)))
+        Ok(packed::update_offered(
+            &mut self.packed,
+            one,
+            two,
+            &mut Pushed(sink),
+        ))
     }
 
     /// Updates the battle without reporting events: short for [`Battle::update_with`] and [`Silent`].

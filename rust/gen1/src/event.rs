@@ -1,7 +1,7 @@
 //! Events as values: what they have in common, and events from lines of text.
 use crate::{
-    CantReason, DamageSource, Event, Health, HitCount, Kind, Line, MoveId, Side, Species, Stat,
-    StageCount, TurnNumber, Volatile, Who,
+    CantReason, DamageSource, Event, Health, HitCount, Kind, Line, MoveId, Side, Species,
+    StageCount, Stat, TurnNumber, Volatile, Who,
 };
 use core::fmt;
 use core::hash::{Hash, Hasher};
@@ -57,9 +57,9 @@ impl Event {
     #[must_use]
     pub const fn health(&self) -> Option<Health> {
         match *self {
-            Event::Switch(_, _, _, health) | Event::Damage(_, health, _) | Event::Heal(_, health) => {
-                Some(health)
-            }
+            Event::Switch(_, _, _, health)
+            | Event::Damage(_, health, _)
+            | Event::Heal(_, health) => Some(health),
             _ => None,
         }
     }
@@ -193,12 +193,10 @@ fn about(
         "-fail" => Some(Event::Fail(who)),
         "-status" => kinds.find_map(|it| Some(Event::Status(who, it)).filter(&has_line)),
         "-curestatus" => kinds.find_map(|it| Some(Event::Cure(who, it)).filter(&has_line)),
-        "-boost" => shifts(third).find_map(|(stat, count)| {
-            Some(Event::Boost(who, stat, count)).filter(&has_line)
-        }),
-        "-unboost" => shifts(third).find_map(|(stat, count)| {
-            Some(Event::Unboost(who, stat, count)).filter(&has_line)
-        }),
+        "-boost" => shifts(third)
+            .find_map(|(stat, count)| Some(Event::Boost(who, stat, count)).filter(&has_line)),
+        "-unboost" => shifts(third)
+            .find_map(|(stat, count)| Some(Event::Unboost(who, stat, count)).filter(&has_line)),
         "-start" => volatiles.find_map(|it| Some(Event::Start(who, it)).filter(&has_line)),
         "-end" => volatiles.find_map(|it| Some(Event::End(who, it)).filter(&has_line)),
         "-activate" => volatiles.find_map(|it| Some(Event::Activate(who, it)).filter(&has_line)),
@@ -238,5 +236,7 @@ fn shifts(count: &str) -> impl Iterator<Item = (Stat, StageCount)> {
         Stat::Accuracy,
         Stat::Evasion,
     ];
-    stats.into_iter().filter_map(move |stat| Some((stat, count?)))
+    stats
+        .into_iter()
+        .filter_map(move |stat| Some((stat, count?)))
 }

@@ -92,6 +92,7 @@ mod battle;
 mod event;
 mod from_state;
 #[doc(hidden)]
+#[rustfmt::skip]
 pub mod generated;
 mod guess;
 mod lines;

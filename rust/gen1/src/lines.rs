@@ -1,9 +1,9 @@
 //! Events as lines of text, and events from log bytes.
+use crate::generated::machine::{DeviceFault, Sink};
 use crate::{Event, LogFault, LogReader};
 use arrayvec::ArrayString;
 use core::fmt;
 use core::ops::Deref;
-use crate::generated::machine::{DeviceFault, Sink};
 
 /// The length of the longest line in bytes, without its line feed.
 const LENGTH: usize = 96;

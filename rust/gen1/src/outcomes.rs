@@ -37,7 +37,10 @@ impl Iterator for Ways {
                 chance: Chance { num: 0, whole: 1 },
                 events: EventList::new(),
             };
-            let found = self.ways.next(&mut way.battle.packed, &mut way.events).transpose()?;
+            let found = self
+                .ways
+                .next(&mut way.battle.packed, &mut way.events)
+                .transpose()?;
             self.is_over = found.is_err();
             match found {
                 Ok(chance) if outcomes::is_below(chance, self.least) => {}
@@ -106,7 +109,12 @@ impl Battle {
     /// # Errors
     ///
     /// As for [`Battle::ways`].
-    pub fn ways_with<A: Chosen, B: Chosen>(&self, one: A, two: B, options: &OutcomeOptions) -> Result<Ways, Refusal> {
+    pub fn ways_with<A: Chosen, B: Chosen>(
+        &self,
+        one: A,
+        two: B,
+        options: &OutcomeOptions,
+    ) -> Result<Ways, Refusal> {
         let (one, two) = self.pair(one, two)?;
         Ok(Ways {
             ways: outcomes::Ways::new(&self.packed, one, two, options.plain())?,
@@ -151,7 +159,13 @@ impl Battle {
         successors: &mut [Successor],
         table: &mut [u32],
     ) -> Result<Outcomes, OutcomesFault> {
-        outcomes::list_outcomes(&self.packed, self.pair(one, two)?, options.plain(), successors, table)
+        outcomes::list_outcomes(
+            &self.packed,
+            self.pair(one, two)?,
+            options.plain(),
+            successors,
+            table,
+        )
     }
 
     /// The choices of both sides, if they are offered now.
@@ -282,7 +296,9 @@ impl OutcomeList {
     /// Each outcome with its probability. They sum to 1, if nothing is left out.
     pub fn iter(&self) -> impl ExactSizeIterator<Item = (Battle, f64)> + '_ {
         let whole = self.whole as f64;
-        self.successors.iter().map(move |it| (it.battle(), it.weight() as f64 / whole))
+        self.successors
+            .iter()
+            .map(move |it| (it.battle(), it.weight() as f64 / whole))
     }
 }
 
@@ -313,7 +329,11 @@ impl Battle {
     /// # Errors
     ///
     /// A refusal as of [`Battle::update`], or [`OutcomesFault::Size`], of which no update is known.
-    pub fn outcomes<A: Chosen, B: Chosen>(&self, one: A, two: B) -> Result<OutcomeList, OutcomesFault> {
+    pub fn outcomes<A: Chosen, B: Chosen>(
+        &self,
+        one: A,
+        two: B,
+    ) -> Result<OutcomeList, OutcomesFault> {
         self.outcomes_with(one, two, &OutcomeOptions::new())
     }
 
@@ -348,12 +368,24 @@ impl Battle {
         loop {
             let mut successors = alloc::vec![Successor::from(self); places];
             let mut table = alloc::vec![0; 2 * places];
-            match outcomes::list_outcomes(&self.packed, pair, options.plain(), &mut successors, &mut table) {
+            match outcomes::list_outcomes(
+                &self.packed,
+                pair,
+                options.plain(),
+                &mut successors,
+                &mut table,
+            ) {
                 Ok(found) => {
                     successors.truncate(found.count);
                     successors.shrink_to_fit();
-                    let Outcomes { whole, left_out, .. } = found;
-                    return Ok(OutcomeList { successors, whole, left_out });
+                    let Outcomes {
+                        whole, left_out, ..
+                    } = found;
+                    return Ok(OutcomeList {
+                        successors,
+                        whole,
+                        left_out,
+                    });
                 }
                 Err(OutcomesFault::Places | OutcomesFault::Table) => places *= 8,
                 Err(fault) => return Err(fault),

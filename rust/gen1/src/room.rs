@@ -1,6 +1,6 @@
 //! Two players who choose independently.
-use crate::{Battle, BattleResult, Choice, Choices, Reply, RoomRefusal, Side};
 use crate::generated::room::plain::{self, PlainRoom};
+use crate::{Battle, BattleResult, Choice, Choices, Reply, RoomRefusal, Side};
 
 /// A battle of two players who submit their choices independently, and do not see each other's ([docs/MECHANICS.md, "Rooms"](https://hibsuloy.example/gen1/blob/main/docs/MECHANICS.md#rooms)).
 ///

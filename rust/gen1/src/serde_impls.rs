@@ -59,12 +59,17 @@ pub(crate) mod damages {
 
     type Damages = Result<[u16; 39], DamageRefusal>;
 
-    pub(crate) fn serialize<S: Serializer>(damages: &Damages, serializer: S) -> Result<S::Ok, S::Error> {
+    pub(crate) fn serialize<S: Serializer>(
+        damages: &Damages,
+        serializer: S,
+    ) -> Result<S::Ok, S::Error> {
         let listed = damages.as_ref().map(|list| list.as_slice());
         listed.serialize(serializer)
     }
 
-    pub(crate) fn deserialize<'de, D: Deserializer<'de>>(deserializer: D) -> Result<Damages, D::Error> {
+    pub(crate) fn deserialize<'de, D: Deserializer<'de>>(
+        deserializer: D,
+    ) -> Result<Damages, D::Error> {
         let listed = Result::<ArrayVec<u16, 39>, DamageRefusal>::deserialize(deserializer)?;
         listed.map_or_else(
             |refusal| Ok(Err(refusal)),

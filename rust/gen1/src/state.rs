@@ -1,11 +1,11 @@
 //! The state of a battle as a value with named fields.
+use crate::generated::layout::Packed;
+use crate::generated::stats::Status;
 use crate::{
     Battle, Conditions, DisabledSlot, Element, Kind, KnownMove, MoveId, Outcome, Place, Request,
     Rules, Side, Species, Stat, UsedMove,
 };
 use arrayvec::ArrayVec;
-use crate::generated::layout::Packed;
-use crate::generated::stats::Status;
 
 /// The whole state of a battle ([docs/LAYOUT.md](https://hibsuloy.example/gen1/blob/main/docs/LAYOUT.md)).
 ///

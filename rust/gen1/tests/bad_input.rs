@@ -36,12 +36,18 @@ fn names() {
     // Nothing is near to these, and only the first 32 bytes of a text are shown.
     let unknown = |text: &str| text.parse::<MoveId>().unwrap_err().to_string();
     assert_eq!(unknown(""), "no move is called ''");
-    assert_eq!(unknown("Dynamax Cannon"), "no move is called 'Dynamax Cannon'");
+    assert_eq!(
+        unknown("Dynamax Cannon"),
+        "no move is called 'Dynamax Cannon'"
+    );
     assert_eq!(
         unknown(&"ab".repeat(50)),
         format!("no move is called '{}'", "ab".repeat(16))
     );
-    assert_eq!(unknown("\u{e9}".repeat(17).as_str()).len(), "no move is called ''".len() + 32);
+    assert_eq!(
+        unknown("\u{e9}".repeat(17).as_str()).len(),
+        "no move is called ''".len() + 32
+    );
 }
 
 #[test]

@@ -37,8 +37,16 @@ fn chances_are_those_of_the_rules() {
         (204, 178, 140)
     );
     let is_tested = |name| battle.odds(Side::One, id(name)).unwrap().takes_hit_test;
-    assert!(["Swift", "Toxic", "Growl", "Counter"].into_iter().all(is_tested));
-    assert!(!["Roar", "Rest", "Bide", "Amnesia"].into_iter().any(is_tested));
+    assert!(
+        ["Swift", "Toxic", "Growl", "Counter"]
+            .into_iter()
+            .all(is_tested)
+    );
+    assert!(
+        !["Roar", "Rest", "Bide", "Amnesia"]
+            .into_iter()
+            .any(is_tested)
+    );
     let first = "move 1".parse().unwrap();
     battle.update(first, first).unwrap();
     assert_eq!(

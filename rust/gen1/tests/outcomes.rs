@@ -1,17 +1,23 @@
 //! Exact outcomes: probabilities worked out from docs/MECHANICS.md, and both forms against each other.
 use gen1::{
-    Battle, CantReason, Chance, Choice, Event, Kind, OutcomeOptions, OutcomesFault, Place, Refusal, Side, Successor, Team, Way, member,
+    Battle, CantReason, Chance, Choice, Event, Kind, OutcomeOptions, OutcomesFault, Place, Refusal,
+    Side, Successor, Team, Way, member,
 };
 
 fn facing(one: (&str, &str), two: (&str, &str)) -> Battle {
-    let [one, two] = [one, two].map(|(species, id)| Team::new(&[member(species, &[id]).unwrap()]).unwrap());
+    let [one, two] =
+        [one, two].map(|(species, id)| Team::new(&[member(species, &[id]).unwrap()]).unwrap());
     let mut battle = Battle::new(&one, &two, [0; 10]);
     battle.update(Choice::Pass, Choice::Pass).unwrap();
     battle
 }
 
 fn divisor(one: u128, two: u128) -> u128 {
-    if two == 0 { one } else { divisor(two, one % two) }
+    if two == 0 {
+        one
+    } else {
+        divisor(two, one % two)
+    }
 }
 
 /// The sum of probabilities, reduced.
@@ -26,46 +32,90 @@ fn sum(chances: impl Iterator<Item = Chance>) -> (u128, u128) {
 
 /// The probability that an update by the first moves has an event, of all of its ways.
 fn told(battle: &Battle, is_met: impl Fn(&Event) -> bool) -> (u128, u128) {
-    let ways: Vec<Way> = battle.ways(Choice::MOVE_1, Choice::MOVE_1).unwrap().map(Result::unwrap).collect();
+    let ways: Vec<Way> = battle
+        .ways(Choice::MOVE_1, Choice::MOVE_1)
+        .unwrap()
+        .map(Result::unwrap)
+        .collect();
     assert_eq!(sum(ways.iter().map(|way| way.chance)), (1, 1));
-    sum(ways.iter().filter(|way| way.events.iter().any(&is_met)).map(|way| way.chance))
+    sum(ways
+        .iter()
+        .filter(|way| way.events.iter().any(&is_met))
+        .map(|way| way.chance))
 }
 
 #[test]
 fn probabilities_are_those_of_the_rules() {
     // Full paralysis, 63 of 256 bytes.
     let battle = facing(("Snorlax", "Splash"), ("Snorlax", "Splash"));
-    let paralysed = battle.with_status(Side::One, Place::new(1).unwrap(), Some(Kind::Paralysis), 0).unwrap();
+    let paralysed = battle
+        .with_status(Side::One, Place::new(1).unwrap(), Some(Kind::Paralysis), 0)
+        .unwrap();
     let cannot = |event: &Event| matches!(event, Event::Cant(_, CantReason::Paralysed));
     assert_eq!(told(&paralysed, cannot), (63, 256));
     assert_eq!(told(&battle, cannot), (0, 1));
     // An accuracy of 100 % misses once in 256; a critical hit of Persian is 57 of 256, of those that hit.
     let strength = facing(("Persian", "Strength"), ("Snorlax", "Splash"));
-    assert_eq!(told(&strength, |event| matches!(event, Event::Miss(_))), (1, 256));
-    assert_eq!(told(&strength, |event| matches!(event, Event::Crit(_))), (57 * 255, 65536));
+    assert_eq!(
+        told(&strength, |event| matches!(event, Event::Miss(_))),
+        (1, 256)
+    );
+    assert_eq!(
+        told(&strength, |event| matches!(event, Event::Crit(_))),
+        (57 * 255, 65536)
+    );
     // 30 % is 76, and 76 of 256 is 19 of 64.
     let drill = facing(("Tauros", "Horn Drill"), ("Snorlax", "Splash"));
-    assert_eq!(told(&drill, |event| matches!(event, Event::Faint(_))), (19, 64));
+    assert_eq!(
+        told(&drill, |event| matches!(event, Event::Faint(_))),
+        (19, 64)
+    );
 }
 
 /// Checks that the weight of each outcome is that of its ways, and returns how many outcomes there are.
 fn compare_ways(options: &OutcomeOptions) -> usize {
     let battle = facing(("Tauros", "Body Slam"), ("Snorlax", "Splash"));
     let mut places = vec![Successor::from(&battle); 4096];
-    let found = battle.outcomes_into(Choice::MOVE_1, Choice::MOVE_1, options, &mut places, &mut [0; 8192]).unwrap();
+    let found = battle
+        .outcomes_into(
+            Choice::MOVE_1,
+            Choice::MOVE_1,
+            options,
+            &mut places,
+            &mut [0; 8192],
+        )
+        .unwrap();
     places.truncate(found.count);
-    assert_eq!(places.iter().map(Successor::weight).sum::<u128>(), found.whole);
-    let ways: Vec<Way> = battle.ways_with(0x11, 0x11, options).unwrap().map(Result::unwrap).collect();
+    assert_eq!(
+        places.iter().map(Successor::weight).sum::<u128>(),
+        found.whole
+    );
+    let ways: Vec<Way> = battle
+        .ways_with(0x11, 0x11, options)
+        .unwrap()
+        .map(Result::unwrap)
+        .collect();
     assert_eq!(ways.len(), found.ways as usize);
     for place in &places {
         let of = |way: &&Way| way.battle == place.battle();
-        let expected = Chance { num: place.weight(), whole: found.whole };
-        assert_eq!(sum(ways.iter().filter(of).map(|way| way.chance)), sum([expected].into_iter()));
+        let expected = Chance {
+            num: place.weight(),
+            whole: found.whole,
+        };
+        assert_eq!(
+            sum(ways.iter().filter(of).map(|way| way.chance)),
+            sum([expected].into_iter())
+        );
     }
     #[cfg(feature = "alloc")]
     {
-        let list = battle.outcomes_with(Choice::MOVE_1, Choice::MOVE_1, options).unwrap();
-        assert_eq!((list.successors(), list.whole()), (&places[..], found.whole));
+        let list = battle
+            .outcomes_with(Choice::MOVE_1, Choice::MOVE_1, options)
+            .unwrap();
+        assert_eq!(
+            (list.successors(), list.whole()),
+            (&places[..], found.whole)
+        );
         assert!((list.iter().map(|(_, probability)| probability).sum::<f64>() - 1.0).abs() < 1e-9);
     }
     found.count
@@ -85,11 +135,28 @@ fn what_is_less_probable_is_left_out() {
     // It misses with 1 of 256 bytes. A paralysed Snorlax can't act with 63 of 256.
     let battle = facing(("Tauros", "Thunder Wave"), ("Snorlax", "Splash"));
     let listed = |least: f64| {
-        let options = OutcomeOptions::new().with_least_probability(least).with_damage_classes(1);
+        let options = OutcomeOptions::new()
+            .with_least_probability(least)
+            .with_damage_classes(1);
         let mut places = vec![Successor::from(&battle); 8];
-        let found = battle.outcomes_into(Choice::MOVE_1, Choice::MOVE_1, &options, &mut places, &mut [0; 16]).unwrap();
-        let ways: Vec<Way> = battle.ways_with(Choice::MOVE_1, Choice::MOVE_1, &options).unwrap().map(Result::unwrap).collect();
-        let missing = Chance { num: found.left_out, whole: found.whole };
+        let found = battle
+            .outcomes_into(
+                Choice::MOVE_1,
+                Choice::MOVE_1,
+                &options,
+                &mut places,
+                &mut [0; 16],
+            )
+            .unwrap();
+        let ways: Vec<Way> = battle
+            .ways_with(Choice::MOVE_1, Choice::MOVE_1, &options)
+            .unwrap()
+            .map(Result::unwrap)
+            .collect();
+        let missing = Chance {
+            num: found.left_out,
+            whole: found.whole,
+        };
         let (num, whole) = sum(ways.iter().map(|way| way.chance).chain([missing]));
         assert_eq!((num, whole, ways.len()), (1, 1, found.count));
         (sum([missing].into_iter()), found.count)
@@ -114,12 +181,24 @@ fn updates_are_among_the_outcomes() {
     let battle = facing(("Tauros", "Thunder"), ("Starmie", "Confuse Ray"));
     let mut places = vec![Successor::from(&battle); 4096];
     let options = OutcomeOptions::new();
-    let found = battle.outcomes_into(Choice::MOVE_1, Choice::MOVE_1, &options, &mut places, &mut [0; 8192]).unwrap();
+    let found = battle
+        .outcomes_into(
+            Choice::MOVE_1,
+            Choice::MOVE_1,
+            &options,
+            &mut places,
+            &mut [0; 8192],
+        )
+        .unwrap();
     for number in 0..=255 {
         let mut next = battle.clone();
         next.reseed([number; 10].map(|it: u8| it.wrapping_mul(91)));
         next.update(Choice::MOVE_1, Choice::MOVE_1).unwrap();
-        assert!(places[..found.count].iter().any(|it| it.battle().key() == next.key()));
+        assert!(
+            places[..found.count]
+                .iter()
+                .any(|it| it.battle().key() == next.key())
+        );
     }
 }
 
@@ -127,13 +206,27 @@ fn updates_are_among_the_outcomes() {
 fn bad_choices_and_few_places() {
     let battle = facing(("Snorlax", "Bide"), ("Tauros", "Bide"));
     let refusal = Refusal::NotOffered(Side::Two);
-    assert_eq!(battle.ways(Choice::MOVE_1, Choice::Pass).unwrap_err(), refusal);
+    assert_eq!(
+        battle.ways(Choice::MOVE_1, Choice::Pass).unwrap_err(),
+        refusal
+    );
     let mut places = vec![Successor::from(&battle); 4];
     let ask = |choice: u8, places: &mut [Successor], table: usize| {
-        battle.outcomes_into(choice, 0x11, &OutcomeOptions::new(), places, &mut vec![0; table]).map(|found| found.count)
+        battle
+            .outcomes_into(
+                choice,
+                0x11,
+                &OutcomeOptions::new(),
+                places,
+                &mut vec![0; table],
+            )
+            .map(|found| found.count)
     };
     assert_eq!(ask(0x11, &mut places, 4), Ok(4));
     assert_eq!(ask(0x11, &mut places[..3], 4), Err(OutcomesFault::Places));
     assert_eq!(ask(0x11, &mut places, 3), Err(OutcomesFault::Table));
-    assert_eq!(ask(7, &mut [], 0), Err(OutcomesFault::Refused(Refusal::NotOffered(Side::One))));
+    assert_eq!(
+        ask(7, &mut [], 0),
+        Err(OutcomesFault::Refused(Refusal::NotOffered(Side::One)))
+    );
 }

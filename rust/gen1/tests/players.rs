@@ -8,7 +8,10 @@ struct Dice(u64);
 
 impl Dice {
     fn below(&mut self, bound: usize) -> usize {
-        self.0 = self.0.wrapping_mul(6364136223846793005).wrapping_add(1442695040888963407);
+        self.0 = self
+            .0
+            .wrapping_mul(6364136223846793005)
+            .wrapping_add(1442695040888963407);
         (self.0 >> 33) as usize % bound
     }
 
@@ -53,8 +56,13 @@ impl Appearance {
 
     fn team(&self) -> Team {
         let rest = (0..self.specs.len()).filter(|at| !self.order.contains(at));
-        let members: Vec<MemberSpec> =
-            self.order.iter().copied().chain(rest).map(|at| self.specs[at].clone()).collect();
+        let members: Vec<MemberSpec> = self
+            .order
+            .iter()
+            .copied()
+            .chain(rest)
+            .map(|at| self.specs[at].clone())
+            .collect();
         Team::new(&members).unwrap()
     }
 }
@@ -70,14 +78,21 @@ fn a_battle_of_a_players_view_offers_the_same() {
         let mut battle = Battle::new(&teams[0], &teams[1], dice.numbers());
         let mut tellers = Side::BOTH.map(Teller::new);
         let mut players = [0, 1].map(|at| Player::new(Side::BOTH[at], &teams[at]));
-        let mut foes = [1, 0].map(|at| Appearance { specs: specs[at].clone(), order: Vec::new() });
+        let mut foes = [1, 0].map(|at| Appearance {
+            specs: specs[at].clone(),
+            order: Vec::new(),
+        });
         let mut pair = [Choice::Pass; 2];
         for _ in 0..60 {
             let update = battle.update(pair[0], pair[1]).unwrap();
             let state = battle.state();
             for at in 0..2 {
-                foes[at].note(usize::from(state.sides[1 - at].active.as_ref().unwrap().place.number()) - 1);
-                tellers[at].report(&battle, &update.log(), &mut players[at]).unwrap();
+                foes[at].note(
+                    usize::from(state.sides[1 - at].active.as_ref().unwrap().place.number()) - 1,
+                );
+                tellers[at]
+                    .report(&battle, &update.log(), &mut players[at])
+                    .unwrap();
                 if battle.is_over() {
                     continue;
                 }
@@ -87,9 +102,16 @@ fn a_battle_of_a_players_view_offers_the_same() {
                 assert_eq!(copy.choices(Side::BOTH[at]), battle.choices(Side::BOTH[at]));
                 let copied = copy.state();
                 for side in 0..2 {
-                    for (own, member) in copied.sides[side].members.iter().zip(&state.sides[side].members) {
+                    for (own, member) in copied.sides[side]
+                        .members
+                        .iter()
+                        .zip(&state.sides[side].members)
+                    {
                         if side == at {
-                            assert_eq!((own.hp, own.status, &own.moves), (member.hp, member.status, &member.moves));
+                            assert_eq!(
+                                (own.hp, own.status, &own.moves),
+                                (member.hp, member.status, &member.moves)
+                            );
                         }
                     }
                 }
@@ -150,7 +172,8 @@ fn hidden_numbers_change_nothing_that_a_player_is_shown() {
             let other = Battle::from_state(&with_another_foe(&battle.state(), &mut dice)).unwrap();
             assert_ne!(other.as_bytes(), battle.as_bytes());
             assert_eq!(other.choices(Side::One), battle.choices(Side::One));
-            let [shown, instead] = [&battle, &other].map(|it| format!("{:?}", it.own_side(Side::One)));
+            let [shown, instead] =
+                [&battle, &other].map(|it| format!("{:?}", it.own_side(Side::One)));
             assert_eq!(shown, instead);
             changed += 1;
             pair = Side::BOTH.map(|side| {
@@ -178,5 +201,8 @@ fn a_side_is_told_neither_places_nor_exact_hp() {
     assert_eq!(last, Choice::from_byte(0x26).unwrap());
     assert_eq!(player.foe().place, 2);
     assert_eq!(player.foe().members[1].max, 48);
-    assert_eq!(player.public(Side::One).members[0].max, team.members()[0].max_hp());
+    assert_eq!(
+        player.public(Side::One).members[0].max,
+        team.members()[0].max_hp()
+    );
 }

@@ -7,7 +7,8 @@ use gen1::{
 /// The battle that the counts of C are of, after some updates by the first choice of each side.
 fn after(updates: usize) -> Battle {
     let one = "Tauros||||BodySlam,HyperBeam,Blizzard,Earthquake|||||||]Chansey||||IceBeam,Thunderbolt,SoftBoiled|||||||";
-    let two = "Gengar||||Hypnosis,Explosion,NightShade|||||||]Snorlax||||BodySlam,Rest,Amnesia|||||||";
+    let two =
+        "Gengar||||Hypnosis,Explosion,NightShade|||||||]Snorlax||||BodySlam,Rest,Amnesia|||||||";
     let [one, two] = [one, two].map(|text| team_in_packed(text.as_bytes()).unwrap());
     let mut battle = Battle::new(&one, &two, [1, 36, 255, 7, 31, 100, 179, 254, 127, 10]);
     for _ in 0..updates {
@@ -19,7 +20,9 @@ fn after(updates: usize) -> Battle {
 
 fn weights() -> Weights {
     let moves = Weights::default().with_moves(4).with_switch(1);
-    moves.with_move(MoveId::EXPLOSION, 0).with_move(MoveId::BODY_SLAM, 255)
+    moves
+        .with_move(MoveId::EXPLOSION, 0)
+        .with_move(MoveId::BODY_SLAM, 255)
 }
 
 fn alone(species: &str, moves: &[&str]) -> Team {
@@ -79,7 +82,10 @@ struct Draws(u64);
 
 impl Draws {
     fn below(&mut self, count: usize) -> usize {
-        self.0 = self.0.wrapping_mul(6_364_136_223_846_793_005).wrapping_add(1_442_695_040_888_963_407);
+        self.0 = self
+            .0
+            .wrapping_mul(6_364_136_223_846_793_005)
+            .wrapping_add(1_442_695_040_888_963_407);
         (self.0 >> 32) as usize % count
     }
 }
@@ -100,8 +106,15 @@ fn copies(battle: &Battle, side: Side, weights: Option<&Weights>) -> Vec<Choice>
         Choice::Move(slot) => of(slot.number().into()),
         _ => weights.of_switch(),
     };
-    let repeated: Vec<Choice> = offered.iter().flat_map(|it| vec![*it; weight(it).into()]).collect();
-    if repeated.is_empty() { offered } else { repeated }
+    let repeated: Vec<Choice> = offered
+        .iter()
+        .flat_map(|it| vec![*it; weight(it).into()])
+        .collect();
+    if repeated.is_empty() {
+        offered
+    } else {
+        repeated
+    }
 }
 
 /// The outcome of a round that still goes on: the larger share of the HP left wins.
@@ -135,7 +148,11 @@ fn played(start: &Battle, options: &PlayoutOptions, weights: Option<&Weights>) -
             battle.update_silent(one, two).unwrap();
             updates += 1;
         }
-        let end = if battle.is_over() { battle.outcome() } else { leader(&battle) };
+        let end = if battle.is_over() {
+            battle.outcome()
+        } else {
+            leader(&battle)
+        };
         ends[match end {
             Outcome::WinOne => 0,
             Outcome::WinTwo => 1,
@@ -151,12 +168,22 @@ fn rounds_are_those_of_updates_one_by_one() {
     let no_switch = Weights::default().with_moves(0);
     for updates in [0, 1, 4, 12, 20] {
         let start = after(updates);
-        for (depth, weights) in [(None, None), (Some(3), None), (Some(0), None), (None, Some(weights())), (Some(9), Some(no_switch))] {
+        for (depth, weights) in [
+            (None, None),
+            (Some(3), None),
+            (Some(0), None),
+            (None, Some(weights())),
+            (Some(9), Some(no_switch)),
+        ] {
             let mut options = PlayoutOptions::new(updates as u64, 20);
             options.depth = depth;
             options = weights.map_or(options, |it| options.with_weights(it));
             let expected = played(&start, &options, weights.as_ref());
-            assert_eq!(counts(start.playout(&options)), expected, "{updates} updates, {options:?}");
+            assert_eq!(
+                counts(start.playout(&options)),
+                expected,
+                "{updates} updates, {options:?}"
+            );
         }
         assert_eq!(start, after(updates));
     }
@@ -179,7 +206,10 @@ fn a_forced_end_is_the_end_of_each_round() {
     over.update(Choice::MOVE_1, Choice::MOVE_1).unwrap();
     assert_eq!(over.outcome(), Outcome::WinTwo);
     assert_eq!(counts(over.playout(&options.with_depth(1))), [0, 500, 0, 0]);
-    assert_eq!(over.playout(&PlayoutOptions::new(3, 0)), start.playout(&PlayoutOptions::new(9, 0)));
+    assert_eq!(
+        over.playout(&PlayoutOptions::new(3, 0)),
+        start.playout(&PlayoutOptions::new(9, 0))
+    );
 }
 
 #[test]
@@ -192,7 +222,10 @@ fn the_hp_left_decide_at_the_depth() {
     assert_eq!(now(&hurt), [10, 0, 0, 0]);
     // 400 of 523 HP are the larger share, though Snorlax lacks more of them.
     assert_eq!(start.state().side(Side::Two).members[0].max_hp, 523);
-    assert_eq!(now(&hurt.with_hp(Side::One, place, 150).unwrap()), [0, 10, 0, 0]);
+    assert_eq!(
+        now(&hurt.with_hp(Side::One, place, 150).unwrap()),
+        [0, 10, 0, 0]
+    );
 }
 
 /// Whether a count of 20,000 rounds is within five standard deviations of what its probability gives.
@@ -206,21 +239,30 @@ fn rounds_have_numbers_of_their_own() {
     // Horn Drill hits with 76 of 256 bytes (docs/MECHANICS.md, "Fixed damage and one-hit moves"), and else both have all their HP.
     let drill = facing(("Tauros", &["Horn Drill"]), ("Snorlax", &["Splash"]));
     let playouts = drill.playout(&PlayoutOptions::new(11, 20_000).with_depth(1));
-    assert!(is_likely(playouts.wins(Side::One), 76.0 / 256.0), "{playouts:?}");
+    assert!(
+        is_likely(playouts.wins(Side::One), 76.0 / 256.0),
+        "{playouts:?}"
+    );
     assert_eq!(playouts.wins(Side::One) + playouts.ties, 20_000);
 }
 
 #[test]
 fn choices_are_as_likely_as_their_weights() {
     // Explosion fails against a Ghost, and its user faints all the same.
-    let battle = facing(("Snorlax", &["Explosion", "Splash"]), ("Gengar", &["Splash"]));
+    let battle = facing(
+        ("Snorlax", &["Explosion", "Splash"]),
+        ("Gengar", &["Splash"]),
+    );
     let options = PlayoutOptions::new(5, 20_000).with_depth(1);
     let lost = |options: &PlayoutOptions| battle.playout(options).wins(Side::Two);
     assert!(is_likely(lost(&options), 0.5));
-    let with = |weight| options.with_weights(Weights::default().with_move(MoveId::EXPLOSION, weight));
+    let with =
+        |weight| options.with_weights(Weights::default().with_move(MoveId::EXPLOSION, weight));
     assert!(is_likely(lost(&with(3)), 0.75));
     assert!(is_likely(lost(&with(1)), 0.5));
     assert_eq!(lost(&with(0)), 0);
-    let only = Weights::default().with_moves(0).with_move(MoveId::EXPLOSION, 1);
+    let only = Weights::default()
+        .with_moves(0)
+        .with_move(MoveId::EXPLOSION, 1);
     assert_eq!(lost(&options.with_weights(only)), 20_000);
 }

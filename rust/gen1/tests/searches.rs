@@ -52,8 +52,15 @@ fn a_refused_update_leaves_the_sink_alone() {
     let (mut battle, mut log) = (battle(), LogBuf::new());
     battle.update_with(0, 0, &mut log).unwrap();
     let (before, held) = (battle.clone(), log.clone());
-    for (one, two, side) in [(0xff, 0x11, Side::One), (0x11, 0x00, Side::Two), (0x10, 0xff, Side::One)] {
-        assert_eq!(battle.update_with(one, two, &mut log), Err(Refusal::NotOffered(side)));
+    for (one, two, side) in [
+        (0xff, 0x11, Side::One),
+        (0x11, 0x00, Side::Two),
+        (0x10, 0xff, Side::One),
+    ] {
+        assert_eq!(
+            battle.update_with(one, two, &mut log),
+            Err(Refusal::NotOffered(side))
+        );
         assert_eq!((&battle, &log), (&before, &held));
     }
 }

@@ -1,7 +1,7 @@
 //! Traits that Rust users expect of values: keys of maps, order, text, and serde.
 use gen1::{
-    ArrayVec, Battle, Choice, Element, Event, Kind, LineFault, MoveId, Outcome, Place, Request, Room,
-    RoomRefusal, Rules, Side, Species, Stat, Submitted, Team, TurnNumber, member,
+    ArrayVec, Battle, Choice, Element, Event, Kind, LineFault, MoveId, Outcome, Place, Request,
+    Room, RoomRefusal, Rules, Side, Species, Stat, Submitted, Team, TurnNumber, member,
 };
 use std::collections::{BTreeMap, BTreeSet, HashMap, HashSet};
 
@@ -48,15 +48,24 @@ fn values_are_keys_and_are_in_the_order_of_their_numbers() {
 fn species_and_moves_are_constants() {
     const LEAD: Species = Species::TAUROS;
     assert_eq!((LEAD.number(), LEAD.name()), (128, "Tauros"));
-    assert_eq!((Species::MR_MIME.number(), Species::NIDORAN_F.number()), (122, 29));
-    assert_eq!((MoveId::BODY_SLAM.number(), MoveId::SOFT_BOILED.number()), (34, 135));
+    assert_eq!(
+        (Species::MR_MIME.number(), Species::NIDORAN_F.number()),
+        (122, 29)
+    );
+    assert_eq!(
+        (MoveId::BODY_SLAM.number(), MoveId::SOFT_BOILED.number()),
+        (34, 135)
+    );
     assert!(Species::all().map(u8::from).eq(1..=151));
     assert!(MoveId::all().map(u8::from).eq(1..=165));
     assert_eq!(Species::all().len(), 151);
     assert_eq!(Species::try_from(128), Ok(LEAD));
     let clauses = Rules::SLEEP_CLAUSE | Rules::FREEZE_CLAUSE;
     assert!(clauses.sleep_clause() && clauses.freeze_clause());
-    assert_eq!((Rules::NONE, Rules::FREEZE_CLAUSE.bits()), (Rules::default(), 2));
+    assert_eq!(
+        (Rules::NONE, Rules::FREEZE_CLAUSE.bits()),
+        (Rules::default(), 2)
+    );
     const PLACE: Option<Place> = Place::new(6);
     assert_eq!(PLACE.map(Choice::Switch), Some(Choice::SWITCH_6));
     assert_eq!(Choice::MOVE_0.to_string(), "move 0");
@@ -76,7 +85,10 @@ fn names_in_any_spelling() {
 
 #[test]
 fn debug_shows_names() {
-    let shown = format!("{:?}", (MoveId::BODY_SLAM, Species::MR_MIME, Choice::MOVE_1));
+    let shown = format!(
+        "{:?}",
+        (MoveId::BODY_SLAM, Species::MR_MIME, Choice::MOVE_1)
+    );
     assert_eq!(shown, "(BodySlam, MrMime, Move(1))");
     let update = battle().update(Choice::Pass, Choice::Pass).unwrap();
     let last = update.events().last();
@@ -87,32 +99,76 @@ fn debug_shows_names() {
 #[test]
 fn a_line_is_an_event_where_it_can() {
     let lines = [
-        "|turn|9999", "|move|p1a: Tauros|Body Slam|p2a: Mr. Mime", "|cant|p1a: Tauros|partiallytrapped",
-        "|-damage|p2a: Mew|120/353 par|[from] Leech Seed", "|-damage|p2a: Mew|1/11", "|-heal|p2a: Mew|353/353 slp",
-        "|-crit|p1a: Mew", "|-supereffective|p1a: Mew", "|-resisted|p1a: Mew", "|-immune|p1a: Mew", "|-miss|p1a: Mew",
-        "|-fail|p1a: Mew", "|-status|p1a: Mew|brn", "|-curestatus|p1a: Mew|frz", "|-boost|p1a: Mew|spc|2",
-        "|-unboost|p1a: Mew|eva|1", "|-clearallboost", "|-start|p1a: Mew|typechange", "|-end|p1a: Mew|confusion",
-        "|-activate|p1a: Mew|Splash", "|-prepare|p1a: Mew|Solar Beam", "|-mustrecharge|p1a: Mew",
-        "|-hitcount|p1a: Nidoran-F|5", "|-ohko", "|faint|p2a: Mew", "|win|p1", "|tie", "|fault|2",
+        "|turn|9999",
+        "|move|p1a: Tauros|Body Slam|p2a: Mr. Mime",
+        "|cant|p1a: Tauros|partiallytrapped",
+        "|-damage|p2a: Mew|120/353 par|[from] Leech Seed",
+        "|-damage|p2a: Mew|1/11",
+        "|-heal|p2a: Mew|353/353 slp",
+        "|-crit|p1a: Mew",
+        "|-supereffective|p1a: Mew",
+        "|-resisted|p1a: Mew",
+        "|-immune|p1a: Mew",
+        "|-miss|p1a: Mew",
+        "|-fail|p1a: Mew",
+        "|-status|p1a: Mew|brn",
+        "|-curestatus|p1a: Mew|frz",
+        "|-boost|p1a: Mew|spc|2",
+        "|-unboost|p1a: Mew|eva|1",
+        "|-clearallboost",
+        "|-start|p1a: Mew|typechange",
+        "|-end|p1a: Mew|confusion",
+        "|-activate|p1a: Mew|Splash",
+        "|-prepare|p1a: Mew|Solar Beam",
+        "|-mustrecharge|p1a: Mew",
+        "|-hitcount|p1a: Nidoran-F|5",
+        "|-ohko",
+        "|faint|p2a: Mew",
+        "|win|p1",
+        "|tie",
+        "|fault|2",
     ];
     for line in lines {
-        assert_eq!(line.parse().map(|event: Event| event.to_string()), Ok(line.into()));
+        assert_eq!(
+            line.parse().map(|event: Event| event.to_string()),
+            Ok(line.into())
+        );
     }
     let events: HashSet<Event> = lines.iter().map(|line| line.parse().unwrap()).collect();
     assert_eq!(events.len(), lines.len());
     let fault = |line: &str| line.parse::<Event>().unwrap_err();
-    assert_eq!(fault("|switch|p1a: Tauros|Tauros, L50|120/353 par"), LineFault::NoPlace);
+    assert_eq!(
+        fault("|switch|p1a: Tauros|Tauros, L50|120/353 par"),
+        LineFault::NoPlace
+    );
     assert_eq!(fault("|-damage|p1a: Tauros|0 fnt"), LineFault::NoMaximum);
     for line in [
-        "", "turn|1", "|turn|0", "|turn|01", "|turn|1\n", "|turn|1|", "|win|p3", "|move|p1a: Tauros|body slam|p2a: Mew",
-        "|-damage|p1a: Mew|12/10", "|-damage|p1a: Mew|1/11|[from] love", "|-boost|p1a: Mew|atk|3", "|faint|p3a: Mew",
-        "|-hitcount|p1a: Mew|6", "|jump|p1a: Mew",
+        "",
+        "turn|1",
+        "|turn|0",
+        "|turn|01",
+        "|turn|1\n",
+        "|turn|1|",
+        "|win|p3",
+        "|move|p1a: Tauros|body slam|p2a: Mew",
+        "|-damage|p1a: Mew|12/10",
+        "|-damage|p1a: Mew|1/11|[from] love",
+        "|-boost|p1a: Mew|atk|3",
+        "|faint|p3a: Mew",
+        "|-hitcount|p1a: Mew|6",
+        "|jump|p1a: Mew",
     ] {
         assert_eq!(fault(line), LineFault::NoEvent, "{line}");
     }
     let damage: Event = lines[3].parse().unwrap();
-    assert_eq!((damage.side(), damage.health().unwrap().max()), (Some(Side::Two), 353));
-    assert_eq!(lines[1].parse::<Event>().unwrap().move_id(), Some(MoveId::BODY_SLAM));
+    assert_eq!(
+        (damage.side(), damage.health().unwrap().max()),
+        (Some(Side::Two), 353)
+    );
+    assert_eq!(
+        lines[1].parse::<Event>().unwrap().move_id(),
+        Some(MoveId::BODY_SLAM)
+    );
     assert_eq!("|win|p1".parse::<Event>().unwrap().side(), Some(Side::One));
 }
 
@@ -248,14 +304,25 @@ fn a_member_is_the_object_of_the_document() {
 #[cfg(feature = "serde")]
 #[test]
 fn values_are_the_same_after_serde() {
-    fn again<T: serde::Serialize + serde::de::DeserializeOwned + PartialEq + std::fmt::Debug>(value: &T) -> String {
+    fn again<T: serde::Serialize + serde::de::DeserializeOwned + PartialEq + std::fmt::Debug>(
+        value: &T,
+    ) -> String {
         let text = serde_json::to_string(value).unwrap();
         assert_eq!(&serde_json::from_str::<T>(&text).unwrap(), value);
         text
     }
     let mut battle = battle();
-    let mut events = battle.update(Choice::Pass, Choice::Pass).unwrap().events().to_vec();
-    events.extend_from_slice(battle.update(Choice::MOVE_1, Choice::MOVE_1).unwrap().events());
+    let mut events = battle
+        .update(Choice::Pass, Choice::Pass)
+        .unwrap()
+        .events()
+        .to_vec();
+    events.extend_from_slice(
+        battle
+            .update(Choice::MOVE_1, Choice::MOVE_1)
+            .unwrap()
+            .events(),
+    );
     again(&events);
     again(&battle.state());
     again(&battle.odds(Side::One, MoveId::STRENGTH).unwrap());
@@ -271,5 +338,10 @@ fn values_are_the_same_after_serde() {
     let spec = member("Tauros", &["Strength"]).unwrap();
     let team: Team = serde_json::from_str(&serde_json::to_string(&[&spec]).unwrap()).unwrap();
     assert_eq!(team, Team::new(&[spec]).unwrap());
-    assert!(serde_json::from_str::<Team>("[]").unwrap_err().to_string().contains("member"));
+    assert!(
+        serde_json::from_str::<Team>("[]")
+            .unwrap_err()
+            .to_string()
+            .contains("member")
+    );
 }

@@ -139,7 +139,13 @@ mod tests {
         let (battle, before) = (at_the_edge(3), at_the_edge(3));
         let told = |battle: &Battle| {
             let choices = battle.choices(Side::One);
-            tried(Sight::Cheating(battle), Side::One, &choices, 8, &mut Random::new(1, 1))
+            tried(
+                Sight::Cheating(battle),
+                Side::One,
+                &choices,
+                8,
+                &mut Random::new(1, 1),
+            )
         };
         let first = told(&battle);
         assert_eq!(battle, before);

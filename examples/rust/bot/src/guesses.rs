@@ -12,7 +12,11 @@ use gen1::{Battle, Guess, Player, Rules};
 ///
 /// If the battle has not begun, or is over.
 pub fn drawn(player: &Player, random: &mut Random) -> Battle {
-    let appeared = player.foe().members.iter().filter_map(|seen| seen.species());
+    let appeared = player
+        .foe()
+        .members
+        .iter()
+        .filter_map(|seen| seen.species());
     let count = player.foes().map_or(6, usize::from);
     let team = teams::beginning_with(appeared.collect(), count, random);
     let mut guess = Guess::new(team, random.seed());

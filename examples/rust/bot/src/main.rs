@@ -5,8 +5,8 @@ mod random;
 mod share;
 mod teams;
 
-use clap::Parser;
 use bot::Sight;
+use clap::Parser;
 use gen1::{Battle, Choice, Player, Rules, Side, Team, Teller, TurnLimit, Update};
 use random::Random;
 use std::io::{IsTerminal, Write};
@@ -144,7 +144,10 @@ impl Words {
     ) -> (Choice, Vec<bot::Tried>) {
         let choices = battle.choices(side);
         if playouts == 0 || choices.len() == 1 {
-            return (bot::random_choice(battle, side, random).choice(), Vec::new());
+            return (
+                bot::random_choice(battle, side, random).choice(),
+                Vec::new(),
+            );
         }
         let tried = bot::tried(sight, side, &choices, playouts, random);
         (bot::best(&tried), tried)

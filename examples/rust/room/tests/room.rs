@@ -115,7 +115,14 @@ fn each_gets_what_it_may_know() {
     let keep = |at: usize| format!("dd status=none of={}", files[at].display());
     let done = room(
         "got",
-        &["--one", &keep(0), "--two", &keep(1), "--spectator", &keep(2)],
+        &[
+            "--one",
+            &keep(0),
+            "--two",
+            &keep(1),
+            "--spectator",
+            &keep(2),
+        ],
     );
     let out = |side| format!("side {side}: out in pair 0: it left\n");
     assert_eq!(told(&done), ("", (out(1) + &out(2)).as_str()));

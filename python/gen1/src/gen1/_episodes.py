@@ -136,7 +136,9 @@ class Episodes:
         if mask is None:
             return np.ones(len(self), bool)
         if not isinstance(mask, np.ndarray) or mask.dtype != bool or mask.shape != (len(self),) or not mask.any():
-            raise BadArgument(f"reset_mask must be an array of ({len(self)},) bools, at least one of them True, not {shown(mask)}")
+            raise BadArgument(
+                f"reset_mask must be an array of ({len(self)},) bools, at least one of them True, not {shown(mask)}"
+            )
         return mask
 
     def _last(self, side: int, which: Truths) -> Rows:
@@ -149,7 +151,9 @@ class Episodes:
         one, two = (it(dice) if callable(it) else it for it in sources)
         return one, two
 
-    def _starts(self, which: Truths, sources: tuple[Any, Any], dice: np.random.Generator, others: bool) -> dict[int, Start]:
+    def _starts(
+        self, which: Truths, sources: tuple[Any, Any], dice: np.random.Generator, others: bool
+    ) -> dict[int, Start]:
         """The starts of those battles whose start is not there yet."""
         if self._start is None or others:
             if any(callable(it) for it in sources):

@@ -97,7 +97,9 @@ def _found() -> str:
     carried = Path(__file__).with_name("libgen1.so")
     found = str(carried) if carried.is_file() else find_library("gen1")
     if not found:
-        raise LibraryMissing(f"there is no {carried}; install the wheel, or set GEN1_LIBRARY to the path of a libgen1.so")
+        raise LibraryMissing(
+            f"there is no {carried}; install the wheel, or set GEN1_LIBRARY to the path of a libgen1.so"
+        )
     return found
 
 
@@ -143,7 +145,12 @@ def _build(library: ctypes.CDLL) -> str:
 
 LIBRARY_VERSION = _version()
 LIBRARY_BUILD = _build(SHORT)
-_BATTLE, _TEAM, _ROOM, _SPECTATOR = POINTER(BattleBytes), POINTER(TeamStruct), POINTER(RoomStruct), POINTER(SpectatorStruct)
+_BATTLE, _TEAM, _ROOM, _SPECTATOR = (
+    POINTER(BattleBytes),
+    POINTER(TeamStruct),
+    POINTER(RoomStruct),
+    POINTER(SpectatorStruct),
+)
 _PLAYER, _TELLER, _OWN = POINTER(PlayerStruct), POINTER(TellerStruct), POINTER(OwnSideStruct)
 _SIZES, _BYTES, _TEXT, _MEMBER = POINTER(c_size_t), ctypes.c_char_p, POINTER(c_char), POINTER(MemberStruct)
 species_from_name = bind("gen1_species_from_name", c_uint8, _BYTES, c_size_t)
@@ -160,7 +167,9 @@ next_line = bind("gen1_next_line", c_uint8, _BYTES, c_size_t, _SIZES, _TEXT, c_s
 damage = bind("gen1_damage", c_uint8, _BATTLE, c_uint8, c_uint8, c_bool, c_uint16 * DAMAGES)
 odds_now = bind("gen1_odds_now", c_uint8, _BATTLE, c_uint8, c_uint8, POINTER(OddsStruct))
 knock_out = bind("gen1_knock_out", c_uint8, _BATTLE, c_uint8, c_uint8, POINTER(ChancesStruct))
-knock_out_in_three = bind("gen1_knock_out_in_three", c_uint8, _BATTLE, c_uint8, c_uint8, POINTER(BetweenStruct), POINTER(ThreeChancesStruct))
+knock_out_in_three = bind(
+    "gen1_knock_out_in_three", c_uint8, _BATTLE, c_uint8, c_uint8, POINTER(BetweenStruct), POINTER(ThreeChancesStruct)
+)
 odds_between = bind("gen1_odds_between", c_uint32, _MEMBER, _MEMBER, c_uint8, POINTER(OddsStruct))
 takes_hit_test = bind("gen1_takes_hit_test", c_uint8, c_uint8)
 drained = bind("gen1_drained", c_uint16, c_uint8, c_uint16)

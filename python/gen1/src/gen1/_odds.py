@@ -118,7 +118,10 @@ def odds(attacker: Member, defender: Member, move: Move | str | int) -> Odds:
     move, `BadType` for a value that is not a `Member`.
     """
     known, of = a_move(move), OddsStruct()
-    pair = [byref(struct_of([_a_member(it, name)]).members[0]) for it, name in ((attacker, "attacker"), (defender, "defender"))]
+    pair = [
+        byref(struct_of([_a_member(it, name)]).members[0])
+        for it, name in ((attacker, "attacker"), (defender, "defender"))
+    ]
     answer = _library.odds_between(*pair, known, byref(of))
     if answer:
         raise BadArgument(NewFault(answer & 0xFF).label)
@@ -181,7 +184,9 @@ def chances_of(of: ChancesStruct) -> Chances:
 def three_chances_of(of: ThreeChancesStruct) -> ThreeChances:
     """The chances to knock out in up to three uses that a struct holds."""
     thrice = Fraction(_whole(of.thrice), _whole(of.thrice_of))
-    return ThreeChances(Fraction(of.once, of.once_of), Fraction(of.twice, of.twice_of), thrice, of.breaks_substitute == 1)
+    return ThreeChances(
+        Fraction(of.once, of.once_of), Fraction(of.twice, of.twice_of), thrice, of.breaks_substitute == 1
+    )
 
 
 def hp_change(value: object, name: str) -> HpChangeStruct:

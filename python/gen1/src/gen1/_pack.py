@@ -66,7 +66,9 @@ def bad_state(of: StateFaultStruct, state: State) -> BadState:
         said = f"{field} has {Conditions(1 << of.index).name}, which does not belong to the current move"
     elif not low <= value <= high:
         said = f"{field} must be {_range(value, low, high)}, not {_text(value)}"
-    return BadState(said, code=code, field=field, side=of.side, place=of.place, index=index, value=value, low=low, high=high)
+    return BadState(
+        said, code=code, field=field, side=of.side, place=of.place, index=index, value=value, low=low, high=high
+    )
 
 
 def _place(code: StateField, of: StateFaultStruct) -> tuple[int | None, str]:

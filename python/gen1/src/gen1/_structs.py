@@ -201,7 +201,13 @@ class OutcomeOptionsStruct(Structure):
 class OutcomeListStruct(Structure):
     """gen1_outcome_list."""
 
-    _fields_ = [("low", c_uint64), ("high", c_uint64), ("left_low", c_uint64), ("left_high", c_uint64), ("count", c_uint64)]
+    _fields_ = [
+        ("low", c_uint64),
+        ("high", c_uint64),
+        ("left_low", c_uint64),
+        ("left_high", c_uint64),
+        ("count", c_uint64),
+    ]
 
 
 class RoomStruct(Structure):

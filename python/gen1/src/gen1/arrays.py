@@ -23,7 +23,9 @@ from gen1.outcome_arrays import OutcomeArray, outcomes_of_array
 Bytes: TypeAlias = NDArray[np.uint8]
 Masks: TypeAlias = NDArray[np.uint16]
 
-_offered = _library.bind("gen1_offered_many", c_uint8, c_void_p, c_size_t, c_uint8, c_void_p, c_size_t, of=_library.LONG)
+_offered = _library.bind(
+    "gen1_offered_many", c_uint8, c_void_p, c_size_t, c_uint8, c_void_p, c_size_t, of=_library.LONG
+)
 _update = _library.bind("gen1_update_many", c_uint8, c_void_p, c_size_t, c_void_p, c_size_t, of=_library.LONG)
 _ARRAYS = 4 * (c_void_p, c_size_t)
 _step_random = _library.bind("gen1_step_random_many", c_uint8, *_ARRAYS, c_void_p, of=_library.LONG)
@@ -98,7 +100,9 @@ class BattleArray:
             raise BadType(f"places must be whole numbers, not {at.dtype}")
         wrong = (at < -len(self)) | (at >= len(self))
         if wrong.any():
-            raise BadPlace(f"places[{wrong.argmax()}] must be {-len(self):,} to {len(self) - 1:,}, not {at[wrong.argmax()]}")
+            raise BadPlace(
+                f"places[{wrong.argmax()}] must be {-len(self):,} to {len(self) - 1:,}, not {at[wrong.argmax()]}"
+            )
         return self._holding(self._bytes[at], self._threads)
 
     @property
@@ -171,7 +175,9 @@ class BattleArray:
         def part(first: int, past: int) -> None:
             count = past - first
             for side, into in ((1, ones), (2, twos)):
-                _done(_offered(battles + first * _library.BATTLE_BYTES, count, side, into + first * masks.itemsize, count))
+                _done(
+                    _offered(battles + first * _library.BATTLE_BYTES, count, side, into + first * masks.itemsize, count)
+                )
 
         in_parts(part, len(self), self._threads)
         return masks
@@ -225,7 +231,15 @@ class BattleArray:
         def part(first: int, past: int) -> None:
             count, over, row = past - first, c_size_t(), first * _library.BATTLE_BYTES
             begins = (starts + row, count) if reset else (None, 0)
-            parts = battles + row, count, *begins, of_draws + first * draws.itemsize, count, updates + first * UPDATE_BYTES, count
+            parts = (
+                battles + row,
+                count,
+                *begins,
+                of_draws + first * draws.itemsize,
+                count,
+                updates + first * UPDATE_BYTES,
+                count,
+            )
             _done(_step_random(*parts, byref(over)))
 
         in_parts(part, len(self), self._threads)
@@ -293,7 +307,9 @@ class BattleArray:
     def _seeds(self, seeds: ArrayLike) -> Bytes:
         given = _array(seeds, "seeds")
         if given.dtype.kind not in "ui" or given.shape != (len(self), 10):
-            raise BadArgument(f"seeds must be ({len(self)}, 10) numbers from 0 to 255, not {given.shape} of {given.dtype}")
+            raise BadArgument(
+                f"seeds must be ({len(self)}, 10) numbers from 0 to 255, not {given.shape} of {given.dtype}"
+            )
         return _all_bytes(given, "seeds")
 
     def _choices(self, given: ArrayLike, name: str) -> Bytes:

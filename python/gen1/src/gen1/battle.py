@@ -13,7 +13,18 @@ from gen1 import _library
 from gen1._check import byte as a_byte
 from gen1._check import move as a_move
 from gen1._check import digits, octets, seed_bytes, shown, truth, whole, within
-from gen1._odds import NO_CHANGE, Chances, HpChange, Odds, ThreeChances, chances_of, hp_change, no_damage, odds_of, three_chances_of
+from gen1._odds import (
+    NO_CHANGE,
+    Chances,
+    HpChange,
+    Odds,
+    ThreeChances,
+    chances_of,
+    hp_change,
+    no_damage,
+    odds_of,
+    three_chances_of,
+)
 from gen1._outcomes import Outcomes, options_of, outcomes_of
 from gen1._pack import bad_state, packed
 from gen1._structs import (
@@ -163,7 +174,9 @@ class Battle:
         return made
 
     @classmethod
-    def from_player(cls: type[B], player: Player, foes: TeamLike, seed: SeedLike, rules: int = 0, limit: int = 1000) -> B:
+    def from_player(
+        cls: type[B], player: Player, foes: TeamLike, seed: SeedLike, rules: int = 0, limit: int = 1000
+    ) -> B:
         """A battle that fits what a player knows, with a guess of the rest:
         the base of a search that doesn't cheat.
 
@@ -294,7 +307,9 @@ class Battle:
         member.
         """
         number, sleep = within(status, "status", 0, 5), whole(turns, "turns")
-        state = self.state.with_member(side, place, status=Status(number), sleep=sleep if number == Status.SLEEP else 0, marked=False)
+        state = self.state.with_member(
+            side, place, status=Status(number), sleep=sleep if number == Status.SLEEP else 0, marked=False
+        )
         active = state.side(side).active
         if active is not None and active.place == place:
             state = state.with_active(side, stats=(0, 0, 0, 0))
@@ -347,7 +362,9 @@ class Battle:
         if _library.reseed(byref(self._held), _library.SeedBytes(*numbers), a_byte(place)):
             raise BadArgument(f"index must be 0 to 8, not {digits(place)}")
 
-    def playout(self, seed: int, rounds: int, *, depth: int | None = None, weights: WeightsLike | None = None) -> Playouts:
+    def playout(
+        self, seed: int, rounds: int, *, depth: int | None = None, weights: WeightsLike | None = None
+    ) -> Playouts:
         """Plays `rounds` copies of the battle with random choices, to their
         end or to a depth, and counts how they end. The battle is unchanged.
 
@@ -386,7 +403,9 @@ class Battle:
         counts, dice = [0, 0, 0, 0], Random(number)
         while True:
             of, slice_rounds = PlayoutsStruct(), min(left, PLAYOUT_SLICE)
-            test = _library.playout(byref(self._held), byref(PlayoutOptionsStruct(number, slice_rounds, updates, table)), byref(of))
+            test = _library.playout(
+                byref(self._held), byref(PlayoutOptionsStruct(number, slice_rounds, updates, table)), byref(of)
+            )
             if test:
                 raise BadBytes(LoadFault(test), _load_text(LoadFault(test), self.bytes))
             counts = [known + new for known, new in zip(counts, (of.wins_one, of.wins_two, of.ties, of.faults))]
@@ -395,7 +414,9 @@ class Battle:
                 return Playouts(*counts)
             number = dice.getrandbits(64)
 
-    def outcomes(self, one: Choice | int, two: Choice | int, *, damage_classes: int = 0, least_probability: float = 0.0) -> Outcomes:
+    def outcomes(
+        self, one: Choice | int, two: Choice | int, *, damage_classes: int = 0, least_probability: float = 0.0
+    ) -> Outcomes:
         """All battles that an update by a choice of each side can lead to,
         each with its exact probability (`Outcomes` says of what draws).
 
@@ -458,7 +479,11 @@ class Battle:
         return chances_of(of)
 
     def knock_out_in_three(
-        self, side: Side | int, move: Move | str | int, after_first: HpChange = NO_CHANGE, after_second: HpChange = NO_CHANGE
+        self,
+        side: Side | int,
+        move: Move | str | int,
+        after_first: HpChange = NO_CHANGE,
+        after_second: HpChange = NO_CHANGE,
     ) -> ThreeChances:
         """The exact chance that a side's move knocks out the foe's active
         member, with one use and with two or three in a row.
@@ -554,7 +579,10 @@ WEIGHTS = c_uint8 * 166
 CHOICE = {int(it): it for it in Choice}
 _DAMAGES, _WORDS = c_uint16 * DAMAGES, c_char * _library.WORDS_ROOM
 RESULTS = {
-    outcome | one << 3 | two << 5: Result(outcome, (one, two)) for outcome in Outcome for one in Request for two in Request
+    outcome | one << 3 | two << 5: Result(outcome, (one, two))
+    for outcome in Outcome
+    for one in Request
+    for two in Request
 }
 
 __all__ = ["Battle", "Member", "Playouts", "Result", "Rules", "Update"]

@@ -100,7 +100,11 @@ def _difference(told: list[Event], other: list[Event]) -> str:
     """The first difference between two lists of events; empty if they are the same."""
     for one, two in zip(told, other):
         if one != two:
-            if isinstance(one, (DamageEvent, HealEvent)) and isinstance(two, (DamageEvent, HealEvent)) and one.who == two.who:
+            if (
+                isinstance(one, (DamageEvent, HealEvent))
+                and isinstance(two, (DamageEvent, HealEvent))
+                and one.who == two.who
+            ):
                 return f"{one.who} has other HP"
             return f"instead of {sentence(one)!r}: {sentence(two)}"
     if len(told) == len(other):
@@ -117,5 +121,3 @@ def ranges(numbers: list[int]) -> str:
     runs = [[it for _, it in run] for _, run in groupby(enumerate(numbers), lambda it: it[1] - it[0])]
     texts = [f"{run[0]}-{run[-1]}" if len(run) > 1 else str(run[0]) for run in runs]
     return ", ".join(texts) if len(texts) <= 8 else f"{', '.join(texts[:4])}, .. ({len(numbers)} of 256)"
-
-

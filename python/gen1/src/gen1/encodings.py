@@ -20,7 +20,15 @@ from numpy.typing import NDArray
 
 from gen1 import _library
 from gen1._check import shown
-from gen1._structs import ANNOUNCED, OwnMemberStruct, OwnSideStruct, PlayerStruct, PublicSideStruct, PublicStruct, SeenStruct
+from gen1._structs import (
+    ANNOUNCED,
+    OwnMemberStruct,
+    OwnSideStruct,
+    PlayerStruct,
+    PublicSideStruct,
+    PublicStruct,
+    SeenStruct,
+)
 from gen1.choices import Choice, a_side
 from gen1.errors import BadArgument, BadType
 from gen1.names import Conditions, Move, Species, Status, Type
@@ -85,7 +93,14 @@ def _share(name: str, place: int, most: int, says: str) -> _Cell:
 def _stage(name: str, place: int) -> _Cell:
     """A stage, 0 to 12 in the struct."""
     column = Column(f"{name} stage / 6", 0, -1.0, 1.0, 12, "a stage from -6 to 6; uint8: plus 6")
-    return _Cell(column, "byte", place, 0, tuple((min(it, 12) - 6) / 6 for it in range(256)), tuple(min(it, 12) for it in range(256)))
+    return _Cell(
+        column,
+        "byte",
+        place,
+        0,
+        tuple((min(it, 12) - 6) / 6 for it in range(256)),
+        tuple(min(it, 12) for it in range(256)),
+    )
 
 
 def _flag(name: str, place: int, says: str, *values: int) -> _Cell:
@@ -100,7 +115,9 @@ def _bit(name: str, place: int, bit: int, says: str) -> _Cell:
 
 
 def _stat(name: str, place: int, says: str) -> _Cell:
-    return _Cell(Column(f"{name} / 999", 0, 0.0, 1.0, 249, f"{says}; uint8: divided by 4"), "word", place, 0, (1 / 999,), (0.25,))
+    return _Cell(
+        Column(f"{name} / 999", 0, 0.0, 1.0, 249, f"{says}; uint8: divided by 4"), "word", place, 0, (1 / 999,), (0.25,)
+    )
 
 
 def _hp(name: str, place: int, of: int) -> _Cell:
@@ -143,7 +160,9 @@ def _own_member(side: int, place: int) -> Iterator[_Cell]:
 
 def _foe_member(foe: int, place: int) -> Iterator[_Cell]:
     name, of = f"foe {place}", _public(foe) + PublicSideStruct.members.offset + (place - 1) * sizeof(SeenStruct)
-    yield _category(f"{name} species", of + SeenStruct.species.offset, SPECIES, "the number of the species; 0 until it has appeared")
+    yield _category(
+        f"{name} species", of + SeenStruct.species.offset, SPECIES, "the number of the species; 0 until it has appeared"
+    )
     yield _share(f"{name} level", of + SeenStruct.level.offset, 100, "the level")
     yield _category(f"{name} status", of + SeenStruct.status.offset, STATUSES, "the status")
     yield _hp(name, of + SeenStruct.hp.offset, of + SeenStruct.max.offset)
@@ -155,7 +174,11 @@ def _foe_member(foe: int, place: int) -> Iterator[_Cell]:
 def _own_active(side: int) -> Iterator[_Cell]:
     it = OwnSideStruct
     for at, stat in enumerate(STATS):
-        yield _stat(f"own current {stat}", OWN + it.stats.offset + 2 * at, "a stat of the active member, with stages and penalties")
+        yield _stat(
+            f"own current {stat}",
+            OWN + it.stats.offset + 2 * at,
+            "a stat of the active member, with stages and penalties",
+        )
     for at, stat in enumerate(STAGES):
         yield _stage(f"own {stat}", OWN + it.stages.offset + at)
     for at in range(2):
@@ -163,10 +186,22 @@ def _own_active(side: int) -> Iterator[_Cell]:
     for condition in Conditions:
         if condition not in (Conditions.NONE, Conditions.FLINCH):
             label = (condition.name or "").lower()
-            yield _bit(f"own {label}", OWN + it.conditions.offset, int(condition).bit_length() - 1, "whether the active member is under it")
-    yield _category("own disabled slot", OWN + it.disabled_slot.offset, SLOTS, "the slot that Disable blocks, 0 for none")
+            yield _bit(
+                f"own {label}",
+                OWN + it.conditions.offset,
+                int(condition).bit_length() - 1,
+                "whether the active member is under it",
+            )
+    yield _category(
+        "own disabled slot", OWN + it.disabled_slot.offset, SLOTS, "the slot that Disable blocks, 0 for none"
+    )
     yield _flag("own held", OWN + it.held.offset, "whether the foe's trapping move holds the active member", 1)
-    yield _category("own last move", _public(side) + PublicSideStruct.last_move.offset, MOVES, "the move that the active member used last")
+    yield _category(
+        "own last move",
+        _public(side) + PublicSideStruct.last_move.offset,
+        MOVES,
+        "the move that the active member used last",
+    )
 
 
 def _foe_active(foe: int) -> Iterator[_Cell]:
@@ -295,9 +330,15 @@ class Encoding:
             kinds["hot" if hot else it.kind].append(_ColumnStruct(it.place, to, by))
             to += it.column.options if hot else 1
         columns = [it for kind in kinds.values() for it in kind]
-        kept_alive = (_ColumnStruct * len(columns))(*columns), np.array(lists[0], self.dtype), np.array(lists[1], np.float32)
+        kept_alive = (
+            (_ColumnStruct * len(columns))(*columns),
+            np.array(lists[0], self.dtype),
+            np.array(lists[1], np.float32),
+        )
         counts = [len(it) for it in kinds.values()]
-        made = _FormStruct(ctypes.addressof(kept_alive[0]), kept_alive[1].ctypes.data, kept_alive[2].ctypes.data, *counts, to)
+        made = _FormStruct(
+            ctypes.addressof(kept_alive[0]), kept_alive[1].ctypes.data, kept_alive[2].ctypes.data, *counts, to
+        )
         made.kept_alive = kept_alive
         return made
 
@@ -348,5 +389,8 @@ def described(encoding: Encoding = Encoding()) -> str:
     """A line for each column: its number, its name, its range as float32 and
     as uint8, and its meaning.
     """
-    lines = [f"{at:5}  {it.name:28} {it.low:g} to {it.high:g}; 0 to {it.top}  {it.says}" for at, it in enumerate(encoding.columns)]
+    lines = [
+        f"{at:5}  {it.name:28} {it.low:g} to {it.high:g}; 0 to {it.top}  {it.says}"
+        for at, it in enumerate(encoding.columns)
+    ]
     return "\n".join([f"columns of version {VERSION}: number, name, range as float32 and as uint8, meaning", *lines])

@@ -200,7 +200,9 @@ class BattleEnv(_Environment, _Base):  # type: ignore[misc, valid-type]
         self._prepare((one, two), (rules, limit), render_mode, observations)
         self.observation_space, self.action_space = self._space, self._actions
 
-    def reset(self, *, seed: int | None = None, options: Mapping[str, Any] | None = None) -> tuple[Rows, dict[str, Any]]:
+    def reset(
+        self, *, seed: int | None = None, options: Mapping[str, Any] | None = None
+    ) -> tuple[Rows, dict[str, Any]]:
         """Starts a new battle, and returns the observation of side 1 and the
         info, as from `step`.
 

@@ -143,7 +143,12 @@ class Refused(Error):
     code: Refusal | RoomRefusal
 
     def __init__(
-        self, code: Refusal | RoomRefusal, said: str, side: int = 0, choice: int | None = None, offered: tuple[int, ...] = ()
+        self,
+        code: Refusal | RoomRefusal,
+        said: str,
+        side: int = 0,
+        choice: int | None = None,
+        offered: tuple[int, ...] = (),
     ) -> None:
         super().__init__(said)
         self.code, self.side, self.choice, self.offered = code, side, choice, offered
@@ -162,7 +167,15 @@ class RoomRefused(Refused):
     code: RoomRefusal
 
     def __init__(
-        self, code: RoomRefusal, said: str, *, side: int, number: int, current: int, choice: int | None, offered: tuple[int, ...]
+        self,
+        code: RoomRefusal,
+        said: str,
+        *,
+        side: int,
+        number: int,
+        current: int,
+        choice: int | None,
+        offered: tuple[int, ...],
     ) -> None:
         super().__init__(code, said, side, choice, offered)
         self.number, self.current = number, current
@@ -184,7 +197,9 @@ class BadText(BadTeam):
     line, from 1, else 0. `text_code` is what was expected there.
     """
 
-    def __init__(self, said: str, text_code: TextFault, *, line: int, member: int, column: int, code: NewFault | None) -> None:
+    def __init__(
+        self, said: str, text_code: TextFault, *, line: int, member: int, column: int, code: NewFault | None
+    ) -> None:
         super().__init__(said, member=member, code=code)
         self.text_code, self.line, self.column = text_code, line, column
 

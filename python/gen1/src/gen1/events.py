@@ -374,7 +374,16 @@ _EVENTS: dict[int, _Reader] = {
     **{it.kind: _alone(it) for it in (ClearAllEvent, OneHitEvent, TieEvent)},
     **{
         it.kind: _of_one(it)
-        for it in (CritEvent, SuperEffectiveEvent, ResistedEvent, ImmuneEvent, MissEvent, FailEvent, MustRechargeEvent, FaintEvent)
+        for it in (
+            CritEvent,
+            SuperEffectiveEvent,
+            ResistedEvent,
+            ImmuneEvent,
+            MissEvent,
+            FailEvent,
+            MustRechargeEvent,
+            FaintEvent,
+        )
     },
 }
 

@@ -133,7 +133,9 @@ def _blocked(active: ActiveState, slot: int) -> ActiveState:
     """The same with a disabled slot; 0 for none."""
     if not slot:
         return active
-    return replace(active, conditions=active.conditions | Conditions.DISABLED, disabled_slot=slot, disabled_turns=BLOCKED)
+    return replace(
+        active, conditions=active.conditions | Conditions.DISABLED, disabled_slot=slot, disabled_turns=BLOCKED
+    )
 
 
 def _under(active: ActiveState, on: Conditions, member: MemberState, last: Move | None) -> ActiveState:

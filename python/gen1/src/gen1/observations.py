@@ -55,7 +55,11 @@ def _columns() -> tuple[str, ...]:
     for it in ("own", "foe"):
         names += [f"{it} {stat} stage / 6" for stat in STAGES] + [f"{it} {name}" for name, _ in UP]
     names += ["turn / limit", "asked to move", "asked to switch", "won", "lost", "tied"]
-    names += ["offered pass", *(f"offered move {slot}" for slot in range(5)), *(f"offered switch {place}" for place in range(1, 7))]
+    names += [
+        "offered pass",
+        *(f"offered move {slot}" for slot in range(5)),
+        *(f"offered switch {place}" for place in range(1, 7)),
+    ]
     return tuple(names)
 
 
@@ -100,5 +104,12 @@ def _active(side: Any) -> Row:
 def _whole(fields: Any, side: int) -> Row:
     """The columns for the whole battle."""
     asked, outcome = fields["requests"][:, side - 1], fields["outcome"]
-    columns = (fields["turn"] / fields["limit"], asked == 1, asked == 2, outcome == side, outcome == 3 - side, outcome == 3)
+    columns = (
+        fields["turn"] / fields["limit"],
+        asked == 1,
+        asked == 2,
+        outcome == side,
+        outcome == 3 - side,
+        outcome == 3,
+    )
     return np.stack(columns, 1, dtype=np.float32, casting="unsafe")

@@ -25,7 +25,18 @@ Bytes: TypeAlias = NDArray[np.uint8]
 _Part: TypeAlias = tuple[Bytes, list[int], list[int], list[int], list[int]]
 
 _list = _library.bind(
-    "gen1_outcomes", c_uint8, c_void_p, c_uint8, c_uint8, c_void_p, c_void_p, c_size_t, c_void_p, c_size_t, c_void_p, of=_library.LONG
+    "gen1_outcomes",
+    c_uint8,
+    c_void_p,
+    c_uint8,
+    c_uint8,
+    c_void_p,
+    c_void_p,
+    c_size_t,
+    c_void_p,
+    c_size_t,
+    c_void_p,
+    of=_library.LONG,
 )
 _WORD = 2.0**64
 
@@ -40,7 +51,9 @@ class OutcomeArray:
     probabilities are exact.
     """
 
-    def __init__(self, rows: Bytes, offsets: NDArray[np.int64], wholes: list[int], left_out: list[int], codes: Bytes) -> None:
+    def __init__(
+        self, rows: Bytes, offsets: NDArray[np.int64], wholes: list[int], left_out: list[int], codes: Bytes
+    ) -> None:
         self._rows = rows
         self.offsets = offsets
         """Where the outcomes of each battle begin, and where those of the
@@ -67,7 +80,9 @@ class OutcomeArray:
         an `IndexError` too.
         """
         of = place(at, len(self))
-        return Outcomes(self._rows[self.offsets[of] : self.offsets[of + 1]].tobytes(), self.wholes[of], self.left_out[of])
+        return Outcomes(
+            self._rows[self.offsets[of] : self.offsets[of + 1]].tobytes(), self.wholes[of], self.left_out[of]
+        )
 
     def __iter__(self) -> Iterator[Outcomes]:
         return (self[at] for at in range(len(self)))
@@ -107,7 +122,9 @@ class OutcomeArray:
         return self._rows[:, _library.BATTLE_BYTES :].copy().view("<u8")
 
 
-def outcomes_of_array(battles: Bytes, ones: Bytes, twos: Bytes, options: OutcomeOptionsStruct, threads: int) -> OutcomeArray:
+def outcomes_of_array(
+    battles: Bytes, ones: Bytes, twos: Bytes, options: OutcomeOptionsStruct, threads: int
+) -> OutcomeArray:
     """The outcomes of an update of each of the battles by a choice of each
     side.
     """

@@ -114,7 +114,11 @@ class PlayerArray:
         the same numbers.
         """
         made = PlayerArray.__new__(PlayerArray)
-        made._terms, made._battles, made._first = self._terms, self._battles.copy(), (self._first[0].copy(), self._first[1].copy())
+        made._terms, made._battles, made._first = (
+            self._terms,
+            self._battles.copy(),
+            (self._first[0].copy(), self._first[1].copy()),
+        )
         made._players, made._tellers = self._players.copy(), self._tellers.copy()
         return made
 
@@ -177,7 +181,11 @@ class PlayerArray:
         return made
 
     def observe(
-        self, side: Side | int, encoding: Encoding = USUAL, out: Rows | None = None, which: NDArray[np.bool_] | None = None
+        self,
+        side: Side | int,
+        encoding: Encoding = USUAL,
+        out: Rows | None = None,
+        which: NDArray[np.bool_] | None = None,
     ) -> Rows:
         """What a side knows of each battle, as rows, (n, `encoding.width`);
         `encoding.columns` describes the columns.

@@ -169,7 +169,9 @@ def _restored(battle: bytes, number: int, chosen: bytes, log: bytes, forfeit: in
     """The room that was pickled."""
     made = Room.__new__(Room)
     made._lock = RLock()
-    made._held = RoomStruct(number=within(number, "number", 0, NUMBERS), log_length=within(len(log), "log", 0, LOG_ROOM))
+    made._held = RoomStruct(
+        number=within(number, "number", 0, NUMBERS), log_length=within(len(log), "log", 0, LOG_ROOM)
+    )
     made._held.battle[:] = Battle.load(battle).bytes
     made._held.chosen[:], made._held.log[: len(log)] = chosen, log
     made._held.forfeit = within(forfeit, "forfeit", 0, 2)

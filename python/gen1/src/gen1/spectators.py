@@ -155,7 +155,12 @@ def _restored(state: ShownState, held: bytes) -> Spectator:
     of.held[: len(held)] = held
     for to, side in zip(of.sides, (state.one, state.two)):
         to.count, to.place, to.stages[:] = len(side.members), side.place, [it + 6 for it in side.stages]
-        to.substitute, to.confused, to.light_screen, to.reflect = side.substitute, side.confused, side.light_screen, side.reflect
+        to.substitute, to.confused, to.light_screen, to.reflect = (
+            side.substitute,
+            side.confused,
+            side.light_screen,
+            side.reflect,
+        )
         for place, member in enumerate(side.members):
             to.members[place].hp, to.members[place].status = member.hp, member.status
     return made

@@ -13,7 +13,14 @@ from gen1.names import NewFault, TextFault
 class FaultStruct(Structure):
     """gen1_text_fault."""
 
-    _fields_ = [("line", c_size_t), ("member", c_size_t), ("field", c_size_t), ("code", c_uint8), ("rule", c_uint8), ("reserved", c_uint8 * 6)]
+    _fields_ = [
+        ("line", c_size_t),
+        ("member", c_size_t),
+        ("field", c_size_t),
+        ("code", c_uint8),
+        ("rule", c_uint8),
+        ("reserved", c_uint8 * 6),
+    ]
 
 
 _TAKES = _library._BYTES, c_size_t, POINTER(_library.TeamStruct), POINTER(FaultStruct)

@@ -127,7 +127,12 @@ class Member:
         defaults.
         """
         named = [f"{self.species.label!r}", f"{[it.label for it in self.moves]!r}"]
-        for name, usual in (("level", 100), ("dvs", (15,) * 4), ("exp", (65535,) * 5), ("pp_ups", (3,) * len(self.moves))):
+        for name, usual in (
+            ("level", 100),
+            ("dvs", (15,) * 4),
+            ("exp", (65535,) * 5),
+            ("pp_ups", (3,) * len(self.moves)),
+        ):
             if getattr(self, name) != usual:
                 named.append(f"{name}={getattr(self, name)!r}")
         return f"Member({', '.join(named)})"
@@ -195,10 +200,12 @@ class Team:
         return len(self.members)
 
     @overload
-    def __getitem__(self, at: int) -> Member: ...
+    def __getitem__(self, at: int) -> Member:
+        ...
 
     @overload
-    def __getitem__(self, at: slice) -> tuple[Member, ...]: ...
+    def __getitem__(self, at: slice) -> tuple[Member, ...]:
+        ...
 
     def __getitem__(self, at: int | slice) -> Member | tuple[Member, ...]:
         """The member at an index from 0, or those of a slice. Raises

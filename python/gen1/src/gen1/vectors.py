@@ -92,7 +92,11 @@ class _Vector:
         info: dict[str, Any] = {"action_mask": self._episodes.masks(side), "_action_mask": everywhere}
         if ended is not None and ended.final:
             nothing = {"action_mask": np.zeros((self.num_envs, ACTIONS), bool), "_action_mask": ended.which}
-            for key, value in (("final_obs", ended.final[side]), ("final_observation", ended.final[side]), ("final_info", nothing)):
+            for key, value in (
+                ("final_obs", ended.final[side]),
+                ("final_observation", ended.final[side]),
+                ("final_info", nothing),
+            ):
                 info |= {key: value, f"_{key}": ended.which}
         return info
 

@@ -2,7 +2,6 @@
 //! form, so the calls that the sources make are defined here.
 use core::ops::{BitAnd, BitOr, Not};
 
-
 /// A flag with its name.
 #[derive(Clone, Copy, Debug)]
 pub struct Flag<B> {

@@ -1,8 +1,8 @@
 //! Added to the sources (docs/PLAIN.md, "What is added"): comparison, hashing and text of battles.
 use crate::generated::engine::{Battle, BattleResult};
+use crate::generated::machine::{Request, Side};
 use core::fmt;
 use core::hash::{Hash, Hasher};
-use crate::generated::machine::{Request, Side};
 
 /// The battle's result and turn limit.
 impl fmt::Debug for Battle {

@@ -1,8 +1,8 @@
 //! Added to the sources (docs/PLAIN.md, "What is added"): choices, sides and outcomes as text, and types that can be keys of
 //! maps and be sorted.
 use crate::generated::machine::{
-    CantReason, Choice, DamageSource, Health, Kind, MoveSlot, Outcome, Place, Ranged, Request, Rules,
-    Side, TurnLimit, TurnNumber, Volatile, Who,
+    CantReason, Choice, DamageSource, Health, Kind, MoveSlot, Outcome, Place, Ranged, Request,
+    Rules, Side, TurnLimit, TurnNumber, Volatile, Who,
 };
 use core::fmt;
 use core::str::FromStr;
@@ -150,7 +150,9 @@ impl fmt::Display for TurnLimit {
 
 #[cfg(feature = "serde")]
 mod serde_impls {
-    use crate::generated::machine::{Choice, Health, Kind, Ranged, Rules, Side, TurnLimit, TurnNumber};
+    use crate::generated::machine::{
+        Choice, Health, Kind, Ranged, Rules, Side, TurnLimit, TurnNumber,
+    };
     use serde::de::Error;
     use serde::{Deserialize, Deserializer, Serialize, Serializer};
 

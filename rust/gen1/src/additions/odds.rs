@@ -73,7 +73,9 @@ impl FromStr for Reason {
     type Err = UnknownText;
 
     fn from_str(text: &str) -> Result<Self, UnknownText> {
-        let found = Reason::ALL.into_iter().find(|reason| reason.words() == text);
+        let found = Reason::ALL
+            .into_iter()
+            .find(|reason| reason.words() == text);
         found.ok_or(UnknownText("no reason has these words"))
     }
 }

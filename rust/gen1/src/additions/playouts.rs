@@ -96,7 +96,8 @@ impl PlayoutOptions {
 
 impl PartialEq for PlayoutOptions {
     fn eq(&self, other: &Self) -> bool {
-        (self.seed, self.rounds, self.depth, self.weights) == (other.seed, other.rounds, other.depth, other.weights)
+        (self.seed, self.rounds, self.depth, self.weights)
+            == (other.seed, other.rounds, other.depth, other.weights)
     }
 }
 

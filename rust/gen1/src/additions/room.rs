@@ -35,7 +35,15 @@ impl Clone for PlainRoom {
 /// Bytes past the end of the log are not compared.
 impl PartialEq for PlainRoom {
     fn eq(&self, other: &PlainRoom) -> bool {
-        let parts = |room: &PlainRoom| (room.number, room.one, room.two, room.forfeit, room.log_length);
+        let parts = |room: &PlainRoom| {
+            (
+                room.number,
+                room.one,
+                room.two,
+                room.forfeit,
+                room.log_length,
+            )
+        };
         let log = |room: &PlainRoom| room.log.into_iter().take(room.log_length.into());
         parts(self) == parts(other)
             && self.battle.as_bytes() == other.battle.as_bytes()

@@ -65,7 +65,10 @@ impl core::error::Error for UnknownName {}
 /// The letters and digits of a text that are compared.
 fn letters(text: &str) -> ArrayVec<u8, LETTERS> {
     let bytes = text.bytes().filter(u8::is_ascii_alphanumeric);
-    bytes.take(LETTERS).map(|byte| byte.to_ascii_lowercase()).collect()
+    bytes
+        .take(LETTERS)
+        .map(|byte| byte.to_ascii_lowercase())
+        .collect()
 }
 
 /// How many letters have to be put in, taken out or replaced to make one text of the other.

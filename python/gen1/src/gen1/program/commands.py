@@ -64,7 +64,9 @@ def state(asked: argparse.Namespace) -> None:
     """Prints the state in a battle's 384 bytes as JSON, with the choices of both sides in words."""
     battle = Battle.load(read(asked.file))
     held = asdict(battle.state, dict_factory=_plain)
-    held["choices"] = {name: [battle.words(side, it) for it in battle.choices(side)] for name, side in (("one", 1), ("two", 2))}
+    held["choices"] = {
+        name: [battle.words(side, it) for it in battle.choices(side)] for name, side in (("one", 1), ("two", 2))
+    }
     print(json.dumps(held, indent=1))
 
 
@@ -116,16 +118,25 @@ def parser() -> argparse.ArgumentParser:
         formatter_class=argparse.RawDescriptionHelpFormatter,
     )
     said = f"gen1 {__version__}, library {library_version}, build: {library_build}"
-    made.add_argument("--version", action="version", version=said, help="print the versions of package and library, and the library's build")
+    made.add_argument(
+        "--version",
+        action="version",
+        version=said,
+        help="print the versions of package and library, and the library's build",
+    )
     subcommands = made.add_subparsers(required=True, metavar="SUBCOMMAND")
     for command, said in COMMANDS:
         words = subcommands.add_parser(command.__name__, help=said, description=command.__doc__)
-        words.add_argument("file", nargs="?", default="-", metavar="FILE", help="the input; by default, or with -, standard input")
+        words.add_argument(
+            "file", nargs="?", default="-", metavar="FILE", help="the input; by default, or with -, standard input"
+        )
         words.set_defaults(command=command)
     words = subcommands.add_parser("replay", help="write a page that replays a battle", description=replay.__doc__)
     said = "an object of `run`, or the bytes of a log; by default, or with -, standard input"
     words.add_argument("file", nargs="?", default="-", metavar="FILE", help=said)
-    words.add_argument("--page", metavar="HTML", help="the page, as web/build makes it (default: the one in the package)")
+    words.add_argument(
+        "--page", metavar="HTML", help="the page, as web/build makes it (default: the one in the package)"
+    )
     words.add_argument("--out", metavar="OUT", help="the file to write (default: standard output)")
     words.set_defaults(command=replay)
     said = "play a battle against the computer, which chooses at random or by damage"

@@ -19,7 +19,9 @@ def page_with(given: bytes, page: str | None) -> str:
     except UnicodeDecodeError:
         text = ""
     if text.count(PLACE) != 1:
-        raise Fault(f"{page or CARRIED} is not a page of web/build: it has {text.count(PLACE)} places for a battle, and must have one")
+        raise Fault(
+            f"{page or CARRIED} is not a page of web/build: it has {text.count(PLACE)} places for a battle, and must have one"
+        )
     return text.replace(PLACE, PLACE.replace("null", held))
 
 

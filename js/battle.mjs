@@ -1,0 +1,378 @@
+// A battle: 384 bytes in the module's memory.
+import {BATTLE_SIZE} from "./arena.mjs";
+import {byteOr255, choiceByte, choicesIn, choiceText, object, record, seedOf, shown, sideOf, truth, whole, within, wrongType} from "./arguments.mjs";
+import {ArgumentError, DamageError, FreedError, LoadError, RefusedError} from "./errors.mjs";
+import {guessOf, stateGuessed} from "./guesses.mjs";
+import {CODES} from "./header.mjs";
+import {inspected} from "./inspecting.mjs";
+import {outcomeOptions, outcomesOf} from "./outcomes.mjs";
+import {libraryOf} from "./players.mjs";
+import {blockOfState, indexOf, memberAt} from "./states.mjs";
+import {MOVES} from "./tables.mjs";
+import {bytesOf, moveOf, Team, teamAt, teamError, teamGiven} from "./teams.mjs";
+import {made, Update} from "./update.mjs";
+import {chancesOf, oddsOf, ownSideOf, resultOf, stateOf, STATS, STATUSES, threeChancesOf} from "./views.mjs";
+
+const FACTORS = 39;
+const TERMS_KEYS = ["one", "two", "seed", "rules", "limit"];
+
+/** Why a choice that is not offered was refused. */
+export function notOffered(sentence, byte, offered) {
+  return `${sentence}: ${choiceText(byte)}; offered: ${offered.join(", ")}`;
+}
+
+/** Writes the bytes of a seed into the module's memory. */
+export function putSeed(library, seed) {
+  const {bytes, seedAt} = library;
+  for (let at = 0; at < seed.length; at++) bytes[seedAt + at] = seed[at];
+  return library.seed;
+}
+
+/** A block with a new battle of two teams. */
+export function blockOfTerms(library, terms) {
+  const {one, two, seed, rules = 0, limit = 1000} =
+      record(terms, "terms", "an object with one, two and seed", TERMS_KEYS);
+  const [first, second] = [teamGiven(library, one, "one"), teamGiven(library, two, "two")];
+  const [given, clauses, last] =
+      [seedOf(seed), byteOr255(rules, "rules"), Math.min(Math.max(whole(limit, "limit"), 0), 65535)];
+  library.begin();
+  const [teamOne, teamTwo, block] = [teamAt(library, first), teamAt(library, second), library.arena.block()];
+  const answer = library.calls.gen1_new(block.pointer, teamOne, teamTwo, putSeed(library, given), clauses, last);
+  if (!answer) return block;
+  library.arena.free(block);
+  throw teamError(library, answer, [one, two], {rules, limit});
+}
+
+/**
+ * A battle. `update` changes it in place; `clone` keeps it. Its bytes are in the module's memory until `free` is called, or until the garbage
+ * collector finds that nothing uses it.
+ */
+export class Battle {
+  #library;
+  #block;
+
+  constructor(library, block) {
+    this.#library = made(library, "Battle", "gen1.battle or gen1.load");
+    this.#block = block;
+  }
+
+  /**
+   * A battle that fits what a player knows, with a guess of the rest: the base of a search that doesn't cheat.
+   *
+   * `guess` has the foe's team, first the members that have appeared, in the order in which they did, then the others; the seed of the numbers
+   * to draw; and rules and limit as in `gen1.battle`. The own side is as it was shown. The foe's members have the HP, status and stages that
+   * were reported, and the moves and stats of the guess; PP are those that are left after the uses that were seen. A condition that was announced is
+   * on if a move of the guess explains it. Hidden counts have middle values: three turns of sleep and confusion, four of Disable, two of Bide,
+   * thrashing and trapping, a Substitute of a quarter of the maximum HP.
+   */
+  static fromPlayer(player, guess) {
+    const library = libraryOf(player);
+    const {team, ...given} = guessOf(guess);
+    const foes = new Team(library, team, "guess.team");
+    const fresh = new Battle(library, blockOfTerms(library, {one: foes, two: foes, seed: given.seed}));
+    const {members} = fresh.state.two;
+    fresh.free();
+    return new Battle(library, blockOfState(library, stateGuessed(library, player, given, members)));
+  }
+
+  // The battle's pointer in the module's memory.
+  get #at() {
+    const block = this.#block;
+    if (block === null) throw new FreedError("the battle was freed");
+    return block.pointer;
+  }
+
+  // The same, as the first argument of a call that also needs other space.
+  #begin() {
+    this.#library.begin();
+    return this.#at;
+  }
+
+  /** A copy of the battle's 384 bytes, which are its whole state (docs/LAYOUT.md). */
+  get bytes() {
+    return this.#library.read(this.#at, BATTLE_SIZE);
+  }
+
+  /** An independent copy. It draws the same numbers, unless it is reseeded. */
+  clone() {
+    return new Battle(this.#library, this.#library.blockOf(this.#at));
+  }
+
+  /** Becomes a copy of another battle. */
+  copyFrom(battle) {
+    if (!(battle instanceof Battle)) throw wrongType(battle, "battle", "a Battle");
+    const to = Number(this.#at);
+    const from = Number(battle.#at);
+    if (battle.#library === this.#library)
+      this.#library.bytes.copyWithin(to, from, from + BATTLE_SIZE);
+    else
+      this.#library.bytes.set(battle.bytes, to);
+  }
+
+  /** Gives the battle's memory back at once. Every later call of this battle, but `free`, throws FreedError. */
+  free() {
+    if (this.#block !== null) this.#library.arena.free(this.#block);
+    this.#block = null;
+  }
+
+  /** The outcome so far, and what is asked of each side. */
+  get result() {
+    return resultOf(this.#library.calls.gen1_result(this.#at));
+  }
+
+  get isOver() {
+    return this.result.outcome !== "ongoing";
+  }
+
+  /** The whole state as an object with named fields. */
+  get state() {
+    const [battle, state] = [this.#begin(), this.#library.roomOf("gen1_state")];
+    this.#library.calls.gen1_get_state(battle, state);
+    return stateOf(this.#library.bytes, Number(state));
+  }
+
+  /** What a side is shown of itself. */
+  ownSide(side) {
+    const [battle, own] = [this.#begin(), this.#library.roomOf("gen1_own_side")];
+    this.#library.calls.gen1_get_own_side(battle, sideOf(side), own);
+    return ownSideOf(this.#library.bytes, Number(own));
+  }
+
+  /** Another battle: this one with the state as `change`, which is passed a copy of it, has changed it. */
+  withState(change) {
+    if (typeof change !== "function") throw wrongType(change, "change", "a function that changes a state");
+    const {state} = this;
+    change(state);
+    return new Battle(this.#library, blockOfState(this.#library, state));
+  }
+
+  /** This battle with other HP of a member. */
+  withHp(side, place, hp) {
+    const given = whole(hp, "hp");
+    return this.withState((state) => {
+      memberAt(state, sideOf(side), place).hp = given;
+    });
+  }
+
+  /** This battle with another status of a member; a sleep lasts `turns`. If the member is out, its current stats are computed anew. */
+  withStatus(side, place, status, turns = 0) {
+    indexOf(STATUSES, status, "status");
+    const sleep = status === "sleep" ? whole(turns, "turns") : 0;
+    return this.withState((state) => {
+      Object.assign(memberAt(state, sideOf(side), place), {status, sleep, marked: false});
+      const {active} = side === 1 ? state.one : state.two;
+      if (active?.place === place) active.stats = [0, 0, 0, 0];
+    });
+  }
+
+  /** This battle with another stage of the active member, whose current stats are computed anew. */
+  withStage(side, stat, stage) {
+    const [at, given] = [indexOf(STATS, stat, "stat"), whole(stage, "stage")];
+    return this.withState((state) => {
+      const {active} = sideOf(side) === 1 ? state.one : state.two;
+      if (!active)
+        throw new ArgumentError(
+            `side is ${side}, of which nobody is out: the battle is before its first update`, "side");
+      active.stages[at] = given;
+      active.stats = [0, 0, 0, 0];
+    });
+  }
+
+  /** The choices that a side, 1 or 2, is offered; none if the battle is over. */
+  choices(side) {
+    return choicesIn(this.#library.calls.gen1_offered(this.#at, sideOf(side)));
+  }
+
+  /** The offered choices as a mask, whose bit N is for CHOICES[N]. */
+  offeredMask(side) {
+    return this.#library.calls.gen1_offered(this.#at, sideOf(side));
+  }
+
+  /** A choice of a side in words, such as "move 2 Body Slam". It need not be offered. */
+  words(side, choice) {
+    const byte = choiceByte(choice, sideOf(side));
+    const [code, text] = this.#library.written("gen1_choice_words", CODES.WORDS_ROOM, this.#begin(), side, byte);
+    if (!code) return text;
+    const what = `side ${side}'s choice`;
+    throw new ArgumentError(`${what}: ${this.#library.sentence(code)}: ${choiceText(byte)}`, what);
+  }
+
+  /** Updates the battle with a choice of each side, and returns the result and the log. */
+  update(one, two) {
+    const first = choiceByte(one, 1);
+    const second = choiceByte(two, 2);
+    const library = this.#library;
+    const battle = this.#at;
+    const code =
+        library.calls.gen1_update(battle, first, second, library.log, library.size(CODES.LOG_ROOM), library.length);
+    if (code) throw this.#refused(code, [first, second]);
+    return new Update(
+        library, library.calls.gen1_result(battle), library.bytes, library.logAt, library.sizeAt(library.length));
+  }
+
+  /** As `update` without a log, which is faster. Returns the result. */
+  updateSilent(one, two) {
+    const first = choiceByte(one, 1);
+    const second = choiceByte(two, 2);
+    const {calls} = this.#library;
+    const battle = this.#at;
+    const code = calls.gen1_update_silent(battle, first, second);
+    if (code) throw this.#refused(code, [first, second]);
+    return resultOf(calls.gen1_result(battle));
+  }
+
+  #refused(code, pair) {
+    const sentence = this.#library.sentence(code);
+    if (code === CODES.ERROR_OVER)
+      return new RefusedError(`${sentence}: ${this.result.outcome}`, code, {reason: sentence});
+    const side = code === CODES.ERROR_NOT_OFFERED_ONE ? 1 : 2;
+    const [choice, offered] = [pair[side - 1], this.choices(side)];
+    return new RefusedError(notOffered(sentence, choice, offered), code, {side, choice, offered, reason: sentence});
+  }
+
+  /** Replaces the numbers to draw: ten bytes, and the index, 0 to 8, of the one that is drawn next. */
+  reseed(seed, index = 0) {
+    const numbers = seedOf(seed);
+    const place = whole(index, "index");
+    const code = this.#library.calls.gen1_reseed(
+        this.#at, putSeed(this.#library, numbers), place >= 0 && place <= 255 ? place : 255);
+    if (code) throw new ArgumentError(`${this.#library.sentence(code)}: index is ${place}`, "index");
+  }
+
+  /** Plays `rounds` copies with random choices, to their end or to a depth, and counts how they end. The battle is unchanged. */
+  playout(seed, rounds, {depth, weights} = {}) {
+    const options = playoutOptions(this.#library, playoutSeed(seed), rounds, {depth, weights});
+    const [battle, given, counts] = [this.#begin(), this.#library.put(options), this.#library.roomOf("gen1_playouts")];
+    const code = this.#library.calls.gen1_playout(battle, given, counts);
+    if (code) throw loadError(this.#library, code, BATTLE_SIZE);
+    return this.#library.readStruct("gen1_playouts", counts);
+  }
+
+  /** All battles that an update by a choice of each side can lead to, with their exact probabilities. The battle is unchanged. */
+  outcomes(one, two, options = {}) {
+    const pair = [choiceByte(one, 1), choiceByte(two, 2)];
+    const given = outcomeOptions(this.#library, object(options, "options", "an object with options"));
+    const battle = this.#begin();
+    const asked = [...pair, this.#library.put(given)];
+    const [code, found] = outcomesOf(this.#library, battle, asked, (block) => new Battle(this.#library, block));
+    if (code) throw this.#refused(code, pair);
+    return found;
+  }
+
+  /** The odds of a side's move in the current state: its damage, and its chances of a hit and of a critical hit. */
+  odds(side, move) {
+    const number = moveOf(this.#library, move);
+    const [battle, odds] = [this.#begin(), this.#library.roomOf("gen1_odds")];
+    const code = this.#library.calls.gen1_odds_now(battle, sideOf(side), number, odds);
+    if (code) throw damageError(this.#library, code, move);
+    return oddsOf(this.#library, number, odds);
+  }
+
+  /** The chances that a side's move knocks out the foe's active member, in one use and in two. */
+  knockOut(side, move) {
+    const number = moveOf(this.#library, move);
+    const [battle, chances] = [this.#begin(), this.#library.roomOf("gen1_chances")];
+    const code = this.#library.calls.gen1_knock_out(battle, sideOf(side), number, chances);
+    if (code) throw damageError(this.#library, code, move);
+    return chancesOf(this.#library.readStruct("gen1_chances", chances));
+  }
+
+  /** The same in one use, two and three, with what happens to its HP between them. */
+  knockOutInThree(side, move, between = {}) {
+    const number = moveOf(this.#library, move);
+    const given = betweenUses(this.#library, between);
+    const [battle, changes, chances] =
+        [this.#begin(), this.#library.put(given), this.#library.roomOf("gen1_three_chances")];
+    const code = this.#library.calls.gen1_knock_out_in_three(battle, sideOf(side), number, changes, chances);
+    if (code) throw damageError(this.#library, code, move);
+    return threeChancesOf(this.#library.readStruct("gen1_three_chances", chances));
+  }
+
+  /** The damage of a side's move in the current state, at each factor from 217 to 255. */
+  damage(side, move, critical = false) {
+    const number = moveOf(this.#library, move);
+    const [battle, numbers] = [this.#begin(), this.#library.room(2 * FACTORS)];
+    const code =
+        this.#library.calls.gen1_damage(battle, sideOf(side), number, truth(critical, "critical") ? 1 : 0, numbers);
+    if (code) throw damageError(this.#library, code, move);
+    return Array.from(new Uint16Array(this.#library.read(numbers, 2 * FACTORS).buffer));
+  }
+
+  /** The state, from which `gen1.battleOfState` creates the battle. */
+  toJSON() {
+    return this.state;
+  }
+
+  [Symbol.for("nodejs.util.inspect.custom")](depth, options, inspect) {
+    if (this.#block === null) return "Battle (freed)";
+    const {turn, outcome, one, two} = this.state;
+    const out = ({members, active}) => (active ? shownMember(members[active.place - 1]) : "nobody");
+    return inspected("Battle", {turn, outcome, one: out(one), two: out(two)}, options, inspect);
+  }
+}
+
+// Node before 20 and some browsers have no Symbol.dispose.
+if (Symbol.dispose) Object.defineProperty(Battle.prototype, Symbol.dispose, {value: Battle.prototype.free});
+
+const shownMember = ({species, hp, maxHp, status}) =>
+    `${species} ${hp}/${maxHp}${status === "none" ? "" : ` ${status}`}`;
+
+/** The seed of playouts, as a BigInt. */
+export function playoutSeed(value) {
+  if (typeof value !== "bigint" && !Number.isInteger(value))
+    throw wrongType(value, "seed", "a whole number or a BigInt");
+  if (value < 0 || value >= 2n ** 64n || (typeof value === "number" && !Number.isSafeInteger(value)))
+    throw new ArgumentError(`seed is ${shown(value)}, not 0 to 2 ** 53 - 1, or as a BigInt to 2n ** 64n - 1n`, "seed");
+  return BigInt(value);
+}
+
+/** The bytes of gen1_playout_options. */
+export function playoutOptions(library, seed, rounds, {depth, weights}) {
+  const options = {seed, rounds: within(rounds, "rounds", 0, 2 ** 32 - 1)};
+  if (depth !== undefined) options.depth = within(depth, "depth", 1, 2 ** 32 - 1);
+  if (weights !== undefined) options.weights = weightsOf(library, weights);
+  return bytesOf("gen1_playout_options", library.isLong, options);
+}
+
+// The weight of a switch, then that of each move by its number.
+function weightsOf(library, given) {
+  const {
+    switch: ofSwitch = 1, move = 1, ...moves
+  }
+  = object(given, "weights", "an object of moves and their weights");
+  const table =
+      [within(ofSwitch, "weights.switch", 0, 255), ...Array(MOVES.length).fill(within(move, "weights.move", 0, 255))];
+  for (const [name, weight] of Object.entries(moves))
+    table[moveOf(library, name, "weights")] = within(weight, `weights[${shown(name)}]`, 0, 255);
+  return table;
+}
+
+/** The bytes of a gen1_between. What is not given does not change. */
+function betweenUses(library, between) {
+  const {afterFirst, afterSecond} =
+      record(between, "between", "an object with afterFirst and afterSecond", ["afterFirst", "afterSecond"]);
+  const change = (it, what) => {
+    const {gained = 0, lost = 0} = record(it, what, "an object with gained and lost", ["gained", "lost"]);
+    return {gained: within(gained, `${what}.gained`, 0, 65535), lost: within(lost, `${what}.lost`, 0, 65535)};
+  };
+  const changes = {
+    afterFirst: change(afterFirst ?? {}, "between.afterFirst"),
+    afterSecond: change(afterSecond ?? {}, "between.afterSecond")
+  };
+  return bytesOf("gen1_between", library.isLong, changes);
+}
+
+/** Why there are no damage numbers of a move. */
+export function damageError(library, code, move) {
+  const sentence = library.sentence(code);
+  return new DamageError(`no damage of ${shown(move)}: ${sentence}`, code, sentence);
+}
+
+/** Why `count` bytes are not a battle. */
+export function loadError(library, code, count) {
+  const was = code === CODES.ERROR_LOAD_LENGTH ? `: there are ${count}` : "";
+  const sentence = library.sentence(code);
+  return new LoadError(`the bytes are not a battle: test ${code - CODES.ERROR_LOAD_LENGTH + 1} of 7 fails: ${sentence}${
+                           was} (docs/LAYOUT.md, "Loading")`,
+      code, sentence);
+}

@@ -1,0 +1,288 @@
+// First-generation link battles in JavaScript, over the WebAssembly module of the C library (include/gen1.h).
+//
+//     import { load } from "gen1";
+//     const gen1 = await load();
+//     const battle = gen1.battle({ one: [member], two: [member], seed });
+//     const { lines } = battle.update("pass", "pass");
+//
+// The 384 bytes of a battle are in the module's memory. The garbage collector gives them back, or `battle.free()` at once. JavaScript
+// contains no rules of battle.
+import {byteOf, choiceOf, CHOICES, octets, truth, wrongType} from "./arguments.mjs";
+import {arrayOf, BattleArray} from "./array.mjs";
+import {Battle, blockOfTerms, damageError, loadError} from "./battle.mjs";
+import {ModuleError} from "./errors.mjs";
+import {CANT_REASONS, DAMAGE_SOURCES, EVENT_KINDS, eventsOf, FAULTS, linesOf, VOLATILES} from "./events.mjs";
+import {CODES} from "./header.mjs";
+import {Library} from "./memory.mjs";
+import {COLUMNS} from "./observing.mjs";
+import {Outcomes} from "./outcomes.mjs";
+import {Player, playerOf, Teller, tellerOf} from "./players.mjs";
+import {Room, roomOf} from "./room.mjs";
+import {Spectator, spectatorOf} from "./spectator.mjs";
+import {blockOfState} from "./states.mjs";
+import {MOVES, SPECIES, TYPES} from "./tables.mjs";
+import {baseOf, effectivenessOf, memberBytes, membersFrom, moveDataOf, moveOf, sharedOf, statsOf, Team, teamError} from "./teams.mjs";
+import {Update} from "./update.mjs";
+import {CONDITIONS, oddsOf, OUTCOMES, REASONS, REQUESTS, STATS, STATUSES} from "./views.mjs";
+import {logBytesOf} from "./writing.mjs";
+
+export const LOG_ROOM = CODES.LOG_ROOM;
+const HIT_SIDES = ["", "attacker: ", "defender: "];
+
+/** The library. `load` makes it. */
+export class Gen1 {
+  #library;
+
+  /** Which module runs, "proved" or "plain", by the key that `load` was passed; null if it was passed one source without a key. */
+  build;
+
+  constructor(library, build = null) {
+    if (!(library instanceof Library))
+      throw wrongType(library, "library", "the module's own; a Gen1 is created by load, not by new");
+    this.build = build;
+    this.#library = library;
+  }
+
+  /** Whether the module has a 64-bit memory. */
+  get is64() {
+    return this.#library.isLong;
+  }
+
+  /** How many bytes the module's memory has. It grows with the battles that are held at the same time, and never shrinks. */
+  get memorySize() {
+    return this.#library.bytes.length;
+  }
+
+  /** The version of the library, such as "1.0.0". */
+  get version() {
+    const number = this.#library.calls.gen1_version();
+    return [number >> 16, (number >> 8) & 255, number & 255].join(".");
+  }
+
+  /** What the library was built from, such as "plain, rustc 1.95.0, sources sha256 HEX"; "unknown" if it doesn't say. */
+  get libraryBuild() {
+    return this.#library.build;
+  }
+
+  /** Creates a battle of two teams before its first update, in which both sides pass. */
+  battle(terms) {
+    return new Battle(this.#library, blockOfTerms(this.#library, terms));
+  }
+
+  /** Creates an array of `count` copies of a battle. */
+  battleArray(terms) {
+    return arrayOf(this.#library, terms);
+  }
+
+  /** Loads a battle from its 384 bytes, of any of the three versions. */
+  load(bytes) {
+    const library = this.#library;
+    const block = library.arena.block();
+    const code = this.#loadInto(block, bytes);
+    if (!code) return new Battle(library, block);
+    library.arena.free(block);
+    throw loadError(library, code, bytes.byteLength);
+  }
+
+  /** The code of the LoadError for bytes, or 0 if they are a battle. Costs less than a `load` that throws. */
+  testBytes(bytes) {
+    const block = this.#library.arena.block();
+    const code = this.#loadInto(block, bytes);
+    this.#library.arena.free(block);
+    return code;
+  }
+
+  /** Creates the battle in a state: an object as `battle.state` is. Active members whose four stats are 0 get theirs from stages and status. */
+  battleOfState(state) {
+    return new Battle(this.#library, blockOfState(this.#library, state));
+  }
+
+  #loadInto(block, bytes) {
+    const given = octets(bytes, "bytes");
+    const library = this.#library;
+    library.begin();
+    return library.calls.gen1_load(block.pointer, library.put(given), library.size(given.length));
+  }
+
+  /** Tests a team once, for any number of battles. */
+  team(members) {
+    return new Team(this.#library, members);
+  }
+
+  /** Creates a room with a copy of a battle, which is started at once if it has not begun. */
+  room(battle) {
+    return new Room(this.#library, roomOf(this.#library, battle));
+  }
+
+  /** Creates a spectator of a battle of two teams, before its start. */
+  spectator(one, two) {
+    return new Spectator(this.#library, spectatorOf(this.#library, one, two));
+  }
+
+  /** Creates a player of a side with its team, before the first update; `foes` is the number of the foe's members, if it is to know. */
+  player(terms) {
+    return new Player(this.#library, playerOf(this.#library, terms));
+  }
+
+  /** Creates a teller of a side, before the first event. With `pixels` it tells HP of the foe in 48ths. */
+  teller(terms) {
+    return new Teller(this.#library, tellerOf(this.#library, terms));
+  }
+
+  /** The members in a team builder's text (docs/TEAM_TEXT.md), as `battle` takes them. */
+  teamFromText(text) {
+    return membersFrom(this.#library, "gen1_team_from_text", text);
+  }
+
+  /** The members in a packed line, as `battle` takes them. */
+  teamFromPacked(line) {
+    return membersFrom(this.#library, "gen1_team_from_packed", line);
+  }
+
+  /** The odds of a move between two members that have just been sent out: its damage, and its chances of a hit and of a critical hit. */
+  odds(attacker, defender, move) {
+    const library = this.#library;
+    const members = [memberBytes(library, attacker, "attacker"), memberBytes(library, defender, "defender")];
+    const number = moveOf(library, move);
+    library.begin();
+    const [odds, ...pair] = [library.roomOf("gen1_odds"), ...members.map((member) => library.put(member))];
+    const answer = library.calls.gen1_odds_between(...pair, number, odds);
+    if (answer === CODES.ERROR_MOVE) throw damageError(library, answer, move);
+    if (answer) throw teamError(library, answer, [[attacker], [defender]], {}, (side) => HIT_SIDES[side]);
+    return oddsOf(library, number, odds);
+  }
+
+  /** The damage of a move between two members that have just been sent out: 39 numbers, as from `Battle.damage`. */
+  damage(attacker, defender, move, critical = false) {
+    const isCritical = truth(critical, "critical");
+    const odds = this.odds(attacker, defender, move);
+    const {numbers, code} = isCritical ? odds.critical : odds.usual;
+    if (code) throw damageError(this.#library, code, move);
+    return numbers;
+  }
+
+  /** The base stats and types of a species. */
+  base(species) {
+    return baseOf(this.#library, species);
+  }
+
+  /** The type, power, accuracy, PP, effect and priority of a move, and whether it is often critical. */
+  moveData(move) {
+    return moveDataOf(this.#library, move);
+  }
+
+  /** By what a move of one type multiplies its damage to a foe of one type: 0, 0.5, 1 or 2. */
+  effectiveness(attack, foe) {
+    return effectivenessOf(this.#library, attack, foe);
+  }
+
+  /** The stats of a member without a battle. */
+  stats(member) {
+    return statsOf(this.#library, member);
+  }
+
+  /** The HP that a damage of a move gives to its user. */
+  drained(move, damage) {
+    return sharedOf(this.#library, "gen1_drained", move, damage);
+  }
+
+  /** The HP that a damage of a move costs its user. */
+  recoil(move, damage) {
+    return sharedOf(this.#library, "gen1_recoil", move, damage);
+  }
+
+  /** The events of log bytes, as objects with their numbers and sizes. */
+  events(log) {
+    return eventsOf(this.#library, octets(log, "log"));
+  }
+
+  /** The lines of log bytes, without line feeds. */
+  lines(log) {
+    return linesOf(this.#library, octets(log, "log"));
+  }
+
+  /** The log bytes of events, from which `events` reads the same events. */
+  logBytes(events) {
+    return logBytesOf(this.#library, events);
+  }
+}
+
+const SOURCE = "a module: a URL, a path or their text, its bytes, or { proved, plain } with one of these each";
+const HAS_FILES = typeof process === "object" && Boolean(process?.versions?.node);
+// The scheme of a URL. One letter before a colon is a drive of Windows.
+const SCHEME = /^[a-z][a-z0-9+.-]+:/i;
+
+// The module of Node that reads files. Bundlers for browsers leave it alone where its name is not in the import.
+const FILES = "node:fs/promises";
+
+// The bytes of a file.
+async function fileAt(place) {
+  const {readFile} = await import(/* webpackIgnore: true */ /* @vite-ignore */ FILES);
+  return readFile(place);
+}
+
+async function fetched(source) {
+  if (HAS_FILES && typeof source === "string" && !SCHEME.test(source)) return fileAt(source);
+  if (/^file:/i.test(source)) return fileAt(new URL(source));
+  const answer = await fetch(source);
+  if (!answer.ok) throw new Error(`${answer.status} ${answer.statusText}`);
+  return answer.arrayBuffer();
+}
+
+// The instance of a module. If there is none, the host's error becomes the cause of a ModuleError.
+async function instanceOf(source, what) {
+  // Some hosts, such as GNOME's gjs, have no URL.
+  const isBytes = source instanceof ArrayBuffer || ArrayBuffer.isView(source);
+  if (!isBytes && typeof source !== "string" && !(source instanceof URL)) throw wrongType(source, what, SOURCE);
+  try {
+    return (await WebAssembly.instantiate(isBytes ? source : await fetched(source), {})).instance;
+  } catch (cause) {
+    const where = isBytes ? what : `${what}, ${source},`;
+    throw Object.assign(new ModuleError(`${where} is not a module that can run here: ${cause.message}`), {cause});
+  }
+}
+
+/** Whether this host runs modules with a 64-bit memory, which the proved one has. It is tested with the smallest such module. */
+export const HAS_LONG_MEMORIES = WebAssembly.validate(Uint8Array.of(0, 0x61, 0x73, 0x6d, 1, 0, 0, 0, 5, 3, 1, 4, 1));
+
+/**
+ * Loads the library: the module of this package, or one from its URL, its path in Node, or its bytes. Of two modules, `{ proved, plain }`, it
+ * loads the proved one if the host can run it, else the plain one; `build` says which.
+ */
+export async function load(source = new URL("./gen1.wasm", import.meta.url)) {
+  const isNamed = source?.proved !== undefined || source?.plain !== undefined;
+  const build = !isNamed ? null : source.proved !== undefined && HAS_LONG_MEMORIES ? "proved" : "plain";
+  const what = build ? `source.${build}` : "source";
+  return new Gen1(new Library(await instanceOf(build ? source[build] : source, what)), build);
+}
+
+export {ArgumentError, ArgumentTypeError, DamageError, FreedError, Gen1Error, LoadError, LogError, MemoryError, ModuleError, RefusedError, RoomError, StateError, TeamError, TextError,} from "./errors.mjs";
+export {
+  Battle,
+  BattleArray,
+  byteOf,
+  CANT_REASONS,
+  CHOICES,
+  choiceOf,
+  COLUMNS,
+  CONDITIONS,
+  DAMAGE_SOURCES,
+  EVENT_KINDS,
+  FAULTS,
+  MOVES,
+  Outcomes,
+  OUTCOMES,
+  Player,
+  REASONS,
+  REQUESTS,
+  Room,
+  SPECIES,
+  Spectator,
+  STATS,
+  STATUSES,
+  Team,
+  Teller,
+  TYPES,
+  Update,
+  VOLATILES,
+};

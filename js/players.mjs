@@ -1,0 +1,172 @@
+// What one side of a battle may know, and what it is told (docs/MECHANICS.md, "Player's view").
+import {choicesIn, octets, record, sideOf, truth, within, wrongType} from "./arguments.mjs";
+import {Battle} from "./battle.mjs";
+import {ArgumentError} from "./errors.mjs";
+import {logErrorAfter} from "./events.mjs";
+import {CODES} from "./header.mjs";
+import {inspected} from "./inspecting.mjs";
+import {fieldOf, layoutOf, readStruct} from "./structs.mjs";
+import {teamAt, teamError, teamGiven} from "./teams.mjs";
+import {made} from "./update.mjs";
+import {viewOf} from "./views.mjs";
+
+const MOST_FOES = 6;
+
+/** The bytes of a player before a battle. */
+export function playerOf(library, terms) {
+  const {side, team, foes = 0} = record(terms, "terms", "an object with side and team", ["side", "team", "foes"]);
+  const [own, given, number] = [sideOf(side), teamGiven(library, team, "team"), within(foes, "foes", 0, MOST_FOES)];
+  library.begin();
+  const player = library.roomOf("gen1_player");
+  const answer = library.calls.gen1_player_begin(player, own, teamAt(library, given), number);
+  // The answer names a member, and no side.
+  if (answer)
+    throw teamError(
+        library, answer + own * 65536, [team, team], {}, (_, place) => (place ? `team: member ${place}: ` : "team: "));
+  return library.read(player, layoutOf("gen1_player", library.isLong).size);
+}
+
+/** The bytes of a teller before a battle. */
+export function tellerOf(library, terms) {
+  const {side, pixels = false} = record(terms, "terms", "an object with side", ["side", "pixels"]);
+  const [own, isInPixels] = [sideOf(side), truth(pixels, "pixels")];
+  library.begin();
+  const teller = library.roomOf("gen1_teller");
+  library.calls.gen1_teller_begin(teller, own, isInPixels ? 1 : 0);
+  return library.read(teller, layoutOf("gen1_teller", library.isLong).size);
+}
+
+/** The library of a player. */
+export let libraryOf;
+
+/** A player: one side with what it may know, and nothing else of the battle. */
+export class Player {
+  #library;
+  #bytes;
+
+  static {
+    libraryOf = (player) => {
+      if (!(player instanceof Player)) throw wrongType(player, "player", "a Player");
+      return player.#library;
+    };
+  }
+
+  constructor(library, bytes) {
+    this.#library = made(library, "Player", "gen1.player");
+    this.#bytes = bytes;
+  }
+
+  /** A copy of the bytes of its gen1_player (include/gen1.h). */
+  get bytes() {
+    return this.#bytes.slice();
+  }
+
+  #field(name) {
+    return fieldOf("gen1_player", name, this.#bytes, this.#library.isLong);
+  }
+
+  /** The side that it plays. */
+  get side() {
+    return this.#field("side");
+  }
+
+  /** What it knows, decoded when it is read. */
+  get view() {
+    return viewOf(this.#bytes, readStruct("gen1_player", new DataView(this.#bytes.buffer), 0, this.#library.isLong));
+  }
+
+  /** Its choices when it was last shown its side; none before, and once the battle is over. */
+  get choices() {
+    const offered = this.#field("offered");
+    return choicesIn(offered);
+  }
+
+  /** An independent copy that knows the same. */
+  clone() {
+    return new Player(this.#library, this.#bytes.slice());
+  }
+
+  /** Reads the next bytes that its side is told, in pieces of any size. An event counts as soon as its last byte is read. */
+  feed(told) {
+    const given = octets(told, "told");
+    const library = this.#library;
+    library.begin();
+    const player = library.put(this.#bytes);
+    const code = library.calls.gen1_player_feed(player, library.put(given), library.size(given.length));
+    if (code) throw logErrorAfter(library, code, this.#field("held").slice(0, this.#field("held_count")), given);
+    this.#bytes = library.read(player, this.#bytes.length);
+  }
+
+  /** Shows it its own side and its choices as they are now in a battle, and nothing else of the battle. */
+  show(battle) {
+    if (!(battle instanceof Battle)) throw wrongType(battle, "battle", "a Battle");
+    const [library, side] = [this.#library, this.side];
+    library.begin();
+    const [player, from, own] = [library.put(this.#bytes), library.put(battle.bytes), library.roomOf("gen1_own_side")];
+    library.calls.gen1_get_own_side(from, side, own);
+    library.calls.gen1_player_show(player, own, library.calls.gen1_offered(from, side));
+    this.#bytes = library.read(player, this.#bytes.length);
+  }
+
+  /** What it knows, and its choices. */
+  toJSON() {
+    return {view: this.view, choices: this.choices};
+  }
+
+  [Symbol.for("nodejs.util.inspect.custom")](depth, options, inspect) {
+    return inspected("Player", this.toJSON(), options, inspect);
+  }
+}
+
+/** A teller: what the host of a battle keeps to tell one side of the events. */
+export class Teller {
+  #library;
+  #bytes;
+
+  constructor(library, bytes) {
+    this.#library = made(library, "Teller", "gen1.teller");
+    this.#bytes = bytes;
+  }
+
+  /** A copy of the bytes of its gen1_teller (include/gen1.h). */
+  get bytes() {
+    return this.#bytes.slice();
+  }
+
+  /** The side that it tells. */
+  get side() {
+    return fieldOf("gen1_teller", "side", this.#bytes, this.#library.isLong);
+  }
+
+  /** An independent copy that has told the same. */
+  clone() {
+    return new Teller(this.#library, this.#bytes.slice());
+  }
+
+  /** The bytes that its side is told of the log of an update. It is passed the log of every update, in their order. */
+  tell(log) {
+    const given = octets(log, "log");
+    const [library, {length: count}] = [this.#library, given];
+    if (count > CODES.LOG_ROOM)
+      throw new ArgumentError(`log has ${count} bytes, but that of an update has at most ${CODES.LOG_ROOM}`, "log");
+    library.begin();
+    const [teller, from, told, length] =
+        [library.put(this.#bytes), library.put(given), library.room(CODES.LOG_ROOM), library.room(8)];
+    const code = library.calls.gen1_tell(teller, from, library.size(count), told, library.size(CODES.LOG_ROOM), length);
+    if (code) throw logErrorAfter(library, code, [], given);
+    this.#bytes = library.read(teller, this.#bytes.length);
+    return library.read(told, library.sizeAt(length));
+  }
+
+  /** Tells a player of its side the log of an update, and shows it its own side and its choices as they are now. */
+  report(battle, log, player) {
+    if (!(battle instanceof Battle)) throw wrongType(battle, "battle", "a Battle");
+    if (!(player instanceof Player)) throw wrongType(player, "player", "a Player");
+    if (player.side !== this.side)
+      throw new ArgumentError(`player plays side ${player.side}, but side ${this.side} is told`, "player");
+    const next = this.clone();
+    player.feed(next.tell(log));
+    player.show(battle);
+    this.#bytes = next.#bytes;
+  }
+}

@@ -1,0 +1,68 @@
+// What a spectator knows of a battle from both teams and the log alone (docs/MECHANICS.md, "Spectator's view").
+import {octets} from "./arguments.mjs";
+import {logErrorAfter} from "./events.mjs";
+import {inspected} from "./inspecting.mjs";
+import {fieldOf, layoutOf, readStruct} from "./structs.mjs";
+import {teamAt, teamError, teamGiven} from "./teams.mjs";
+import {made} from "./update.mjs";
+import {shownOf} from "./views.mjs";
+
+/** The bytes of a spectator before a battle of two teams. */
+export function spectatorOf(library, one, two) {
+  const teams = [teamGiven(library, one, "one"), teamGiven(library, two, "two")];
+  library.begin();
+  const spectator = library.roomOf("gen1_spectator");
+  const answer = library.calls.gen1_spectator_begin(spectator, ...teams.map((team) => teamAt(library, team)));
+  if (answer) throw teamError(library, answer, [one, two]);
+  return library.read(spectator, layoutOf("gen1_spectator", library.isLong).size);
+}
+
+/** A spectator, which is fed the log of each update. */
+export class Spectator {
+  #library;
+  #bytes;
+
+  constructor(library, bytes) {
+    this.#library = made(library, "Spectator", "gen1.spectator");
+    this.#bytes = bytes;
+  }
+
+  #field(name) {
+    return fieldOf("gen1_spectator", name, this.#bytes, this.#library.isLong);
+  }
+
+  /** What is known. */
+  get state() {
+    return shownOf(readStruct("gen1_spectator", new DataView(this.#bytes.buffer), 0, this.#library.isLong));
+  }
+
+  /** The bytes, at most 9, of an incomplete event. */
+  get held() {
+    return this.#field("held").slice(0, this.#field("held_count"));
+  }
+
+  /** An independent copy that knows the same. */
+  clone() {
+    return new Spectator(this.#library, this.#bytes.slice());
+  }
+
+  /** Reads the next bytes of the battle's log, in pieces of any size. An event counts as soon as its last byte is read. */
+  feed(log) {
+    const given = octets(log, "log");
+    const library = this.#library;
+    library.begin();
+    const spectator = library.put(this.#bytes);
+    const code = library.calls.gen1_spectator_feed(spectator, library.put(given), library.size(given.length));
+    if (code) throw logErrorAfter(library, code, this.held, given);
+    this.#bytes = library.read(spectator, this.#bytes.length);
+  }
+
+  /** What is known. */
+  toJSON() {
+    return this.state;
+  }
+
+  [Symbol.for("nodejs.util.inspect.custom")](depth, options, inspect) {
+    return inspected("Spectator", this.state, options, inspect);
+  }
+}

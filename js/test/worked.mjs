@@ -1,0 +1,904 @@
+// Worked examples from docs/MECHANICS.md, docs/TEAM_TEXT.md, README.md and include/gen1.h, whose results were calculated without the
+// library.
+import * as library from "../gen1.mjs";
+import {CODES} from "../header.mjs";
+import {layoutOf} from "../structs.mjs";
+
+import {bytesOfHex, equal, hexOf, holds, thrown} from "./holding.mjs";
+
+const SEED = [1, 36, 255, 7, 31, 100, 179, 254, 127, 10];
+const STRONG = {
+  species: "Tauros",
+  moves: [["Strength", 3]]
+};
+const BATTLE = {
+  one: [STRONG],
+  two: [STRONG],
+  seed: SEED
+};
+const PAIR = [{...STRONG}, {species: "Chansey", moves: [["Strength", 3]]}];
+const OUT = [2, 1, 128, 1, 100, 97, 1, 97, 1, 0, 2, 2, 128, 1, 100, 97, 1, 97, 1, 0];
+// The lines in README.md, and the log bytes for them (docs/MECHANICS.md, "Log bytes").
+const LINES = `|switch|p1a: Tauros|Tauros|353/353
+|switch|p2a: Tauros|Tauros|353/353
+|turn|1
+|move|p1a: Tauros|Strength|p2a: Tauros
+|-crit|p2a: Tauros
+|-damage|p2a: Tauros|149/353
+|move|p2a: Tauros|Strength|p1a: Tauros
+|-damage|p1a: Tauros|263/353
+|turn|2
+|move|p1a: Tauros|Strength|p2a: Tauros
+|-crit|p2a: Tauros
+|-damage|p2a: Tauros|0 fnt
+|faint|p2a: Tauros
+|win|p1`.split("\n");
+const LOG = bytesOfHex(
+    "020180016461016101000202800164610161010001010003018046028007028005028095006101000003028046018005018007016101000001020003018046" +
+    "02800702800502800000610100001902801a01");
+
+// The lines and log bytes of whole battles, and of many battles in a row.
+function logs(gen1, check) {
+  check("the battle of README.md", () => {
+    const battle = gen1.battle(BATTLE);
+    const updates = [["pass", "pass"], ["move 1", "move 1"], [17, 17]].map((pair) => battle.update(...pair));
+    equal(updates.flatMap((it) => it.lines), LINES);
+    equal(updates.map((it) => hexOf(it.log)).join(""), hexOf(LOG));
+    equal([battle.result, battle.isOver, battle.choices(1)],
+        [{outcome: "win one", requests: ["pass", "pass"]}, true, []]);
+    equal(updates[2].result, battle.result);
+  });
+  check("a log of many updates", () => {
+    const [many, times] = [new Uint8Array(3000 * LOG.length), 3000];
+    for (let at = 0; at < many.length; at += LOG.length) many.set(LOG, at);
+    const [lines, events] = [gen1.lines(many), gen1.events(many)];
+    equal([lines.length, events.length, events[13]],
+        [times * LINES.length, times * LINES.length, {kind: "win", side: 1, size: 2}]);
+    holds(lines.every((line, at) => line === LINES[at % LINES.length]), "a line is another one");
+    equal(thrown(() => gen1.lines(Uint8Array.of(...LOG, 26)), library.LogError, /the bytes end within an event/).at,
+        LOG.length);
+  });
+  check("events", () => {
+    const [one, two] = [1, 2].map((side) => ({side, species: "Tauros"}));
+    const used = {move: "Strength", targetSide: 2, targetSpecies: "Tauros", size: 6};
+    equal(gen1.events(LOG).slice(1, 6), [
+      {kind: "switch", ...two, place: 1, level: 100, hp: 353, maxHp: 353, status: "none", size: 10},
+      {kind: "turn", turn: 1, size: 3},
+      {kind: "move", ...one, ...used},
+      {kind: "crit", ...two, size: 3},
+      {kind: "damage", ...two, hp: 149, maxHp: 353, status: "none", source: "direct", size: 9},
+    ]);
+    equal(gen1.events(LOG).map(({size}) => size), [10, 10, 3, 6, 3, 9, 6, 9, 3, 6, 3, 9, 3, 2]);
+  });
+  check("each kind of event", () => {
+    // An event of each kind as bytes (docs/MECHANICS.md, "Log bytes"), with its fields after side and species.
+    const tauros = [1, 128];
+    const cases = [
+      [[4, ...tauros, 7], "cant", {reason: "paralysed"}],
+      [[6, ...tauros, 97, 1, 97, 1, 2], "heal", {hp: 353, maxHp: 353, status: "poison"}],
+      [[13, ...tauros, 3], "status", {status: "burn"}],
+      [[14, ...tauros, 1], "cure", {status: "sleep"}],
+      [[15, ...tauros, 6, 2], "boost", {stat: "evasion", stages: 2}],
+      [[16, ...tauros, 1, 1], "unboost", {stat: "attack", stages: 1}],
+      [[18, ...tauros, 4], "start", {volatile: "leech seed"}],
+      [[19, ...tauros, 1], "end", {volatile: "confusion"}],
+      [[20, ...tauros, 13], "activate", {volatile: "splash"}],
+      [[21, ...tauros, 19], "prepare", {move: "Fly"}],
+      [[23, ...tauros, 5], "hit count", {hits: 5}],
+      [[5, ...tauros, 97, 1, 97, 1, 0, 3], "damage", {hp: 353, maxHp: 353, status: "none", source: "leech seed"}],
+    ];
+    const read = (bytes, ...wanted) => {
+      equal(gen1.events(Uint8Array.from(bytes)), wanted);
+      equal(Array.from(gen1.logBytes(wanted.map(({size, ...fields}) => fields))), bytes);
+    };
+    for (const [bytes, kind, more] of cases)
+      read(bytes, {kind, side: 1, species: "Tauros", ...more, size: bytes.length});
+    for (const [tag, kind] of [[7, "crit"], [8, "super effective"], [9, "resisted"], [10, "immune"], [11, "miss"],
+             [12, "fail"], [22, "must recharge"], [25, "faint"]])
+      read([tag, ...tauros], {kind, side: 1, species: "Tauros", size: 3});
+    for (const [tag, kind] of [[17, "clear all"], [24, "one hit knock out"], [27, "tie"]]) read([tag], {kind, size: 1});
+    read([26, 2, 28, 2], {kind: "win", side: 2, size: 2}, {kind: "fault", fault: "psywave", size: 2});
+    equal([hexOf(gen1.logBytes(gen1.events(LOG))), gen1.logBytes([]).length], [hexOf(LOG), 0]);
+    equal(Array.from(gen1.logBytes([{kind: "prepare", side: 1, species: 128, move: 19}])), [21, ...tauros, 19]);
+  });
+}
+
+// docs/MECHANICS.md, "Critical hits" and "Hit test".
+function odds(gen1, check) {
+  const [persian, gengar] =
+      [{species: "Persian", moves: [["Focus Energy", 3]]}, {species: "Gengar", moves: [["Splash", 3]]}];
+  const chances = (move) => gen1.odds(persian, gengar, move);
+  check("chances of a critical hit", () => {
+    equal(["Slash", "Strength"].map((move) => chances(move).criticalChance), [255 / 256, 57 / 256]);
+    const focused = gen1.battle({one: [persian], two: [gengar], seed: SEED});
+    focused.updateSilent("pass", "pass");
+    focused.updateSilent("move 1", "move 1");
+    equal(["Slash", "Strength"].map((move) => focused.odds(1, move).criticalChance), [112 / 256, 14 / 256]);
+  });
+  check("chances of a hit", () => {
+    // The accuracies of docs/TABLES.md in 255ths: 100 % is 255, 80 % 204, 70 % 178, 55 % 140; each draw below that hits.
+    const drawn = (foe) => ["Swift", "Dream Eater", "Strength", "Hydro Pump", "Thunder", "Sing"].map(
+        (move) => 256 * gen1.odds(persian, foe, move).hitChance);
+    equal(drawn({...gengar, species: "Snorlax"}), [256, 0, 255, 204, 178, 140]);
+    // Gengar is immune to the type Normal of Swift and Strength; Sing, which deals no damage, ignores that.
+    equal(drawn(gengar), [0, 0, 0, 204, 178, 140]);
+  });
+  check("moves that take no hit test", () => {
+    const tested = ["Swift", "Toxic", "Growl", "Counter", "Roar", "Rest", "Bide", "Amnesia"].map(
+        (move) => chances(move).takesHitTest);
+    equal(tested, [true, true, true, true, false, false, false, false]);
+  });
+  check("moves with a hit test miss, and no others", () => {
+    for (const move of library.MOVES.slice(0, -1)) {
+      const {effect} = gen1.moveData(move);
+      if (effect === "LeftOut" || effect === "Explode") continue;
+      const isMissing = [1, 20, 77, 130, 163, 201, 240, 254].some((byte) => misses(gen1, move, Array(10).fill(byte)));
+      holds(isMissing === (chances(move).takesHitTest && effect !== "NeverMisses"), `${move}: ${isMissing}`);
+    }
+  });
+  check("moves without the usual damage", () => {
+    for (const move of ["Splash", "Seismic Toss", "Super Fang"]) {
+      const none = {numbers: [], code: CODES.ERROR_UNUSUAL};
+      equal([chances(move).usual, chances(move).critical, chances(move).criticalChance], [none, none, 0]);
+      thrown(() => gen1.damage(persian, gengar, move), library.DamageError,
+          new RegExp(`no damage of "${move}": .*usual damage`));
+    }
+    equal(chances("Strength").usual, {numbers: Array(39).fill(0), code: 0});
+  });
+  check("each draw of a move", () => everyDraw(gen1));
+}
+
+// A battle after its first update. All members are at level 100 with DVs 15 and maximum experience.
+function begun(gen1, one, two, moves = ["Splash"]) {
+  const [ones, twos] = [one, two].map((species) => [{species, moves: moves.map((move) => [move, 3])}]);
+  const battle = gen1.battle({one: ones, two: twos, seed: SEED});
+  battle.updateSilent("pass", "pass");
+  return battle;
+}
+
+// The exact chances of what `look` sees after the first move of both sides, as pairs of value and fraction.
+function chancesOf(battle, look) {
+  const [sums, outcomes] = [new Map(), battle.outcomes("move 1", "move 1")];
+  let sum = 0;
+  for (const {battle: next, probability, weight} of outcomes) {
+    const seen = look(next.state);
+    sums.set(seen, (sums.get(seen) ?? 0n) + weight);
+    sum += probability;
+    next.free();
+  }
+  holds(Math.abs(sum - 1) < 1e-9 && [...sums.values()].reduce((one, two) => one + two) === outcomes.whole,
+      "the weights do not sum to whole");
+  return (value, num, whole) => equal(`${(sums.get(value) ?? 0n) * BigInt(whole)}`, `${BigInt(num) * outcomes.whole}`);
+}
+
+// docs/MECHANICS.md: "Actions", "Hit test", "Many hits", "Sleep moves".
+function outcomes(gen1, check) {
+  const facing = (one, two, move) => begun(gen1, one, two, [move]);
+  check("full paralysis and accuracy", () => {
+    const splash = facing("Snorlax", "Tauros", "Splash").withStatus(1, 1, "paralysis");
+    const left = chancesOf(splash, ({one}) => one.members[0].pp[0]);
+    left(61, 63, 256);
+    left(60, 193, 256);
+    const drill = chancesOf(facing("Tauros", "Snorlax", "Horn Drill"), ({outcome}) => outcome);
+    drill("win one", 76, 256);
+    drill("ongoing", 180, 256);
+  });
+  check("many hits and a toss", () => {
+    const bide =
+        chancesOf(facing("Tauros", "Tauros", "Bide"), ({one, two}) => 10 * one.active.turns + two.active.turns);
+    for (const turns of [22, 23, 32, 33]) bide(turns, 1, 4);
+    const toss = facing("Tauros", "Tauros", "Seismic Toss").withHp(1, 1, 50).withHp(2, 1, 50);
+    const wins = chancesOf(toss, ({outcome}) => outcome);
+    wins("win one", 255 * 257, 131072);
+    wins("win two", 255 * 257, 131072);
+    wins("ongoing", 1, 65536);
+  });
+  check("classes of damage", () => {
+    // Without a critical hit 201 of 256 bytes, and of 39 factors 13 in each class.
+    const battle = facing("Tauros", "Snorlax", "Splash");
+    const body = begun(gen1, "Tauros", "Snorlax", ["Splash", "Body Slam"]);
+    const damages = body.damage(1, "Body Slam");
+    const most = body.state.two.members[0].hp;
+    const sums = [0n, 0n, 0n];
+    const found = body.outcomes("move 2", "move 1", {damageClasses: 3});
+    for (const {battle: next, weight} of found) {
+      const place = damages.indexOf(most - next.state.two.members[0].hp);
+      if (place >= 0) sums[Math.floor(place / 13)] += weight;
+      next.free();
+    }
+    for (const sum of sums) equal(`${sum * 65536n * 3n}`, `${found.whole * 255n * 201n}`);
+    holds(battle.outcomes("move 1", "move 1", {damageClasses: 1}).length === 1, "other outcomes of Splash");
+  });
+  check("a least probability", () => {
+    // Thunder Wave hits with 255 of 256 bytes. The slower Slowbro, once it is paralysed, can't act with 63 of 256.
+    const battle = begun(gen1, "Tauros", "Slowbro", ["Thunder Wave", "Amnesia"]);
+    const [misses, isStopped] = [1 / 256, (255 * 63) / 65536];
+    const cases = [
+      [0, 3, 0], [misses, 3, 0], [0.01, 2, misses], [isStopped, 2, misses],
+      [isStopped + 2 ** -32, 1, misses + isStopped], [1, 0, 1]
+    ];
+    for (const [leastProbability, length, left] of cases) {
+      const found = battle.outcomes("move 1", "move 2", {leastProbability});
+      equal([found.length, found.leftOutProbability], [length, left]);
+      equal(`${found.leftOut * 65536n}`, `${found.whole * BigInt(left * 65536)}`);
+      let sum = found.leftOut;
+      for (const {battle: next, weight} of found) {
+        sum += weight;
+        next.free();
+      }
+      holds(sum === found.whole, "the weights and leftOut do not sum to whole");
+    }
+    const splash = facing("Tauros", "Snorlax", "Splash").outcomes("move 1", "move 1", {leastProbability: 1});
+    holds(splash.length === 1 && splash.leftOut === 0n, "an update without draws is left out");
+  });
+  check("more outcomes than the first space holds", () => {
+    const found = facing("Tauros", "Starmie", "Thunder").outcomes("move 1", "move 1");
+    const bytes = new Set(Array.from(found, ({battle}) => hexOf(battle.bytes)));
+    holds(found.length > 256 && bytes.size === found.length, `${found.length} outcomes, ${bytes.size} battles`);
+  });
+}
+
+// docs/MECHANICS.md, "Hit test" to "Charging": why a use cannot hit, fixed damage, many hits, charging.
+function uses(gen1, check) {
+  const battle = begun(gen1, "Snorlax", "Tauros", ["Splash", "Fly"]);
+  const reasonOf = (it, move, side = 1) => [it.odds(side, move).hitChance, it.odds(side, move).reason];
+  check("reasons why a use cannot hit", () => {
+    equal(reasonOf(battle, "Body Slam"), [255 / 256, null]);
+    const foe = (change) => battle.withState(({two: {members: [member], active}}) => change(active, member));
+    const conditions = (...names) => foe((active) => active.conditions.push(...names));
+    const cases = [
+      [battle, "Metronome", "the engine leaves the move out"],
+      [battle, "Roar", "the move always fails"],
+      [begun(gen1, "Snorlax", "Gengar"), "Body Slam", "the foe is immune to the move's type"],
+      [battle, "Fissure", "the user is slower than the foe"],
+      [battle, "Counter", "there is no damage to counter"],
+      [battle, "Dream Eater", "the foe is awake"],
+      [conditions("invulnerable"), "Body Slam", "the foe is out of reach"],
+      [conditions("mist"), "Growl", "Mist guards the foe"],
+      [battle.withStatus(2, 1, "burn"), "Thunder Wave", "the foe has a status"],
+      [begun(gen1, "Snorlax", "Grimer"), "Toxic", "the foe's type guards it"],
+      [battle.withStage(2, "attack", -6), "Growl", "the stage or the stat is at its end"],
+      [battle, "Recover", "the user's HP don't allow it"],
+      [
+        battle.withHp(1, 1, 100).withState(({one}) => one.active.conditions.push("reflect")), "Reflect",
+        "the user has it already"
+      ],
+    ];
+    for (const [it, move, reason] of cases) equal([move, ...reasonOf(it, move)], [move, 0, reason]);
+    equal(cases.every(([, , reason]) => library.REASONS.includes(reason)), true);
+    // The same Fissure by the faster side: 30 % of 255 is 76.
+    equal(reasonOf(battle, "Fissure", 2), [76 / 256, null]);
+  });
+  check("fixed damage", () => {
+    const fixed = (move) => battle.odds(1, move).fixed;
+    // Half of 353 HP is 176; Psywave deals 1 up to less than 150 at level 100.
+    equal(["Seismic Toss", "Super Fang", "Sonic Boom", "Dragon Rage", "Psywave"].map(fixed),
+        [[100, 100], [176, 176], [20, 20], [40, 40], [1, 149]]);
+    equal([fixed("Body Slam"), fixed("Splash")], [null, null]);
+  });
+  check("many hits, and charging", () => {
+    const hits = (move) => battle.odds(1, move).hits.map((chance) => 8 * chance);
+    equal(["Body Slam", "Double Kick", "Fury Attack"].map(hits),
+        [[0, 8, 0, 0, 0, 0], [0, 0, 8, 0, 0, 0], [0, 0, 3, 3, 1, 1]]);
+    equal(["Fly", "Body Slam"].map((move) => battle.odds(1, move).chargesFirst), [true, false]);
+  });
+}
+
+// The chances of a knock-out, for a Tauros with 353 HP, and 55 of 256 critical hits.
+function knockOuts(gen1, check) {
+  const battle = begun(gen1, "Tauros", "Tauros");
+  const isWays = ({once, onceOf, chanceOnce}, ways, of) => equal([once * of, chanceOnce], [onceOf * ways, ways / of]);
+  check("chances of a knock-out", () => {
+    // Seismic Toss deals 100, and misses with one draw of 256.
+    const toss = (hp) => battle.withHp(2, 1, hp).knockOut(1, "Seismic Toss");
+    equal([100, 101, 200, 201].map((hp) => toss(hp).chanceOnce), [255 / 256, 0, 0, 0]);
+    equal([100, 101, 200, 201].map((hp) => toss(hp).chanceTwice), [65535 / 65536, 65025 / 65536, 65025 / 65536, 0]);
+    equal(toss(100).twiceOf, toss(100).onceOf ** 2);
+    // Body Slam deals 95 to 112, and 112 at the factor 255 alone; each critical hit deals more. So 201 draws with 1 of 39 factors, and 55 with all.
+    isWays(battle.withHp(2, 1, 112).knockOut(1, "Body Slam"), 255 * (201 + 55 * 39), 256 * 256 * 39);
+    isWays(battle.withHp(2, 1, 95).knockOut(1, "Body Slam"), 255, 256);
+  });
+  check("chances of a knock-out in three uses", () => {
+    // Seismic Toss deals 100, and misses with one draw of 256. With 22 HP lost after the first use, two hits of three take 222 HP.
+    const toss = (hp, between) => battle.withHp(2, 1, hp).knockOutInThree(1, "Seismic Toss", between);
+    const two = 3 * (255 / 256) ** 2 * (1 / 256) + (255 / 256) ** 3;
+    equal([toss(222).chanceThrice, toss(222, {afterFirst: {lost: 22}}).chanceThrice], [(255 / 256) ** 3, two]);
+    equal(toss(222, {afterFirst: {lost: 22}}).chanceTwice, (255 / 256) ** 2);
+    equal(toss(300, {afterSecond: {gained: 1}}).chanceThrice, 0);
+    // A foe that has fallen gains nothing, and one with all of its HP gains nothing either.
+    equal(toss(100, {afterFirst: {gained: 353}}).chanceTwice, 255 / 256);
+    equal(toss(353, {afterFirst: {gained: 65535, lost: 353}}).chanceTwice, 1);
+    const before = battle.withHp(2, 1, 222);
+    equal(before.knockOutInThree(1, "Body Slam").chanceTwice, before.knockOut(1, "Body Slam").chanceTwice);
+  });
+  check("chances of breaking a substitute", () => {
+    const guarded = battle.withState(({two: {active}}) => {
+      active.conditions.push("substitute");
+      active.substitute = 89;
+    });
+    const {breaksSubstitute, chanceOnce} = guarded.knockOut(1, "Seismic Toss");
+    equal(
+        [breaksSubstitute, chanceOnce, battle.knockOut(1, "Seismic Toss").breaksSubstitute], [true, 255 / 256, false]);
+    // Its 89 HP are 90 to take, and nothing is lost or gained between uses.
+    const {chanceThrice} =
+        guarded.knockOutInThree(1, "Seismic Toss", {afterFirst: {lost: 90}, afterSecond: {gained: 90}});
+    equal(chanceThrice, 1 - (1 / 256) ** 3);
+  });
+}
+
+// States that are changed. A Tauros has Attack 298, Defense 288, Speed 318, Special 238 (docs/MECHANICS.md, "Stats" to "Penalties").
+function states(gen1, check) {
+  const battle = begun(gen1, "Tauros", "Tauros", ["Splash", "Strength"]);
+  const current = (it, side = "one") => it.state[side].active.stats;
+  check("changed states", () => {
+    const before = hexOf(battle.bytes);
+    equal(hexOf(gen1.battleOfState(battle.state).bytes), before);
+    equal(battle.withHp(2, 1, 30).state.two.members[0].hp, 30);
+    equal(current(battle.withStatus(1, 1, "burn")), [149, 288, 318, 238]);
+    equal(current(battle.withStatus(2, 1, "paralysis"), "two"), [298, 288, 79, 238]);
+    equal(current(battle.withStage(1, "speed", 2)), [298, 288, 636, 238]);
+    // Stages and a penalty: 636 is quartered to 159; Attack at stage -1 is 196, and halved 98.
+    equal(current(battle.withStatus(1, 1, "paralysis").withStage(1, "speed", 2)), [298, 288, 159, 238]);
+    equal(current(battle.withStage(1, "attack", -1).withStatus(1, 1, "burn")), [98, 288, 318, 238]);
+    const {status, sleep} = battle.withStatus(2, 1, "sleep", 3).state.two.members[0];
+    equal(
+        [status, sleep, battle.withStage(2, "evasion", -6).state.two.active.stages], ["sleep", 3, [0, 0, 0, 0, 0, -6]]);
+    const puzzle = battle.withState((state) => {
+      state.one.members[0].pp = [0, 1];
+      state.limit = 7;
+    });
+    equal([puzzle.choices(1), puzzle.state.limit, hexOf(battle.bytes)], [["move 2"], 7, before]);
+  });
+}
+
+// Of side 1 a Tauros, of side 2 a Starmie, Chansey and Gengar. Tauros uses Swords Dance while Gengar comes in from place 3, and then Seismic
+// Toss while Gengar uses Focus Energy. Their HP are 353, and 323, 703 and 323.
+function played(gen1, pixels, ...more) {
+  const one = [{species: "Tauros", moves: [["Swords Dance", 3], ["Seismic Toss", 3]]}];
+  const two = ["Starmie", "Chansey", "Gengar"].map(
+      (species, place) => ({species, moves: [["Focus Energy", 3], ...(place ? more : [])]}));
+  const battle = gen1.battle({one, two, seed: SEED});
+  const [teller, player] = [gen1.teller({side: 1, pixels}), gen1.player({side: 1, team: one, foes: 3})];
+  for (const pair of [["pass", "pass"], ["move 1", "switch 3"], ["move 2", "move 1"]])
+    teller.report(battle, battle.update(...pair).log, player);
+  return player;
+}
+
+// docs/MECHANICS.md, "Player's view".
+function players(gen1, check) {
+  check("what a player knows of the foe", () => {
+    const {turn, outcome, foes, foe} = played(gen1, false).view;
+    const starmie = {species: "Starmie", level: 100, status: "none", hp: 323, maxHp: 323, moves: []};
+    const gengar = {...starmie, species: "Gengar", hp: 223, moves: [{name: "Focus Energy", uses: 1}]};
+    equal([turn, outcome, foes, foe.members], [3, "ongoing", 3, [starmie, gengar]]);
+    const active = {
+      place: 2,
+      types: ["Ghost", "Poison"],
+      stages: [0, 0, 0, 0, 0, 0],
+      lastMove: "Focus Energy",
+      announced: ["focus energy"]
+    };
+    equal(foe.active, active);
+    // In 48ths 323 is 48, and 223 is 48 * 223 / 323 = 33.
+    equal(played(gen1, true).view.foe.members, [{...starmie, hp: 48, maxHp: 48}, {...gengar, hp: 33, maxHp: 48}]);
+  });
+  check("what a player knows of itself", () => {
+    const player = played(gen1, true);
+    const {own, ownPublic} = player.view;
+    const tauros = {
+      species: "Tauros",
+      level: 100,
+      status: "none",
+      moves: ["Swords Dance", "Seismic Toss"],
+      pp: [47, 31],
+      hp: 353,
+      maxHp: 353
+    };
+    equal([own.members, own.turn, own.request], [[{...tauros, stats: [298, 288, 318, 238]}], 3, "move"]);
+    const active = {
+      place: 1,
+      types: ["Normal", "Normal"],
+      stats: [596, 288, 318, 238],
+      stages: [2, 0, 0, 0, 0, 0],
+      conditions: []
+    };
+    equal(own.active, {...active, disabledSlot: 0, held: false});
+    equal([player.choices, ownPublic.members[0].moves.map(({uses}) => uses)], [["move 1", "move 2"], [1, 1]]);
+  });
+  check("before the start, and what stays hidden", () => {
+    const player = gen1.player({side: 2, team: PAIR});
+    const {own, ownPublic, foe, foes} = player.view;
+    equal([own, foe, foes, player.choices, player.side], [null, {members: [], active: null}, null, [], 2]);
+    equal([ownPublic.members.map(({hp, moves}) => [hp, moves]), ownPublic.active], [[[353, []], [703, []]], null]);
+    equal(played(gen1, false).view, played(gen1, false, ["Psychic", 0]).view);
+  });
+  check("what is told in pieces", () => {
+    const battle = gen1.battle({one: PAIR, two: PAIR, seed: SEED});
+    const [teller, whole] = [gen1.teller({side: 2}), gen1.player({side: 2, team: PAIR})];
+    const told = teller.tell(battle.update("pass", "pass").log);
+    const pieces = whole.clone();
+    whole.feed(told);
+    for (const byte of told) pieces.feed(Uint8Array.of(byte));
+    equal([hexOf(told), pieces.view], [hexOf(LOG.subarray(0, 23)), whole.view]);
+  });
+}
+
+const ALAKAZAM = {
+  species: "Alakazam",
+  moves: [["Psychic", 3]]
+};
+
+// Side 1 after the first turn of a battle with Alakazam, whose Psychic it has seen. The log leaves its Tauros 5 of 353 HP, and Alakazam 32 of 313.
+function guessing(gen1) {
+  const one = [{species: "Tauros", moves: [["Body Slam", 3]]}];
+  const battle = gen1.battle({one, two: [ALAKAZAM, {species: "Chansey", moves: [["Ice Beam", 3]]}], seed: SEED});
+  const [teller, player] = [gen1.teller({side: 1}), gen1.player({side: 1, team: one})];
+  for (const choice of ["pass", "move 1"]) teller.report(battle, battle.update(choice, choice).log, player);
+  return player;
+}
+
+// Battles that fit what a player knows.
+function guesses(gen1, check) {
+  const player = guessing(gen1);
+  const {Battle} = library;
+  check("what is known and what is guessed", () => {
+    const team = [
+      {species: "Alakazam", moves: [["Recover", 3], ["Psychic", 3]], exp: [0, 65535, 65535, 65535, 65535]},
+      {species: "Gengar", moves: [["Hypnosis", 3]]}
+    ];
+    const numbers = Array.from({length: 10}, (_, at) => 20 + at);
+    const copy = Battle.fromPlayer(player, {team, seed: numbers, rules: 3, limit: 50});
+    const {state} = copy;
+    equal([copy.ownSide(1), copy.choices(1)], [player.view.own, player.choices]);
+    equal([state.turn, state.limit, state.rules, state.numbers, copy.choices(2)],
+        [2, 50, 3, numbers, ["move 1", "move 2", "switch 2"]]);
+    // Without HP experience Alakazam has (55 + 15) * 2 + 110 = 250 HP, of which 32 of 313 are 25.6. Of 16 PP of Psychic one was used.
+    const [alakazam, gengar] = state.two.members;
+    equal([alakazam.maxHp, alakazam.hp, alakazam.pp, alakazam.status], [250, 26, [32, 15], "none"]);
+    equal([gengar.hp, gengar.maxHp, state.two.active.currentMove], [323, 323, 2]);
+    holds(copy.update("move 1", "move 2").log.length > 0, "no log");
+  });
+  check("conditions that were announced", () => {
+    const told = player.clone();
+    told.feed(Uint8Array.of(18, 2, 65, 3, 18, 2, 65, 1, 18, 2, 65, 12));
+    const out = Battle.fromPlayer(told, {team: [ALAKAZAM], seed: SEED}).state.two.active;
+    equal([out.conditions, out.substitute, out.confusion], [["confused", "substitute"], 78, 3]);
+    const raging = {...ALAKAZAM, moves: [["Psychic", 3], ["Rage", 3]]};
+    const {conditions, currentMove, keptAccuracy} =
+        Battle.fromPlayer(told, {team: gen1.team([raging]), seed: SEED}).state.two.active;
+    equal([conditions.includes("rage"), currentMove, keptAccuracy], [true, 2, 255]);
+  });
+}
+
+// Whether a move misses in the first two updates, with the lowest accuracy against the highest evasion. Vaporeon is not immune to any type.
+function misses(gen1, move, seed) {
+  const team = (species, known) => [{species, moves: [[known, 3]]}];
+  const battle = gen1.battle({one: team("Tauros", move), two: team("Vaporeon", "Splash"), seed});
+  battle.updateSilent("pass", "pass");
+  const {bytes} = battle;
+  // The stages of accuracy and evasion (docs/LAYOUT.md, "Active block").
+  [bytes[168 + 7], bytes[348 + 8]] = [0, 12];
+  const changed = gen1.load(bytes);
+  let isMissing = false;
+  for (let update = 0; update < 2 && !changed.isOver; update++) {
+    const {events} = changed.update(changed.choices(1)[0], changed.choices(2)[0]);
+    isMissing ||= events.some((event) => event.kind === "miss" && event.side === 1);
+  }
+  return isMissing;
+}
+
+// Thunder with each byte as the deciding draw: as many are critical, and as many hit, as `odds` returns.
+function everyDraw(gen1) {
+  const [user, foe] = [{species: "Tauros", moves: [["Thunder", 3]]}, {species: "Snorlax", moves: [["Splash", 3]]}];
+  let [critical, missed] = [0, 0];
+  const begun = gen1.battle({one: [user], two: [foe], seed: SEED});
+  begun.updateSilent("pass", "pass");
+  for (let byte = 0; byte < 256; byte++)
+    for (const draws of [[byte, 255, 0], [255, 255, byte]]) {
+      const battle = begun.clone();
+      battle.reseed([...draws, 0, 0, 0, 0, 0, 0, 0]);
+      const kinds = battle.update("move 1", "move 1").events.map(({kind}) => kind);
+      critical += kinds.includes("crit") ? 1 : 0;
+      missed += kinds.includes("miss") ? 1 : 0;
+    }
+  // Tauros has base Speed 110, and the draw is compared with half of it.
+  const {criticalChance, hitChance} = gen1.odds(user, foe, "Thunder");
+  equal([critical, 256 - missed], [55, 256 * hitChance]);
+  equal(criticalChance, 55 / 256);
+}
+
+// docs/MECHANICS.md, "Rooms".
+function rooms(gen1, check) {
+  const replied = (room, ...submission) => {
+    try {
+      return room.submit(...submission) ? "advanced" : "waiting";
+    } catch (fault) {
+      return fault.code;
+    }
+  };
+  check("the example of rooms", () => {
+    const room = gen1.room(gen1.battle(BATTLE));
+    equal([room.number, hexOf(room.log), room.result.requests], [0, hexOf(LOG.subarray(0, 23)), ["move", "move"]]);
+    const submissions = [[1, 0, 17], [1, 0, "move 1"], [2, 1, 17], [2, 0, "move 1"], [2, 0, 17], [1, 1, 20]];
+    equal(submissions.map((it) => replied(room, ...it)), ["waiting", 53, 52, "advanced", 52, 54]);
+    equal([room.number, hexOf(room.log)], [1, hexOf(LOG.subarray(23, 59))]);
+    const kept = room.clone();
+    equal([[1, 1, 17], [2, 1, 17]].map((it) => replied(room, ...it)), ["waiting", "advanced"]);
+    equal([room.result.outcome, room.choices(1), room.choices(2), replied(room, 1, 2, 17)], ["win one", [], [], 24]);
+    equal([kept.number, kept.choices(1), kept.battle.isOver], [1, ["move 1"], false]);
+  });
+  check("a forfeit", () => {
+    const room = gen1.room(gen1.battle(BATTLE));
+    const kept = room.clone();
+    room.submit(1, 0, 17);
+    equal([room.forfeited, room.forfeit(1).lines, room.forfeited], [null, ["|win|p2"], 1]);
+    equal([room.number, hexOf(room.log), room.result], [1, "1a02", {outcome: "win two", requests: ["pass", "pass"]}]);
+    equal([hexOf(room.battle.bytes), room.choices(1), room.choices(2)], [hexOf(kept.battle.bytes), [], []]);
+    equal([replied(room, 2, 1, 17), kept.forfeited, kept.number], [24, null, 0]);
+    for (const side of [1, 2])
+      equal(thrown(() => room.forfeit(side), library.RoomError, /the battle is over: win two$/).code, 24);
+  });
+  check("a side of which nothing is asked passes by itself", () => {
+    const one = [{species: "Tauros", moves: [["Explosion", 3]]}, {species: "Chansey", moves: [["Strength", 3]]}];
+    const room = gen1.room(gen1.battle({one, two: [{species: "Gengar", moves: [["Splash", 3]]}], seed: SEED}));
+    equal([[1, 0, 17], [2, 0, 17]].map((it) => replied(room, ...it)), ["waiting", "advanced"]);
+    equal([room.result.requests, room.choices(2)], [["switch", "pass"], []]);
+    equal([[2, 1, 0], [1, 1, 17], [1, 1, "switch 2"]].map((it) => replied(room, ...it)), [53, 54, "advanced"]);
+  });
+}
+
+// docs/MECHANICS.md, "Spectator's view".
+function spectators(gen1, check) {
+  const begun = (...events) => {
+    const spectator = gen1.spectator(PAIR, PAIR);
+    spectator.feed(Uint8Array.from([...OUT, ...events.flat()]));
+    return spectator.state;
+  };
+  check("before the start", () => {
+    const side = {
+      members: [{hp: 353, status: "none"}, {hp: 703, status: "none"}],
+      place: 0,
+      stages: [0, 0, 0, 0, 0, 0]
+    };
+    const all = {...side, substitute: false, confused: false, lightScreen: false, reflect: false};
+    equal(gen1.spectator(PAIR, PAIR).state, {one: all, two: all, turn: 0, outcome: "ongoing"});
+  });
+  check("a log is followed however it is cut", () => {
+    for (let cut = 0; cut <= LOG.length; cut++) {
+      const spectator = gen1.spectator(PAIR, PAIR);
+      spectator.feed(LOG.subarray(0, cut));
+      const held = spectator.held.length;
+      equal(hexOf(spectator.held), hexOf(LOG.subarray(cut - held, cut)));
+      spectator.clone().feed(LOG.subarray(cut));
+      spectator.feed(LOG.subarray(cut));
+      const {one, two, turn, outcome} = spectator.state;
+      equal([one.members[0].hp, two.members[0].hp, turn, outcome, spectator.held.length], [263, 0, 2, "win one", 0]);
+    }
+  });
+  check("what events change", () => {
+    const out = begun([2, 1, 128, 2, 100, 244, 1, 191, 2, 5]).one;
+    equal([out.place, out.members], [2, [{hp: 353, status: "none"}, {hp: 500, status: "paralysis"}]]);
+    equal(begun([13, 1, 128, 3], [5, 1, 128, 12, 0, 97, 1, 0, 0]).one.members[0], {hp: 12, status: "burn"});
+    const stages = begun(...Array(4).fill([15, 1, 128, 6, 2]), ...Array(4).fill([16, 2, 128, 4, 2]));
+    equal([stages.one.stages, stages.two.stages, begun([1, 15, 39]).turn],
+        [[0, 0, 0, 0, 0, 6], [0, 0, 0, -6, 0, 0], 9999]);
+  });
+  check("no log", () => {
+    const spectator = gen1.spectator(PAIR, PAIR);
+    spectator.feed(LOG.subarray(0, 26));
+    const before = [spectator.state, hexOf(spectator.held)];
+    equal(before[1], "030180");
+    const fault = thrown(() => spectator.feed(Uint8Array.of(255, 255, 255)), library.LogError,
+        /^3 bytes before these: a field of an event is out of its range$/);
+    equal([fault.code, fault.at, spectator.state, hexOf(spectator.held)], [33, -3, ...before]);
+  });
+}
+
+// docs/TEAM_TEXT.md.
+function texts(gen1, check) {
+  check("a team from text", () => {
+    const text =
+        "Tauros (M)\nLevel: 88\nEVs: 252 HP / 4 Atk / 100 SpA / 100 SpD\nIVs: 6 HP / 0 Atk / 20 Def\n- Body Slam\n";
+    const wanted = {
+      species: "Tauros",
+      level: 88,
+      dvs: [0, 10, 15, 15],
+      exp: [252 * 252, 16, 0, 0, 10000],
+      moves: [["Body Slam", 3]]
+    };
+    equal(gen1.teamFromText(text), [wanted]);
+    const battle = gen1.battle({one: gen1.teamFromText(text), two: [wanted], seed: SEED});
+    equal(battle.state.one, battle.state.two);
+    equal(gen1.teamFromText("Starmie\n- Surf\n")[0].exp, Array(5).fill(63504));
+  });
+  check("a team from a packed line", () => {
+    const line = "Bob|Tauros||NoAbility|bodyslam,hyperbeam||,4,,,,|M|,0,,,,||88|]Starmie||||psychic,recover|||||||";
+    const [one, two] = gen1.teamFromPacked(line);
+    equal([one.species, one.moves, one.exp, two.species],
+        ["Tauros", [["Body Slam", 3], ["Hyper Beam", 3]], [0, 16, 0, 0, 0], "Starmie"]);
+  });
+  check("every name is the library's", () => {
+    for (const name of library.SPECIES) equal(gen1.teamFromText(`${name}\n- Pound\n`)[0].species, name);
+    for (const name of library.MOVES) {
+      const read = () => gen1.teamFromText(`Mew\n- ${name}\n`)[0].moves;
+      if (["Mimic", "Metronome", "Mirror Move", "Transform", "Struggle"].includes(name))
+        thrown(read, library.TextError, /^member 1: /);
+      else
+        equal(read(), [[name, 3]]);
+    }
+  });
+}
+
+// Who is ahead by the share of HP left.
+function leader(battle) {
+  const of = (members, key) => members.reduce((sum, member) => sum + member[key], 0);
+  const [one, two] = [battle.state.one, battle.state.two].map(({members}) => of(members, "hp") / of(members, "maxHp"));
+  return one > two ? "winsOne" : two > one ? "winsTwo" : "ties";
+}
+
+// The offered choices of a side, each as often as its weight says.
+function copies(battle, side, weights) {
+  const offered = battle.choices(side);
+  const {members, active} = side === 1 ? battle.state.one : battle.state.two;
+  const weightOf = (choice) => {
+    const [kind, slot] = choice.split(" ");
+    if (kind !== "move") return weights.switch ?? 1;
+    return weights[slot === "0" ? "Struggle" : members[active.place - 1].moves[slot - 1]] ?? weights.move ?? 1;
+  };
+  const found = offered.flatMap((choice) => Array(weightOf(choice)).fill(choice));
+  return found.length ? found : offered;
+}
+
+// The same rounds update by update, with the generator that include/gen1.h describes.
+function playedOut(battle, seed, rounds, {depth = Infinity, weights = {}} = {}) {
+  const counts = {winsOne: 0, winsTwo: 0, ties: 0, faults: 0};
+  const names = {"win one": "winsOne", "win two": "winsTwo", tie: "ties", "fault 1": "faults", "fault 2": "faults"};
+  let state = seed;
+  const below = (count) => {
+    state = (state * 6364136223846793005n + 1442695040888963407n) % 2n ** 64n;
+    return Number((state >> 32n) % BigInt(count));
+  };
+  const pick = (offered) => offered[below(offered.length)];
+  for (let round = 0; round < rounds; round++) {
+    const copy = battle.clone();
+    copy.reseed(Array.from({length: 10}, () => below(256)));
+    for (let updates = 0; !copy.isOver && updates < depth; updates++)
+      copy.updateSilent(pick(copies(copy, 1, weights)), pick(copies(copy, 2, weights)));
+    counts[copy.isOver ? names[copy.result.outcome] : leader(copy)]++;
+  }
+  return counts;
+}
+
+// docs/TABLES.md, "Species" and "Moves".
+function rows(gen1, check) {
+  check("rows of the tables", () => {
+    equal(
+        gen1.base("Starmie"), {hp: 60, attack: 75, defense: 85, speed: 115, special: 100, types: ["Water", "Psychic"]});
+    equal(gen1.base(128).types, ["Normal", "Normal"]);
+    equal(gen1.moveData("Blizzard"),
+        {type: "Ice", power: 120, accuracy: 90, pp: 5, effect: "FreezeChance", priority: 0, isHighCritical: false});
+    equal([gen1.moveData(165), gen1.moveData("Sharpen").effect], [gen1.moveData("Struggle"), "StatUp(Attack, 1)"]);
+    equal(library.MOVES.filter((move) => gen1.moveData(move).effect === "OneHitKnockOut"),
+        ["Guillotine", "Horn Drill", "Fissure"]);
+    equal(library.MOVES.filter((move) => gen1.moveData(move).isHighCritical),
+        ["Karate Chop", "Razor Leaf", "Crabhammer", "Slash"]);
+    equal([-1, 1].map((priority) => library.MOVES.filter((move) => gen1.moveData(move).priority === priority)),
+        [["Counter"], ["Quick Attack"]]);
+  });
+  check("type rows", () => {
+    const [normal, water] = [library.TYPES.indexOf("Normal"), library.TYPES.indexOf("Water")];
+    equal([gen1.effectiveness("Water", "Fire"), gen1.effectiveness(water, water), gen1.effectiveness(normal, "Ghost")],
+        [2, 0.5, 0]);
+    equal([gen1.effectiveness("Ghost", "Psychic"), gen1.effectiveness("Normal", "Water")], [0, 1]);
+  });
+  check("stats without a battle", () => {
+    equal(gen1.stats({species: "Tauros", moves: [["Strength", 3]]}),
+        {hp: 353, attack: 298, defense: 288, speed: 318, special: 238});
+  });
+  check("drain and recoil", () => {
+    for (const move of ["Absorb", "Mega Drain", "Leech Life", "Dream Eater"])
+      equal([1, 2, 101].map((it) => gen1.drained(move, it)), [1, 1, 50]);
+    for (const move of ["Take Down", "Double-Edge", "Submission"])
+      equal([1, 4, 103].map((it) => gen1.recoil(move, it)), [1, 1, 25]);
+    equal([gen1.recoil("Struggle", 103), gen1.recoil("Absorb", 103), gen1.drained("Struggle", 103)], [51, 0, 0]);
+  });
+}
+
+// An array, whose battles are those that are played one by one.
+function arrays(gen1, check) {
+  const team = gen1.team(
+      ["Starmie", "Tauros"].map((species) => ({species, moves: [["Blizzard", 3], ["Toxic", 3], ["Explosion", 3]]})));
+  const battle = gen1.battle({one: team, two: team, seed: SEED, limit: 30});
+  const sides =
+      [1, 2].map((side) => ({teller: gen1.teller({side, pixels: true}), player: gen1.player({side, team, foes: 2})}));
+  const seeds = Uint8Array.from({length: 50}, (_, at) => (at * 37) % 256);
+  const arraysOf =
+      () => [gen1.battleArray({battle, count: 5, seeds}), gen1.battleArray({battle, count: 5, seeds, sides})];
+  check("an array of battles", () => {
+    const [plain, watched] = arraysOf();
+    const alone = Array.from({length: 5}, (_, at) => {
+      const copy = battle.clone();
+      copy.reseed(seeds.subarray(10 * at, 10 * at + 10));
+      return {copy, sides: sides.map(({teller, player}) => ({teller: teller.clone(), player: player.clone()}))};
+    });
+    for (let turn = 0; turn < 40; turn++) {
+      const pick = (side) =>
+          alone.map(({copy}, at) => library.byteOf(
+                        copy.choices(side)[(turn * 7 + at + side) % (copy.choices(side).length || 1)] ?? 0));
+      const [ones, twos] = [pick(1), pick(2)];
+      equal(Array.from(plain.masks(1)), alone.map(({copy}) => copy.offeredMask(1)));
+      equal(Array.from(watched.step(ones, twos)), Array.from(plain.step(ones, twos)));
+      alone.forEach(({copy, sides: both}, at) => {
+        if (copy.isOver) return;
+        const {log, result} = copy.update(ones[at], twos[at]);
+        for (const {teller, player} of both) teller.report(copy, log, player);
+        equal(library.OUTCOMES[plain.results[at] & 7], result.outcome);
+      });
+      const all = alone.map(({copy}) => hexOf(copy.bytes)).join("");
+      equal([hexOf(plain.bytes), hexOf(watched.bytes), watched.codes, plain.at(3).state],
+          [all, all, plain.codes, alone[3].copy.state]);
+      for (const side of [1, 2]) equal(watched.player(2, side).view, alone[2].sides[side - 1].player.view);
+    }
+    holds(alone.every(({copy}) => copy.isOver), "a battle goes on after its limit");
+    const first = watched.take([4, 0, 4]);
+    equal([hexOf(first.at(0).bytes), hexOf(first.at(2).bytes), first.player(1, 2).view],
+        [hexOf(plain.at(4).bytes), hexOf(plain.at(4).bytes), watched.player(0, 2).view]);
+    watched.reset([0, 1, 0, 0, 0]);
+    equal([watched.results[1] & 7, watched.player(1, 1).view.turn, watched.player(0, 1).view.turn > 0], [0, 0, true]);
+    watched.reset();
+    equal(hexOf(watched.bytes), hexOf(arraysOf()[0].bytes));
+  });
+  check("random steps are those of the generator of gen1.h, with players and without", () => {
+    const [both, counts] = [arraysOf(), [0, 0, 0]];
+    const alone = Array.from({length: 5}, (_, at) => both[0].at(at));
+    // Numbers of an LCG, the same for each counter.
+    const numbers = (of) => () => ((counts[of]++ * 2654435761 + 97) % 2 ** 32) / 2 ** 32;
+    const word = () => BigInt(Math.floor(numbers(2)() * 2 ** 32));
+    for (let step = 0; step < 40; step++) {
+      const pairs = both.map((it, at) => it.randomStep(numbers(at)).map((side) => Array.from(side)));
+      const want = [[], []];
+      for (const it of alone) {
+        let state = word() + (word() << 32n);
+        for (const side of [1, 2]) {
+          const choices = it.choices(side);
+          if (choices.length) state = BigInt.asUintN(64, state * 6364136223846793005n + 1442695040888963407n);
+          want[side - 1].push(
+              choices.length ? library.byteOf(choices[Number((state >> 32n) % BigInt(choices.length))]) : 0);
+        }
+        if (!it.isOver) it.update(want[0].at(-1), want[1].at(-1));
+      }
+      const all = alone.map((it) => hexOf(it.bytes)).join("");
+      equal([pairs, both.map((it) => hexOf(it.bytes)), both[0].codes, both[0].results],
+          [[want, want], [all, all], both[1].codes, both[1].results]);
+    }
+    equal(both[0].codes, Uint8Array.of(24, 24, 24, 24, 24));
+  });
+  check("observations", () => {
+    const [, watched] = arraysOf();
+    const row = (it, side, place) => {
+      const rows = it.observe(side).subarray(library.COLUMNS.length * place, library.COLUMNS.length * (place + 1));
+      return Object.fromEntries(library.COLUMNS.map((name, column) => [name, rows[column]]));
+    };
+    watched.randomStep();
+    // Starmie is 121 in docs/TABLES.md, of types 9 and 12; its 323 HP are reported in 48ths. Blizzard and Explosion are 59 and 153.
+    const found = row(watched, 2, 3);
+    equal(
+        [
+          "own member 2 species", "own member 1 max hp", "own member 1 move 1", "own type 1", "own stage 3", "turn",
+          "foes"
+        ].map((name) => found[name]),
+        [128, 323, 59, 9, 6, 1, 2]);
+    equal(
+        [
+          "foe member 1 species", "foe member 1 hp", "foe member 1 max", "foe member 2 species", "foe place",
+          "foe first type"
+        ].map((name) => found[name]),
+        [121, 48, 48, 0, 1, 9]);
+    equal(library.CHOICES.filter((name) => found[`offered ${name}`]), ["move 1", "move 2", "move 3", "switch 2"]);
+    watched.step(new Uint8Array(5).fill(18), new Uint8Array(5).fill(0x22));
+    const after = row(watched, 2, 0);
+    equal(
+        [
+          after["foe last move"], after["foe member 1 move 1 id"], after["foe member 1 move 1 uses"],
+          after["own place"], after.turn
+        ],
+        [92, 92, 1, 2, 2]);
+    equal(library.COLUMNS.length, new Set(library.COLUMNS).size);
+  });
+  check("a row is the same whatever the foe keeps hidden", () => {
+    const rowsWith = (hidden) => {
+      const foe = gen1.team([
+        {species: "Starmie", moves: [["Blizzard", 3], [hidden, 3]]},
+        {species: hidden === "Surf" ? "Mew" : "Onix", moves: [["Bind", 3]]}
+      ]);
+      const own = [1, 2].map((side) => ({
+        teller: gen1.teller({side, pixels: true}),
+        player: gen1.player({side, team: side === 1 ? team : foe, foes: 2})
+      }));
+      const array = gen1.battleArray({battle: gen1.battle({one: team, two: foe, seed: SEED}), count: 1, sides: own});
+      array.step([0], [0]);
+      array.step([18], [17]);
+      return Array.from(array.observe(1));
+    };
+    equal(rowsWith("Surf"), rowsWith("Psychic"));
+  });
+  check("playouts of an array", () => {
+    const [plain] = arraysOf();
+    const counts = plain.playouts(2n ** 64n - 2n, 3);
+    const wanted = [0, 1, 2, 3, 4].flatMap(
+        (at) => Object.values(plain.at(at).playout((2n ** 64n - 2n + BigInt(at)) % 2n ** 64n, 3)));
+    equal(Array.from(counts), wanted);
+  });
+}
+
+function searching(gen1, check) {
+  const team = [
+    {species: "Tauros", moves: [["Body Slam", 3], ["Hyper Beam", 3], ["Earthquake", 3], ["Blizzard", 3]]},
+    {species: "Gengar", level: 73, moves: [["Hypnosis", 3], ["Night Shade", 3]]}
+  ];
+  const battle = gen1.battle({one: team, two: team, seed: [0, 1, 2, 3, 4, 5, 6, 7, 8, 9], limit: 60});
+  check("choices in words", () => {
+    battle.updateSilent("pass", "pass");
+    const words = battle.choices(1).map((choice) => battle.words(1, choice));
+    equal(words, ["move 1 Body Slam", "move 2 Hyper Beam", "move 3 Earthquake", "move 4 Blizzard", "switch 2 Gengar"]);
+    equal([battle.words(2, "pass"), battle.words(2, "move 0"), battle.words(2, 0x21)],
+        ["pass", "move 0", "switch 1 Tauros"]);
+    // Bits 2 to 5 are the moves in slots 1 to 4, bit 7 the switch to place 2.
+    equal([battle.offeredMask(1), gen1.battle({one: team, two: team, seed: SEED}).offeredMask(2)], [0b10111100, 1]);
+  });
+  check("a battle that is reseeded", () => {
+    const copy = battle.clone();
+    copy.reseed([9, 8, 7, 6, 5, 4, 3, 2, 1, 0], 8);
+    equal(copy.state, {...battle.state, index: 8, numbers: [9, 8, 7, 6, 5, 4, 3, 2, 1, 0]});
+    equal(hexOf(gen1.load(battle.bytes).bytes), hexOf(battle.bytes));
+  });
+  check("the tests of loading", () => {
+    // docs/LAYOUT.md, "Loading": index, a member's HP, current Speed (318 quartered is 79) and request of side 1.
+    const changed = (at, byte) => {
+      const {bytes} = battle;
+      bytes[at] = byte;
+      return gen1.testBytes(bytes);
+    };
+    const places = [[5, 8], [0, 4], [5, 9], [24 + 5, 255], [168 + 22, 1], [168 + 9, 1], [17, 2]];
+    equal(places.map((it) => changed(...it)), [0, 17, 18, 19, 20, 21, 22]);
+  });
+  check("playouts", () => {
+    const {moves} = battle.state.one.members[0];
+    for (const seed of [0n, 7n, 2n ** 64n - 1n]) {
+      equal(battle.playout(seed, 5), playedOut(battle, seed, 5));
+      for (const depth of [1, 6, 30]) equal(battle.playout(seed, 5, {depth}), playedOut(battle, seed, 5, {depth}));
+      for (const weights of [{}, {move: 4},
+               {
+                 switch: 0
+               },
+               {
+                 move: 0, switch: 0
+               },
+               {[moves[0]]: 255, [moves[1]]: 0, move: 3, Struggle: 0}])
+        equal(battle.playout(seed, 5, {weights, depth: 40}), playedOut(battle, seed, 5, {weights, depth: 40}));
+    }
+    equal([battle.playout(7, 5), battle.playout(1, 0)],
+        [battle.playout(7n, 5), {winsOne: 0, winsTwo: 0, ties: 0, faults: 0}]);
+  });
+}
+
+// The sizes that include/gen1.h states, and the offsets of a struct with a size_t in C.
+function layouts(check) {
+  check("structs", () => {
+    const sizes =
+        (isLong) => ["gen1_battle", "gen1_team", "gen1_event", "gen1_room", "gen1_spectator", "gen1_odds"].map(
+            (it) => layoutOf(it, isLong).size);
+    for (const isLong of [false, true])
+      equal(sizes(isLong), [384, 146, 18, CODES.ROOM_SIZE, CODES.SPECTATOR_SIZE, 176]);
+    const places = (isLong) => layoutOf("gen1_text_fault", isLong).fields.map((field) => field.at);
+    equal([places(false), places(true)], [[0, 4, 8, 12, 13, 14], [0, 8, 16, 24, 25, 26]]);
+  });
+}
+
+/** Runs all worked examples. */
+export function worked(gen1, check) {
+  for (const part of [logs, odds, uses, outcomes, knockOuts, states, players, guesses, rooms, spectators, texts, rows,
+           arrays, searching])
+    part(gen1, check);
+  layouts(check);
+}
