@@ -1,25 +1,23 @@
 #!/usr/bin/env python3
-"""Draws the crates of crates.txt in their layers, between the two marks of docs/ARCHITECTURE.md.
+"""Lists the crates of crates.txt in their layers, between the two marks of docs/ARCHITECTURE.md.
 
-    tools/layers.py           writes the drawing
-    tools/layers.py --check   writes nothing; fails where the drawing differs
+    tools/layers.py           writes the table
+    tools/layers.py --check   writes nothing; fails where the table differs
 
 This file says which layer a crate belongs to, and what the layer contains. A crate may depend on crates of its own layer and of those
-below; one that depends on a crate above, or that is in no layer, is an error. A crate is drawn with the crates that it depends on, without
-those that it reaches through another one.
+below; one that depends on a crate above, or that is in no layer, is an error. The row of a crate has the first sentence of its head, and
+the crates that it names, without those that it reaches through another one.
 """
 
 import argparse
 import sys
-import textwrap
 
 sys.dont_write_bytecode = True
+from contracts import link, purpose
 from repository import ROOT, below, crates
 
 DOCUMENT = ROOT / "docs" / "ARCHITECTURE.md"
-BEGIN = "<!-- layers -->\n```\n"
-END = "```\n<!-- end -->\n"
-WIDTH = 90
+BEGIN, END = "<!-- layers -->\n", "<!-- end -->\n"
 
 # From the top down: the title, the contents, and the crates of a layer.
 LAYERS = (
@@ -81,40 +79,30 @@ def nearest(name, known):
     ]
 
 
-def rows(names, known):
-    """The crates of a layer as lines, each with its dependencies."""
-    wide = max(map(len, names))
-    for name in names:
-        used = " ".join(nearest(name, known))
-        yield f"|  {name:{wide}}  on  {used}" if used else f"|  {name}"
-
-
-def box(title, holds, names, known):
-    """A layer as lines; only the names of the highest, on which nothing depends."""
-    yield f"+-- {title}: {holds}"
-    if (title, holds, names) == LAYERS[0]:
-        yield from textwrap.wrap(", ".join(names), WIDTH, initial_indent="|  ", subsequent_indent="|  ")
-    else:
-        yield from rows(names, known)
-
-
-def drawing(known):
-    boxes = ["\n".join(box(*layer, known)) for layer in LAYERS]
-    return "\n|\n".join(boxes) + "\n"
+def rows(known):
+    """The rows of the table: each layer from the top down, and its crates."""
+    yield "| Crate | What it is | Names |\n|---|---|---|\n"
+    for title, holds, names in LAYERS:
+        yield f"| **{title}** | *{holds}* | |\n"
+        for name in names:
+            file, text = purpose(name)
+            calls = file.parent.parent / "CALLING.md"
+            page = f", [calls]({link(calls, DOCUMENT.parent)})" if calls.is_file() else ""
+            yield f"| [{name}]({link(file, DOCUMENT.parent)}){page} | {text} | {' '.join(nearest(name, known))} |\n"
 
 
 def written(known):
-    """The text of the document with the drawing in it."""
+    """The text of the document with the table in it."""
     text = DOCUMENT.read_text()
     if text.count(BEGIN) != 1 or text.count(END) != 1:
         sys.exit(f"{DOCUMENT.relative_to(ROOT)} has no place for the layers, or several: {BEGIN!r} and then {END!r}")
     before, rest = text.split(BEGIN)
-    return before + BEGIN + drawing(known) + END + rest.split(END)[1]
+    return before + BEGIN + "".join(rows(known)) + END + rest.split(END)[1]
 
 
 def main():
     parser = argparse.ArgumentParser(description=__doc__, formatter_class=argparse.RawDescriptionHelpFormatter)
-    parser.add_argument("--check", action="store_true", help="write nothing; fail where the drawing differs")
+    parser.add_argument("--check", action="store_true", help="write nothing; fail where the table differs")
     check, known = parser.parse_args().check, crates()
     if found := [*faults(known)]:
         sys.exit("\n".join(found))
@@ -122,7 +110,7 @@ def main():
     if DOCUMENT.read_text() == text:
         return
     if check:
-        sys.exit("the drawing of docs/ARCHITECTURE.md is not that of crates.txt; run tools/layers.py")
+        sys.exit("the table of docs/ARCHITECTURE.md is not that of crates.txt and crates/; run tools/layers.py")
     DOCUMENT.write_text(text)
     print("docs/ARCHITECTURE.md")
 
