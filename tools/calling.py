@@ -1,23 +1,24 @@
 #!/usr/bin/env python3
-"""Copies the examples of crates/uses, and the law of gen1_c, into the documents that show them, so that what a document shows is proved.
+"""Copies examples, laws and the names of contracts from crates/ into the documents that show them, so that each is said once.
 
     tools/calling.py           writes the documents
     tools/calling.py --check   writes nothing; fails where a document differs
 
-A part of a file of crates/uses/src or of crates/gen1_c/src/the_theorem.rt is between two lines, which don't belong to it:
+The documents are README.md, docs/PROVED.md and crates/*/CALLING.md. A document shows one of three things after a line with its mark:
+
+    <!-- calling: NAME -->      an example: a part of crates/uses/src or of crates/gen1_c/src/the_theorem.rt, as a fenced block;
+                                after `NAME:` may be the names of the functions and types that are shown of it
+    <!-- laws: CRATE .. -->     the laws of crates, each with the first paragraph of its `///` comment, up to a line `<!-- end -->`
+    <!-- contracts: CRATE -->   the public functions of a crate with the names of their clauses, up to a line `<!-- end -->`
+
+An example is between two lines of the source, which don't belong to it:
 
     // calling: gen1_hits
     // end
 
-The word is the name of the part. The text of a name is that of all its parts, in the order of the files' names and of their lines, with
-an empty line between two; each loses the indentation of its first line. A document shows a part in the fenced block under this line:
-
-    <!-- calling: gen1_hits -->
-    ```rust
-    ```
-
-The documents are README.md, docs/PROVED.md and crates/*/CALLING.md. Each part must be shown by one of them, and a part with the name of
-a crate by the CALLING.md of that crate.
+The word is its name. The text of a name is that of all its parts, in the order of the files' names and of their lines, with an empty
+line between two. Each part loses its imports and the indentation of its first line. Each example must be shown by a document, and one
+with the name of a crate by the CALLING.md of that crate.
 """
 
 import argparse
@@ -25,17 +26,28 @@ import re
 import sys
 
 sys.dont_write_bytecode = True
+from contracts import contracts, laws
 from repository import ROOT
 
 BEGIN = re.compile(r"\s*// calling: (\w+)")
 END = re.compile(r"\s*// end")
-SHOWN = re.compile(r"(?m)^<!-- calling: (\w+) -->\n```rust\n(?:.*\n)*?```$")
+IMPORT = re.compile(r"(?:ghost )?use [^;]*;\n+")
+SHOWN = re.compile(r"(?m)^<!-- calling: (\w+)(?:: ([\w ]+))? -->\n```rust\n(?:.*\n)*?```$")
+ITEM = re.compile(r"\n\n(?=[/#\w])")
+LISTED = re.compile(r"(?m)^<!-- (laws|contracts): ([\w ]+) -->\n(?:.*\n)*?<!-- end -->$")
 
 
 def dedented(lines):
     """The lines without the indentation of the first."""
     depth = len(lines[0]) - len(lines[0].lstrip()) if lines else 0
     return [line[depth:] if line[:depth].isspace() else line for line in lines]
+
+
+def without_imports(text):
+    """The text without the imports that it begins with."""
+    while found := IMPORT.match(text):
+        text = text[found.end() :]
+    return text
 
 
 def parts_of(file):
@@ -50,7 +62,7 @@ def parts_of(file):
         elif END.fullmatch(line):
             if not name:
                 sys.exit(f"{file}:{number}: an end without a part")
-            yield name, "\n".join(dedented(lines)).strip("\n")
+            yield name, without_imports("\n".join(dedented(lines)).strip("\n"))
             name = None
         elif name:
             lines.append(line)
@@ -61,13 +73,20 @@ def parts_of(file):
 def parts():
     """The text of each part by its name."""
     found = {}
-    for file in [
+    files = [
         *sorted((ROOT / "crates" / "uses" / "src").rglob("*.rt")),
         ROOT / "crates" / "gen1_c" / "src" / "the_theorem.rt",
-    ]:
+    ]
+    for file in files:
         for name, text in parts_of(file):
             found.setdefault(name, []).append(text)
     return {name: "\n\n".join(texts) for name, texts in found.items()}
+
+
+def items(text, names):
+    """The functions and types of a text that have one of these names."""
+    named = re.compile(rf"(?m)^(?:pub )?(?:fn|struct|enum) (?:{'|'.join(names.split())})\b")
+    return "\n\n".join(item for item in ITEM.split(text) if named.search(item))
 
 
 def documents():
@@ -75,7 +94,7 @@ def documents():
 
 
 def written(document, texts):
-    """The text of a document with its parts, and the names of these parts."""
+    """The text of a document with its examples and lists, and the names of these examples."""
     names = []
 
     def block(found):
@@ -83,9 +102,15 @@ def written(document, texts):
         names.append(name)
         if name not in texts:
             sys.exit(f"{document.relative_to(ROOT)} shows {name}, and no file has a part of this name")
-        return f"<!-- calling: {name} -->\n```rust\n{texts[name]}\n```"
+        some, text = found[2], texts[name]
+        mark = f"{name}: {some}" if some else name
+        return f"<!-- calling: {mark} -->\n```rust\n{items(text, some) if some else text}\n```"
 
-    return SHOWN.sub(block, document.read_text()), names
+    def listed(found):
+        lists = {"laws": laws, "contracts": contracts}[found[1]]
+        return f"<!-- {found[1]}: {found[2]} -->\n{''.join(lists(found[2].split(), document.parent))}<!-- end -->"
+
+    return LISTED.sub(listed, SHOWN.sub(block, document.read_text())), names
 
 
 def unshown(shown, texts):

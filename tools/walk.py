@@ -1,5 +1,5 @@
 #!/usr/bin/env python3
-"""Writes a walk over the phases of the battle machine (docs/LAWS.md, "Walks").
+"""Writes a walk over the phases of the battle machine (docs/PROOFS.md, "Walks").
 
 For each phase of the specifications that a walk names it writes one lemma: the phase keeps a fact if its parts do. The lemma
 is proved by `search` over the rules for the combinators, the rules for the changes, and the lemmas of the phases that its

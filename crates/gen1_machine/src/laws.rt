@@ -1,4 +1,4 @@
-//! Laws of the battle machine (docs/LAWS.md). Each function has an empty body. Its contract is the law.
+//! Laws of the battle machine (docs/PROVED.md, "Laws"). Each function has an empty body. Its contract is the law.
 ghost use Rattle.gen1_machine.specs.Bounds.{ActIsBounded, EndIsBounded, OrderIsBounded, ResidualIsBounded, StepIsBounded, SwitchIsBounded, TurnIsBounded, UpdateIsBounded};
 ghost use Rattle.gen1_machine.specs.Laws.{OverStaysOver, RefusalChangesNothing, TermsStay, RunsAppend, SameAsBeforeRules, SameAsFixedLimit, RoomRuns, FirstIsLeast, FirstExists, FirstStatesAreValid, RunsEnd, FieldsStayValid, StatesFit, StatesStayValid};
 ghost use Rattle.gen1_machine.specs.Spectator.{WatcherKnows};
