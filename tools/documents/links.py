@@ -37,7 +37,7 @@ FILE = re.compile(r"(?<![\w/.*-])\w[\w.-]*\.(?:rt|antt|py|rs|c|h|edit)(?![\w/.(*
 NAME = re.compile(r"(?<![\w/.-])(?:gen1|GEN1)_\w+(?![\w/*.])")
 WRITTEN = re.compile(r"<!-- file: (?:\S*/)?(\S+?) -->")
 # Names that represent any name, and what a build leaves.
-OPEN = re.compile(r"(?:^|/)[A-Z]{4,}(?:[./]|$)|/out(?:/|$)|^web/dist")
+OPEN = re.compile(r"(?:^|/)[A-Z]{4,}(?:[./]|$)|/out(?:/|$)|^(?:web|js)/dist")
 # Names that a document invents, to show how one is added.
 MADE_UP = ("gen1_turn_number",)
 
