@@ -21,7 +21,24 @@ DOCUMENTS = (
     "docs/PROGRAM.md",
     "include/gen1.h",
 )
-# Titles, and sections that explain words or summarize others.
+# Sections about the program gen1 alone, which has no crate.
+OF_GEN1 = (
+    "The program gen1",
+    "Text in place of JSON",
+    "Objects",
+    "JSON Lines",
+    "Damage in words",
+    "state and explain",
+    "team and names",
+    "play, replay and bench",
+    "Showdown's battle log",
+    "showdown",
+    "Requests",
+    "follow",
+    "A battle to search",
+    "gen1 team",
+)
+# Titles, sections that explain words or summarize others, and those about gen1 alone.
 CARRIED_BY_NONE = (
     "The rules of battle",
     "What is modelled",
@@ -29,6 +46,9 @@ CARRIED_BY_NONE = (
     "A battle in ten sentences",
     "Tables",
     "Teams as text",
+    "The command line",
+    "Subcommands",
+    *OF_GEN1,
 )
 HEADINGS = {".md": r"(?m)^(#+) (.*)$", ".h": r"(?m)^/\* (--)-- (.*) ---- \*/$"}
 CITED = re.compile(rf'({"|".join(map(re.escape, DOCUMENTS))})((?:(?:,| and| to|, and)? ?"[^"]+")+)')

@@ -21,12 +21,6 @@ WITHOUT = {
     Section("docs/PROGRAM.md", "The program battle_tool"): {
         "definition": "none: clap reads the words, and the contract of `tool` says which statuses there are"
     },
-    Section("docs/PROGRAM.md", "gen1, the same program by cargo"): {
-        "definition": "none: nothing of it is proved",
-        "code": "rust/gen1-cli/src/main.rs",
-        "edits": "none",
-        "tests": "rust/gen1-cli/tests/recorded.rs, explained.rs and replay.rs",
-    },
     Section("include/gen1.h", "searching"): {"definition": "crates/gen1_engine/specs/Reseed.antt: reseeded"},
     Section("include/gen1.h", "watching"): {
         "definition": "crates/gen1_spectator/specs/Plain.antt: view_of, reading_of"

@@ -1,4 +1,4 @@
-// A battle as a replay file of Showdown (docs/SHOWDOWN.md). Its viewer loads Showdown's script from the network.
+// A battle as a replay file of Showdown (docs/PROGRAM.md). Its viewer loads Showdown's script from the network.
 
 /**
  * @typedef {import("./engine.js").GameEvent} GameEvent

@@ -1,4 +1,4 @@
-//! Many battles in one process: a battle on each line in, and an object on each line out (docs/COMMAND_LINE.md, "JSON Lines").
+//! Many battles in one process: a battle on each line in, and an object on each line out (docs/PROGRAM.md, "JSON Lines").
 use crate::fault::Fault;
 use crate::files::{LineReader, put_all};
 use crate::game;

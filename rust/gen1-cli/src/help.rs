@@ -1,9 +1,9 @@
-//! What help prints after the arguments (docs/PROGRAM.md, docs/COMMAND_LINE.md).
+//! What help prints after the arguments (docs/PROGRAM.md).
 
 pub const PROGRAM: &str = "\
 FILE is the input. Without it, or with -, the input is standard input.
 examples/tauros.json of the repository is an input to start with: gen1 run examples/tauros.json
-docs/PROGRAM.md and docs/COMMAND_LINE.md describe each input and output.
+docs/PROGRAM.md describes each input and output.
 
 Exit status:
   0  done
@@ -50,7 +50,7 @@ order of the random factor, from 217 to 255:
   {"attacker": MEMBER, "defender": MEMBER, "move": "Body Slam", "critical": false}
 examples/body_slam.json is an input to start with."#;
 
-pub const SHOWDOWN: &str = r#"Commands are lines of standard input (docs/SHOWDOWN.md):
+pub const SHOWDOWN: &str = r#"Commands are lines of standard input (docs/PROGRAM.md):
   >start {"formatid":"gen1ou","seed":[1,2,3,4]}
   >player p1 {"name":"Alice","team":"Tauros||||bodyslam|||||||"}
   >player p2 {"name":"Bob","team":"Alakazam||||psychic|||||||"}
@@ -61,7 +61,7 @@ with a player's request or error, and end."#;
 
 pub const FOLLOW: &str = "\
 The log is one that `gen1 run --showdown` or `gen1 showdown` prints, a log of Showdown,
-or a replay page (docs/SHOWDOWN.md):
+or a replay page (docs/PROGRAM.md):
   gen1 run --showdown examples/tauros.json | gen1 follow --side p2
 
 Without --team the player's own side too is known as far as the log shows it.

@@ -1,4 +1,4 @@
-//! Objects for programs (docs/COMMAND_LINE.md, "Output for programs"): updates, events, choices and draws.
+//! Objects for programs (docs/PROGRAM.md, "Objects"): updates, events, choices and draws.
 use crate::draws::drawn;
 use crate::game::Step;
 use crate::screen;

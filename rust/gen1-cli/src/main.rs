@@ -1,4 +1,4 @@
-//! First-generation link battles at the command line (docs/PROGRAM.md, docs/COMMAND_LINE.md).
+//! First-generation link battles at the command line (docs/PROGRAM.md).
 #![deny(unsafe_code)]
 
 mod batch;

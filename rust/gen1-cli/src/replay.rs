@@ -1,4 +1,4 @@
-//! A page that holds a battle (web/README.md, "A file that holds its battle"; docs/SHOWDOWN.md).
+//! A page that holds a battle (web/README.md, "A file that holds its battle"; docs/PROGRAM.md, "Showdown's battle log").
 use crate::commands::{events_of, hex};
 use crate::fault::Fault;
 use crate::files::{name_of, named, put, read, replace};
@@ -22,7 +22,7 @@ pub struct Replay {
     /// The page, as web/build makes it
     #[arg(long, value_name = "HTML", required_unless_present = "showdown")]
     page: Option<PathBuf>,
-    /// Makes a page for Showdown's viewer, which it loads from the network (docs/SHOWDOWN.md); FILE is an input of run
+    /// Makes a page for Showdown's viewer, which it loads from the network (docs/PROGRAM.md); FILE is an input of run
     #[arg(long, conflicts_with = "page")]
     showdown: bool,
     /// The file to write, not one that is read; without it, or with -, standard output

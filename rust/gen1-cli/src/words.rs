@@ -86,7 +86,7 @@ pub struct Run {
     /// Prints an object for each update in place of lines
     #[arg(long)]
     pub json: bool,
-    /// Prints the battle as Showdown's battle log (docs/SHOWDOWN.md)
+    /// Prints the battle as Showdown's battle log (docs/PROGRAM.md)
     #[arg(long, conflicts_with_all = ["json", "lines"])]
     pub showdown: bool,
     #[command(flatten)]

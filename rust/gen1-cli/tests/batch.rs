@@ -1,4 +1,4 @@
-//! JSON Lines: many battles in one process (docs/COMMAND_LINE.md, "JSON Lines").
+//! JSON Lines: many battles in one process (docs/PROGRAM.md, "JSON Lines").
 mod common;
 use common::{TAUROS, battle, file_with, gen1, ran};
 use serde_json::Value;

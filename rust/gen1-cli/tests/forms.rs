@@ -1,5 +1,5 @@
 //! Recorded battles in the other forms of input and output: choices in words, teams as text, JSON Lines and objects. They are the battles
-//! of the bytes (docs/COMMAND_LINE.md).
+//! of the bytes (docs/PROGRAM.md).
 mod common;
 #[path = "common/lines.rs"]
 mod lines;

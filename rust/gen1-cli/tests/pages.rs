@@ -1,4 +1,4 @@
-//! The commands of docs/COMMAND_LINE.md and docs/SHOWDOWN.md print what they say.
+//! The commands of docs/PROGRAM.md and docs/TEAM_TEXT.md print what these pages say.
 use std::fs;
 use std::path::{Path, PathBuf};
 use std::process::Command;
@@ -34,7 +34,7 @@ fn folder() -> PathBuf {
 #[test]
 #[cfg(unix)]
 fn the_commands_of_the_pages_print_what_they_say() {
-    let pages = ["COMMAND_LINE.md", "SHOWDOWN.md"].map(|name| {
+    let pages = ["PROGRAM.md", "TEAM_TEXT.md"].map(|name| {
         let folder = Path::new(env!("CARGO_MANIFEST_DIR")).join("../../docs");
         fs::read_to_string(folder.join(name))
     });

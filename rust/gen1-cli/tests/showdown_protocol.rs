@@ -1,4 +1,4 @@
-//! `gen1 showdown`, the text protocol of Showdown's simulator. What is due was written from docs/SHOWDOWN.md.
+//! `gen1 showdown`, the text protocol of Showdown's simulator. What is due was written from docs/PROGRAM.md.
 mod common;
 use common::{gen1, ran};
 use serde_json::{Value, json};

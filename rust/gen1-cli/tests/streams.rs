@@ -1,4 +1,4 @@
-//! Standard streams, files and words as a user meets them (docs/PROGRAM.md, "gen1, the same program by cargo").
+//! Standard streams, files and words as a user meets them (docs/PROGRAM.md, "The program gen1").
 mod common;
 use common::{TAUROS, battle, fed, gen1, ran, told};
 use std::fs::File;

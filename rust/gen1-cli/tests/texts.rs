@@ -1,4 +1,4 @@
-//! Teams as text, names, explained draws, Showdown's forms, and what a system installs (docs/COMMAND_LINE.md, docs/SHOWDOWN.md).
+//! Teams as text, names, explained draws, Showdown's forms, and what a system installs (docs/PROGRAM.md).
 mod common;
 use common::{TAUROS, battle, file_with, ran};
 use serde_json::{Value, json};

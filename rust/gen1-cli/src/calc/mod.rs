@@ -1,4 +1,4 @@
-//! `gen1 calc`: the damage of moves between two members, and the chances to knock out (docs/COMMAND_LINE.md, "Damage").
+//! `gen1 calc`: the damage of moves between two members, and the chances to knock out (docs/PROGRAM.md, "Damage in words").
 mod field;
 mod knockouts;
 mod report;

@@ -1,4 +1,4 @@
-//! `gen1 follow`: a battle log of Showdown, read back as what a player knows (docs/SHOWDOWN.md, "Reading a log back").
+//! `gen1 follow`: a battle log of Showdown, read back as what a player knows (docs/PROGRAM.md, "follow").
 mod battle;
 mod fields;
 mod known;

@@ -1,4 +1,4 @@
-//! A request of a player, read back (docs/SHOWDOWN.md, "Requests").
+//! A request of a player, read back (docs/PROGRAM.md, "Requests").
 use super::fields::{details_in, health_in, member_in, move_in};
 use crate::input::{Misfit, Typed, key, optional_key};
 use crate::showdown::player_of;

@@ -1,4 +1,4 @@
-//! The program's inputs (docs/PROGRAM.md, "Input"; docs/COMMAND_LINE.md).
+//! The program's inputs (docs/PROGRAM.md, "Input", "Text in place of JSON").
 pub mod chosen;
 pub mod keys;
 pub mod near;

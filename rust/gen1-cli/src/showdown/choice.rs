@@ -1,4 +1,4 @@
-//! A choice in the words of the protocol (docs/SHOWDOWN.md, "Choices").
+//! A choice in the words of the protocol (docs/PROGRAM.md, "showdown").
 use super::seat::{Seat, id_of};
 use gen1::Choice;
 

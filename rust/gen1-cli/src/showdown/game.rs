@@ -1,4 +1,4 @@
-//! A battle of the protocol: choices in, blocks of text out (docs/SHOWDOWN.md, "Simulator").
+//! A battle of the protocol: choices in, blocks of text out (docs/PROGRAM.md, "showdown").
 use super::choice::choice_in;
 use super::log::{Log, clean, index, player_of};
 use super::request::request;

@@ -1,4 +1,4 @@
-//! A battle log as Showdown's replays have it (docs/SHOWDOWN.md).
+//! A battle log as Showdown's replays have it (docs/PROGRAM.md, "Showdown's battle log").
 use crate::input::{Members, Start};
 use gen1::{Event, Line, Rules, Side};
 

@@ -1,4 +1,4 @@
-//! Forms of Pokémon Showdown (docs/SHOWDOWN.md): its battle log, a page with that log for its viewer, and the protocol of its simulator.
+//! Forms of Pokémon Showdown (docs/PROGRAM.md): its battle log, a page with that log for its viewer, and the protocol of its simulator.
 mod choice;
 mod game;
 mod log;

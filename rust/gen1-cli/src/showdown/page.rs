@@ -1,4 +1,4 @@
-//! A page with a battle log in the form that Showdown's viewer reads (docs/SHOWDOWN.md).
+//! A page with a battle log in the form that Showdown's viewer reads (docs/PROGRAM.md, "Showdown's battle log").
 
 const BEFORE: &str = r#"<!DOCTYPE html>
 <meta charset="utf-8" />

@@ -1,4 +1,4 @@
-//! `gen1 showdown`: commands of the protocol of Showdown's simulator, from standard input (docs/SHOWDOWN.md, "Simulator").
+//! `gen1 showdown`: commands of the protocol of Showdown's simulator, from standard input (docs/PROGRAM.md, "showdown").
 use super::game::{Game, Setup};
 use crate::fault::Fault;
 use crate::files::{put, read_line};

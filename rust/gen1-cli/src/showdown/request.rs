@@ -1,4 +1,4 @@
-//! What a player is asked, as an object (docs/SHOWDOWN.md, "Requests").
+//! What a player is asked, as an object (docs/PROGRAM.md, "Requests").
 use super::log::player_of;
 use super::seat::{Seat, id_of};
 use gen1::{Kind, OwnMember};
