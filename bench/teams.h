@@ -1,4 +1,4 @@
-/* The full teams of recorded battles. Made by bench/teams.py. */
+/* The full teams of recorded battles. Made by tools/gen. */
 static const gen1_team TEAMS[] = {
     {.members = {
         {151, 88, {14, 7, 7, 13}, {45, 108, 81, 96}, {1, 2, 0, 1}, {0, 0, 46991, 15479, 0}},

@@ -1,15 +1,9 @@
-#!/usr/bin/env python3
-"""Writes bench/teams.h: the full teams of recorded battles.
+"""The full teams of recorded battles, as bench/teams.h.
 
-    bench/teams.py FILE > bench/teams.h
-
-FILE has recorded cases of `battle_tool run`, and may be packed; bench/teams.h is made from tests/battles/battles.jsonl.xz. A team is taken
-where it has six members with four moves each, and only once. The numbers of species and moves are those of docs/TABLES.md.
-
-Exit status: 0, or 2 where FILE cannot be read or the arguments are wrong.
+A team of tests/battles/battles.jsonl.xz is taken where it has six members with four moves each, and only once. The numbers of species
+and moves are those of docs/TABLES.md.
 """
 
-import argparse
 import json
 import re
 import sys
@@ -19,7 +13,7 @@ ROOT = Path(__file__).resolve().parent.parent
 
 sys.path.insert(0, str(ROOT / "tools"))
 sys.dont_write_bytecode = True
-from battles import Unreadable, cases  # noqa: E402
+from battles import cases, recorded  # noqa: E402
 
 
 def numbers(heading):
@@ -55,23 +49,11 @@ def member_text(member, species, moves):
     )
 
 
-def main():
-    parser = argparse.ArgumentParser(description=__doc__, formatter_class=argparse.RawDescriptionHelpFormatter)
-    parser.add_argument("file", metavar="FILE")
-    file = parser.parse_args().file
+def generated():
+    """The header with the teams."""
     species, moves = numbers("Species"), numbers("Moves")
-    try:
-        teams = full_teams(file)
-    except Unreadable as fault:
-        parser.error(str(fault))
-    print("/* The full teams of recorded battles. Made by bench/teams.py. */")
-    print("static const gen1_team TEAMS[] = {")
-    for team in teams:
-        print("    {.members = {")
-        for member in team:
-            print(f"        {member_text(member, species, moves)},")
-        print("    }, .count = 6},")
-    print("};")
-
-
-main()
+    lines = ["/* The full teams of recorded battles. Made by tools/gen. */", "static const gen1_team TEAMS[] = {"]
+    for team in full_teams(recorded("battles.jsonl")):
+        members = [f"        {member_text(member, species, moves)}," for member in team]
+        lines += ["    {.members = {", *members, "    }, .count = 6},"]
+    return {ROOT / "bench" / "teams.h": "\n".join([*lines, "};", ""])}

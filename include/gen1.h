@@ -118,7 +118,7 @@ enum {
  */
 enum { GEN1_FAULT_DIVISION = 1, GEN1_FAULT_PSYWAVE };
 
-/* tools/header.py writes the lines from here to "end of the tables", from docs/TABLES.md and docs/MECHANICS.md. */
+/* tools/gen writes the lines from here to "end of the tables", from docs/TABLES.md and docs/MECHANICS.md. */
 
 /* Types. */
 enum {

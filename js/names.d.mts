@@ -1,4 +1,4 @@
-// Made by tools/plain_wasm from docs/TABLES.md: the names that the library knows.
+// Made by tools/gen from docs/TABLES.md: the names that the library knows.
 export type SpeciesName =
   | "Bulbasaur" | "Ivysaur" | "Venusaur" | "Charmander" | "Charmeleon" | "Charizard" | "Squirtle" | "Wartortle"
   | "Blastoise" | "Caterpie" | "Metapod" | "Butterfree" | "Weedle" | "Kakuna" | "Beedrill" | "Pidgey"

@@ -4,7 +4,7 @@
     pytest tests/test_c.py -k header     the tests of a file whose names contain a word
 
 A test counts as one check, or as many as it passes to `compared`. A test that lacks a program is skipped by name.
-The last line is 'N passed, M failed, K skipped'.
+The last line is 'N passed, M failed, K skipped'. pytest is Debian's `pytest-3`, or `python3 -m pytest`.
 """
 
 import shutil
@@ -28,6 +28,9 @@ def pytest_addoption(parser):
     group.addoption(
         "--battles", type=Path, metavar="FOLDER", default=ROOT / "tests" / "battles", help="the recorded battles"
     )
+    group.addoption(
+        "--mutants", default="tenth", metavar="PART", help="of the definitions: tenth, all, K/N, or those of a NAME"
+    )
     group.addoption("--plain", action="store_true", help="test only what needs no kit")
 
 
@@ -39,10 +42,16 @@ def battles(pytestconfig):
 
 @pytest.fixture
 def compared(request):
-    """Counts comparisons: `compared(n)` says that the test compares n values."""
+    """Counts comparisons: `compared(n)` says that the test compares n values.
 
-    def count(number):
-        request.node.user_properties.append(("compared", number))
+    `compared(n, faults)` says which of them failed, a line each. Where there is one, the test fails with these lines.
+    """
+
+    def count(number, faults=()):
+        faults = list(faults)
+        request.node.user_properties += [("compared", max(number - len(faults), 0)), ("faults", len(faults))]
+        if faults:
+            pytest.fail("\n".join(faults), pytrace=False)
 
     return count
 
@@ -59,11 +68,34 @@ def needs():
     return check
 
 
-def pytest_terminal_summary(terminalreporter, exitstatus, config):
-    """Names what was skipped."""
-    for report in terminalreporter.stats.get("skipped", ()):
+@pytest.fixture
+def left_out(request):
+    """Counts a part of a test as skipped: `left_out("there is no Chromium")`."""
+
+    def count(reason):
+        request.node.user_properties.append(("left out", reason))
+
+    return count
+
+
+def skips(reporter):
+    """Each test that was skipped or left out a part, with the reason."""
+    for report in reporter.stats.get("skipped", ()):
         reason = report.longrepr[2] if isinstance(report.longrepr, tuple) else report.longrepr
-        terminalreporter.write_line(f"skipped: {report.nodeid}: {str(reason).removeprefix('Skipped: ')}")
+        yield report.nodeid, str(reason).removeprefix("Skipped: ")
+    for report in (*reporter.stats.get("passed", ()), *reporter.stats.get("failed", ())):
+        yield from ((report.nodeid, reason) for key, reason in report.user_properties if key == "left out")
+
+
+def pytest_terminal_summary(terminalreporter, exitstatus, config):
+    """Names what was skipped; tests of one function with one reason are one line."""
+    named = {}
+    for name, reason in skips(terminalreporter):
+        named.setdefault((name.partition("[")[0], reason), []).append(name)
+    for (function, reason), names in named.items():
+        terminalreporter.write_line(
+            f"skipped: {names[0] if len(names) == 1 else f'{len(names)} of {function}'}: {reason}"
+        )
 
 
 def pytest_unconfigure(config):
@@ -72,6 +104,12 @@ def pytest_unconfigure(config):
     if not reporter or hasattr(config, "workerinput") or config.getoption("collectonly"):
         return
     stats = reporter.stats
-    passed = sum(max(1, sum(n for key, n in it.user_properties if key == "compared")) for it in stats.get("passed", ()))
-    failed = len(stats.get("failed", ())) + len(stats.get("error", ()))
-    print(f"{passed} passed, {failed} failed, {len(stats.get('skipped', ()))} skipped")
+    passed = sum(max(1, counted(it, "compared")) for it in stats.get("passed", ()))
+    passed += sum(counted(it, "compared") for it in stats.get("failed", ()))
+    failed = sum(max(1, counted(it, "faults")) for it in (*stats.get("failed", ()), *stats.get("error", ())))
+    print(f"{passed} passed, {failed} failed, {len(list(skips(reporter)))} skipped")
+
+
+def counted(report, key):
+    """The sum of what a test counted."""
+    return sum(number for name, number in report.user_properties if name == key)

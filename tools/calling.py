@@ -1,8 +1,4 @@
-#!/usr/bin/env python3
-"""Copies examples, laws and the names of contracts from crates/ into the documents that show them, so that each is said once.
-
-    tools/calling.py           writes the documents
-    tools/calling.py --check   writes nothing; fails where a document differs
+"""Examples, laws and the names of contracts from crates/ in the documents that show them, so that each is said once.
 
 The documents are README.md, docs/PROVED.md and crates/*/CALLING.md. A document shows one of three things after a line with its mark:
 
@@ -21,11 +17,9 @@ line between two. Each part loses its imports and the indentation of its first l
 with the name of a crate by the CALLING.md of that crate.
 """
 
-import argparse
 import re
 import sys
 
-sys.dont_write_bytecode = True
 from contracts import contracts, laws
 from repository import ROOT
 
@@ -123,25 +117,11 @@ def unshown(shown, texts):
             yield f"no document shows the part {name}"
 
 
-def main():
-    parser = argparse.ArgumentParser(description=__doc__, formatter_class=argparse.RawDescriptionHelpFormatter)
-    parser.add_argument("--check", action="store_true", help="write nothing, and fail where a document differs")
-    check = parser.parse_args().check
-    texts = parts()
-    shown, faults = {}, []
+def generated():
+    """Each document with its parts."""
+    texts, shown, files = parts(), {}, {}
     for document in documents():
-        text, shown[document] = written(document, texts)
-        if text == document.read_text():
-            continue
-        if check:
-            faults.append(f"{document.relative_to(ROOT)} is not up to date: run tools/calling.py")
-        else:
-            document.write_text(text)
-    faults += unshown(shown, texts)
-    for fault in faults:
-        print(fault)
-    return 1 if faults else 0
-
-
-if __name__ == "__main__":
-    sys.exit(main())
+        files[document], shown[document] = written(document, texts)
+    if faults := [*unshown(shown, texts)]:
+        sys.exit("\n".join(faults))
+    return files

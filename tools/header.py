@@ -1,23 +1,19 @@
-#!/usr/bin/env python3
-"""Writes the types, species, moves and effects of include/gen1.h from docs/TABLES.md, and the details of events from docs/MECHANICS.md.
+"""The types, species, moves and effects of include/gen1.h from docs/TABLES.md, and the details of events from docs/MECHANICS.md.
 
-    tools/header.py           writes the enums between their two marks, and prints whether the header changed
-    tools/header.py --check   writes nothing; fails where the header differs
-
-It changes only the lines between the marks.
+Only the lines between the two marks are generated.
 """
 
-import argparse
 import sys
 import textwrap
 
-sys.dont_write_bytecode = True
-from python_names import constant, kind_rows
+from names import constant, kind_rows
 from repository import ROOT
 from tables import effect_names, element_names, numbered, table
 
 HEADER = ROOT / "include" / "gen1.h"
-BEGIN = '/* tools/header.py writes the lines from here to "end of the tables", from docs/TABLES.md and docs/MECHANICS.md. */\n'
+BEGIN = (
+    '/* tools/gen writes the lines from here to "end of the tables", from docs/TABLES.md and docs/MECHANICS.md. */\n'
+)
 END = "/* end of the tables */\n"
 WIDTH = 128
 # Details of events: the comment above them, their kind, and the heading of their names in docs/MECHANICS.md, "Events".
@@ -73,24 +69,11 @@ def enums(document, rules):
     )
 
 
-def main():
-    parser = argparse.ArgumentParser(description=__doc__, formatter_class=argparse.RawDescriptionHelpFormatter)
-    parser.add_argument("--check", action="store_true", help="write nothing")
-    check = parser.parse_args().check
-    text = HEADER.read_text()
-    before, marked, after = text.partition(BEGIN)
+def generated():
+    """The header with its enums."""
+    before, marked, after = HEADER.read_text().partition(BEGIN)
     _, ended, behind = after.partition(END)
     if not marked or not ended:
         sys.exit("include/gen1.h: the marks of the tables are not there")
     documents = ((ROOT / "docs" / name).read_text() for name in ("TABLES.md", "MECHANICS.md"))
-    new = before + BEGIN + "\n" + enums(*documents) + "\n" + END + behind
-    if new == text:
-        return 0
-    if not check:
-        HEADER.write_text(new)
-    print(f"include/gen1.h: {'differs' if check else 'written'}")
-    return int(check)
-
-
-if __name__ == "__main__":
-    sys.exit(main())
+    return {HEADER: before + BEGIN + "\n" + enums(*documents) + "\n" + END + behind}

@@ -1,18 +1,12 @@
-#!/usr/bin/env python3
-"""Lists the crates of crates.txt in their layers, between the two marks of docs/ARCHITECTURE.md.
-
-    tools/layers.py           writes the table
-    tools/layers.py --check   writes nothing; fails where the table differs
+"""The table of the crates of crates.txt in their layers, between the two marks of docs/ARCHITECTURE.md.
 
 This file says which layer a crate belongs to, and what the layer contains. A crate may depend on crates of its own layer and of those
 below; one that depends on a crate above, or that is in no layer, is an error. The row of a crate has the first sentence of its head, and
 the crates that it names, without those that it reaches through another one.
 """
 
-import argparse
 import sys
 
-sys.dont_write_bytecode = True
 from contracts import link, purpose
 from repository import ROOT, below, crates
 
@@ -91,29 +85,12 @@ def rows(known):
             yield f"| [{name}]({link(file, DOCUMENT.parent)}){page} | {text} | {' '.join(nearest(name, known))} |\n"
 
 
-def written(known):
-    """The text of the document with the table in it."""
-    text = DOCUMENT.read_text()
+def generated():
+    """The document with the table in it."""
+    known, text = crates(), DOCUMENT.read_text()
+    if found := [*faults(known)]:
+        sys.exit("\n".join(found))
     if text.count(BEGIN) != 1 or text.count(END) != 1:
         sys.exit(f"{DOCUMENT.relative_to(ROOT)} has no place for the layers, or several: {BEGIN!r} and then {END!r}")
     before, rest = text.split(BEGIN)
-    return before + BEGIN + "".join(rows(known)) + END + rest.split(END)[1]
-
-
-def main():
-    parser = argparse.ArgumentParser(description=__doc__, formatter_class=argparse.RawDescriptionHelpFormatter)
-    parser.add_argument("--check", action="store_true", help="write nothing; fail where the table differs")
-    check, known = parser.parse_args().check, crates()
-    if found := [*faults(known)]:
-        sys.exit("\n".join(found))
-    text = written(known)
-    if DOCUMENT.read_text() == text:
-        return
-    if check:
-        sys.exit("the table of docs/ARCHITECTURE.md is not that of crates.txt and crates/; run tools/layers.py")
-    DOCUMENT.write_text(text)
-    print("docs/ARCHITECTURE.md")
-
-
-if __name__ == "__main__":
-    main()
+    return {DOCUMENT: before + BEGIN + "".join(rows(known)) + END + rest.split(END)[1]}

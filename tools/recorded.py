@@ -1,21 +1,21 @@
-#!/usr/bin/env python3
-"""Writes tests of whole recorded battles, which play them update by update (docs/PROOFS.md, "Recorded battles").
+"""Tests of whole recorded battles (docs/PROOFS.md, "Recorded battles"), and the recorded battles of docs/DIFFERENCES.md.
 
-    tools/recorded.py [--check] [TRACES]
+Each battle of BATTLES, a line of traces.jsonl of tests/battles, is a module of crates/test_engine/src/recorded: its teams, and for each
+update the pair of choices, the recorded log and all 384 bytes. crates/test_engine/src/recorded.rt plays them. Run `rt fmt` in
+crates/test_engine after they are written.
 
-TRACES has a recorded battle in each line, and may be packed; the default is traces.jsonl of tests/battles. Each battle of BATTLES becomes a
-module of crates/test_engine/src/recorded: its teams, and for each update the pair of choices, the recorded log and all 384 bytes.
-crates/test_engine/src/recorded.rt plays them. Run `rt fmt` in crates/test_engine after it. --check writes nothing, and fails where a file
-differs in more than its layout.
-
-Exit status: 0, 1 where a file differs, 2 where TRACES cannot be read or the arguments are wrong.
+A file of examples/differences with a key "recorded", such as "corners 251, update 4", is the recorded battle of that line of that file, up
+to and with that update (tests/battles/README.md). Its lines are those of the recorded log, as tests/log_lines.py writes them. For a new
+one write a file with this key alone.
 """
-import argparse
+
+import json
 import re
 import sys
+from functools import cache
 
-sys.dont_write_bytecode = True
-from battles import Unreadable, recorded, traces
+from battles import recorded, traces
+from log_lines import lines
 from repository import ROOT
 
 # The number of the line, from 0, by the name of the module.
@@ -23,10 +23,13 @@ BATTLES = {"raging": 17, "outnumbered": 28, "digging": 50}
 
 FOLDER = ROOT / "crates" / "test_engine" / "src" / "recorded"
 
+DIFFERENCES = ROOT / "examples" / "differences"
+UPDATE = re.compile(r"(corners|traces) (\d+), update (\d+)")
+
 SIDES = ("one", "two")
 PLACES = ("first", "second", "third", "fourth", "fifth", "sixth")
 
-HEAD = """//! A recorded battle: {species}. Made by tools/recorded.py.
+HEAD = """//! A recorded battle: {species}. Made by tools/gen.
 use crate::recorded::{{Update, played}};
 use crate::setting::{{assert_same, member_of}};
 use gen1_machine::{{Rules, TurnLimit}};
@@ -133,25 +136,54 @@ def laid_out(text):
     return re.sub(r",(?=[\])])", "", re.sub(r"\s", "", text))
 
 
-def main():
-    parser = argparse.ArgumentParser(description=__doc__, formatter_class=argparse.RawDescriptionHelpFormatter)
-    parser.add_argument(
-        "traces", nargs="?", default=recorded("traces.jsonl"), help="recorded battles (default: of tests/battles)"
-    )
-    parser.add_argument("--check", action="store_true", help="write nothing; fail where a file differs")
-    given = parser.parse_args()
-    try:
-        battles = traces(given.traces)
-    except Unreadable as fault:
-        parser.error(str(fault))
+def is_same(there, text):
+    """Whether a file is its text, a module apart from its layout."""
+    return there == text or text.startswith("//!") and laid_out(there) == laid_out(text)
+
+
+@cache
+def battles_of(name):
+    return traces(recorded(f"{name}.jsonl"))
+
+
+def recording(words):
+    """The battle up to a recorded update, with its lines."""
+    found = UPDATE.fullmatch(words)
+    file, line, update = found[1], int(found[2]), int(found[3])
+    if line >= len(battles_of(file)) or update >= len(battles_of(file)[line]["updates"]):
+        raise LookupError(f"there is no recorded {words}")
+    battle = battles_of(file)[line]
+    played = battle["updates"][: update + 1]
+    shown = [line for it in played if it["refused"] is None for line in lines(bytes.fromhex(it["log"]))]
+    return {"recorded": words, **battle["object"], "choices": [it["pair"] for it in played], "expected": shown}
+
+
+def in_lines(given):
+    """The text of a battle: a line for each key and for each member."""
+    rows = []
+    for key, value in given.items():
+        text = json.dumps(value, separators=(",", ":"))
+        if key in ("one", "two"):
+            text = "[" + ",\n        ".join(json.dumps(it, separators=(",", ":")) for it in value) + "]"
+        elif key == "expected":
+            text = "[\n" + ",\n".join(f"  {json.dumps(line, ensure_ascii=False)}" for line in value) + "]"
+        rows.append(f' "{key}":{text}')
+    return "{" + ",\n".join(rows)[1:] + "}\n"
+
+
+def differences():
+    """The text of each recorded battle of examples/differences."""
+    for path in sorted(DIFFERENCES.glob("*.json")):
+        if words := json.loads(path.read_text()).get("recorded"):
+            if not UPDATE.fullmatch(words):
+                sys.exit(f"{path.relative_to(ROOT)}: '{words}' is not a recorded update")
+            yield path, in_lines(recording(words))
+
+
+def generated():
+    """The text of each file."""
+    battles = battles_of("traces")
     if len(battles) <= max(BATTLES.values()):
-        parser.error(f"{given.traces} has only {len(battles)} battles")
-    for name, line in BATTLES.items():
-        text, file = module(battles[line]), FOLDER / f"{name}.rt"
-        if not given.check:
-            file.write_text(text, encoding="utf-8")
-        elif laid_out(file.read_text(encoding="utf-8")) != laid_out(text):
-            sys.exit(f"{file.relative_to(ROOT)} differs from the recorded battle; run tools/recorded.py")
-
-
-main()
+        sys.exit(f"tests/battles has only {len(battles)} battles")
+    modules = {FOLDER / f"{name}.rt": module(battles[line]) for name, line in BATTLES.items()}
+    return {**modules, **dict(differences())}

@@ -177,3 +177,8 @@ def indented(file):
 def clock(seconds):
     """Seconds as minutes and seconds."""
     return f"{int(seconds) // 60}:{int(seconds) % 60:02d}"
+
+
+def named_bodies():
+    """The edits, as CRATE/NAME, of each named wrong body (tests/named_bodies.txt)."""
+    return {body: places.split() for body, places in indented(ROOT / "tests" / "named_bodies.txt").items()}

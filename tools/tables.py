@@ -1,13 +1,8 @@
-#!/usr/bin/env python3
-"""Writes the lists of crates/gen1_tables from the tables of docs/TABLES.md.
-
-    tools/tables.py           writes the lists into src/ and specs/, and names each file that changed
-    tools/tables.py --check   writes nothing; names each file that differs, and fails where one does
+"""The lists of crates/gen1_tables, from the tables of docs/TABLES.md.
 
 A list is between its first line and its last one in a file. All other lines of the file stay as they are.
 """
 
-import argparse
 import re
 import sys
 from pathlib import Path
@@ -121,9 +116,9 @@ def all_lists(document):
         yield spec_list("Names.antt", f"{what}_names", [f'codes "{name}" ∷' for name, *_ in rows])
 
 
-def with_lists(document):
-    """The text of each file with its lists as the document has them."""
-    texts = {}
+def generated():
+    """The text of each file with its lists as docs/TABLES.md has them."""
+    document, texts = (ROOT / "docs" / "TABLES.md").read_text(), {}
     for file, first, last, rows in all_lists(document):
         body = "".join(f"    {row}\n" for row in rows)
         pattern = rf"(?P<first>^{first}\n).*?(?=^{re.escape(last)}$)"
@@ -132,21 +127,3 @@ def with_lists(document):
         if found != 1:
             sys.exit(f"{file.relative_to(ROOT)}: {found} lists begin with {first}")
     return texts
-
-
-def main():
-    parser = argparse.ArgumentParser(description=__doc__.splitlines()[0])
-    parser.add_argument("--check", action="store_true", help="write nothing; fail where a file differs")
-    check = parser.parse_args().check
-    texts = with_lists((ROOT / "docs" / "TABLES.md").read_text())
-    differing = [file for file, text in texts.items() if file.read_text() != text]
-    for file in differing:
-        print(file.relative_to(ROOT))
-        if not check:
-            file.write_text(texts[file])
-    if check and differing:
-        sys.exit("these files are not what docs/TABLES.md says; run tools/tables.py")
-
-
-if __name__ == "__main__":
-    main()

@@ -1,22 +1,15 @@
-#!/usr/bin/env python3
-"""Writes a walk over the phases of the battle machine (docs/PROOFS.md, "Walks").
+"""Walks over the phases of the battle machine (docs/PROOFS.md, "Walks"): Free.antt, SoundWalk.antt and Steady.antt of gen1_machine.
 
-For each phase of the specifications that a walk names it writes one lemma: the phase keeps a fact if its parts do. The lemma
+For each phase of the specifications that a walk names there is one lemma: the phase keeps a fact if its parts do. The lemma
 is proved by `search` over the rules for the combinators, the rules for the changes, and the lemmas of the phases that its
-clauses name.
+clauses name. The lemmas of sound_lemmas.txt and steady_lemmas.txt in the crate's folder are taken as they are.
 
-    tools/walk.py free      writes crates/gen1_machine/proofs/Free.antt
-    tools/walk.py sound     writes crates/gen1_machine/proofs/SoundWalk.antt, with the lemmas of tools/sound_lemmas.txt
-    tools/walk.py steady    writes crates/gen1_machine/proofs/Steady.antt, with the lemmas of tools/steady_lemmas.txt
-    tools/walk.py --check   writes nothing; names each of the three files that differs, and fails where one does
-
-Run `rt tidy` in crates/gen1_machine after it, which drops imports and lays out lines; the check ignores both.
-
-Exit status: 0, 1 where --check found a difference, 2 where the arguments are wrong.
+Run `rt tidy` in crates/gen1_machine after they are written, which drops imports and lays out lines; `is_same` ignores both.
 """
+
 import os
 import re
-import sys
+from pathlib import Path
 
 CRATE = os.path.join(os.path.dirname(os.path.abspath(__file__)), "..", "crates", "gen1_machine")
 WORD = r"[A-Za-z_][\w]*"
@@ -178,7 +171,7 @@ COMBINATORS = """stay unless_stopped choose given stop draw draw_until on_field 
 set_last_damage starts lasts ends on_action set_missed""".split()
 
 FREE_HEAD = """-- What no phase of an action touches: turn number, places, members that aren't out, and the length of a party. A fact about
--- these alone is free, and every phase of an action keeps it. tools/walk.py writes this file.
+-- these alone is free, and every phase of an action keeps it. tools/gen writes this file.
 %s
 use Rattle.gen1_machine.proofs.Keeps.{choose-keeps, keeps_rules, stay-keeps, then-keeps, Keeps, KeepsRuling, Spares, SparesAction}
 
@@ -374,8 +367,8 @@ lead_up carry_out action_parts act let_energy_go store_energy bide_on bide_goes_
 resume""".split()
 )
 
-SOUND_HEAD = """-- The phases of an action that touch nothing that the current move explains keep a valid field. tools/walk.py writes this
--- file, with the lemmas of tools/sound_lemmas.txt.
+SOUND_HEAD = """-- The phases of an action that touch nothing that the current move explains keep a valid field. tools/gen writes this
+-- file, with the lemmas of sound_lemmas.txt.
 %s
 use Rattle.std.proofs.lemmas.Bool.{false≢true, ltb-true}
 use Rattle.gen1_machine.proofs.Keeps.{choose-keeps, draw-keeps, ends-keeps, given-keeps, keeps_rules, note-keeps, on_action-keeps, on_active-keeps, on_conditions-keeps, on_field-keeps, set_last_damage-keeps, set_missed-keeps, starts-keeps, stay-keeps, stop-keeps, then-keeps, told-keeps, Keeps, KeepsRuling, Spares, SparesAction}
@@ -414,7 +407,7 @@ SOUND_TAIL = """  pub ruling-sound : KeepsRuling P (ruling_of terms)
 
 def sound():
     by_hand = {}
-    with open(os.path.join(os.path.dirname(os.path.abspath(__file__)), "sound_lemmas.txt"), encoding="utf-8") as file:
+    with open(os.path.join(CRATE, "sound_lemmas.txt"), encoding="utf-8") as file:
         for block in file.read().strip("\n").split("\n\n"):
             by_hand[re.match(r"  pub (%s)-sound :" % WORD, block).group(1)] = block.split("\n")
     extra = {"Move": True, "inflict": ["IsStatus terms.rules status"], "lower_foes_stat": ["1 ≤ by"]}
@@ -429,8 +422,8 @@ def sound():
 ASKED = {"hurts": "Hurts P", "faults": "Faults P", "broken": "Breaks P %s", "own": "Own P %s", "acts": "Acts P"}
 
 STEADY_HEAD = """-- What phases leave as it is: rage, thrashing and their kept accuracy, the health of a member that falls, and the outcome.
--- A further need of a phase is a premise of its lemma. tools/walk.py writes this file, with the lemmas of
--- tools/steady_lemmas.txt.
+-- A further need of a phase is a premise of its lemma. tools/gen writes this file, with the lemmas of
+-- steady_lemmas.txt.
 %s
 use Rattle.gen1_machine.proofs.Keeps.{choose-keeps, given-keeps, keeps_rules, on_action-keeps, on_active-keeps, on_conditions-keeps, on_field-keeps, on_member-keeps, stay-keeps, stop-keeps, then-keeps, told-keeps, Keeps, KeepsRuling, Spares, SparesAction}
 
@@ -584,7 +577,7 @@ def leaving(change, record, proof):
 def stored_lemmas():
     """The lemmas of steady_lemmas.txt by phase, and what each needs of a fact."""
     lemmas, asked = {}, {}
-    with open(os.path.join(os.path.dirname(os.path.abspath(__file__)), "steady_lemmas.txt"), encoding="utf-8") as file:
+    with open(os.path.join(CRATE, "steady_lemmas.txt"), encoding="utf-8") as file:
         for block in file.read().strip("\n").split("\n\n"):
             word = re.match(r"  pub (%s)-steady :" % WORD, block).group(1)
             lemmas[word] = block.split("\n")
@@ -655,10 +648,8 @@ def imported(text):
     return found
 
 
-def is_made_so(file, text):
+def is_same(there, text):
     """Whether a file is this text, apart from unused imports and layout."""
-    with open(file, encoding="utf-8") as it:
-        there = it.read()
     lemmas = [
         [line.split() for line in of.split("\n") if line.strip() and not line.startswith("use ")]
         for of in (there, text)
@@ -666,26 +657,6 @@ def is_made_so(file, text):
     return lemmas[0] == lemmas[1] and imported(there) <= imported(text)
 
 
-WALKS = {"free": free, "sound": sound, "steady": steady}
-
-
-def main():
-    words = sys.argv[1:]
-    if words == ["--check"]:
-        differing = [name for name, make in WALKS.items() if not is_made_so(*make())]
-        if differing:
-            sys.exit(
-                "not what tools/walk.py writes: %s; run it, and then `rt tidy` in crates/gen1_machine"
-                % ", ".join(differing)
-            )
-    elif len(words) == 1 and words[0] in WALKS:
-        file, text = WALKS[words[0]]()
-        with open(file, "w", encoding="utf-8") as it:
-            it.write(text)
-    else:
-        print(__doc__, file=sys.stderr)
-        sys.exit(2)
-
-
-if __name__ == "__main__":
-    main()
+def generated():
+    """The text of each file."""
+    return {Path(file).resolve(): text for file, text in (free(), sound(), steady())}

@@ -1,4 +1,4 @@
--- A lemma that unfolds `computing` computes all definitions of a battle. Made by tools/evaluate.py.
+-- A lemma that unfolds `computing` computes all definitions of a battle. Made by tools/gen.
 use Rattle.std.proofs.Common.{Bool, true}
 use Rattle.std.specs.Fmt.{digits}
 use Rattle.gen1_tables.specs.Types.{type_rows}

@@ -1,5 +1,5 @@
 -- What no phase of an action touches: turn number, places, members that aren't out, and the length of a party. A fact about
--- these alone is free, and every phase of an action keeps it. tools/walk.py writes this file.
+-- these alone is free, and every phase of an action keeps it. tools/gen writes this file.
 use Rattle.gen1_machine.specs.Action.{act, action_parts, begin, carry_out, damage_of, gate_or_held, keep_accuracy, lead_up, prelude, resume, see_if_going_on, set_going_on, spend_pp, strike, use_move, usual_damage}
 use Rattle.gen1_machine.specs.Charging.{begin_charge, charge, end_charge, make_current}
 use Rattle.gen1_machine.specs.Conditions.{ActiveConditions, Storing}

@@ -1,5 +1,5 @@
--- The phases of an action that touch nothing that the current move explains keep a valid field. tools/walk.py writes this
--- file, with the lemmas of tools/sound_lemmas.txt.
+-- The phases of an action that touch nothing that the current move explains keep a valid field. tools/gen writes this
+-- file, with the lemmas of sound_lemmas.txt.
 use Rattle.gen1_machine.specs.Action.{damage_of, gate_or_held, see_if_going_on, set_going_on, usual_damage}
 use Rattle.gen1_machine.specs.Charging.{end_charge}
 use Rattle.gen1_machine.specs.Conditions.{with_confusion_one_less, with_disable_one_less, ActiveConditions}

@@ -1,6 +1,6 @@
 -- What phases leave as it is: rage, thrashing and their kept accuracy, the health of a member that falls, and the outcome.
--- A further need of a phase is a premise of its lemma. tools/walk.py writes this file, with the lemmas of
--- tools/steady_lemmas.txt.
+-- A further need of a phase is a premise of its lemma. tools/gen writes this file, with the lemmas of
+-- steady_lemmas.txt.
 use Rattle.gen1_machine.specs.Action.{act, action_parts, begin, carry_out, damage_of, gate_or_held, keep_accuracy, lead_up, prelude, resume, see_if_going_on, set_going_on, spend_pp, strike, use_move, usual_damage}
 use Rattle.gen1_machine.specs.Charging.{begin_charge, charge, end_charge, make_current}
 use Rattle.gen1_machine.specs.Conditions.{after_haze, broken_off, with_bad_poison, with_bide, with_bide_storing, with_charging, with_confusion, with_confusion_one_less, with_disable_one_less, with_disabled, with_flinch, with_focus_energy, with_invulnerability, with_light_screen, with_mist, with_recharge, with_reflect, with_seed, with_substitute, with_substitute_hurt, with_trapping, with_trapping_one_less, with_worse_poison, without_bide, without_charging, without_confusion, without_disable, without_flinch, without_invulnerability, without_recharge, without_seed, without_substitute, without_trapping, ActiveConditions, Storing}

@@ -1,5 +1,5 @@
 //! Whole battles that an independent program recorded, played by `start`, `turn` and `replace`. After each update all
-//! 384 bytes and the log are as recorded. `tools/recorded.py` writes these files.
+//! 384 bytes and the log are as recorded. `tools/gen` writes these files.
 use gen1_events::{LogBuf, write};
 use gen1_layout::Packed;
 use gen1_machine::{Choice, EventList, Request, Rules, Side, TurnLimit};

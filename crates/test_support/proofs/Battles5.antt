@@ -1,4 +1,4 @@
--- Recorded battles: the definitions give each update as it was recorded. Made by tools/evaluate.py.
+-- Recorded battles: the definitions give each update as it was recorded. Made by tools/gen.
 use Rattle.std.proofs.Common.{List, [], refl, ◌∷◌, ◌≡◌}
 use Rattle.gen1_machine.specs.declared.choice.Choice.{Choice}
 use Rattle.gen1_machine.specs.declared.choice.Choice.TheVariants as choices

@@ -7,7 +7,7 @@ mod WorkedCorners
 mod WorkedEffects
 mod WorkedEvents
 mod WorkedTeams
--- Recorded battles, written by tools/evaluate.py.
+-- Recorded battles, written by tools/gen.
 mod Battles1
 mod Battles2
 mod Battles3

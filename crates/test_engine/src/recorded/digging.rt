@@ -1,4 +1,4 @@
-//! A recorded battle: Nidoqueen and Weezing against Lapras and Tentacruel and Weezing. Made by tools/recorded.py.
+//! A recorded battle: Nidoqueen and Weezing against Lapras and Tentacruel and Weezing. Made by tools/gen.
 use crate::recorded::{Update, played};
 use crate::setting::{assert_same, member_of};
 use gen1_machine::{Rules, TurnLimit};

@@ -1,4 +1,4 @@
-//! A recorded battle: Seaking against Magneton and Dugtrio and Krabby. Made by tools/recorded.py.
+//! A recorded battle: Seaking against Magneton and Dugtrio and Krabby. Made by tools/gen.
 use crate::recorded::{Update, played};
 use crate::setting::{assert_same, member_of};
 use gen1_machine::{Rules, TurnLimit};

@@ -1,4 +1,4 @@
-//! A recorded battle: Weezing and Tauros and Moltres and Poliwrath and Drowzee against Charmander. Made by tools/recorded.py.
+//! A recorded battle: Weezing and Tauros and Moltres and Poliwrath and Drowzee against Charmander. Made by tools/gen.
 use crate::recorded::{Update, played};
 use crate::setting::{assert_same, member_of};
 use gen1_machine::{Rules, TurnLimit};

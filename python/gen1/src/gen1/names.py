@@ -1,4 +1,4 @@
-"""Species, moves, types and codes by name. Made by tools/python_names.py; change what it reads, not this."""
+"""Species, moves, types and codes by name. Made by tools/gen; change what it reads, not this."""
 
 from enum import EnumMeta, IntEnum, IntFlag
 

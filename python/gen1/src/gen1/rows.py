@@ -1,4 +1,4 @@
-"""The rows of species and moves. Made by tools/python_names.py; change docs/TABLES.md, not this."""
+"""The rows of species and moves. Made by tools/gen; change docs/TABLES.md, not this."""
 
 # Of each species both types, and base HP, Attack, Defense, Speed, Special.
 SPECIES_ROWS = (

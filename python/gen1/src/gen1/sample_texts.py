@@ -1,4 +1,4 @@
-"""The texts of the sample teams. Made by tools/python_names.py; change examples/teams, not this."""
+"""The texts of the sample teams. Made by tools/gen; change examples/teams, not this."""
 
 TEXTS = {
     "alakazam_lead": """\

@@ -1,16 +1,24 @@
-"""Writes lemmas of recorded battles for the prover to compute, and the list of all definitions that they unfold."""
+"""Lemmas of recorded battles for the prover to compute, and the list of all definitions that they unfold.
+
+The lemmas are in modules of the crate whose proofs have `reports_of`, a few battles in each. Its proofs/Lib.antt lists them last.
+Run `rt check` in that crate after they are written.
+"""
 
 import re
-import sys
-from pathlib import Path
 
-from battles import objects
+from battles import recorded, traces
 from definitions.machine import recorded_parts
-from definitions.modules import ROOT, Library
+from definitions.modules import Library
 from definitions.recorded import Battle
+from repository import ROOT
 
+# The battles, by their lines in traces.jsonl, from 0.
+BATTLES = """
+    1 3 4 5 6 8 9 11 13 14 16 17 19 22 23 26 28 32 33 36 37 39 40 41 43 45 46 47 48 49 50 51 55 56 57 58 61 63 66
+    67 69 71 73 75 76 78 80 82 83 85 86 87
+"""
 PER_MODULE = 5
-COMPUTING = """-- A lemma that unfolds `computing` computes all definitions of a battle. Made by tools/evaluate.py.
+COMPUTING = """-- A lemma that unfolds `computing` computes all definitions of a battle. Made by tools/gen.
 use Rattle.std.proofs.Common.{Bool, true}
 use Rattle.std.specs.Fmt.{digits}
 %s
@@ -19,7 +27,7 @@ unfoldable pub computing : Bool
 unfolding digits %s
 computing = true
 """
-HEAD = """-- Recorded battles: the definitions give each update as it was recorded. Made by tools/evaluate.py.
+HEAD = """-- Recorded battles: the definitions give each update as it was recorded. Made by tools/gen.
 use Rattle.std.proofs.Common.{List, [], refl, ◌∷◌, ◌≡◌}
 %s
 
@@ -97,36 +105,20 @@ def report(update):
     return "0x" + (b"\1" + b"".join(part for _, part in recorded_parts(update))).hex()
 
 
-def chosen(lines, wanted):
-    """The numbers of lines that a text such as 0-9,12,40- names; ValueError where it is wrong."""
-    for part in wanted.split(","):
-        if not re.fullmatch(r"\d+|\d*-\d*", part):
-            raise ValueError(f"{wanted}: lines are numbers and ranges such as 0-9,12,40-")
-        low, dash, high = part.partition("-")
-        yield from range(int(low or 0), (int(high) + 1 if high else len(lines)) if dash else int(low) + 1)
-
-
-def write_battles(traces, wanted):
-    """Writes lemmas of the recorded battles, a few in each module."""
-    lines, written = objects(Path(traces)), Written()
-    numbers = sorted(set(chosen(lines, wanted)))
-    if numbers[-1:] and numbers[-1] >= len(lines):
-        raise LookupError(f"{traces} has only {len(lines)} lines")
-    folder = ROOT.joinpath(*["crates", *written.reports.path.split(".")[1:-1]])
-    lib = folder / "Lib.antt"
+def battle_modules():
+    """Lib.antt and each module of battles with its text; modules of an earlier run have none."""
+    lines, written = traces(recorded("traces.jsonl")), Written()
+    folder = ROOT.joinpath("crates", *written.reports.path.split(".")[1:-1])
+    lib, head = folder / "Lib.antt", written.head()
+    files = {file: None for file in folder.glob("Battles*.antt")}
+    numbers = [int(number) for number in BATTLES.split()]
+    groups = [numbers[at : at + PER_MODULE] for at in range(0, len(numbers), PER_MODULE)]
+    for number, group in enumerate(groups, 1):
+        lemmas = [written.lemma(line, Battle("traces", line, lines[line])) for line in group]
+        files[folder / f"Battles{number}.antt"] = head + "\n".join(lemmas)
     kept = [line for line in lib.read_text(encoding="utf-8").splitlines() if not re.match(r"mod Battles\d+$", line)]
-    for old in folder.glob("Battles*.antt"):
-        old.unlink()
-    head, updates, modules = written.head(), 0, []
-    for at in range(0, len(numbers), PER_MODULE):
-        battles = [(number, Battle(traces, number, lines[number])) for number in numbers[at : at + PER_MODULE]]
-        updates += sum(len(battle.pairs) for _, battle in battles)
-        modules.append(f"Battles{len(modules) + 1}")
-        (folder / f"{modules[-1]}.antt").write_text(
-            head + "\n".join(written.lemma(*each) for each in battles), encoding="utf-8"
-        )
-    lib.write_text("\n".join([*kept, *("mod " + module for module in modules)]) + "\n", encoding="utf-8")
-    print(f"{len(numbers)} battles, {updates} updates, {len(modules)} modules")
+    named = [f"mod Battles{number}" for number in range(1, len(groups) + 1)]
+    return {**files, lib: "\n".join([*kept, *named]) + "\n"}
 
 
 def public_modules(library, crate):
@@ -144,8 +136,8 @@ def named_in(file):
     return re.findall(r"^pub mod (\w+)", file.read_text(encoding="utf-8"), re.M)
 
 
-def write_computing(check):
-    """Writes the definition that unfolds all others."""
+def computing():
+    """The module that unfolds all definitions, with its text."""
     library = Library()
     reports = library.where("reports_of", "proofs").path.split(".")[1]
     below = library.below(reports)
@@ -155,9 +147,9 @@ def write_computing(check):
             here = re.findall(r"^unfoldable pub (\S+) :", library.file_text(path), re.M)
             uses += [f"use {path}.{{{', '.join(here)}}}"] if here else []
             names += here
-    file = library.where("computing", "proofs").file
-    text = COMPUTING % ("\n".join(uses), " ".join(names))
-    if not check:
-        file.write_text(text, encoding="utf-8")
-    elif file.read_text(encoding="utf-8") != text:
-        sys.exit(f"{file.relative_to(ROOT)} does not name all definitions; run tools/evaluate.py unfold")
+    return {library.where("computing", "proofs").file: COMPUTING % ("\n".join(uses), " ".join(names))}
+
+
+def generated():
+    """The text of each module."""
+    return {**computing(), **battle_modules()}

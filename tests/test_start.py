@@ -1,7 +1,7 @@
-#!/usr/bin/python3
 """Follows the doors of docs/START.md as they are written, and runs the commands that other documents leave to it.
 
-    tools/doors [--door NAME ..] [--room FOLDER]
+    pytest tests/test_start.py -k rust               one door
+    pytest tests/test_start.py --basetemp FOLDER     keeps what was built, in a new folder
 
 A door is a section of docs/START.md with a block of commands. Its blocks are taken in order, in an empty folder. A block under a comment
 `file: NAME` is written to that file. Each line of a block in `sh` is run by bash, in the folder where the last one ended. REPOSITORY is a
@@ -9,35 +9,27 @@ fresh repository with the files of this one. The commands under `prints the batt
 document, to the byte. Under `shows: FILE, after a press of WORDS` are lines that Chromium must show on a page. Before that a door has at most
 ten lines, commands and files together.
 
-The door `documents` is the blocks of the other documents that say `run: doors`. They are run in a clone. A block under `prints` further
+The door `documents` is the blocks of the other documents that say `run: start`. They are run in a clone. A block under `prints` further
 down must be what the last of them printed, and one under `prints in the end` its end.
 
 Doors with the same first block share a folder, where that block is run once; others run side by side. tools/setup installs what a door
-lacks; where that fails, the door is named and counted as skipped. --room keeps what was built.
-
-The last line is 'N passed, M failed, K skipped', of commands, comparisons and counts of lines.
-
-Exit status: 0 where nothing failed, 1 where something did, 2 where the arguments are wrong.
+lacks. Commands, comparisons and counts of lines are counted.
 """
 
-import argparse
 import os
 import re
 import shutil
 import subprocess
 import sys
-import tempfile
-import threading
 import time
 from concurrent.futures import ThreadPoolExecutor
 from functools import cache
 from pathlib import Path
 from typing import NamedTuple
 
-sys.dont_write_bytecode = True
-from documents.blocks import Block, blocks
-from documents.links import documents
-from repository import ROOT, work_folder
+import pytest
+from documents import Block, blocks, documents
+from repository import ROOT
 
 sys.path.insert(0, str(ROOT / "web"))
 START = ROOT / "docs" / "START.md"
@@ -75,7 +67,7 @@ class Door(NamedTuple):
 
 def doors():
     """The doors of docs/START.md by their names, and that of the other documents; and what `the battle` prints."""
-    of_start = blocks(START.read_text())
+    of_start = blocks(START)
     battle = next(block.text for block in of_start if block.said == "prints")
     found = {}
     for block in of_start:
@@ -86,54 +78,42 @@ def doors():
 
 
 def of_documents():
-    """The blocks that say `run: doors`, each with the later one that says what it prints."""
+    """The blocks that say `run: start`, each with the later one that says what it prints."""
     found = []
     for document in documents():
         runs = False
-        for block in blocks(document.read_text()) if document != START else ():
-            if block.said == "run: doors" or runs and block.said in PRINTS:
+        for block in blocks(document) if document != START else ():
+            if block.said == "run: start" or runs and block.said in PRINTS:
                 found.append(block._replace(heading=str(document.relative_to(ROOT))))
-            runs = runs or block.said == "run: doors"
+            runs = runs or block.said == "run: start"
     return found
 
 
-class Run:
-    """A run of the tool: its folder and its counts."""
-
-    def __init__(self, room, battle):
-        self.room, self.battle = room, battle
-        self.counts = {"passed": 0, "failed": 0, "skipped": 0}
-        self.lock = threading.Lock()
-
-    def tell(self, door, text, count="passed"):
-        """Counts a check, and prints it."""
-        with self.lock:
-            self.counts[count] += 1
-            print(f"{door:12} {text}", flush=True)
-
-    def go(self, number, group):
-        """Follows doors that share a room, one after the other."""
-        room = self.room / str(number)
-        room.mkdir(exist_ok=True)
-        begun = set()
-        for door in group:
-            since = time.monotonic()
-            try:
-                Visit(self, door, room, begun).go()
-            except Failed as why:
-                self.tell(door.name, f"FAILED: {why}", "failed")
-            except Exception as why:  # The other doors are still followed.
-                self.tell(door.name, f"FAILED: {type(why).__name__}: {why}", "failed")
-            with self.lock:
-                print(f"{door.name:12} ended after {time.monotonic() - since:.0f} s", flush=True)
+DOORS, BATTLE = doors()
 
 
 class Visit:
-    """One door being followed: the room, the folder of the next command, and what the last ones printed."""
+    """One door being followed: the folder of the next command, what the last ones printed, and how many checks have passed."""
 
-    def __init__(self, run, door, room, begun):
-        self.run, self.door, self.room, self.begun = run, door, room, begun
+    def __init__(self, door, room, begun):
+        self.door, self.room, self.begun = door, room, begun
         self.at, self.printed = room, None
+        self.passed, self.left_out = 0, []
+
+    def fault(self):
+        """Why the door cannot be followed; empty where it can."""
+        try:
+            self.go()
+        except Failed as why:
+            return str(why)
+        except Exception as why:  # The other doors are still followed.
+            return f"{type(why).__name__}: {why}"
+        return ""
+
+    def tell(self, text):
+        """Counts a check, and prints it."""
+        self.passed += 1
+        print(f"{self.door.name:12} {text}", flush=True)
 
     def go(self):
         if not self.door.folder:
@@ -163,7 +143,7 @@ class Visit:
                 break
         if count > MOST_LINES:
             raise Failed(f"it has {count} lines, more than {MOST_LINES}")
-        self.run.tell(self.door.name, f"{count} lines to a battle")
+        self.tell(f"{count} lines to a battle")
 
     def take(self, block):
         if block.is_commands:
@@ -187,13 +167,13 @@ class Visit:
         self.printed = "".join(self.command(line) for line in block.text.splitlines() if line.strip())
         self.begun.update([block.text] if is_first else [])
         if block.said == "prints the battle":
-            self.compare(block, self.run.battle)
+            self.compare(block, BATTLE)
 
     def command(self, line):
         """What a line prints; it may change the folder of the next one."""
         left = self.room / ".folder"
         words = (
-            f'{line.replace("REPOSITORY", str(self.run.room / "repository"))}\nstatus=$?; pwd > {left}; exit $status'
+            f'{line.replace("REPOSITORY", str(self.room.parent / "repository"))}\nstatus=$?; pwd > {left}; exit $status'
         )
         since = time.monotonic()
         try:
@@ -213,13 +193,13 @@ class Visit:
             tail = "\n".join((done.stdout + done.stderr).strip().splitlines()[-20:])
             raise Failed(f"{line}: status {done.returncode}\n{tail}")
         self.at = Path(left.read_text().strip())
-        self.run.tell(self.door.name, f"{line.partition('  #')[0].strip()} ({time.monotonic() - since:.1f} s)")
+        self.tell(f"{line.partition('  #')[0].strip()} ({time.monotonic() - since:.1f} s)")
         return done.stdout
 
     def compare(self, block, wanted, is_end=False):
         if not (self.printed == wanted or is_end and self.printed.endswith("\n" + wanted)):
             raise Failed(f"{block.heading}, line {block.line}: printed was\n{self.printed}and not\n{wanted}")
-        self.run.tell(self.door.name, f"{len(wanted.splitlines())} lines printed as they are written")
+        self.tell(f"{len(wanted.splitlines())} lines printed as they are written")
 
     def look(self, page, button, lines):
         """Opens a page in Chromium, presses a button by its words, and looks for lines."""
@@ -227,9 +207,9 @@ class Visit:
         try:
             from checks.browser import Browser
         except ImportError:
-            return self.run.tell(self.door.name, "the look at the page: skipped: there is no Selenium", "skipped")
+            return self.left_out.append("the look at the page: there is no Selenium")
         if not (shutil.which("chromium") and shutil.which("chromedriver")):
-            return self.run.tell(self.door.name, "the look at the page: skipped: there is no Chromium", "skipped")
+            return self.left_out.append("the look at the page: there is no Chromium")
         browser = Browser(self.room / page, self.room)
         try:
             browser.open()
@@ -243,7 +223,7 @@ class Visit:
             browser.close()
         if not contains(shown, lines):
             raise Failed("the page shows\n" + "\n".join(shown))
-        return self.run.tell(self.door.name, f"{len(lines)} lines shown as they are written")
+        return self.tell(f"{len(lines)} lines shown as they are written")
 
 
 def contains(shown, lines):
@@ -271,7 +251,7 @@ def lacks(door):
     return found or next((tool for tool in ("git", "bash") if not shutil.which(tool)), "")
 
 
-def stand(to):
+def copy_to(to):
     """Makes a fresh repository with the files of this one, to be cloned; without git, only the files."""
     words = ["git", "ls-files", "--cached", "--others", "--exclude-standard", "-z"]
     listed = subprocess.run(words, cwd=ROOT, capture_output=True, text=True)
@@ -289,7 +269,7 @@ def stand(to):
         if (ROOT / name).is_file():
             (to / name).parent.mkdir(parents=True, exist_ok=True)
             shutil.copy2(ROOT / name, to / name)
-    who = ["-c", "user.name=doors", "-c", "user.email=doors@localhost", "-c", "commit.gpgsign=false"]
+    who = ["-c", "user.name=start", "-c", "user.email=start@localhost", "-c", "commit.gpgsign=false"]
     for words in (["init", "-q"], ["add", "-A", "-f"], [*who, "commit", "-q", "-m", "As it stands"]):
         subprocess.run(
             ["git", *words], cwd=to, check=True, env=environment(), stdout=subprocess.DEVNULL, stderr=subprocess.DEVNULL
@@ -305,32 +285,34 @@ def groups(chosen):
     return list(found.values())
 
 
-def main():
-    all_doors, battle = doors()
-    parser = argparse.ArgumentParser(description=__doc__, formatter_class=argparse.RawDescriptionHelpFormatter)
-    parser.add_argument(
-        "--door", nargs="+", choices=all_doors, default=list(all_doors), metavar="NAME", help=", ".join(all_doors)
-    )
-    parser.add_argument("--room", type=work_folder, metavar="FOLDER", help="a new folder, which is kept")
-    asked = parser.parse_args()
-    if asked.room and asked.room.exists() and any(asked.room.iterdir()):
-        parser.error(f"{asked.room} exists and is not empty")
-    with tempfile.TemporaryDirectory(prefix="doors-") as made:
-        room = (asked.room or Path(made)).resolve()
-        room.mkdir(parents=True, exist_ok=True)
-        run, chosen = Run(room, battle), []
-        for door in (all_doors[name] for name in all_doors if name in asked.door):
-            if why := lacks(door):
-                run.tell(door.name, f"skipped: it lacks {why}", "skipped")
-            else:
-                chosen.append(door)
-        if chosen:
-            stand(room / "repository")
-            with ThreadPoolExecutor() as pool:
-                list(pool.map(run.go, range(len(chosen)), groups(chosen)))
-    print(", ".join(f"{count} {word}" for word, count in run.counts.items()))
-    return int(run.counts["failed"] > 0)
+def follow(room, group):
+    """Follows doors that share a room, one after the other; each with its visit and its fault."""
+    room.mkdir()
+    visits, begun = {}, set()
+    for door in group:
+        visit = Visit(door, room, begun)
+        visits[door.name] = visit, visit.fault()
+    return visits
 
 
-if __name__ == "__main__":
-    sys.exit(main())
+@pytest.fixture(scope="session")
+def visits(request, tmp_path_factory):
+    """The visits of the doors that are asked for, by name, while they are being followed side by side."""
+    asked = [item.callspec.params["name"] for item in request.session.items if "visits" in item.fixturenames]
+    room = tmp_path_factory.mktemp("start", numbered=False)
+    copy_to(room / "repository")
+    with ThreadPoolExecutor() as pool:
+        found = {}
+        for number, group in enumerate(groups([DOORS[name] for name in asked if not lacks(DOORS[name])])):
+            found |= dict.fromkeys([door.name for door in group], pool.submit(follow, room / str(number), group))
+        yield found
+
+
+@pytest.mark.parametrize("name", DOORS)
+def test_door(name, visits, compared, left_out):
+    if why := lacks(DOORS[name]):
+        pytest.skip(f"it lacks {why}")
+    visit, fault = visits[name].result()[name]
+    for reason in visit.left_out:
+        left_out(reason)
+    compared(visit.passed + bool(fault), [fault] if fault else [])

@@ -12,7 +12,7 @@ from typing import NamedTuple
 
 from repository import ROOT
 
-# The documents whose sections files implement, in the order of tools/map.
+# The documents whose sections files implement, in the order of tools/rules.
 DOCUMENTS = (
     "docs/MECHANICS.md",
     "docs/TABLES.md",

@@ -1,24 +1,14 @@
-#!/usr/bin/env python3
-"""Prints for each corner of the rules which worked example computes it, and which recorded update comes to it.
-
-    tools/corners             prints the corners
-    tools/corners --check     prints only what is wrong
+"""Checks each corner of the rules: which worked example computes it, and which recorded update comes to it.
 
 A corner is a combination of rules that battles seldom reach. Whether a recorded update (tests/battles) comes to it is read from its
-bytes and its log. A corner without a recorded update, or whose worked example is missing, fails. The checker computes the examples,
-and `tools/evaluate.py lemmas` does so apart from the prover; trace_tool plays the updates through `Battle`, and
-`tools/evaluate.py play` by the definitions. In a file of recorded battles lines and updates count from 0. The last line is
-'N passed, M failed'.
-
-Exit status: 0 where nothing failed, 1 where something did, 2 where a file could not be read.
+bytes and its log. Each corner needs a recorded update and a worked example. The checker computes the examples, and test_definitions.py
+does so apart from the prover; trace_tool plays the updates through `Battle`, and test_definitions.py by the definitions. In a file of
+recorded battles lines and updates count from 0. `pytest -rP` shows the corners with their updates.
 """
 
-import argparse
 import re
-import sys
 
-sys.dont_write_bytecode = True
-from battles import Unreadable
+import pytest
 from log_lines import (
     BAD_POISON,
     BIDE,
@@ -170,6 +160,7 @@ CORNERS = (
 )
 
 
+@pytest.fixture(scope="module")
 def first_updates():
     """For each corner the name of the first recorded update that comes to it, where there is one."""
     found = {}
@@ -182,6 +173,7 @@ def first_updates():
     return found
 
 
+@pytest.fixture(scope="module")
 def lemma_names():
     """The names of the worked examples that the two files have."""
     folder = ROOT / "crates" / "test_support" / "proofs"
@@ -189,34 +181,14 @@ def lemma_names():
     return set(re.findall(r"(?m)^(\w+) :", text))
 
 
-def table(found):
-    """The corners and the branches, as lines."""
-    for words, section, lemma, _ in CORNERS:
-        yield f"{words}\n    {section}: {lemma}; {found.get(words, 'no update')}"
-    yield "\nEffects that fail or do nothing:"
-    for words, lemma in BRANCHES:
-        yield f"{words}\n    {lemma}"
+@pytest.mark.parametrize(("words", "section", "lemma"), [it[:3] for it in CORNERS], ids=[it[2] for it in CORNERS])
+def test_corner(words, section, lemma, first_updates, lemma_names, compared):
+    print(f"{words}\n    {section}: {lemma}; {first_updates.get(words, 'no update')}")
+    faults = [] if lemma in lemma_names else [f"no worked example {lemma}: {words}"]
+    faults += [] if words in first_updates else [f"no recorded update: {words}"]
+    compared(2, faults)
 
 
-def main():
-    parser = argparse.ArgumentParser(description=__doc__, formatter_class=argparse.RawDescriptionHelpFormatter)
-    parser.add_argument("--check", action="store_true", help="print only what is wrong")
-    given = parser.parse_args()
-    try:
-        found, names = first_updates(), lemma_names()
-    except (OSError, Unreadable) as fault:
-        print(f"tools/corners: {fault}", file=sys.stderr)
-        return 2
-    lemmas = [(words, lemma) for words, _, lemma, _ in CORNERS] + list(BRANCHES)
-    wrong = [f"no worked example {lemma}: {words}" for words, lemma in lemmas if lemma not in names]
-    wrong += [f"no recorded update: {words}" for words, *_ in CORNERS if words not in found]
-    for line in () if given.check else table(found):
-        print(line)
-    for line in wrong:
-        print(line)
-    print(f"{len(lemmas) + len(CORNERS) - len(wrong)} passed, {len(wrong)} failed")
-    return int(bool(wrong))
-
-
-if __name__ == "__main__":
-    sys.exit(main())
+@pytest.mark.parametrize(("words", "lemma"), BRANCHES, ids=[it[1] for it in BRANCHES])
+def test_effect_that_fails_or_does_nothing(words, lemma, lemma_names):
+    assert lemma in lemma_names, words

@@ -1,28 +1,25 @@
-#!/usr/bin/env python3
-"""Writes the enums of python/gen1 from docs/TABLES.md, docs/LAYOUT.md, docs/MECHANICS.md and include/gen1.h, and its sample teams.
-
-    tools/python_names.py           writes python/gen1/src/gen1/names.py, rows.py and sample_texts.py
-    tools/python_names.py --check   writes nothing; fails where one of them differs
+"""The enums of python/gen1 from docs/TABLES.md, docs/LAYOUT.md, docs/MECHANICS.md and include/gen1.h, and its sample teams; and the types
+of JavaScript's names.
 
 Species, moves and types are the rows of TABLES; the conditions are the bits of LAYOUT; the kinds of statuses, stats, reasons, sources and
 volatiles are the numbers of MECHANICS, "Events". All codes are enums of the header, with the comment after each as its text. The sample
 teams are the texts of examples/teams.
 """
 
-import argparse
+import json
 import re
 import sys
 import textwrap
 
-sys.dont_write_bytecode = True
 from repository import ROOT
 from tables import element_names, move_rows, species_rows, table
 
 OUT = ROOT / "python" / "gen1" / "src" / "gen1"
-TEXTS = '"""The texts of the sample teams. Made by tools/python_names.py; change examples/teams, not this."""\n\n'
-ROWS = '"""The rows of species and moves. Made by tools/python_names.py; change docs/TABLES.md, not this."""\n'
+JAVASCRIPT = ROOT / "js" / "names.d.mts"
+TEXTS = '"""The texts of the sample teams. Made by tools/gen; change examples/teams, not this."""\n\n'
+ROWS = '"""The rows of species and moves. Made by tools/gen; change docs/TABLES.md, not this."""\n'
 
-HEAD = '''"""Species, moves, types and codes by name. Made by tools/python_names.py; change what it reads, not this."""
+HEAD = '''"""Species, moves, types and codes by name. Made by tools/gen; change what it reads, not this."""
 
 from enum import EnumMeta, IntEnum, IntFlag
 
@@ -287,27 +284,23 @@ def sample_texts():
     return TEXTS + "TEXTS = {\n" + "".join(f'    "{it.stem}": """\\\n{it.read_text()}""",\n' for it in paths) + "}\n"
 
 
-def made():
+def javascript():
+    """The names of species, moves and types, as types of TypeScript."""
+    text = (ROOT / "docs" / "TABLES.md").read_text()
+    lists = {
+        kind: [name for _, name, *_ in table(text, heading)]
+        for kind, heading in (("Species", "Species"), ("Move", "Moves"))
+    }
+    lists["Type"] = element_names(text)
+    made = "// Made by tools/gen from docs/TABLES.md: the names that the library knows.\n"
+    for kind, listed in lists.items():
+        lines = [" | ".join(map(json.dumps, listed[at : at + 8])) for at in range(0, len(listed), 8)]
+        made += f"export type {kind}Name =\n  | " + "\n  | ".join(lines) + ";\n"
+    return made
+
+
+def generated():
     """The text of each file."""
     rows = "".join([ROWS, *row_lists((ROOT / "docs" / "TABLES.md").read_text())])
-    return {"names.py": names(), "rows.py": rows, "sample_texts.py": sample_texts()}
-
-
-def main():
-    parser = argparse.ArgumentParser(description=__doc__, formatter_class=argparse.RawDescriptionHelpFormatter)
-    parser.add_argument("--check", action="store_true")
-    check = parser.parse_args().check
-    stale = {
-        OUT / name: text
-        for name, text in made().items()
-        if not (OUT / name).exists() or (OUT / name).read_text() != text
-    }
-    for path, text in stale.items():
-        if not check:
-            path.write_text(text)
-        print(f"{path.relative_to(ROOT)} {'is not what tools/python_names.py writes' if check else 'written'}")
-    return int(check and bool(stale))
-
-
-if __name__ == "__main__":
-    sys.exit(main())
+    python = {OUT / "names.py": names(), OUT / "rows.py": rows, OUT / "sample_texts.py": sample_texts()}
+    return {**python, JAVASCRIPT: javascript()}

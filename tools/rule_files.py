@@ -1,6 +1,6 @@
 """Which definitions, code, worked examples, edits and tests belong to each section of the documents.
 
-A file, a function, a type, an example and a test belong to the sections that their comments cite (documents/citations.py). An
+A file, a function, a type, an example and a test belong to the sections that their comments cite (citations.py). An
 edit belongs to what it changes: the function, table or definition around its first `old:` text.
 """
 
@@ -8,7 +8,7 @@ import re
 from pathlib import Path
 from typing import NamedTuple
 
-from documents.citations import COMMENT, DOCUMENTS, FUNCTION, Section, Source, sections
+from citations import COMMENT, DOCUMENTS, FUNCTION, Section, Source, sections
 from repository import ROOT, crates, edited, edits
 
 KINDS = ("definition", "code", "laws", "worked example", "tests", "edits")

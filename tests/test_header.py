@@ -1,21 +1,13 @@
-#!/usr/bin/env python3
 """Compares the structs and prototypes of include/gen1.h with those of the sources: names, types and order.
-
-    tools/declarations.py --check
 
 A proof sees the sources alone, so it can't see two fields or parameters of one type that the header has in another order. Each
 struct of the sources is compared field by field, down to its numbers, and each exported function parameter by parameter. A slice of
 the sources is a pointer and a length in C. The few names that differ are in NAMES; arrays of the header that have a field for each
 place in the sources are in PARTS.
-
-Each difference is printed. Exit status: 0 where there is none, 1 where there is one.
 """
 
-import argparse
 import re
-import sys
 
-sys.dont_write_bytecode = True
 from repository import ROOT
 
 NUMBERS = {
@@ -171,15 +163,7 @@ def faults():
             yield f"{name}: {fault}"
 
 
-def main():
-    parser = argparse.ArgumentParser(description=__doc__, formatter_class=argparse.RawDescriptionHelpFormatter)
-    parser.add_argument("--check", action="store_true", help="compare; there is nothing else to do")
-    parser.parse_args()
-    found = list(faults())
-    for line in found:
-        print(f"include/gen1.h: {line}")
-    return int(bool(found))
-
-
-if __name__ == "__main__":
-    sys.exit(main())
+def test_the_header_is_that_of_the_sources(compared):
+    calls = len(RUST_CALL.findall(sources()))
+    assert calls
+    compared(calls, (f"include/gen1.h: {fault}" for fault in faults()))
