@@ -72,7 +72,7 @@ NOT_RUN = re.compile(r"not run: (.+)")
 PART = re.compile(r"(?m)^    (?:proved_)?part (\w+) ")
 # How a line of commands begins, in a fence of another language.
 COMMAND = re.compile(
-    r"(?m)^\$ |^(?:sudo |\()?(?:cargo|rt|cc|git|pip3?|python3?|cmake|make|npm|node|apt-get|cd|"
+    r"(?m)^\$ |^(?:sudo |\()?(?:cargo|rt|cc|git|pytest-3|pip3?|python3?|cmake|make|npm|node|apt-get|cd|"
     r"(?:\w+/)?(?:tools|web|bench|fuzz|\.ci)/\w+)(?: |$)"
 )
 OF_COMMANDS = ("", "text", "bash", "console", "shell")
