@@ -12,9 +12,11 @@ from pathlib import Path
 
 from c_install import LINES, plays
 from c_library import Missing, Unbuilt, build_of, calls
-from documents.links import lost_links
 from published import fault_of
 from repository import ROOT, version
+
+sys.path.append(str(ROOT / "tests"))
+from documents import lost_links
 
 STORED = ROOT / "crates" / "battle_tool" / "stdin"
 # The place of a battle in a page that has none.
@@ -182,7 +184,7 @@ class Trial:
 
     def differences(self):
         """The program of the plain sources plays the battles of docs/DIFFERENCES.md."""
-        ran(ROOT / "tools" / "differences", program(), cwd=self.room)
+        ran("pytest-3", ROOT / "tests" / "test_differences.py", "--program", program(), cwd=ROOT)
 
     def page(self):
         """The page has no battle, and `gen1 replay` of the built program puts one into it."""
