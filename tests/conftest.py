@@ -14,6 +14,8 @@ from pathlib import Path
 import pytest
 
 ROOT = Path(__file__).resolve().parent.parent
+# How many faults of a test are shown.
+SHOWN = 40
 sys.dont_write_bytecode = True
 sys.path.insert(0, str(ROOT / "tools"))
 
@@ -51,7 +53,8 @@ def compared(request):
         faults = list(faults)
         request.node.user_properties += [("compared", max(number - len(faults), 0)), ("faults", len(faults))]
         if faults:
-            pytest.fail("\n".join(faults), pytrace=False)
+            more = [f"(and {len(faults) - SHOWN} more)"] if len(faults) > SHOWN else []
+            pytest.fail("\n".join(faults[:SHOWN] + more), pytrace=False)
 
     return count
 
