@@ -203,7 +203,7 @@ class Visit:
 
     def look(self, page, button, lines):
         """Opens a page in Chromium, presses a button by its words, and looks for lines."""
-        setup("page")
+        set_up("page")
         try:
             from checks.browser import Browser
         except ImportError:
@@ -238,7 +238,7 @@ def environment():
 
 
 @cache
-def setup(part):
+def set_up(part):
     """What is still missing for a part after tools/setup; empty where nothing is."""
     done = subprocess.run([ROOT / "tools" / "setup", part], capture_output=True, text=True)
     last = (done.stdout.strip().splitlines() or [""])[-1]
@@ -247,7 +247,7 @@ def setup(part):
 
 def lacks(door):
     """What a door needs and is missing."""
-    found = next(filter(None, map(setup, NEEDS[door.name])), "")
+    found = next(filter(None, map(set_up, NEEDS[door.name])), "")
     return found or next((tool for tool in ("git", "bash") if not shutil.which(tool)), "")
 
 

@@ -1,23 +1,14 @@
-#!/usr/bin/env python3
-"""The licenses of what each artifact links: LICENSES.txt, and whether all of them are permitted.
-
-    tools/licenses.py ARTIFACT..    prints LICENSES.txt of these artifacts
-    tools/licenses.py --check       prints each linked crate whose license is not permitted
+"""The licenses of what each artifact links: the text of LICENSES.txt, and the linked crates whose license is not permitted.
 
 The artifacts are c (the C library of the plain sources), proved (that of the Rattle kit), wasm (the module of WebAssembly, which the page
 has too) and program (the program gen1). Crates, versions and licenses are those that cargo takes, without a network. Where cargo can't
 list them, the C library's are listed without versions.
-
-Exit status: 0 where all was listed or permitted, 1 where something was not, 2 where the arguments are wrong.
 """
 
-import argparse
 import json
 import re
-import sys
 from pathlib import Path
 
-sys.dont_write_bytecode = True
 from c_library import PLAIN_FEATURES, Unbuilt, ran
 from release_proved import said
 from repository import ROOT, below, crates, version
@@ -142,23 +133,3 @@ def not_permitted():
         for name, number, license_of, _ in rows(artifact):
             if not permitted(license_of):
                 yield f"{artifact}: {name} {number} has the license {license_of!r}"
-
-
-def main():
-    parser = argparse.ArgumentParser(description=__doc__, formatter_class=argparse.RawDescriptionHelpFormatter)
-    parser.add_argument("artifacts", nargs="*", metavar="ARTIFACT")
-    parser.add_argument("--check", action="store_true", help="print what is not permitted")
-    asked = parser.parse_args()
-    unknown = [name for name in asked.artifacts if name not in (*CARGO, "proved")]
-    if unknown or bool(asked.artifacts) == asked.check:
-        parser.error(f"{unknown[0]} is not an artifact" if unknown else "name artifacts, or --check")
-    try:
-        faults = list(not_permitted()) if asked.check else []
-        print("\n".join(faults) if asked.check else licenses(*asked.artifacts), end="\n" if faults else "")
-        return int(bool(faults))
-    except Unbuilt as fault:
-        parser.exit(1, f"tools/licenses.py: {fault}\n")
-
-
-if __name__ == "__main__":
-    sys.exit(main())
