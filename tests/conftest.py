@@ -73,7 +73,7 @@ def needs():
 
 @pytest.fixture
 def left_out(request):
-    """Counts a part of a test as skipped: `left_out("there is no Chromium")`."""
+    """Counts a part of a test as skipped: `left_out("Chromium is missing")`."""
 
     def count(reason):
         request.node.user_properties.append(("left out", reason))

@@ -7,7 +7,7 @@
 `runs` are those of battle_tool, or of another program that takes the same arguments (docs/PROGRAM.md): standard output, status and
 standard error. `updates` are those of trace_tool: after each pair of choices the refusal, the result, the choices that are then offered,
 the draws, the log and all 384 bytes. `loads` are those of layout_tool: of each byte string the number of its fault, or 0 and the bytes in
-the form of version 3 (docs/LAYOUT.md, "Loading"). Of each case the first difference is printed.
+the form of version 3 (docs/LAYOUT.md, "Loading"). The first difference of each case is printed.
 """
 
 import json
