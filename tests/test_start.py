@@ -232,9 +232,10 @@ def contains(shown, lines):
 
 
 def environment():
-    """The environment, without variables that would make commands use other builds."""
+    """The environment, without variables that would change what commands build or print."""
     taken = ("GEN1_LIBRARY", "PYTHONPATH", "CARGO_TARGET_DIR", "VIRTUAL_ENV", "GIT_DIR", "GIT_WORK_TREE")
-    return {key: value for key, value in os.environ.items() if key not in taken}
+    of_make = ("MAKEFLAGS", "MAKELEVEL", "MFLAGS")
+    return {key: value for key, value in os.environ.items() if key not in taken + of_make}
 
 
 @cache
@@ -248,7 +249,7 @@ def set_up(part):
 def lacks(door):
     """What a door needs and is missing."""
     found = next(filter(None, map(set_up, NEEDS[door.name])), "")
-    return found or next((tool for tool in ("git", "bash") if not shutil.which(tool)), "")
+    return found or next((tool for tool in ("git", "bash", "make") if not shutil.which(tool)), "")
 
 
 def copy_to(to):
