@@ -43,9 +43,9 @@ TOPICS = {
     "names": ("Names and codes", "names"),
     "errors": ("Errors", "errors"),
 }
-# Modules with public names that gen1 itself does not have, and a class of another module.
+# Modules with public names that gen1 itself does not have, and such names of another module.
 WHOLE = ("draws", "layout", "observations", "opponents", "team_text")
-MORE = {"encodings": ["encodings.Column"]}
+MORE = {"encodings": ["encodings.Column", "encodings.described"]}
 INDEX = """Python reference
 ================
 
@@ -59,7 +59,6 @@ names are written in full.
 
    {}
 """
-DOCUMENT = re.compile(r'docs/(\w+)\.md(?:,\s"([^"]+)")?')
 
 
 def names_by_module():
@@ -79,7 +78,7 @@ def directives(module, names):
     if module in WHOLE:
         yield f".. automodule:: gen1.{module}\n"
     else:
-        yield DOCUMENT.sub(link, getdoc(import_module(f"gen1.{module}"))) + "\n"
+        yield getdoc(import_module(f"gen1.{module}")) + "\n"
     for name in [*names, *MORE.get(module, [])]:
         kind = "class" if isinstance(attrgetter(name)(gen1), type) else "function"
         yield f".. auto{kind}:: gen1.{name}\n"
@@ -97,20 +96,11 @@ def write_reference(app, config):
     (folder / "index.rst").write_text(INDEX.format("\n   ".join(TOPICS)))
 
 
-def link(found):
-    """A document that a docstring names, as a link to its page."""
-    words, heading = (" ".join((it or "").split()) for it in (found[0], found[2]))
-    anchor = re.sub(r"[^\w\- ]", "", heading.lower()).replace(" ", "-")
-    return f"`{words} <../{found[1]}.html{anchor and '#'}{anchor}>`__"
-
-
-def with_links(app, what, name, thing, options, lines):
-    lines[:] = DOCUMENT.sub(link, "\n".join(lines)).split("\n")
-
-
 def short(app, what, name, thing, options, signature, returned):
     """A signature without the modules of its types, and with the class that a type variable represents."""
-    parts = [re.sub(r"\b(collections\.abc|typing|gen1)\.(?=[A-Z])", "", it) if it else it for it in (signature, returned)]
+    parts = [
+        re.sub(r"\b(collections\.abc|typing|gen1)\.(?=[A-Z])", "", it) if it else it for it in (signature, returned)
+    ]
     return parts[0], parts[1] and re.sub(r"~?(gen1\.battle\.)?\bB\b", "Battle", parts[1])
 
 
@@ -126,4 +116,3 @@ def setup(app):
     app.connect("config-inited", write_reference)
     app.connect("doctree-read", with_anchors)
     app.connect("autodoc-process-signature", short)
-    app.connect("autodoc-process-docstring", with_links)

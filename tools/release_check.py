@@ -182,6 +182,19 @@ class Trial:
         shutil.copy(ROOT / "examples" / "javascript" / "two_tauros.mjs", place)
         return due(ran("node", "two_tauros.mjs", cwd=place), LINES.read_text())
 
+    def site(self):
+        """The site begins with its own page, and has the pages of every tool."""
+        folder = self.unpacked(f"gen1-{version()}-site.tar.gz")
+        pages = (
+            "index.html",
+            "START.html",
+            "python/battles.html",
+            "c/gen1_8h.html",
+            "rust/gen1/index.html",
+            "types.html",
+        )
+        return next((f"it has no {name}" for name in pages if not (folder / name).is_file()), None)
+
     def differences(self):
         """The program of the plain sources plays the battles of docs/DIFFERENCES.md."""
         ran("pytest-3", ROOT / "tests" / "test_differences.py", "--program", program(), cwd=ROOT)
@@ -235,6 +248,7 @@ class Trial:
             "c": [("c", self.c), ("c, by CMake", self.cmake)],
             "page": [("page", self.page)],
             "npm": [("npm", self.npm)],
+            "site": [("site", self.site)],
             "python": [("wheel", self.python, "*.whl"), ("source archive", self.python, f"gen1-{version()}.tar.gz")],
         }
         for part, checks in parts.items():
