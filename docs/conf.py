@@ -2,6 +2,7 @@
 
 import re
 from importlib import import_module
+from importlib.util import find_spec
 from inspect import getdoc
 from operator import attrgetter
 from os import environ
@@ -13,7 +14,7 @@ from docutils import nodes
 project = "gen1"
 version = release = environ["GEN1_VERSION"]
 extensions = ["myst_parser", "sphinx.ext.autodoc"]
-html_theme = environ["GEN1_THEME"]
+html_theme = "furo" if find_spec("furo") else "alabaster"
 html_title = f"gen1 {version}"
 html_copy_source = html_show_sourcelink = html_show_copyright = html_show_sphinx = False
 smartquotes = False
