@@ -2,28 +2,28 @@
  * gen1.h - first-generation Pokemon link battles, for C and for languages that call C.
  *
  * The library is libgen1.so (shared) or libgen1_c.a (static). From the C library it needs at most memcpy, memmove, memset,
- * memcmp and bcmp. A library built from the plain sources (docs/PLAIN.md) also refers to abort, and never reaches it.
+ * memcmp and bcmp. A library built from the plain sources (docs/PLAIN.md) also references abort, but never calls it.
  * packaging/README.md describes how to install the library and how to build a program with it.
  *
- * docs/MECHANICS.md has the rules of battle, docs/TABLES.md the numbers of species, moves and types, and docs/LAYOUT.md the 384
- * bytes of a battle. crates/gen1_c/CALLING.md says in which order to call the functions, and which proved contract states what
- * each of them promises.
+ * docs/MECHANICS.md describes the rules of battle, docs/TABLES.md the numbers of species, moves and types, and docs/LAYOUT.md
+ * the 384 bytes of a battle. crates/gen1_c/CALLING.md lists the order in which to call the functions, and the proved contract
+ * of each.
  *
  *   - Memory. No function allocates, frees, does input or output, blocks, or keeps a pointer. The caller owns all memory. A
- *     battle is only its 384 bytes: copy them to keep a battle or to try out a choice, write them to a file, or send them.
- *   - Threads. There is no global state. Calls on different battles may run in different threads at the same time. Calls on the
- *     same battle may do so only if all of them take it as const.
- *   - Errors. Any number may be passed as an argument. A number out of its range makes the function return a code, one of
+ *     battle is just its 384 bytes: copy them to save a battle or to try a choice, write them to a file, or send them.
+ *   - Threads. The library has no global state. Calls on different battles may run in different threads at the same time. Calls
+ *     on the same battle may do so only if all of them take it as const.
+ *   - Errors. Any number may be passed as an argument. If a number is out of range, the function returns a code, one of
  *     GEN1_ERROR_.. below. If a function returns a code, it has changed nothing that its pointers point to. The only exceptions
- *     are `fault` of gen1_team_from_text and gen1_team_from_packed, which then says what is wrong with the text, and the two
+ *     are `fault` of gen1_team_from_text and gen1_team_from_packed, which then describes the error in the text, and the two
  *     arrays of gen1_outcomes.
- *   - Pointers. The library cannot check these, so the caller has to. A pointer must not be NULL, and must point to as much
- *     memory as its type says, or as the size next to it says. A NULL is allowed where that size is 0.
- *   - Overlap. Memory that a function may write must not overlap anything else that is passed to it. What it takes as const may
- *     overlap: both teams of gen1_new may be the same one.
+ *   - Pointers. The library cannot check pointers; the caller must. A pointer must not be NULL, and must point to as much memory
+ *     as its type says, or as the size next to it says. NULL is allowed where that size is 0.
+ *   - Overlap. Memory that a function may write must not overlap anything else that is passed to it. Memory that it takes as
+ *     const may overlap: both teams of gen1_new may be the same team.
  *   - Valid battles. A battle made by gen1_new or gen1_load, and changed since only by functions of this header, is valid.
  *     After gen1_update_offered it is valid if both choices were offered. With any other 384 bytes each function still returns
- *     and stays within your memory, but its results mean nothing.
+ *     and stays within your memory, but its results are meaningless.
  */
 #ifndef GEN1_H
 #define GEN1_H
@@ -38,7 +38,7 @@ extern "C" {
 
 /*
  * The version of this header: as text, and as a number (65,536 * major + 256 * minor + patch). gen1_version returns the
- * library's.
+ * version of the library.
  */
 #define GEN1_VERSION "1.0.0"
 #define GEN1_VERSION_NUMBER 0x010000
@@ -54,7 +54,7 @@ typedef struct gen1_member {
     uint8_t level;      /* 1 to 100 */
     uint8_t dvs[4];     /* 0 to 15: Attack, Defense, Speed, Special */
     uint8_t moves[4];   /* 1 to 164 except 102, 118, 119 and 144, which the engine leaves out; all different, at least one. A 0
-                           is skipped: the others move up to the first slots */
+                           is skipped: the moves after it move up a slot */
     uint8_t pp_ups[4];  /* 0 to 3, for the move at the same index; ignored where the move is 0 */
     uint16_t exp[5];    /* experience, 0 to 65,535: HP, Attack, Defense, Speed, Special */
 } gen1_member;
@@ -66,7 +66,7 @@ typedef struct gen1_team {
     uint8_t reserved;       /* ignored; functions that write a team write 0 */
 } gen1_team;
 
-/* The size of a buffer that holds the log of any update, whatever the bytes of the battle are. */
+/* The size of a buffer that holds the log of any update, for any bytes of the battle. */
 #define GEN1_LOG_ROOM 512
 
 /* The size of a buffer that holds any line of gen1_next_line and its NUL. */
@@ -97,7 +97,7 @@ enum {
  */
 enum { GEN1_STAT_ATTACK = 1, GEN1_STAT_DEFENSE, GEN1_STAT_SPEED, GEN1_STAT_SPECIAL, GEN1_STAT_ACCURACY, GEN1_STAT_EVASION };
 
-/* What gen1_choice_kind returns. */
+/* The kinds of choices, which gen1_choice_kind returns. */
 enum { GEN1_KIND_NONE, GEN1_KIND_PASS, GEN1_KIND_MOVE, GEN1_KIND_SWITCH };
 
 /*
@@ -235,19 +235,19 @@ enum {
 /* ---- errors ---- */
 
 /*
- * Codes. A function that returns a code returns 0 or one of these, and each number is the same error in every function.
+ * Codes. A function that returns a code returns 0 or one of these. A number means the same error in every function.
  * gen1_error_text writes a code in words.
  */
 enum {
     /* Teams and terms. */
     GEN1_ERROR_TEAM_EMPTY = 1,      /* the team has no member */
-    GEN1_ERROR_TEAM_TOO_LONG = 2,   /* it has more than six */
+    GEN1_ERROR_TEAM_TOO_LONG = 2,   /* the team has more than six members */
     GEN1_ERROR_LEVEL = 3,           /* the level is not 1 to 100 */
     GEN1_ERROR_DV = 4,              /* a DV is above 15 */
-    GEN1_ERROR_NO_MOVE = 5,         /* there is no move */
+    GEN1_ERROR_NO_MOVE = 5,         /* the member has no move */
     GEN1_ERROR_MOVE_LEFT_OUT = 6,   /* a move is one of the four that the engine leaves out */
-    GEN1_ERROR_STRUGGLE = 7,        /* Struggle was chosen */
-    GEN1_ERROR_REPEATED_MOVE = 8,   /* a move is there twice */
+    GEN1_ERROR_STRUGGLE = 7,        /* a move is Struggle */
+    GEN1_ERROR_REPEATED_MOVE = 8,   /* a move is repeated */
     GEN1_ERROR_PP_UPS = 9,          /* a move has more than three PP ups */
     GEN1_ERROR_SPECIES = 10,        /* the species is not 1 to 151 */
     GEN1_ERROR_MOVE = 11,           /* a move is not 1 to 165 */
@@ -258,26 +258,26 @@ enum {
     /* Loading: the first test that bytes fail (docs/LAYOUT.md, "Loading"). */
     GEN1_ERROR_LOAD_LENGTH = 16,    /* there are not 384 bytes */
     GEN1_ERROR_LOAD_VERSION = 17,   /* the version, byte 0, is not 1, 2 or 3 */
-    GEN1_ERROR_LOAD_HEADER = 18,    /* a field of the header is out of its range */
-    GEN1_ERROR_LOAD_MEMBER = 19,    /* a member is out of its ranges, or stands behind an empty place */
-    GEN1_ERROR_LOAD_ACTIVE = 20,    /* an active block is out of its ranges, or does not fit its current move */
-    GEN1_ERROR_LOAD_STAT = 21,      /* a current stat is not what stage and penalties make of the member's own */
+    GEN1_ERROR_LOAD_HEADER = 18,    /* a field of the header is out of range */
+    GEN1_ERROR_LOAD_MEMBER = 19,    /* a field of a member is out of range, or a member comes after an empty place */
+    GEN1_ERROR_LOAD_ACTIVE = 20,    /* a field of an active block is out of range, or does not fit the current move */
+    GEN1_ERROR_LOAD_STAT = 21,      /* a current stat does not follow from the member's own stat, its stage and its penalties */
     GEN1_ERROR_LOAD_REQUEST = 22,   /* turn, outcome, requests and living members do not fit together */
     GEN1_ERROR_STATE = 23,          /* a field of a state is wrong: its gen1_state_fault says which */
 
     /* Updates. */
     GEN1_ERROR_OVER = 24,           /* the battle is over */
-    GEN1_ERROR_NOT_OFFERED_ONE = 25, /* side 1's choice was not offered (nor perhaps side 2's) */
-    GEN1_ERROR_NOT_OFFERED_TWO = 26, /* side 2's was not */
-    GEN1_ERROR_SMALL_LOG = 27,      /* the room for the log is less than 512 bytes, or than the log */
-    GEN1_ERROR_LONG_LOG = 28,       /* the log is longer than that of an update, 512 bytes */
+    GEN1_ERROR_NOT_OFFERED_ONE = 25, /* side 1's choice was not offered (and perhaps not side 2's either) */
+    GEN1_ERROR_NOT_OFFERED_TWO = 26, /* side 2's choice was not offered */
+    GEN1_ERROR_SMALL_LOG = 27,      /* the buffer for the log is smaller than 512 bytes, or than the log */
+    GEN1_ERROR_LONG_LOG = 28,       /* the log is longer than 512 bytes, the most that one update writes */
     GEN1_ERROR_OUTCOMES = 29,       /* the array has fewer places than there are outcomes */
     GEN1_ERROR_TABLE = 30,          /* the table has fewer places than there are outcomes */
-    GEN1_ERROR_DRAWS = 31,          /* the update has too many draws to list its outcomes; none is known that has */
+    GEN1_ERROR_DRAWS = 31,          /* the update has too many draws to list its outcomes; no such update is known */
 
     /* Logs. */
-    GEN1_ERROR_LOG_TAG = 32,        /* a byte in a tag's place is no tag */
-    GEN1_ERROR_LOG_FIELD = 33,      /* a field of an event is out of its range */
+    GEN1_ERROR_LOG_TAG = 32,        /* unknown event tag */
+    GEN1_ERROR_LOG_FIELD = 33,      /* a field of an event is out of range */
     GEN1_ERROR_LOG_CUT = 34,        /* the bytes end within an event */
     GEN1_ERROR_LOG_END = 35,        /* the index is at the end of the log, or past it */
 
@@ -286,80 +286,80 @@ enum {
 
     /* Arguments. */
     GEN1_ERROR_SIDE = 40,           /* the side is neither 1 nor 2 */
-    GEN1_ERROR_SMALL_TEXT = 41,     /* the text and its NUL do not fit */
+    GEN1_ERROR_SMALL_TEXT = 41,     /* the text and its NUL do not fit in the buffer */
     GEN1_ERROR_UNKNOWN = 42,        /* nothing has this number */
     GEN1_ERROR_CHOICE = 43,         /* the byte is not a choice */
-    GEN1_ERROR_NOBODY = 44,         /* that slot has no move, that place has no member, or no member is out yet */
-    GEN1_ERROR_LENGTHS = 45,        /* an array is not as long as that of the battles */
+    GEN1_ERROR_NOBODY = 44,         /* the slot has no move, the place has no member, or no member is out yet */
+    GEN1_ERROR_LENGTHS = 45,        /* an array does not have the length of the array of battles */
     GEN1_ERROR_INDEX = 46,          /* the index is not 0 to 8 */
     GEN1_ERROR_PLACE = 47,          /* the place is not 1 to 6 */
 
     /* Calculating. */
-    GEN1_ERROR_UNUSUAL = 48,        /* it does not have the usual damage: no power, or a damage rule of its own */
-    GEN1_ERROR_DIVISOR = 49,        /* the defense that counts in this hit is 0, and the damage would be divided by it */
-    GEN1_ERROR_NOBODY_OUT = 50,     /* nobody is out: the battle is before its first update */
+    GEN1_ERROR_UNUSUAL = 48,        /* the move does not have the usual damage: it has no power, or its own damage rule */
+    GEN1_ERROR_DIVISOR = 49,        /* the damage would be divided by 0: the defense that counts in this hit is 0 */
+    GEN1_ERROR_NOBODY_OUT = 50,     /* no member is out: the battle is before its first update */
 
     /* Rooms. */
     GEN1_ERROR_STALE = 52,          /* the number is not that of the current pair */
-    GEN1_ERROR_CHOSEN = 53,         /* the side's choice is there */
-    GEN1_ERROR_NOT_OFFERED = 54,    /* the choice is none that the side is offered */
+    GEN1_ERROR_CHOSEN = 53,         /* the side has already chosen */
+    GEN1_ERROR_NOT_OFFERED = 54,    /* the choice is not offered to the side */
 
     /* Teams out of text: what was expected. */
     GEN1_ERROR_TEXT_SPECIES = 64,   /* the name of a species of the first generation */
-    GEN1_ERROR_TEXT_ITEM = 65,      /* no item: the first generation has none */
+    GEN1_ERROR_TEXT_ITEM = 65,      /* no item: the first generation has no items */
     GEN1_ERROR_TEXT_SEVENTH_MEMBER = 66, /* at most six members */
     GEN1_ERROR_TEXT_LEVEL = 67,     /* a level from 1 to 100 */
-    GEN1_ERROR_TEXT_EVS = 68,       /* EVs from 0 to 255, as "252 HP / 4 Atk", or packed as "252,4,,,," */
+    GEN1_ERROR_TEXT_EVS = 68,       /* EVs from 0 to 255, such as "252 HP / 4 Atk", or packed "252,4,,,," */
     GEN1_ERROR_TEXT_SPECIAL_EVS = 69, /* the same EVs for SpA and SpD: the first generation has one Special */
-    GEN1_ERROR_TEXT_IVS = 70,       /* IVs from 0 to 31, as "14 HP / 0 Atk", or packed as "14,0,,,," */
+    GEN1_ERROR_TEXT_IVS = 70,       /* IVs from 0 to 31, such as "14 HP / 0 Atk", or packed "14,0,,,," */
     GEN1_ERROR_TEXT_SPECIAL_IVS = 71, /* the same IVs for SpA and SpD */
     GEN1_ERROR_TEXT_HP_IV = 72,     /* the HP IV that follows from the others, or none */
     GEN1_ERROR_TEXT_MOVE = 73,      /* the name of a move of the first generation */
     GEN1_ERROR_TEXT_FIFTH_MOVE = 74, /* at most four moves */
-    GEN1_ERROR_TEXT_LINE = 75,      /* a line of a member, as "Level: 50", "EVs: 252 HP", "IVs: 0 Atk" or "- Body Slam" */
-    GEN1_ERROR_TEXT_FIELDS = 76,    /* packed: twelve fields with `|` between them */
-    GEN1_ERROR_TEXT_TEAM = 77       /* members that are a team: `rule` says why they are none, and `member` who is at fault */
+    GEN1_ERROR_TEXT_LINE = 75,      /* a line of a member, such as "Level: 50", "EVs: 252 HP", "IVs: 0 Atk" or "- Body Slam" */
+    GEN1_ERROR_TEXT_FIELDS = 76,    /* packed: twelve fields separated by `|` */
+    GEN1_ERROR_TEXT_TEAM = 77       /* members that form a valid team: `rule` has the code of the error, `member` the member */
 };
 
 /* The size of a buffer that holds any sentence of gen1_error_text and its NUL. */
 #define GEN1_SENTENCE_ROOM 128
 
 /*
- * Writes what a code means, as one sentence that gives the valid range, such as "a DV is above 15". Every code GEN1_ERROR_..
- * has one; of a result of gen1_new, and of functions that return the same, pass GEN1_CODE_OF(result). The sentence of code 0 is
- * "nothing is at fault".
+ * Writes the meaning of a code, as one sentence that gives the valid range, such as "a DV is above 15". Every code
+ * GEN1_ERROR_.. has a sentence. For a result of gen1_new, or of a function that returns the same, pass GEN1_CODE_OF(result).
+ * The sentence of code 0 is "nothing is at fault".
  *
  * The sentence and a NUL are written to the beginning of `text`, whose size is `room`; the rest of `text` does not change.
  * `*length` becomes the number of bytes before the NUL. Returns 0; GEN1_ERROR_UNKNOWN for any other number; or
- * GEN1_ERROR_SMALL_TEXT if sentence and NUL do not fit. If it returns a code nothing has changed.
+ * GEN1_ERROR_SMALL_TEXT if the sentence and its NUL do not fit. If it returns a code, nothing has changed.
  */
 uint8_t gen1_error_text(uint8_t code, char *text, size_t room, size_t *length);
 
 /* ---- beginning ---- */
 
 /*
- * Makes a battle of two teams, before its first update, and overwrites `*battle` with it.
+ * Creates a battle of two teams, before its first update, and overwrites `*battle` with it.
  *
  * `seed` is ten bytes with any values (docs/MECHANICS.md, "Link numbers"). `rules` is 0 to 3. `limit` is the last turn, 1 to
  * 9,999; GEN1_LIMIT is usual.
  *
- * Returns 0, or the first error; take it apart with the three macros below. The arguments are tested in this order: the rules,
- * the limit, team one, team two. In a team the number of members is tested first, then species and moves of each member, then
- * the rules of teams (docs/MECHANICS.md, "Teams").
+ * Returns 0, or the first error, which the three macros below take apart. The arguments are tested in this order: the rules,
+ * the limit, team one, team two. In a team the number of members is tested first, then the species and moves of each member,
+ * then the rules of teams (docs/MECHANICS.md, "Teams").
  */
 uint32_t gen1_new(gen1_battle *battle, const gen1_team *one, const gen1_team *two, const uint8_t seed[10], uint8_t rules,
                   uint16_t limit);
 
 #define GEN1_CODE_OF(answer) ((answer) & 0xff)       /* a code: GEN1_ERROR_TEAM_EMPTY to GEN1_ERROR_TURN_LIMIT */
-#define GEN1_PLACE_OF(answer) ((answer) >> 8 & 0xff) /* the place of the member with the error, 1 to 6; 0 if it is not about one
+#define GEN1_PLACE_OF(answer) ((answer) >> 8 & 0xff) /* the place of the member with the error, 1 to 6; 0 if it is not about a
                                                         member */
 #define GEN1_SIDE_OF(answer) ((answer) >> 16)        /* the team with the error, 1 or 2; 0 if it is not about a team */
 
 /*
- * Reads a battle from `count` bytes of any of the three versions of the layout (docs/LAYOUT.md, "Loading").
+ * Reads a battle from `count` bytes in any of the three versions of the layout (docs/LAYOUT.md, "Loading").
  *
- * Returns 0, or GEN1_ERROR_LOAD_LENGTH to GEN1_ERROR_LOAD_REQUEST, the first test that the bytes fail; then `*battle` has not
- * changed. To test a battle in place, load its bytes into another one.
+ * Returns 0, or the code of the first test that the bytes fail, GEN1_ERROR_LOAD_LENGTH to GEN1_ERROR_LOAD_REQUEST; then
+ * `*battle` has not changed. To test a battle in place, load its bytes into another battle.
  */
 uint8_t gen1_load(gen1_battle *battle, const uint8_t *bytes, size_t count);
 
@@ -368,14 +368,14 @@ uint8_t gen1_load(gen1_battle *battle, const uint8_t *bytes, size_t count);
 /*
  * Lists the choices that a side is offered (docs/MECHANICS.md, "Offered choices").
  *
- * Writes their bytes, in rising order, to the beginning of `choices`; the rest of the array does not change. Returns their
- * number: 1 to 9, or 0 if the battle is over or `side` is neither 1 nor 2.
+ * Writes the bytes of the choices, in rising order, to the beginning of `choices`; the rest of the array does not change.
+ * Returns how many there are: 1 to 9, or 0 if the battle is over or `side` is neither 1 nor 2.
  */
 uint8_t gen1_choices(const gen1_battle *battle, uint8_t side, uint8_t choices[9]);
 
 /*
- * Returns the choices that a side is offered as a mask of twelve bits: bit GEN1_CHOICE_BIT(choice) is 1 exactly if gen1_choices
- * lists the choice.
+ * Returns the choices that a side is offered as a mask of twelve bits: bit GEN1_CHOICE_BIT(choice) is 1 if and only if
+ * gen1_choices lists the choice.
  *
  * The bits are in the order of the bytes: bit 0 is GEN1_CHOICE_PASS, bits 1 to 5 are GEN1_CHOICE_MOVE(0) to
  * GEN1_CHOICE_MOVE(4), bits 6 to 11 are GEN1_CHOICE_SWITCH(1) to GEN1_CHOICE_SWITCH(6). The mask is 0 if the battle is over or
@@ -404,10 +404,10 @@ static inline int GEN1_CHOICE_AT(int bit)
  * the first member of each.
  *
  * `room` is the size of `log`, at least GEN1_LOG_ROOM. The log of the update is written to the beginning of `log`, and its
- * number of bytes to `*length`; the rest of `log` does not change.
+ * length in bytes to `*length`; the rest of `log` does not change.
  *
  * Returns 0, or the first of these codes that applies: GEN1_ERROR_SMALL_LOG, GEN1_ERROR_OVER, GEN1_ERROR_NOT_OFFERED_ONE,
- * GEN1_ERROR_NOT_OFFERED_TWO. If it returns a code nothing has changed, whatever the bytes of `battle` are.
+ * GEN1_ERROR_NOT_OFFERED_TWO. If it returns a code, nothing has changed, even if the bytes of `battle` are not valid.
  */
 uint8_t gen1_update(gen1_battle *battle, uint8_t one, uint8_t two, uint8_t *log, size_t room, size_t *length);
 
@@ -415,24 +415,24 @@ uint8_t gen1_update(gen1_battle *battle, uint8_t one, uint8_t two, uint8_t *log,
 uint8_t gen1_update_silent(gen1_battle *battle, uint8_t one, uint8_t two);
 
 /*
- * These play one update like the two above, without testing that the choices are offered. They are for callers that took both
- * from gen1_choices or gen1_offered.
+ * Play one update like gen1_update and gen1_update_silent, without testing that the choices are offered. They are for callers
+ * that took both choices from gen1_choices or gen1_offered.
  *
- * Returns 0, or the first of these codes that applies, and then nothing has changed: GEN1_ERROR_SMALL_LOG; or
+ * Return 0, or the first of these codes that applies, and then nothing has changed: GEN1_ERROR_SMALL_LOG; or
  * GEN1_ERROR_NOT_OFFERED_ONE or GEN1_ERROR_NOT_OFFERED_TWO for a byte that is not a choice at all.
  *
- * If a choice is not offered, or the battle is over, `*battle` may be invalid afterwards (gen1_load finds out). Log and length
- * are written as usual, and no other memory.
+ * If a choice is not offered, or the battle is over, `*battle` may be invalid afterwards; gen1_load detects this. The log and its
+ * length are written as usual, and no other memory is written.
  */
 uint8_t gen1_update_offered(gen1_battle *battle, uint8_t one, uint8_t two, uint8_t *log, size_t room, size_t *length);
 uint8_t gen1_update_offered_silent(gen1_battle *battle, uint8_t one, uint8_t two);
 
-/* Returns the outcome so far and what each side is asked for the next update, in one byte. Take it apart with these macros. */
+/* Returns the outcome so far and the request to each side for the next update, in one byte, which these macros take apart. */
 uint8_t gen1_result(const gen1_battle *battle);
 
 #define GEN1_RESULT_OUTCOME(result) ((result) & 7)          /* GEN1_OUTCOME_ONGOING to GEN1_OUTCOME_FAULT_TWO */
-#define GEN1_RESULT_REQUEST_ONE(result) ((result) >> 3 & 3) /* of side 1: GEN1_REQUEST_NOTHING to GEN1_REQUEST_SWITCH */
-#define GEN1_RESULT_REQUEST_TWO(result) ((result) >> 5 & 3) /* of side 2, likewise */
+#define GEN1_RESULT_REQUEST_ONE(result) ((result) >> 3 & 3) /* to side 1: GEN1_REQUEST_NOTHING to GEN1_REQUEST_SWITCH */
+#define GEN1_RESULT_REQUEST_TWO(result) ((result) >> 5 & 3) /* to side 2, likewise */
 
 enum {
     GEN1_OUTCOME_ONGOING, GEN1_OUTCOME_WIN_ONE, GEN1_OUTCOME_WIN_TWO, GEN1_OUTCOME_TIE, GEN1_OUTCOME_FAULT_ONE,
@@ -443,8 +443,8 @@ enum { GEN1_REQUEST_NOTHING, GEN1_REQUEST_MOVE, GEN1_REQUEST_SWITCH };
 /* ---- telling ---- */
 
 /*
- * One event of a log (docs/MECHANICS.md, "Events"). Each number is the one in the log; a field that the event does not have is
- * 0. The health of a member is `hp`, `max_hp` and `status`, in GEN1_EVENT_SWITCH, GEN1_EVENT_DAMAGE and GEN1_EVENT_HEAL.
+ * An event of a log (docs/MECHANICS.md, "Events"). The numbers are those of the log; a field that the event does not have is 0.
+ * GEN1_EVENT_SWITCH, GEN1_EVENT_DAMAGE and GEN1_EVENT_HEAL have the health of a member: `hp`, `max_hp` and `status`.
  */
 typedef struct gen1_event {
     uint8_t tag;            /* the kind of event: GEN1_EVENT_TURN to GEN1_EVENT_FAULT, 1 to 28 */
@@ -480,26 +480,26 @@ enum {
  * Reads the event that begins at index `*at` of a log of `count` bytes, and moves `*at` to the next event. Start with `*at` 0.
  * The log may be the logs of several updates, one after the other.
  *
- * Returns 0, or GEN1_ERROR_LOG_TAG, GEN1_ERROR_LOG_FIELD, GEN1_ERROR_LOG_CUT, or GEN1_ERROR_LOG_END if no event is left; then
- * nothing has changed.
+ * Returns 0; GEN1_ERROR_LOG_END if no event is left; or GEN1_ERROR_LOG_TAG, GEN1_ERROR_LOG_FIELD or GEN1_ERROR_LOG_CUT. If it
+ * returns a code, nothing has changed.
  */
 uint8_t gen1_next_event(const uint8_t *log, size_t count, size_t *at, gen1_event *event);
 
 /*
- * Writes the bytes that an event has in a log to the beginning of `bytes`, and their number, at most 10, to `*length`; the rest
- * of `bytes` does not change. gen1_next_event reads this event from them.
+ * Writes the log bytes of an event to the beginning of `bytes`, and how many there are, at most 10, to `*length`; the rest of
+ * `bytes` does not change. gen1_next_event reads the same event from these bytes.
  *
  * Fields that the event does not have are ignored. Returns 0; GEN1_ERROR_LOG_TAG if `tag` is not 1 to 28; or
- * GEN1_ERROR_LOG_FIELD if a field is out of its range. If it returns a code nothing has changed.
+ * GEN1_ERROR_LOG_FIELD if a field is out of range. If it returns a code, nothing has changed.
  */
 uint8_t gen1_event_bytes(const gen1_event *event, uint8_t bytes[10], size_t *length);
 
 /*
- * Reads an event like gen1_next_event, and writes it as a line of text (docs/MECHANICS.md, "Lines"), as `battle_tool` prints
- * it, with its line feed.
+ * Reads an event like gen1_next_event, and writes it as a line of text (docs/MECHANICS.md, "Lines"), the line that `battle_tool`
+ * prints, with its line feed.
  *
  * `room` is the size of `text`; GEN1_LINE_ROOM is always enough. The line and a NUL are written to the beginning of `text`; the
- * rest of `text` does not change. `*length` becomes the number of bytes before the NUL. Returns as gen1_next_event does, or
+ * rest of `text` does not change. `*length` becomes the number of bytes before the NUL. Returns 0, a code of gen1_next_event, or
  * GEN1_ERROR_SMALL_TEXT.
  */
 uint8_t gen1_next_line(const uint8_t *log, size_t count, size_t *at, char *text, size_t room, size_t *length);
@@ -507,30 +507,30 @@ uint8_t gen1_next_line(const uint8_t *log, size_t count, size_t *at, char *text,
 /* ---- calculating ---- */
 
 /*
- * Computes the damage of one hit by a move of `side` on the foe's active member, as both are now, for each of the factors 217
- * to 255 in this order (docs/MECHANICS.md, "Damage numbers" to "Factors").
+ * Computes the damage of one hit by a move of `side` on the foe's active member, with both members as they are now, for each of
+ * the factors 217 to 255 in this order (docs/MECHANICS.md, "Damage numbers" to "Factors").
  *
- * `move` is 1 to 165, and the member need not know it. If the damage before the factor is 0 or 1, all 39 numbers are that.
+ * `move` is 1 to 165, and the member need not know it. If the damage before the factor is 0 or 1, all 39 numbers are 0 or 1.
  * Returns 0, or the first of these codes that applies, and then nothing has changed: GEN1_ERROR_SIDE, GEN1_ERROR_MOVE,
  * GEN1_ERROR_UNUSUAL, GEN1_ERROR_NOBODY_OUT, GEN1_ERROR_DIVISOR.
  */
 uint8_t gen1_damage(const gen1_battle *battle, uint8_t side, uint8_t move, bool critical, uint16_t damages[39]);
 
-/* The damage of one hit in HP for each of the factors 217 to 255, which are equally likely; or why there is no such damage. */
+/* The damage of one hit in HP for each of the factors 217 to 255, which are equally likely; or the reason why there is none. */
 typedef struct gen1_damages {
     uint16_t numbers[39]; /* the damages, in rising order; zeros if there are none */
     uint8_t count;        /* how many there are: 39 or 0 */
-    uint8_t code;         /* 0; or why there are none: GEN1_ERROR_UNUSUAL or GEN1_ERROR_DIVISOR */
+    uint8_t code;         /* 0; or the reason why there are none: GEN1_ERROR_UNUSUAL or GEN1_ERROR_DIVISOR */
 } gen1_damages;
 
 /*
  * The odds of one use of a move by a member that acts now. Chances are exact counts: how many of the 256 values of a draw lead
  * to the result.
  *
- * What keeps a member from acting at all, such as sleep or paralysis, is not counted. A move that goes on under Rage, Thrash or
- * Petal Dance is tested with the accuracy that was kept; Wrap, Bind, Clamp or Fire Spin that goes on lands its last damage
- * without a test. A damage of 0 is a miss. So a use with the usual damage hits by `hit_draws` and the damage together, where
- * the numbers of one kind of hit are zeros.
+ * Conditions that keep a member from acting at all, such as sleep or paralysis, are not counted. If Rage, Thrash or Petal Dance
+ * continues, the hit test uses the kept accuracy. If Wrap, Bind, Clamp or Fire Spin continues, it deals its last damage again
+ * without a test. A damage of 0 is a miss. A use with the usual damage therefore hits only if it passes the hit test
+ * (`hit_draws`) and its damage is above 0; the damages of a usual or of a critical hit may all be 0.
  *
  * Counter depends on the last damage and on the foe's last picked move, as they are now. If the foe acts first, both change.
  */
@@ -540,13 +540,13 @@ typedef struct gen1_odds {
     uint16_t critical_draws; /* 0 to 255: how many of 256 draws make the hit critical; 0 without the usual damage */
     uint16_t hit_draws;      /* 0 to 256: how many of 256 draws of the hit test make the use hit; 256 without a test */
     uint16_t least;          /* without the usual damage: the least damage; 0 if there is none */
-    uint16_t most;           /* without the usual damage: the most damage; from the least to the most all are equally likely */
-    uint8_t hits[6];         /* in how many of 8 cases a use that hits makes 0 to 5 hits; each deals the same damage */
+    uint16_t most;           /* without the usual damage: the most damage; all from the least to the most are equally likely */
+    uint8_t hits[6];         /* in how many of 8 cases a use that hits makes 0 to 5 hits; each hit deals the same damage */
     uint8_t reason;          /* why `hit_draws` is 0: one of GEN1_ODDS_FALLEN, ..; or GEN1_ODDS_CAN_HIT */
     uint8_t charges_first;   /* 1: the user would only charge now, and the odds are those of its strike; otherwise 0 */
 } gen1_odds;
 
-/* Why a use cannot hit, or not work: the first reason that applies (docs/MECHANICS.md, "Hit test" to "Side effects"). */
+/* The first reason why a use cannot hit, or cannot work (docs/MECHANICS.md, "Hit test" to "Side effects"). */
 enum {
     GEN1_ODDS_CAN_HIT = 0,            /* it can hit */
     GEN1_ODDS_FALLEN = 1,             /* the user or the foe has no HP */
@@ -557,26 +557,26 @@ enum {
     GEN1_ODDS_FAULT = 6,              /* the battle would end with a fault: a divisor of 0, or Psywave at level 1 */
     GEN1_ODDS_SLOWER = 7,             /* a one-hit move, and the user is slower than the foe */
     GEN1_ODDS_NOTHING_TO_COUNTER = 8, /* the last damage is 0, or the foe's picked move cannot be countered */
-    GEN1_ODDS_NO_ENERGY = 9,          /* Bide has no damage to let out */
+    GEN1_ODDS_NO_ENERGY = 9,          /* Bide has no stored damage to return */
     GEN1_ODDS_AWAKE = 10,             /* Dream Eater, and the foe is awake */
     GEN1_ODDS_INVULNERABLE = 11,      /* the foe has flown up or dug in */
     GEN1_ODDS_MIST = 12,              /* Mist guards the foe's stats */
-    GEN1_ODDS_SUBSTITUTE = 13,        /* the foe's substitute keeps the move away */
-    GEN1_ODDS_HAS_STATUS = 14,        /* the foe has a status already */
+    GEN1_ODDS_SUBSTITUTE = 13,        /* the foe's substitute blocks the move */
+    GEN1_ODDS_HAS_STATUS = 14,        /* the foe already has a status */
     GEN1_ODDS_OWN_TYPE = 15,          /* the foe's type guards it: Poison, Grass, or Ground against Electric paralysis */
-    GEN1_ODDS_CONFUSED = 16,          /* the foe is confused already */
-    GEN1_ODDS_SEEDED = 17,            /* the foe is seeded already */
-    GEN1_ODDS_DISABLED = 18,          /* one of the foe's moves is disabled already */
+    GEN1_ODDS_CONFUSED = 16,          /* the foe is already confused */
+    GEN1_ODDS_SEEDED = 17,            /* the foe is already seeded */
+    GEN1_ODDS_DISABLED = 18,          /* one of the foe's moves is already disabled */
     GEN1_ODDS_NO_PP = 19,             /* Disable, and none of the foe's moves has PP */
-    GEN1_ODDS_STAGE = 20,             /* the stage, or the stat, is at its end */
-    GEN1_ODDS_SLEEP_CLAUSE = 21,      /* the sleep clause: a member of the foe's side sleeps already */
-    GEN1_ODDS_ALREADY_UP = 22,        /* the user has the condition already */
+    GEN1_ODDS_STAGE = 20,             /* the stage, or the stat, is at its limit */
+    GEN1_ODDS_SLEEP_CLAUSE = 21,      /* the sleep clause: a member of the foe's side is already asleep */
+    GEN1_ODDS_ALREADY_UP = 22,        /* the user already has the condition */
     GEN1_ODDS_HEALTH = 23             /* the user's HP: a loss of 0, 255 or 511 is not healed; a substitute needs a quarter */
 };
 
 /*
  * Computes the odds of a move of `side`, with both active members as they are now (docs/MECHANICS.md, "Critical hits" to "Hit
- * test", "Fixed damage and one-hit moves", "Many hits").
+ * test", "Fixed damage and one-hit moves" and "Many hits").
  *
  * `move` is 1 to 165, and the member need not know it. Returns 0, or GEN1_ERROR_SIDE, GEN1_ERROR_MOVE or
  * GEN1_ERROR_NOBODY_OUT; then nothing has changed.
@@ -586,18 +586,18 @@ uint8_t gen1_odds_now(const gen1_battle *battle, uint8_t side, uint8_t move, gen
 /*
  * Computes the odds of a move between two members that have just been sent out at full HP; it needs no battle.
  *
- * Returns 0; or GEN1_ERROR_MOVE if `move` is not 1 to 165; or what gen1_new returns for teams of one member, `user` as team
- * one and `foe` as team two. If it returns a code, nothing has changed.
+ * Returns 0; or GEN1_ERROR_MOVE if `move` is not 1 to 165; or the error that gen1_new returns for two teams of one member,
+ * `user` as team one and `foe` as team two. If it returns a code, nothing has changed.
  */
 uint32_t gen1_odds_between(const gen1_member *user, const gen1_member *foe, uint8_t move, gen1_odds *odds);
 
 /*
- * The chance that one use of a move knocks out the foe, or two uses in a row, for independent draws: `once` of `once_of` ways,
- * and `twice` of `twice_of`. All ways are equally likely.
+ * The chance that one use of a move knocks out the foe, or two uses in a row, for independent draws: in `once` of `once_of`
+ * ways, and in `twice` of `twice_of`. All ways are equally likely.
  *
- * If the foe has a substitute, it is the chance to break it. Both uses have the odds that gen1_odds_now returns, and their
- * damages add up; the second Super Fang halves the HP that are left. Nothing else that happens between the uses is counted:
- * no residual damage, no change of a stat, no recharging, and no fall of the user.
+ * If the foe has a substitute, it is the chance to break the substitute. Both uses have the odds that gen1_odds_now returns, and
+ * their damages add up; the second Super Fang halves the HP that are left. Nothing else that happens between the uses is
+ * counted: no residual damage, no change of a stat, no recharging, and no fainting of the user.
  */
 typedef struct gen1_chances {
     uint64_t once;             /* in how many ways the foe has no HP left after one use */
@@ -618,30 +618,30 @@ typedef struct gen1_chances {
 uint8_t gen1_knock_out(const gen1_battle *battle, uint8_t side, uint8_t move, gen1_chances *chances);
 
 /*
- * What happens to the HP of the foe between two uses of a move, if it has any left. For example, poison, a burn and Leech Seed
- * each cost a 16th of the maximum, rounded down, and at least 1 (docs/MECHANICS.md, "Residual damage").
+ * The change of the foe's HP between two uses of a move, if it has any left. For example, poison, a burn and Leech Seed each cost
+ * a 16th of the maximum, rounded down, and at least 1 (docs/MECHANICS.md, "Residual damage").
  */
 typedef struct gen1_hp_change {
     uint16_t gained; /* the HP that it gains first, up to its maximum */
     uint16_t lost;   /* the HP that it then loses */
 } gen1_hp_change;
 
-/* What happens to the HP of the foe after the first use of a move, and after the second. */
+/* The changes of the foe's HP after the first use of a move, and after the second. */
 typedef struct gen1_between {
     gen1_hp_change after_first;  /* after the first use */
     gen1_hp_change after_second; /* after the second use */
 } gen1_between;
 
-/* A number of 128 bits: high * 2^64 + low. */
+/* A 128-bit number: high * 2^64 + low. */
 typedef struct gen1_wide {
     uint64_t low;  /* the lower 64 bits */
     uint64_t high; /* the upper 64 bits */
 } gen1_wide;
 
 /*
- * The exact chance that one use of a move knocks out the foe, or two or three in a row, as in gen1_chances, with what happens to the
- * foe's HP between the uses. A foe that loses its last HP then is knocked out too. Against a substitute it is the chance to break it,
- * and nothing changes the substitute's HP between the uses.
+ * The exact chance that one use of a move knocks out the foe, or two or three in a row, as in gen1_chances, with the changes of the
+ * foe's HP between the uses. A foe that loses its last HP between two uses is knocked out too. Against a substitute it is the chance
+ * to break it, and nothing changes the substitute's HP between the uses.
  */
 typedef struct gen1_three_chances {
     uint64_t once;             /* in how many ways the foe has no HP left after one use */
@@ -658,18 +658,18 @@ typedef struct gen1_three_chances {
  * Computes the chance that up to three uses of a move of `side` knock out the foe's active member, with both as they are now
  * (docs/MECHANICS.md, "Many hits", "Residual damage").
  *
- * `move` is 1 to 165, and the member need not know it. `between` may hold any numbers; zeros change nothing. Returns 0, or
+ * `move` is 1 to 165, and the member need not know it. `between` may hold any numbers; zeros change no HP. Returns 0, or
  * GEN1_ERROR_SIDE, GEN1_ERROR_MOVE or GEN1_ERROR_NOBODY_OUT; then nothing has changed.
  */
 uint8_t gen1_knock_out_in_three(const gen1_battle *battle, uint8_t side, uint8_t move, const gen1_between *between,
     gen1_three_chances *chances);
 
 /*
- * Return the HP that a damage of a move gives to its user (Absorb, Mega Drain, Leech Life, Dream Eater), or costs it (Take Down,
- * Double-Edge, Submission, Struggle): 0 for any other move, and if `move` is not 1 to 165 (docs/MECHANICS.md, "Recoil, drain and
- * explosion").
+ * Return the HP that the user of a move gains by its damage (Absorb, Mega Drain, Leech Life, Dream Eater), or loses by it (Take
+ * Down, Double-Edge, Submission, Struggle): 0 for any other move, and if `move` is not 1 to 165 (docs/MECHANICS.md, "Recoil,
+ * drain and explosion").
  *
- * `damage` is the HP that the foe lost, or what its substitute took without breaking. The user gains at most what it lacks.
+ * `damage` is the HP that the foe lost, or that its substitute lost without breaking. The user's HP do not rise above its maximum.
  */
 uint16_t gen1_drained(uint8_t move, uint16_t damage);
 uint16_t gen1_recoil(uint8_t move, uint16_t damage);
@@ -683,13 +683,13 @@ uint8_t gen1_takes_hit_test(uint8_t move);
 /* ---- many battles ---- */
 
 /*
- * The alignment at which arrays of battles are fastest: a battle then fills six cache lines. No function requires it. Use
+ * The alignment at which arrays of battles are fastest: each battle then fills six cache lines. No function requires it. Use
  * `_Alignas(GEN1_ALIGNMENT) gen1_battle battles[1024];`, or memory from aligned_alloc.
  */
 #define GEN1_ALIGNMENT 64
 
 /*
- * Writes the mask of one side in each of `count` battles, as gen1_offered returns it: masks[i] is of battles[i].
+ * Writes the mask of one side in each of `count` battles, as gen1_offered returns it: masks[i] belongs to battles[i].
  *
  * Returns 0, or GEN1_ERROR_SIDE, or GEN1_ERROR_LENGTHS if `mask_count` is not `count`; then no mask is written.
  */
@@ -699,35 +699,35 @@ uint8_t gen1_offered_many(const gen1_battle *battles, size_t count, uint8_t side
 typedef struct gen1_batch_update {
     uint8_t one;    /* the choice of side 1 */
     uint8_t two;    /* the choice of side 2 */
-    uint8_t result; /* becomes what gen1_result returns for the battle afterwards */
+    uint8_t result; /* becomes the value of gen1_result for the battle afterwards */
     uint8_t code;   /* becomes 0, GEN1_ERROR_OVER, GEN1_ERROR_NOT_OFFERED_ONE or GEN1_ERROR_NOT_OFFERED_TWO */
 } gen1_batch_update;
 
 /*
- * Plays one update of each of `count` battles, without logs: battles[i] by the choices in updates[i], where it writes what
- * became of it. A battle whose update is refused does not change, and the other battles are updated all the same.
+ * Plays one update of each of `count` battles, without logs: battles[i] by the choices in updates[i], to which it writes the
+ * result and the code. A battle whose update is refused does not change; the other battles are still updated.
  *
  * Returns 0, or GEN1_ERROR_LENGTHS if `update_count` is not `count`; then nothing has changed.
  */
 uint8_t gen1_update_many(gen1_battle *battles, size_t count, gen1_batch_update *updates, size_t update_count);
 
 /*
- * Plays one random step of each of `count` battles, without logs: what gen1_offered_many, a draw for each side, and gen1_update_many
- * do, in one call. Each side takes one of the choices that it is offered, all equally likely.
+ * Plays one random step of each of `count` battles, without logs. One call does the work of gen1_offered_many, a draw for each side,
+ * and gen1_update_many. Each side takes one of the choices that it is offered, all equally likely.
  *
- * Each battle has a generator of its own, whose state is generators[i]. So it doesn't matter for a battle which others are in the
- * array: parts of an array may be stepped by threads, and give what the whole gives. Fill `generators` once with random numbers of 64
- * bits; each call replaces them. A draw is that of gen1_playout: the state becomes 6364136223846793005 times the state plus
- * 1442695040888963407, modulo 2 to the power of 64, and the draw is its upper 32 bits. Of n choices, in the order of gen1_choices, a
- * side takes the one at index (draw modulo n). Side 1 draws before side 2, and a side with one choice draws too.
+ * Each battle has its own generator, whose state is generators[i]. The other battles in the array do not matter for a battle:
+ * threads may step parts of an array, and the results are those of stepping the whole array. Fill `generators` once with random
+ * 64-bit numbers; each call replaces them. A draw is that of gen1_playout: the state becomes 6364136223846793005 times the state plus
+ * 1442695040888963407, modulo 2 to the power of 64, and the draw is its upper 32 bits. A side with n choices, in the order of
+ * gen1_choices, takes the one at index (draw modulo n). Side 1 draws before side 2, and a side with one choice draws too.
  *
  * updates[i] becomes the choices of battles[i], its result and its code, as gen1_update_many writes them. `*over` becomes the number
  * of battles that are over after the step.
  *
  * A battle that is over before the step draws nothing and doesn't change: its choices are GEN1_CHOICE_PASS, its code is
  * GEN1_ERROR_OVER. With starts it is replaced first: it becomes a copy of starts[i], draws ten numbers (draw modulo 256), which are
- * set as gen1_reseed does with index 0, and is then stepped. So an ended battle is there to be read until the next call, and no call
- * leaves a battle out. Without starts, `start_count` is 0, and `starts` may be NULL.
+ * set as gen1_reseed does with index 0, and is then stepped. A battle that has ended can therefore be read until the next call, and
+ * every call steps every battle. Without starts, `start_count` is 0, and `starts` may be NULL.
  *
  * Returns 0, or GEN1_ERROR_LENGTHS if `generator_count` or `update_count` is not `count`, or `start_count` is neither `count` nor 0;
  * then nothing has changed.
@@ -741,7 +741,7 @@ typedef struct gen1_playout_options {
     uint64_t seed;        /* the state of the generator before its first draw */
     uint32_t rounds;      /* how many copies are played */
     uint32_t depth;       /* the number of updates after which a round is decided by the HP left; 0: rounds are played to their end */
-    uint8_t weights[166]; /* of each move by its number, 1 to 164; [165], Struggle, of Move 0; [0] of each switch */
+    uint8_t weights[166]; /* of each move by its number, 1 to 164; [165], Struggle, is that of Move 0; [0] that of each switch */
     uint8_t reserved[2];  /* ignored */
 } gen1_playout_options;
 
@@ -749,34 +749,34 @@ typedef struct gen1_playout_options {
 typedef struct gen1_playouts {
     uint32_t wins_one; /* side 1 won, or is ahead */
     uint32_t wins_two; /* side 2 won, or is ahead */
-    uint32_t ties;     /* nobody won, and nobody is ahead */
+    uint32_t ties;     /* neither side won or is ahead */
     uint32_t faults;   /* the battle had to stop: GEN1_OUTCOME_FAULT_ONE or GEN1_OUTCOME_FAULT_TWO */
 } gen1_playouts;
 
 /*
- * Plays copies of a battle with numbers and choices at random, to their end or to a depth, and writes to `*counts` how they
+ * Plays copies of a battle with random numbers and random choices, to their end or to a depth, and writes to `*counts` how they
  * ended.
  *
  * The battle itself does not change. Copies of a battle that is over count as that battle ended. The same arguments give the
  * same counts.
  *
- * A round first draws the ten numbers of its copy, each (draw modulo 256), and sets them as gen1_reseed does with index 0. So
- * rounds are independent, and none knows the numbers that the battle itself will draw. Then in each update each side takes one
- * of the choices that it is offered, side 1 before side 2.
+ * A round first draws the ten numbers of its copy, each (draw modulo 256), and sets them as gen1_reseed does with index 0. Rounds
+ * are therefore independent, and none of them uses the numbers that the battle itself will draw. Then in each update each side
+ * takes one of the choices that it is offered, side 1 before side 2.
  *
  * A side draws from the list of gen1_choices in which each choice is repeated as often as its weight says. If all its choices have
- * the weight 0, each is in the list once. Of a list of n it takes the one at index (draw modulo n). So a choice of weight 6 is
- * twice as likely as one of weight 3, and one of weight 0 is taken only if the others have 0 too. Move 0, with which a member goes
- * on or uses Struggle, has the weight of Struggle. Pass is always the only choice.
+ * weight 0, each is in the list once. From a list of n it takes the choice at index (draw modulo n). A choice of weight 6 is
+ * twice as likely as one of weight 3, and one of weight 0 is taken only if the others have 0 too. Move 0, by which a member
+ * continues a move or uses Struggle, has the weight of Struggle. Pass is always the only choice.
  *
- * A round that is still going on after `depth` updates is decided by the HP that each side has left, as a share of what its
- * members have unhurt: the side with the larger share wins, and equal shares are a tie.
+ * A round that has not ended after `depth` updates is decided by the HP that each side has left, as a share of the sum of its
+ * members' maximum HP: the side with the larger share wins, and equal shares are a tie.
  *
- * The draws come from a generator of this call alone, whose state has 64 bits and is `seed` at first. Each draw replaces the
+ * The draws come from a generator that only this call uses. Its state has 64 bits and is `seed` at first. Each draw replaces the
  * state by 6364136223846793005 times the state plus 1442695040888963407, modulo 2 to the power of 64, and is the upper 32 bits
  * of the new state.
  *
- * Returns 0, or the number of the first test of gen1_load that the battle's bytes fail (GEN1_ERROR_LOAD_VERSION, ..); then
+ * Returns 0, or the code of the first test of gen1_load that the battle's bytes fail (GEN1_ERROR_LOAD_VERSION, ..); then
  * nothing is written.
  */
 uint8_t gen1_playout(const gen1_battle *battle, const gen1_playout_options *options, gen1_playouts *counts);
@@ -785,23 +785,23 @@ uint8_t gen1_playout(const gen1_battle *battle, const gen1_playout_options *opti
 
 /* A battle that an update can lead to, with its weight. */
 typedef struct gen1_successor {
-    gen1_battle battle; /* after the update; bytes 5 to 15, the numbers to draw, are those from before */
+    gen1_battle battle; /* after the update; bytes 5 to 15, the numbers to draw, are as before the update */
     uint64_t low;       /* the low 64 bits of the weight */
     uint64_t high;      /* the high 64 bits */
 } gen1_successor;
 
-/* How gen1_outcomes lists outcomes. Zeros list all, each damage apart. */
+/* How gen1_outcomes lists outcomes. Zeros list all outcomes, and each damage separately. */
 typedef struct gen1_outcome_options {
     uint32_t least;         /* draws are left out as soon as their probability is below least / 2^32; 0: none are */
-    uint8_t damage_classes; /* how many classes a roll of damage has at most, 1 to 39; 0: each damage is listed apart */
+    uint8_t damage_classes; /* the most classes of a damage roll, 1 to 39; 0: each damage is listed separately */
     uint8_t reserved[3];    /* ignored */
 } gen1_outcome_options;
 
 /* The list that gen1_outcomes wrote. */
 typedef struct gen1_outcome_list {
-    uint64_t low;       /* the low 64 bits of the sum of all weights and of what is left out */
+    uint64_t low;       /* the low 64 bits of the sum of all weights and of the weight left out */
     uint64_t high;      /* the high 64 bits */
-    uint64_t left_low;  /* the low 64 bits of the weight of all that is left out; 0 if `least` is 0 */
+    uint64_t left_low;  /* the low 64 bits of the weight left out; 0 if `least` is 0 */
     uint64_t left_high; /* the high 64 bits */
     uint64_t count;     /* how many outcomes there are: at least 1, if nothing is left out */
 } gen1_outcome_list;
@@ -809,31 +809,32 @@ typedef struct gen1_outcome_list {
 #define GEN1_SUCCESSOR_SIZE 400 /* the size of a gen1_successor, for other languages; its alignment is at most 8 */
 
 /*
- * Lists all battles that an update by a choice of each side can lead to, each once, with its exact probability: its weight over
- * the sum that `*list` has. Both are whole numbers of up to 128 bits.
+ * Lists all battles that an update by a choice of each side can lead to, each once, with its exact probability: its weight
+ * divided by the sum in `*list`. Both are whole numbers of up to 128 bits.
  *
  * The probabilities are exact for draws that are independent uniform bytes. A link battle draws other numbers
- * (docs/MECHANICS.md, "Link numbers"). If its seed is unknown they are an approximation, off by about 0.01 in total variation;
- * with a known seed there is one outcome, that of gen1_update. The numbers to draw of `battle` are not used, and its outcomes
- * keep them. So reseed an outcome before you play it on.
+ * (docs/MECHANICS.md, "Link numbers"). If its seed is unknown, they are an approximation, off by about 0.01 in total variation;
+ * if its seed is known, there is one outcome, that of gen1_update. The numbers to draw of `battle` are not used, and its outcomes
+ * keep them: reseed an outcome before you play it further.
  *
- * The outcomes are written to the first places of `successors`, in no particular order. `table` is for the call's own use, and
+ * The outcomes are written to the first places of `successors`, in no particular order. `table` is working memory of the call. It
  * needs at least as many places as there are outcomes; twice as many make the call faster. Most updates have fewer than 100
  * outcomes, and all that were met have fewer than 65,536.
  *
- * A search may want fewer. With `damage_classes` above 0 a roll of damage has at most that many classes: the 39 factors from 217
- * to 255 are cut into as many runs, and damages of one run are a class. Of each class one damage near its middle is listed, with
- * the weight of all. All damages from the HP of the target on (or of its substitute) are one class more, so the chance that a
- * roll knocks out stays exact, and so does everything that is not a roll of damage. 0 lists each damage; above 39 is as 39.
+ * A search may want fewer outcomes. With `damage_classes` above 0, a damage roll has at most that many classes: the 39 factors
+ * from 217 to 255 are divided into that many ranges, and the damages of one range are a class. The list has one damage near the
+ * middle of each class, with the weight of the whole class. All damages that reach the HP of the target (or of its substitute)
+ * are one more class, so the chance of a knock-out stays exact, and so does everything other than damage rolls. 0 lists each
+ * damage; numbers above 39 count as 39.
  *
- * With `least` above 0, draws are left out as soon as those of an update so far have a probability below `least` / 2^32 together,
- * with all that may come after them. So a weight is that of the ways to its battle that are not left out, and the rest is in
- * `left_low` and `left_high` of the list: the weights and what is left out sum exactly to the sum of the list. Draws whose
- * numerator has more than 96 bits are not left out. An update without a draw has its outcome, and of others none may be left.
+ * With `least` above 0, a course of the update is left out as soon as its draws so far have a probability below `least` / 2^32
+ * together. A weight is then that of the ways to its battle that are not left out, and the rest is in `left_low` and `left_high`
+ * of the list: the weights and the weight left out add up exactly to the sum of the list. Draws whose numerator has more than 96
+ * bits are not left out. An update without a draw always has its outcome; an update with draws may have none.
  *
  * Returns 0, or the first of these codes that applies, and then nothing has changed: GEN1_ERROR_OVER,
  * GEN1_ERROR_NOT_OFFERED_ONE, GEN1_ERROR_NOT_OFFERED_TWO. Otherwise it returns GEN1_ERROR_OUTCOMES or GEN1_ERROR_TABLE if that
- * array has too few places, or GEN1_ERROR_DRAWS. Then `*list` has not changed, and both arrays may have any content.
+ * array has too few places, or GEN1_ERROR_DRAWS. Then `*list` has not changed, and the content of both arrays is unspecified.
  */
 uint8_t gen1_outcomes(const gen1_battle *battle, uint8_t one, uint8_t two, const gen1_outcome_options *options,
                       gen1_successor *successors, size_t capacity, uint32_t *table, size_t table_size, gen1_outcome_list *list);
@@ -850,48 +851,49 @@ typedef struct gen1_draw {
     uint64_t num[2];   /* the numerator of the probability of the draws before it, the low 64 bits first */
     uint64_t whole[2]; /* the denominator */
     uint64_t rest[4];  /* the bytes that are still to be tried: a bit for each of 256 */
-    uint16_t total;    /* how many bytes it may have */
-    uint16_t count;    /* how many of them are alike to `byte` */
-    uint16_t look[2];  /* what is looked at of the byte, as numbers */
-    uint8_t kind;      /* what is looked at, 0 to 3 */
-    uint8_t byte;      /* the byte that it has on the next way */
+    uint16_t total;    /* how many bytes can be drawn */
+    uint16_t count;    /* how many of them have the same effect as `byte` */
+    uint16_t look[2];  /* how the byte is used: the parameters */
+    uint8_t kind;      /* how the byte is used: the kind, 0 to 3 */
+    uint8_t byte;      /* the byte that is drawn on the next way */
     uint8_t unused[6]; /* 0 */
 } gen1_draw;
 
 /*
- * A walk through the ways of an update, which gen1_walk_begin makes and gen1_walk_next changes. The caller owns it, and may copy
- * it: a copy goes on from the same way.
+ * A walk through the ways of an update. gen1_walk_begin makes it, and gen1_walk_next changes it. The caller owns it, and may
+ * copy it: a copy continues from the same way.
  */
 typedef struct gen1_walk {
     gen1_battle battle;     /* the battle before the update */
     gen1_draw draws[24];    /* the draws of the next way, as far as they are known, in the first places */
     uint8_t count;          /* how many there are, 0 to 24 */
     uint8_t one;            /* the choice of side 1 */
-    uint8_t two;            /* side 2's */
-    uint8_t damage_classes; /* as it was given to gen1_walk_begin */
+    uint8_t two;            /* the choice of side 2 */
+    uint8_t damage_classes; /* as it was passed to gen1_walk_begin */
     uint8_t over;           /* 1 after the last way, else 0 */
     uint8_t unused[3];      /* 0 */
 } gen1_walk;
 
 #define GEN1_WALK_SIZE 2312 /* the size of a gen1_walk, for other languages; its alignment is at most 8 */
 
-/* A way of an update: a battle that it can lead to, its exact probability, and what happens. */
+/* A way of an update: a battle that it can lead to, its exact probability, and its log. */
 typedef struct gen1_way {
-    gen1_battle battle;         /* after the update; bytes 5 to 15, the numbers to draw, are those from before */
+    gen1_battle battle;         /* after the update; bytes 5 to 15, the numbers to draw, are as before the update */
     uint64_t low;               /* the low 64 bits of the numerator of the probability */
     uint64_t high;              /* the high 64 bits */
     uint64_t whole_low;         /* the low 64 bits of the denominator */
     uint64_t whole_high;        /* the high 64 bits */
     uint64_t log_length;        /* 0 to 512: how many bytes of `log` belong to the update */
-    uint8_t log[GEN1_LOG_ROOM]; /* the log of the update, and after it zeros */
+    uint8_t log[GEN1_LOG_ROOM]; /* the log of the update, followed by zeros */
 } gen1_way;
 
 #define GEN1_WAY_SIZE 936 /* the size of a gen1_way, for other languages; its alignment is at most 8 */
 
 /*
- * Begins a walk through all ways of an update by a choice of each side: what gen1_outcomes lists, one by one, each with its log,
- * before equal battles are merged. Two ways may lead to equal battles by other events, such as a critical hit and a usual one
- * that both knock out. A walk needs no arrays, and can be left at any way. `damage_classes` is that of gen1_outcome_options.
+ * Begins a walk through all ways of an update by a choice of each side. These are the outcomes of gen1_outcomes before equal
+ * battles are merged, one by one, each with its log. Two ways may lead to equal battles by different events, such as a critical
+ * hit and a usual hit that both knock out. A walk needs no arrays, and may be abandoned at any way. `damage_classes` is that of
+ * gen1_outcome_options.
  *
  * Returns 0, or the first of these codes that applies, and then nothing has changed: GEN1_ERROR_OVER,
  * GEN1_ERROR_NOT_OFFERED_ONE, GEN1_ERROR_NOT_OFFERED_TWO.
@@ -917,19 +919,20 @@ static inline double GEN1_WAY_PROBABILITY(const gen1_way *way)
 
 /* ---- teams out of text ---- */
 
-/* Where a text of a team is wrong, and what was expected there. */
+/* The place of an error in the text of a team, and the form that was expected there. */
 typedef struct gen1_text_fault {
     size_t line;   /* in a text: the line, from 1; 0 if it is not about one line */
     size_t member; /* in a packed line, and with GEN1_ERROR_TEXT_TEAM: the member, from 1; 0 if it is not about one member */
     size_t field;  /* in a packed line: the field of the member, 1 to 12; 0 if it is not about one field */
-    uint8_t code;  /* what was expected: GEN1_ERROR_TEXT_SPECIES to GEN1_ERROR_TEXT_TEAM */
+    uint8_t code;  /* the expected form: GEN1_ERROR_TEXT_SPECIES to GEN1_ERROR_TEXT_TEAM */
     uint8_t rule;  /* with GEN1_ERROR_TEXT_TEAM: why the members are not a team, GEN1_ERROR_TEAM_EMPTY to GEN1_ERROR_PP_UPS;
                       otherwise 0 */
     uint8_t reserved[6]; /* 0 */
 } gen1_text_fault;
 
 /*
- * Reads a team from a text of `count` bytes, as Pokemon Showdown's team builder exports it (docs/TEAM_TEXT.md, "Export text").
+ * Reads a team from a text of `count` bytes in the export format of Pokemon Showdown's team builder (docs/TEAM_TEXT.md, "Export
+ * text").
  *
  * A member is a first line with the species, then lines such as "Level: 50", "EVs: 252 HP / 4 Atk", "IVs: 0 Atk" and "- Body
  * Slam". An empty line ends it. The defaults are level 100, all DVs 15 and all experience 63,504. Each move has three PP
@@ -955,21 +958,21 @@ uint8_t gen1_team_from_packed(const char *text, size_t count, gen1_team *team, g
 /*
  * Functions that write a text write it and a NUL to the beginning of `text`, whose size is `room`; the rest of `text` does not
  * change. `*length` becomes the number of bytes before the NUL. They return 0; GEN1_ERROR_UNKNOWN if nothing has this number;
- * or GEN1_ERROR_SMALL_TEXT if the text and its NUL do not fit. If they return a code nothing has changed.
+ * or GEN1_ERROR_SMALL_TEXT if the text and its NUL do not fit. If they return a code, nothing has changed.
  */
 
 /* Returns the version of the library: 65,536 * major + 256 * minor + patch. */
 uint32_t gen1_version(void);
 
 /*
- * Returns what the library was built from, as a text that ends with a zero and is never freed:
+ * Returns the origin of the library, as a NUL-terminated string that is never freed:
  *
- *   - "proved, logic HEX, sources sha256 HEX": the library that the Rattle kit proved and built
- *   - "plain, rustc VERSION, sources sha256 HEX": rustc's, from the same sources without their contracts
+ *   - "proved, logic HEX, sources sha256 HEX": proved and built by the Rattle kit
+ *   - "plain, rustc VERSION, sources sha256 HEX": built by rustc, from the same sources without their contracts
  *   - "unknown": neither is known
  *
- * The sum is that of the files of crates/ that a proof reads. Where one of these isn't known, it is "unknown". A library that was
- * optimized with a profile of battles says "with a profile" after "proved," or after rustc's VERSION.
+ * The checksum covers the files of crates/ that a proof reads. A part that isn't known is "unknown". A library that was optimized
+ * with a profile of battles says "with a profile" after "proved," or after rustc's VERSION.
  */
 const char *gen1_build(void);
 
@@ -982,10 +985,10 @@ uint8_t gen1_move_name(uint8_t move, char *text, size_t room, size_t *length);
 uint8_t gen1_type_name(uint8_t type, char *text, size_t room, size_t *length);
 
 /*
- * Returns the species or move that the `count` bytes of `text` name, or 0 if there is none.
+ * Return the species or move that the `count` bytes of `text` name, or 0 if there is none.
  *
- * Only letters and digits count, in upper or lower case (docs/TEAM_TEXT.md, "Names"): "mrmime" is 122. Every name that
- * gen1_species_name and gen1_move_name write is found. Two moves are also found by the names of later games, "Vise Grip" and
+ * Only letters and digits are compared, ignoring case (docs/TEAM_TEXT.md, "Names"): "mrmime" is 122. Every name that
+ * gen1_species_name and gen1_move_name write is found. Two moves are also found by their names in later games, "Vise Grip" and
  * "Hi Jump Kick".
  */
 uint8_t gen1_species_from_name(const char *text, size_t count);
@@ -1006,10 +1009,10 @@ uint8_t gen1_species_stats(uint8_t species, gen1_base *base);
 /* A move (docs/TABLES.md, "Moves"). */
 typedef struct gen1_move {
     uint8_t type;     /* 0 to 14 */
-    uint8_t power;    /* 0 to 170. 1 if the damage has another rule than the power: one-hit moves, Counter, Super Fang, Seismic
+    uint8_t power;    /* 0 to 170. 1 if the damage does not depend on the power: one-hit moves, Counter, Super Fang, Seismic
                          Toss, Sonic Boom, Dragon Rage, Psywave. 0 for moves without damage, and for Night Shade and Bide */
-    uint8_t accuracy; /* 0 to 255: the percent of docs/TABLES.md times 255, divided by 100, rounded down. At unchanged stages a
-                         draw below it hits */
+    uint8_t accuracy; /* 0 to 255: the percentage in docs/TABLES.md times 255, divided by 100, rounded down. At unchanged stages
+                         a draw below it hits */
     uint8_t pp;       /* 1 to 40: without PP ups */
     uint8_t effect;   /* GEN1_EFFECT_DAMAGE_ONLY to GEN1_EFFECT_STAT_DOWN */
     int8_t priority;  /* 1 for Quick Attack, which comes before any other move; -1 for Counter, which comes after any; else 0 */
@@ -1020,8 +1023,8 @@ typedef struct gen1_move {
 uint8_t gen1_move_data(uint8_t move, gen1_move *row);
 
 /*
- * Writes to `*tenths` by how many tenths a move of one type changes its damage to a foe of one type: 20, 5, 0, or 10 if it does
- * not change it (docs/TABLES.md, "Type rows"). For a foe of two different types both factors count, one after the other.
+ * Writes to `*tenths` the factor, in tenths, of the damage of a move of one type to a foe of one type: 20, 10, 5 or 0
+ * (docs/TABLES.md, "Type rows"). For a foe of two different types both factors apply, one after the other.
  *
  * Returns 0, or GEN1_ERROR_UNKNOWN if a type is not 0 to 14; then `*tenths` has not changed.
  */
@@ -1031,8 +1034,8 @@ uint8_t gen1_effectiveness(uint8_t attack_type, uint8_t foe_type, uint8_t *tenth
  * Writes the stats of a member without a battle: its maximum HP, 11 to 999, and its own Attack, Defense, Speed and Special, 5
  * to 999 (docs/MECHANICS.md, "Stats").
  *
- * Returns 0, or the code of the first error that gen1_new returns for a team of this member, GEN1_ERROR_LEVEL to
- * GEN1_ERROR_MOVE; then `stats` has not changed.
+ * Returns 0, or the code of the error that gen1_new returns for a team of this member, GEN1_ERROR_LEVEL to GEN1_ERROR_MOVE; then
+ * `stats` has not changed.
  */
 uint8_t gen1_member_stats(const gen1_member *member, uint16_t stats[5]);
 
@@ -1043,7 +1046,7 @@ typedef struct gen1_member_state {
     uint8_t species;    /* 1 to 151 */
     uint8_t level;      /* 1 to 100 */
     uint8_t status;     /* GEN1_STATUS_NONE to GEN1_STATUS_PARALYSIS */
-    uint8_t sleep;      /* turns of sleep that are left, 1 to 7; 0 if not asleep */
+    uint8_t sleep;      /* turns of sleep left, 1 to 7; 0 if not asleep */
     uint8_t marked;     /* 1 if the foe's move put it to sleep under the sleep clause; else 0 */
     uint8_t moves[4];   /* 1 to 164; 0 in a slot without a move */
     uint8_t pp[4];      /* 0 to 63; 0 in a slot without a move */
@@ -1054,24 +1057,24 @@ typedef struct gen1_member_state {
 
 /* The active member of a side. Before the first update there is none, and all fields are 0. */
 typedef struct gen1_active_state {
-    uint32_t conditions;    /* GEN1_CONDITION_.., added up for all that are on */
+    uint32_t conditions;    /* the sum of its GEN1_CONDITION_.. */
     uint16_t stats[4];      /* 1 to 999: Attack, Defense, Speed and Special with stages and penalties */
-    uint16_t energy;        /* Bide: the energy that it has stored, 0 to 65,535; else 0 */
+    uint16_t energy;        /* Bide: the stored damage, 0 to 65,535; else 0 */
     uint8_t place;          /* 1 to 6: its place in the team */
     uint8_t types[2];       /* 0 to 14; they may differ from the species' types */
     uint8_t stages[6];      /* 0 to 12, 6 if unchanged: Attack, Defense, Speed, Special, accuracy, evasion */
-    uint8_t current_move;   /* the move that it used last: 0 none, 1 to 4 a slot, 5 Struggle */
-    uint8_t picked_move;    /* the move that it picked last, likewise */
+    uint8_t current_move;   /* the move that was used last: 0 none, 1 to 4 a slot, 5 Struggle */
+    uint8_t picked_move;    /* the move that was picked last, likewise */
     uint8_t kept_accuracy;  /* Thrash and Rage: the kept accuracy, 1 to 255; else 0 */
     uint8_t substitute;     /* HP of the Substitute, 0 to 249; 0 without one */
-    uint8_t confusion;      /* turns of confusion that are left, 1 to 5; 0 if not confused */
+    uint8_t confusion;      /* turns of confusion left, 1 to 5; 0 if not confused */
     uint8_t disabled_slot;  /* the slot that Disable blocks, 1 to 4; else 0 */
-    uint8_t disabled_turns; /* for how many more turns, 1 to 8; else 0 */
+    uint8_t disabled_turns; /* turns of Disable left, 1 to 8; else 0 */
     uint8_t bad_poison;     /* the counter of Toxic, 0 to 64; 0 without it */
-    uint8_t turns;          /* turns left of Bide, Thrash (1 to 3) or trapping (0 to 4), at most one of which is on; else 0 */
+    uint8_t turns;          /* turns left of Bide or Thrash (1 to 3) or trapping (0 to 4), at most one of which is on; else 0 */
 } gen1_active_state;
 
-/* A side: its members, and what lasts only while a member is active. */
+/* A side: its members, and the state that lasts only while a member is active. */
 typedef struct gen1_side_state {
     gen1_member_state members[6]; /* the member at place p is members[p - 1] */
     gen1_active_state active;     /* the active member */
@@ -1093,23 +1096,23 @@ typedef struct gen1_state {
 /* Writes the state that a battle's bytes represent to `*state`, every field of it. */
 void gen1_get_state(const gen1_battle *battle, gen1_state *state);
 
-/* The field of a state that is wrong. A value from `low` to `high` breaks the further rule of its field, which the field's code tells. */
+/* The field of a state that is wrong. A value from `low` to `high` breaks the field's other rule, which its code gives. */
 typedef struct gen1_state_fault {
-    uint32_t value; /* what the field has */
-    uint32_t low;   /* the least that it may have */
-    uint32_t high;  /* the greatest */
+    uint32_t value; /* the value of the field */
+    uint32_t low;   /* the least valid value */
+    uint32_t high;  /* the greatest valid value */
     uint8_t field;  /* GEN1_FIELD_UNNAMED to GEN1_FIELD_CURRENT_STAT */
     uint8_t side;   /* 1 or 2; 0 for a field of the whole battle */
     uint8_t place;  /* of a member, 1 to 6; 0 for a field of an active member or of the whole battle */
-    uint8_t index;  /* which one of several; 0 for a field that stands once */
+    uint8_t index;  /* which one, if the state has several; otherwise 0 */
 } gen1_state_fault;
 
 enum {
-    GEN1_FIELD_UNNAMED = 0,          /* no field alone */
+    GEN1_FIELD_UNNAMED = 0,          /* no single field */
     GEN1_FIELD_LIMIT = 1,            /* the turn limit */
     GEN1_FIELD_TURN = 2,             /* the turn */
     GEN1_FIELD_INDEX = 3,            /* the index of the next link number */
-    GEN1_FIELD_OUTCOME = 4,          /* the outcome. From 0 to 5 it does not fit the members that are living */
+    GEN1_FIELD_OUTCOME = 4,          /* the outcome. From 0 to 5 it does not fit the living members */
     GEN1_FIELD_RULES = 5,            /* the rules */
     GEN1_FIELD_REQUEST = 6,          /* the request of a side */
     GEN1_FIELD_SPECIES = 7,          /* 0 only in a place after the last member */
@@ -1125,7 +1128,7 @@ enum {
     GEN1_FIELD_PLACE = 17,
     GEN1_FIELD_TYPE = 18,            /* `index` is 1 or 2 */
     GEN1_FIELD_STAGE = 19,           /* `index` is 1 Attack to 4 Special, 5 accuracy, 6 evasion */
-    GEN1_FIELD_CONDITIONS = 20,      /* the bits */
+    GEN1_FIELD_CONDITIONS = 20,      /* the sum of the conditions */
     GEN1_FIELD_SUBSTITUTE = 21,
     GEN1_FIELD_CONFUSION = 22,
     GEN1_FIELD_DISABLED_SLOT = 23,
@@ -1136,19 +1139,19 @@ enum {
     GEN1_FIELD_KEPT_ACCURACY = 28,
     GEN1_FIELD_CURRENT_MOVE = 29,    /* From 0 to 5 the slot holds no move */
     GEN1_FIELD_PICKED_MOVE = 30,     /* likewise */
-    GEN1_FIELD_TIED_CONDITION = 31,  /* `index` is the place of a bit, from 0, that is on and does not belong to the current move */
+    GEN1_FIELD_TIED_CONDITION = 31,  /* `index` is the number, from 0, of a bit that is set and does not belong to the current move */
     GEN1_FIELD_CURRENT_STAT = 32     /* `index` is 1 to 4. From `low` to `high` no number of penalties gives it */
 };
 
 /*
- * Makes a battle of a state, and overwrites `*battle` with it. It accepts every state that gen1_get_state writes, and gives the same
- * 384 bytes; and every other state whose bytes gen1_load accepts.
+ * Creates a battle from a state, and overwrites `*battle` with it. It accepts every state that gen1_get_state writes, and gives the
+ * same 384 bytes. It also accepts every other state whose bytes gen1_load accepts.
  *
- * An active member whose four `stats` are all 0 gets those of its own stats and stages, with one penalty for a burn or a paralysis, as
- * if it had just been sent out.
+ * If the four `stats` of an active member are all 0, they are computed from its own stats and its stages, with one penalty for a burn
+ * or a paralysis, as if it had just been sent out.
  *
- * Returns 0, or GEN1_ERROR_STATE; then `*battle` has not changed, and `*fault` has the first field that is wrong. Fields are tested in
- * this order: of the whole battle; of the members of side 1 and side 2; of the active members; their current stats; then outcome,
+ * Returns 0, or GEN1_ERROR_STATE; then `*battle` has not changed, and `*fault` has the first field that is wrong. The fields are tested
+ * in this order: of the whole battle; of the members of side 1 and side 2; of the active members; their current stats; then outcome,
  * requests and turn together.
  */
 uint8_t gen1_set_state(gen1_battle *battle, const gen1_state *state, gen1_state_fault *fault);
@@ -1166,10 +1169,10 @@ uint8_t gen1_choice_kind(uint8_t choice);
 uint8_t gen1_choice_slot(uint8_t choice);
 
 /*
- * Writes a choice of a side in words: "pass", "move 2 Body Slam", "move 0" (where no slot can be chosen), "switch 3 Gengar".
+ * Writes a choice of a side in words: "pass", "move 2 Body Slam", "move 0" (if no slot can be chosen), "switch 3 Gengar".
  *
- * The choice need not be offered. The words are at most 21 bytes, and are written as a name is. Returns 0, or the first
- * of these codes that applies: GEN1_ERROR_SIDE, GEN1_ERROR_CHOICE, GEN1_ERROR_NOBODY, GEN1_ERROR_SMALL_TEXT.
+ * The choice need not be offered. The words have at most 21 bytes, and are written like a name. Returns 0, or the first of these
+ * codes that applies: GEN1_ERROR_SIDE, GEN1_ERROR_CHOICE, GEN1_ERROR_NOBODY, GEN1_ERROR_SMALL_TEXT.
  */
 uint8_t gen1_choice_words(const gen1_battle *battle, uint8_t side, uint8_t choice, char *text, size_t room, size_t *length);
 
@@ -1178,11 +1181,11 @@ uint8_t gen1_choice_words(const gen1_battle *battle, uint8_t side, uint8_t choic
 /*
  * Replaces the numbers that a battle draws; nothing else of the battle changes.
  *
- * `seed` is ten bytes with any values, of which nine are drawn in turn. `index`, 0 to 8, is that of the byte that is drawn next
- * (docs/MECHANICS.md, "Link numbers").
+ * `seed` is ten bytes with any values, of which nine are drawn in turn. `index`, 0 to 8, is the index of the byte that is drawn
+ * next (docs/MECHANICS.md, "Link numbers").
  *
- * A copy of a battle holds the numbers that the battle itself will draw. A search that plays such copies knows what will
- * happen, which no player does. So reseed each copy with bytes of your own before you play it.
+ * A copy of a battle holds the numbers that the battle itself will draw. A search that plays such copies sees the future, which
+ * no player can: reseed each copy with your own bytes before you play it.
  *
  * Returns 0, or GEN1_ERROR_INDEX if `index` is above 8; then nothing has changed.
  */
@@ -1199,7 +1202,7 @@ uint8_t gen1_reseed(gen1_battle *battle, const uint8_t seed[10], uint8_t index);
  */
 typedef struct gen1_room {
     gen1_battle battle;         /* the battle as it is now; before gen1_room_begin, the one to make a room of */
-    uint32_t number;            /* the number of the current pair of choices, which is how many pairs have ended */
+    uint32_t number;            /* the number of the current pair of choices: how many pairs have ended */
     uint16_t log_length;        /* 0 to 512: how many bytes of `log` belong to the last pair that ended */
     uint8_t chosen[2];          /* the choices of side 1 and side 2 for the current pair, GEN1_DUE if not submitted; never show
                                    them to the players */
@@ -1218,8 +1221,8 @@ typedef struct gen1_room {
 void gen1_room_begin(gen1_room *room);
 
 /*
- * Lists the choices that a side may submit for the current pair, as gen1_choices does. There are none if its choice is
- * submitted, the battle is over, or a side has forfeited. For a side that is asked nothing the room itself submits GEN1_CHOICE_PASS.
+ * Lists the choices that a side may submit for the current pair, as gen1_choices does. There are none if its choice has been
+ * submitted, the battle is over, or a side has forfeited. For a side without a request the room itself submits GEN1_CHOICE_PASS.
  *
  * Returns how many there are, 0 to 9; 0 if `side` is neither 1 nor 2.
  */
@@ -1228,13 +1231,13 @@ uint8_t gen1_room_choices(const gen1_room *room, uint8_t side, uint8_t choices[9
 /*
  * Submits a choice of a side for the pair with the given number.
  *
- * Returns 0 if the room takes the choice. Once both choices are there, the battle is updated, `log` becomes the log of the
- * update, and `number` rises by one. Otherwise it returns the first of these codes that applies, and nothing has changed:
+ * Returns 0 if the room accepts the choice. Once both choices have been submitted, the battle is updated, `log` becomes the log
+ * of the update, and `number` rises by one. Otherwise it returns the first of these codes that applies, and nothing has changed:
  * GEN1_ERROR_SIDE, GEN1_ERROR_OVER (also if a side has forfeited), GEN1_ERROR_STALE, GEN1_ERROR_CHOSEN, GEN1_ERROR_NOT_OFFERED.
  *
- * Until the pair has ended, no result that either player gets depends on which of the offered choices the other one made.
+ * Until the pair has ended, no result that either player gets depends on which of the offered choices the other player made.
  *
- * The room keeps only the log of the last pair. A caller that wants the log of the whole battle appends it after
+ * The room keeps only the log of the last pair. A caller that wants the log of the whole battle appends the room's log after
  * gen1_room_begin, and each time that `number` has risen:
  *
  *     uint32_t before = room.number;
@@ -1246,9 +1249,9 @@ uint8_t gen1_room_choices(const gen1_room *room, uint8_t side, uint8_t choices[9
 uint8_t gen1_room_submit(gen1_room *room, uint8_t side, uint32_t number, uint8_t choice);
 
 /*
- * Ends the current pair by a forfeit of a side: the other side wins. Choices that were submitted for this pair are dropped.
+ * Ends the current pair by a forfeit of a side: the other side wins. Choices that were submitted for this pair are discarded.
  *
- * Returns 0; `log` is then the one event GEN1_EVENT_WIN, `number` has risen by one, `forfeit` is the side, and every later
+ * Returns 0; `log` is then the single event GEN1_EVENT_WIN, `number` has risen by one, `forfeit` is the side, and every later
  * submission gets GEN1_ERROR_OVER. `battle` does not change: its bytes cannot represent a win while the loser has members left.
  * Otherwise it returns GEN1_ERROR_SIDE, or GEN1_ERROR_OVER if the battle is over or a side has forfeited, and nothing has
  * changed.
@@ -1256,8 +1259,8 @@ uint8_t gen1_room_submit(gen1_room *room, uint8_t side, uint32_t number, uint8_t
 uint8_t gen1_room_forfeit(gen1_room *room, uint8_t side);
 
 /*
- * Returns the outcome of the room and what each side is asked, as gen1_result does for its battle. After a forfeit the outcome
- * is the other side's win, and nothing is asked.
+ * Returns the outcome of the room and the request to each side, as gen1_result does for its battle. After a forfeit the outcome
+ * is the other side's win, and both requests are GEN1_REQUEST_NOTHING.
  */
 uint8_t gen1_room_result(const gen1_room *room);
 
@@ -1265,7 +1268,7 @@ uint8_t gen1_room_result(const gen1_room *room);
 
 /* What a spectator sees of a member. */
 typedef struct gen1_shown_member {
-    uint16_t hp;      /* 0 to 999; its maximum before it first came out */
+    uint16_t hp;      /* 0 to 999; its maximum until it first comes out */
     uint8_t status;   /* GEN1_STATUS_NONE to GEN1_STATUS_PARALYSIS */
     uint8_t reserved; /* 0 */
 } gen1_shown_member;
@@ -1274,7 +1277,7 @@ typedef struct gen1_shown_member {
 typedef struct gen1_shown_side {
     gen1_shown_member members[6]; /* the member at place p is members[p - 1] */
     uint8_t count;                /* how many members there are, 1 to 6 */
-    uint8_t place;                /* the place of the active member, 1 to 6; 0 before the first came out */
+    uint8_t place;                /* the place of the active member, 1 to 6; 0 before the first comes out */
     uint8_t stages[6];            /* 0 to 12, 6 if unchanged: Attack, Defense, Speed, Special, accuracy, evasion */
     uint8_t substitute;           /* 1 if it has a Substitute, else 0 */
     uint8_t confused;             /* 1 if it is confused, else 0 */
@@ -1286,48 +1289,48 @@ typedef struct gen1_shown_side {
  * The view of a spectator, who knows both teams and the log of every update so far, and nothing else (docs/MECHANICS.md,
  * "Spectator's view"). It contains no seed, no choices and no hidden counters.
  *
- * The caller owns it, as a battle. `held` keeps the bytes of an event that has been fed in part.
+ * The caller owns it, like a battle. `held` keeps the bytes of an incomplete event.
  */
 typedef struct gen1_spectator {
     gen1_shown_side sides[2]; /* side 1 and side 2 */
     uint16_t turn;            /* 0 before the first turn, then 1 up to the limit */
     uint8_t outcome;          /* GEN1_OUTCOME_ONGOING to GEN1_OUTCOME_FAULT_TWO */
     uint8_t held_count;       /* 0 to 9: how many bytes of `held` are in use */
-    uint8_t held[10];         /* the bytes */
+    uint8_t held[10];         /* the bytes of an incomplete event */
 } gen1_spectator;
 
 #define GEN1_SPECTATOR_SIZE 86 /* the size of a gen1_spectator, for other languages; its alignment is 2 */
 
 /*
- * Sets a spectator to what is known before a battle of two teams. Returns 0, or the error of a team as gen1_new does; then
+ * Sets a spectator to what is known before a battle of two teams. Returns 0, or the error of a team as gen1_new returns it; then
  * nothing has changed.
  */
 uint32_t gen1_spectator_begin(gen1_spectator *spectator, const gen1_team *one, const gen1_team *two);
 
 /*
- * Feeds a spectator the next `count` bytes of the battle's log. The log may be cut anywhere, also within an event: an event
- * counts as soon as its last byte is there.
+ * Feeds a spectator the next `count` bytes of the battle's log. The log may be cut anywhere, even within an event: an event
+ * counts as soon as its last byte has been fed.
  *
- * Returns 0; or GEN1_ERROR_LOG_TAG or GEN1_ERROR_LOG_FIELD if these bytes, after those that are held, are not part of a log.
- * Then nothing has changed, and none of the bytes has been taken in.
+ * Returns 0; or GEN1_ERROR_LOG_TAG or GEN1_ERROR_LOG_FIELD if these bytes, after the held ones, are not part of a log. Then
+ * nothing has changed, and none of the bytes has been used.
  */
 uint8_t gen1_spectator_feed(gen1_spectator *spectator, const uint8_t *log, size_t count);
 
 /* ---- players ---- */
 
 /*
- * What one side may know (docs/MECHANICS.md, "Player's view"). The host of a battle keeps the battle and a teller for each side. It
- * passes on three things: the bytes of gen1_tell, what gen1_get_own_side shows, and the mask of the side's choices. A player is made of
- * these and of its own team, and of nothing else. All structs belong to the caller.
+ * The knowledge that one side may have (docs/MECHANICS.md, "Player's view"). The host of a battle keeps the battle and a teller for
+ * each side. It passes three things to a side: the bytes of gen1_tell, the struct of gen1_get_own_side, and the mask of the side's
+ * choices. A player is computed from these and from its own team, and from nothing else. The caller owns all structs.
  */
 
 /* A move that a member was seen to use. */
 typedef struct gen1_seen_move {
     uint8_t id;   /* 1 to 165; 0 in a free slot */
-    uint8_t uses; /* 1 to 255, where 255 is that many and more; 0 in a free slot */
+    uint8_t uses; /* 1 to 255, where 255 means 255 or more; 0 in a free slot */
 } gen1_seen_move;
 
-/* A member as the log showed it last. If none has appeared, all fields are 0. */
+/* A member as the log last showed it. If it has not appeared, all fields are 0. */
 typedef struct gen1_seen {
     uint16_t hp;             /* 0 to max */
     uint16_t max;            /* 11 to 999 */
@@ -1351,19 +1354,19 @@ typedef struct gen1_announced {
     uint8_t disabled;     /* Disable, of one of its moves */
     uint8_t rage;         /* Rage */
     uint8_t bide;         /* Bide */
-    uint8_t charging;     /* it charges a move, and uses it in its next action */
+    uint8_t charging;     /* it is charging a move, and uses it in its next action */
     uint8_t recharging;   /* its next action is to recharge */
 } gen1_announced;
 
-/* What is public of a side. All fields from `announced` on belong to the active member. */
+/* The public information about a side. All fields from `announced` on belong to the active member. */
 typedef struct gen1_public_side {
-    gen1_seen members[6];     /* of the own side by places, of the foe by the order of appearance */
+    gen1_seen members[6];     /* the player's own members by place, the foe's in the order in which they appeared */
     gen1_announced announced; /* its conditions */
     uint8_t stages[6];        /* 0 to 12, 6 if unchanged: Attack, Defense, Speed, Special, accuracy, evasion */
-    uint8_t place;            /* of the active member, 1 to 6; 0 before the first came out */
+    uint8_t place;            /* of the active member, 1 to 6; 0 before the first comes out */
     uint8_t first_type;       /* 0 to 14 */
     uint8_t second_type;      /* 0 to 14; the first again for a member of one type */
-    uint8_t last_move;        /* 1 to 165; 0 for none since it came out */
+    uint8_t last_move;        /* 1 to 165; 0 if it has used none since it came out */
     uint8_t unused;           /* 0 */
 } gen1_public_side;
 
@@ -1375,11 +1378,11 @@ typedef struct gen1_public {
     uint8_t unused;            /* 0 */
 } gen1_public;
 
-/* A member of the own side; zeros if there is none. */
+/* A member of the player's own side; zeros if there is none. */
 typedef struct gen1_own_member {
     uint8_t species;   /* 1 to 151 */
     uint8_t level;     /* 1 to 100 */
-    uint8_t status;    /* GEN1_STATUS_NONE to GEN1_STATUS_PARALYSIS; a sleeping member shows no turns */
+    uint8_t status;    /* GEN1_STATUS_NONE to GEN1_STATUS_PARALYSIS; the turns of sleep are not shown */
     uint8_t unused;    /* 0 */
     uint8_t moves[4];  /* by slot; 0 in an empty slot */
     uint8_t pp[4];     /* by slot, 0 to 63 */
@@ -1389,17 +1392,17 @@ typedef struct gen1_own_member {
 } gen1_own_member;
 
 /*
- * What a side is shown of itself after each update (docs/MECHANICS.md, "What a side is shown of itself"). Nothing of it depends on
- * the foe, except `held`. Before the first update no member is active, and the fields of the active member are 0.
+ * A side as it is shown to its own player after each update (docs/MECHANICS.md, "What a side is shown of itself"). Only `held`
+ * depends on the foe. Before the first update no member is active, and the fields of the active member are 0.
  */
 typedef struct gen1_own_side {
     gen1_own_member members[6]; /* by place; those after `count` are zeros */
-    uint32_t conditions;        /* GEN1_CONDITION_.., added up for all that are on; never GEN1_CONDITION_FLINCH */
+    uint32_t conditions;        /* the sum of its GEN1_CONDITION_..; never GEN1_CONDITION_FLINCH */
     uint16_t stats[4];          /* Attack, Defense, Speed and Special as they are now, 1 to 999 */
     uint16_t turn;              /* 0 before the first turn, then 1 up to the limit */
     uint8_t place;              /* of the active member, 1 to 6 */
     uint8_t types[2];           /* of the active member */
-    uint8_t stages[6];          /* Attack, Defense, Speed, Special, accuracy and evasion, 0 to 12; 6 is no change */
+    uint8_t stages[6];          /* Attack, Defense, Speed, Special, accuracy and evasion, 0 to 12; 6 if unchanged */
     uint8_t disabled_slot;      /* 1 to 4; 0 if no slot is disabled */
     uint8_t held;               /* 1 if the foe's trapping move holds the active member, else 0 */
     uint8_t request;            /* GEN1_REQUEST_NOTHING, GEN1_REQUEST_MOVE or GEN1_REQUEST_SWITCH */
@@ -1409,57 +1412,57 @@ typedef struct gen1_own_side {
 
 #define GEN1_OWN_SIDE_SIZE 172 /* the size of a gen1_own_side, for other languages; its alignment is 4 */
 
-/* What a player knows. */
+/* The knowledge of a player. */
 typedef struct gen1_player {
-    gen1_public known;  /* what its own team and the bytes that it was told make known of both sides */
-    gen1_own_side own;  /* what it was last shown of itself; zeros before the first time */
-    uint16_t offered;   /* the mask of its choices, as of gen1_offered; 0 before the first time */
+    gen1_public known;  /* both sides, as known from its own team and the bytes that were fed */
+    gen1_own_side own;  /* its own side, as last shown; zeros before the first time */
+    uint16_t offered;   /* the mask of its choices, as gen1_offered returns it; 0 before the first time */
     uint8_t side;       /* 1 or 2 */
-    uint8_t foes;       /* how many members the foe has, 1 to 6; 0 if it doesn't know */
+    uint8_t foes;       /* how many members the foe has, 1 to 6; 0 if unknown */
     uint8_t held_count; /* 0 to 9: how many bytes of `held` are in use */
-    uint8_t held[10];   /* the bytes of an event that has come in part */
+    uint8_t held[10];   /* the bytes of an incomplete event */
     uint8_t unused;     /* 0 */
 } gen1_player;
 
 #define GEN1_PLAYER_SIZE 456 /* the size of a gen1_player, for other languages; its alignment is 4 */
 
-/* What the host keeps of the side that it tells. */
+/* The host's record of a side to which it reports the log. */
 typedef struct gen1_teller {
     uint8_t side;      /* 1 or 2 */
-    uint8_t pixels;    /* 1 if HP of the foe is told in 48ths, else 0 */
-    uint8_t places[6]; /* the foe's places that have appeared, in this order; 0 after the last */
+    uint8_t pixels;    /* 1 if the foe's HP is reported in 48ths, else 0 */
+    uint8_t places[6]; /* the places of the foe's members that have appeared, in the order in which they did; 0 after the last */
 } gen1_teller;
 
 /*
  * Sets a player to what it knows before a battle: its own team, at full HP. `foes` is the number of the foe's members, or 0 if the
- * player isn't to know it.
+ * player should not know it.
  *
- * Returns 0; or GEN1_ERROR_SIDE, GEN1_ERROR_FOES (`foes` is above 6), or the error of the team as gen1_new does. Then nothing has
- * changed.
+ * Returns 0; or GEN1_ERROR_SIDE, GEN1_ERROR_FOES (`foes` is above 6), or the error of the team as gen1_new returns it. Then nothing
+ * has changed.
  */
 uint32_t gen1_player_begin(gen1_player *player, uint8_t side, const gen1_team *team, uint8_t foes);
 
 /*
- * Feeds a player the next `count` bytes of what its side is told, cut anywhere. Returns 0; or GEN1_ERROR_LOG_TAG or
+ * Feeds a player the next `count` of the bytes that gen1_tell wrote for its side, cut anywhere. Returns 0; or GEN1_ERROR_LOG_TAG or
  * GEN1_ERROR_LOG_FIELD as gen1_spectator_feed does. Then nothing has changed.
  */
 uint8_t gen1_player_feed(gen1_player *player, const uint8_t *told, size_t count);
 
-/* Writes to `own` what a side of a battle is shown of itself. Returns 0, or GEN1_ERROR_SIDE; then nothing has changed. */
+/* Writes a side of a battle, as it is shown to its own player. Returns 0, or GEN1_ERROR_SIDE; then nothing has changed. */
 uint8_t gen1_get_own_side(const gen1_battle *battle, uint8_t side, gen1_own_side *own);
 
-/* Replaces what a player was last shown of itself, and the mask of its choices. */
+/* Replaces the own side that a player was last shown, and the mask of its choices. */
 void gen1_player_show(gen1_player *player, const gen1_own_side *own, uint16_t offered);
 
-/* Sets a teller to the beginning of a battle. Returns 0, or GEN1_ERROR_SIDE; then nothing has changed. */
+/* Sets a teller to the start of a battle. Returns 0, or GEN1_ERROR_SIDE; then nothing has changed. */
 uint8_t gen1_teller_begin(gen1_teller *teller, uint8_t side, uint8_t pixels);
 
 /*
- * Writes what the side is told of the log of an update to `told`: log bytes, as many as `count`. `*length` is their number. Call it
- * once for each update, in order.
+ * Writes the log of an update, as it is reported to the side, to `told`: as many log bytes as `count`, and sets `*length` to their
+ * number. Call it once for each update, in order.
  *
- * Returns 0; or the first of GEN1_ERROR_LONG_LOG (`count` is above 512), GEN1_ERROR_SMALL_LOG (`room` is below `count`), and an error
- * of the log as gen1_next_event does. Then nothing has changed.
+ * Returns 0; or the first that applies of GEN1_ERROR_LONG_LOG (`count` is above 512), GEN1_ERROR_SMALL_LOG (`room` is below `count`),
+ * and an error of the log as gen1_next_event returns it. Then nothing has changed.
  */
 uint8_t gen1_tell(gen1_teller *teller, const uint8_t *log, size_t count, uint8_t *told, size_t room, size_t *length);
 

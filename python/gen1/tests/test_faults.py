@@ -320,7 +320,7 @@ def test_events_as_bytes():
     for number in (-1, 0, 10_000, 65_536, *BIG[4:], LONG):
         with pytest.raises(BadArgument) as fault:
             gen1.log_bytes([gen1.TieEvent(), gen1.TurnEvent(number)])
-        assert said(fault).startswith("events[1] must have fields in their ranges: ") and len(said(fault)) < 150
+        assert said(fault).startswith("events[1] has a field that is out of range: ") and len(said(fault)) < 150
     for wrong in (
         gen1.SwitchEvent(tauros, 7, 100, fallen),
         gen1.SwitchEvent(tauros, 256, 100, fallen),

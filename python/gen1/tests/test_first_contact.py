@@ -144,7 +144,7 @@ def test_keys_that_are_wrong(key, said):
         Team([{"species": "Tauros", "moves": POUND, key: 50}])
     assert (
         fault.value.member == 1
-        and str(fault.value).startswith(f"member 1: there is no key {key!r}; ")
+        and str(fault.value).startswith(f"member 1: unknown key {key!r}; ")
         and said in str(fault.value)
     )
 

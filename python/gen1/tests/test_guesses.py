@@ -148,7 +148,7 @@ def test_guesses_that_do_not_fit(player):
     for it in (over, Player(1, [TAUROS])):
         with pytest.raises(BadArgument) as fault:
             Battle.from_player(it, [ALAKAZAM], SEED)
-        assert str(fault.value) == "player must be of a battle that has begun and is not over"
+        assert str(fault.value) == "player must be in a battle that has begun and is not over"
 
 
 def test_wrong_arguments(player):

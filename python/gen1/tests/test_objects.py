@@ -161,7 +161,7 @@ def test_without_numpy():
     )
     assert told[0] == "0 False True" and len(told) == 1 + len(names)
     for name, line in zip(names, told[1:]):
-        assert line == f"True numpy {name} needs numpy: install numpy, or gen1 with its extra, as gen1[arrays]"
+        assert line == f"True numpy {name} needs numpy: install numpy, or gen1 with its extra arrays: gen1[arrays]"
 
 
 def test_the_classes_of_events_are_exported():

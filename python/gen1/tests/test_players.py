@@ -414,7 +414,7 @@ def test_logs_that_are_wrong(player):
         assert (fault.value.code, fault.value.at) == (LogFault.CUT, 10) and player == before and teller == Teller(1)
         with pytest.raises(BadArgument) as fault:
             call(bytes([17]) * 513)
-        assert str(fault.value) == "log must be that of an update, at most 512 bytes, not 513" and teller == Teller(1)
+        assert str(fault.value) == "log must be the log of one update, at most 512 bytes, not 513" and teller == Teller(1)
     assert teller.tell(bytes([17]) * 512) == bytes([17]) * 512
     player.feed(good[:3])
     held = player.copy()
@@ -460,7 +460,7 @@ def test_wrong_arguments(player):
         assert (player, teller, battle.bytes) == (before, Teller(1), bytes_before), at
     with pytest.raises(BadArgument) as fault:
         teller.report(battle, b"", Player(2, [TAUROS]))
-    assert str(fault.value) == "player must be of side 1, as the teller, not of side 2"
+    assert str(fault.value) == "player must be of side 1, like the teller, not of side 2"
     with pytest.raises(BadArgument) as fault:
         player.show(own, [300])
     assert str(fault.value) == "offered[0] must be a choice, not 300"

@@ -140,7 +140,7 @@ def test_what_a_refusal_says():
     with pytest.raises(RoomRefused) as fault:
         room.submit(1, 0, 17)
     assert (
-        str(fault.value) == "the side's choice is there: side 1 can submit nothing more for pair 0"
+        str(fault.value) == "the side has already chosen: side 1 can submit nothing more for pair 0"
         and fault.value.offered == ()
     )
 

@@ -295,11 +295,11 @@ def test_calls_with_wrong_arguments(battle, team):
     with pytest.raises(BadType) as fault:
         state.with_active(1, stage=1)
     assert str(fault.value).startswith(
-        "ActiveState has no field 'stage' (str); its fields: place, types, stats, stages, conditions,"
+        "ActiveState has no field 'stage' (str); its fields are place, types, stats, stages, conditions,"
     )
     with pytest.raises(BadArgument) as fault:
         Battle(team, team, range(10)).with_stage(2, Stat.SPEED, 1)
-    assert str(fault.value) == "side 2 has nobody out: the battle is before its first update"
+    assert str(fault.value) == "side 2 has no active member: the battle is before its first update"
 
 
 def test_fields_of_a_wrong_type(battle):

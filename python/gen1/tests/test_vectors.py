@@ -102,7 +102,7 @@ def test_steps(mode, opponent):
             assert (turns[over] == 1).all() and not terminations[over].any() and not rewards[over].any()
         elif terminations.any():
             before = env.battles
-            with pytest.raises(Refused, match=rf"^battle {terminations.argmax()} is over: reset it by reset"):
+            with pytest.raises(Refused, match=rf"^battle {terminations.argmax()} is over: reset it with reset"):
                 env.step(actions)
             assert env.battles == before
             for it in (env, again):

@@ -14,19 +14,19 @@ Use help(gen1.Battle) for one class. The main names:
     Battle, Choice, Side         a battle, and what a side can choose
     Update, Result, Event        what an update returns
     State                        the whole state of a battle
-    odds, damage, Odds           what a move does
+    odds, damage, Odds           damage and chances of a move
     base, move_data, Type        rows of the tables
     Recorder                     a battle to play again, as JSON or a page
     Room                         two players who choose independently
-    Player, Teller               what a player knows
-    Spectator                    what a spectator sees
+    Player, Teller               a player's view of a battle
+    Spectator                    a spectator's view of a battle
     Error                        the base class of all errors
     BattleArray                  many battles at once (needs numpy)
     BattleEnv, TwoPlayerEnv      environments for learning (need numpy)
 
-The rules are in docs/MECHANICS.md of the repository. All of them are
-implemented in the library but one: gen1.draws, which lists the draws of an
-update, also steps the generator of link numbers in Python.
+The rules are in docs/MECHANICS.md of the repository. The library implements
+all of them. One is implemented in Python too: gen1.draws, which lists the
+draws of an update, steps the generator of link numbers.
 """
 
 from importlib import import_module

@@ -1,4 +1,4 @@
-"""Checks and conversions of the caller's arguments before a call of the library, whose numbers are bytes."""
+"""Checks and converts the caller's arguments before the library is called, whose numbers are bytes."""
 
 import operator
 from collections.abc import Iterable, Sequence
@@ -54,21 +54,21 @@ def place(value: object, count: int) -> int:
 
 
 def truth(value: object, what: str) -> bool:
-    """True or False, and no value that only converts to one."""
+    """True or False; a value that only converts to one is refused."""
     if not isinstance(value, bool):
         raise BadType(f"{what} must be True or False, not {shown(value)}")
     return value
 
 
 def byte(number: int) -> int:
-    """A number as a byte; 255 if it is out of range, which the library refuses where this is used."""
+    """A number as a byte; 255 if it is out of range, which the library then refuses."""
     return number if 0 <= number <= 255 else 255
 
 
 def listed(value: object, what: str, most: int | None = None) -> list[object]:
     """The items of a list, tuple or other iterable, except a str or bytes.
 
-    With `most` at most one item more than that, so that an iterable without an end is refused and not read forever.
+    With `most`, at most one more item than that is read, so that an endless iterable is refused instead of read forever.
     """
     if isinstance(value, (str, bytes, bytearray)) or not isinstance(value, Iterable):
         raise BadType(f"{what} must be a list, not {shown(value)}")
@@ -76,7 +76,7 @@ def listed(value: object, what: str, most: int | None = None) -> list[object]:
 
 
 def count_text(value: object, found: Sequence[object], most: int) -> str:
-    """How many items an iterable has, of which `listed` returned those found; "more than `most`" if it has no length."""
+    """How many items an iterable has; `found` are those that `listed` returned. "more than `most`" if it has no length."""
     try:
         return digits(len(value))  # type: ignore[arg-type]
     except (TypeError, OverflowError):
@@ -126,14 +126,14 @@ def named(kind: type[N], value: object, field: str) -> N:
 
 
 def _called(kind: type[N], name: str) -> int:
-    """The number of the species or move with a name, 0 if there is none (docs/TEAM_TEXT.md, "Names")."""
+    """The number of the species or move with a name; 0 if none has it (docs/TEAM_TEXT.md, "Names")."""
     text = with_genders(name).encode("utf-8", "surrogatepass")
     call = _library.species_from_name if issubclass(kind, Species) else _library.move_from_name
     return int(call(text, len(text)))
 
 
 def with_genders(text: str) -> str:
-    """A text with the signs of Nidoran's names as letters, of which the library compares names."""
+    """A text with the signs of Nidoran's names as letters, since the library compares only letters and digits."""
     return text.replace("\N{FEMALE SIGN}", "-F").replace("\N{MALE SIGN}", "-M")
 
 
@@ -145,12 +145,12 @@ def nearest(text: str, names: Iterable[str]) -> str | None:
 
 
 def _letters(text: str) -> str:
-    """The first letters and digits of a text, in lower case. No name has more of them."""
+    """The first letters and digits of a text, in lower case, as many as the longest name has."""
     return "".join(it for it in text[:200].lower() if it.isascii() and it.isalnum())[:24]
 
 
 def _distance(one: str, two: str) -> int:
-    """How many letters have to be put in, taken out or replaced to make one text of the other."""
+    """The edit distance of two texts: how many letters must be inserted, removed or replaced."""
     row = list(range(len(two) + 1))
     for place, letter in enumerate(one, 1):
         diagonal, row[0] = row[0], place
@@ -178,16 +178,16 @@ def shown(value: object) -> str:
     """A value as text for an error message, cut to a screen's width."""
     try:
         text = cut(repr(value))
-    except Exception:  # a caller's own class may raise anything, and Python refuses to write a number that is too long
+    except Exception:  # a caller's class may raise anything, and Python refuses to print a number that is too long
         text = "a value that cannot be shown"
     return f"{text} ({type(value).__name__})"
 
 
 def digits(number: int) -> str:
-    """A number as text for an error message; only its length if it is too long, since Python refuses to write such numbers."""
+    """A number as text for an error message; its length if it is too long, since Python refuses to print such numbers."""
     return str(int(number)) if number.bit_length() <= 192 else f"a number of {number.bit_length():,} bits"
 
 
 def cut(text: str) -> str:
-    """A text, cut to the length that an error message shows."""
+    """A text, shortened for an error message."""
     return text if len(text) <= 60 else text[:57] + "..."

@@ -1,4 +1,4 @@
-"""The battles of an environment with their players, each of which starts again after its end."""
+"""The battles of an environment with their players. A new battle replaces one that is over."""
 
 from collections.abc import Callable, Iterable, Mapping
 from dataclasses import dataclass
@@ -33,7 +33,7 @@ DEFAULT_TEAM = (
 
 @dataclass(frozen=True)
 class Ended:
-    """Of a step: which battles it ended, (n); their outcomes, 0 for the others; and for each side the last rows, with `SAME_STEP`."""
+    """The battles that a step ended, (n); their outcomes, 0 for the others; and, with `SAME_STEP`, the last rows of each side."""
 
     which: Truths
     outcomes: Bytes
@@ -63,7 +63,7 @@ class Episodes:
         self.sources, self.terms = (one, two), (rules, limit)
         self.encoding, self.mode = encoding, mode
         self.dice, self.begun = np.random.default_rng(), False
-        # The start of all battles, if their teams are always the same; and which battles last began with other teams.
+        # The start of all battles, if their teams are always the same; and the battles that last began with other teams.
         self._start = None if callable(one) or callable(two) else self._new(self.sources, self.dice)
         first, second = self._teams(self.sources, self.dice)
         self.players = PlayerArray(n, first, second, rules=rules, limit=limit, threads=threads)
@@ -96,7 +96,7 @@ class Episodes:
         self._put(which, self._starts(which, self.sources, self.dice, False))
 
     def step(self, ones: Bytes, twos: Bytes, sides: tuple[int, ...]) -> Ended:
-        """Updates the battles, and starts new ones in place of those that are over, as the mode says. `sides` are those with last rows."""
+        """Updates the battles, and replaces those that are over as the mode says. `sides` are the sides whose last rows are needed."""
         before = self.players.over
         self.players.step(ones, twos)
         which = self.players.over & ~before
@@ -117,14 +117,14 @@ class Episodes:
         return bits(self.players.masks(side))
 
     def may_act(self) -> None:
-        """Raises `Refused` if a battle is over that is not started anew by itself."""
+        """Raises `Refused` if a battle is over and is not restarted automatically."""
         over = self.players.over
         if self.mode is AutoresetMode.DISABLED and over.any():
-            said = f"battle {over.argmax()} is over: reset it by reset(options={{'reset_mask': mask}}), with a mask of (n) bools"
+            said = f"battle {over.argmax()} is over: reset it with reset(options={{'reset_mask': mask}}), where mask has (n) bools"
             raise Refused(Refusal.OVER, said)
 
     def sight(self, at: int) -> str:
-        """The turn, and the members that are out with their HP."""
+        """The turn, and the active members with their HP."""
         fields = self.players._battles.fields[at]
         text = []
         for side in fields["sides"]:
@@ -154,7 +154,7 @@ class Episodes:
     def _starts(
         self, which: Truths, sources: tuple[Any, Any], dice: np.random.Generator, others: bool
     ) -> dict[int, Start]:
-        """The starts of those battles whose start is not there yet."""
+        """The starts of the battles that have none yet."""
         if self._start is None or others:
             if any(callable(it) for it in sources):
                 return {at: self._new(sources, dice) for at in np.flatnonzero(which).tolist()}
@@ -173,10 +173,10 @@ class Episodes:
 
 
 def _entropy(seed: object, n: int) -> int | list[int]:
-    """A seed, or a list with one of each battle."""
+    """A seed, or a list with a seed for each battle."""
     if isinstance(seed, Iterable):
         numbers = listed(seed, "seed")
         if len(numbers) != n:
-            raise BadArgument(f"seed must be a number, or a list of {n}, not of {len(numbers)}")
+            raise BadArgument(f"seed must be a number, or a list of {n} numbers, not of {len(numbers)}")
         return [within(it, f"seed[{at}]", 0, (1 << 128) - 1) for at, it in enumerate(numbers)]
     return within(seed, "seed", 0, (1 << 128) - 1)

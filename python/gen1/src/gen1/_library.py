@@ -1,7 +1,7 @@
-"""The calls of libgen1 (include/gen1.h) with their types, through ctypes, and the search for the library.
+"""The functions of libgen1 (include/gen1.h) with their types, through ctypes, and the search for the library.
 
-A call of microseconds keeps the interpreter's lock (`PyDLL`), since waiting for it again would take far longer than the call while other
-threads run Python. A call that may take long releases it (`CDLL`).
+A call of microseconds keeps the interpreter's lock (`PyDLL`): while other threads run Python, acquiring the lock again would take far
+longer than the call. A call that may take long releases the lock (`CDLL`).
 """
 
 import ctypes
@@ -98,7 +98,8 @@ def _found() -> str:
     found = str(carried) if carried.is_file() else find_library("gen1")
     if not found:
         raise LibraryMissing(
-            f"there is no {carried}; install the wheel, or set GEN1_LIBRARY to the path of a libgen1.so"
+            f"libgen1.so was not found: neither as {carried}, nor among the installed libraries; "
+            "install the wheel, or set GEN1_LIBRARY to the path of a libgen1.so"
         )
     return found
 
@@ -115,7 +116,7 @@ SHORT, LONG = _loaded(PATH)
 
 
 def bind(name: str, answer: Any, *takes: Any, of: ctypes.CDLL = SHORT) -> Any:
-    """A call of the library with its types. Calls of `LONG` let other threads run."""
+    """A function of the library with its types. Functions of `LONG` let other threads run."""
     try:
         call = getattr(of, name)
     except AttributeError:
@@ -126,7 +127,7 @@ def bind(name: str, answer: Any, *takes: Any, of: ctypes.CDLL = SHORT) -> Any:
 
 
 def _version() -> str:
-    """The version of the library. With another major version its calls or structs differ from those that this package knows."""
+    """The version of the library. Another major version may have other functions or structs than this package knows."""
     number = bind("gen1_version", c_uint32)()
     version = f"{number >> 16}.{number >> 8 & 0xFF}.{number & 0xFF}"
     if number >> 16 != HEADER_VERSION[0]:
@@ -135,7 +136,7 @@ def _version() -> str:
 
 
 def _build(library: ctypes.CDLL) -> str:
-    """What a library was built from, as its gen1_build says; "unknown" if it has none."""
+    """The origin of a library, as its gen1_build returns it; "unknown" if it has no such function."""
     call = getattr(library, "gen1_build", None)
     if call is None:
         return "unknown"

@@ -1,4 +1,4 @@
-"""Placeholders for the classes that need numpy, if it is not installed: they can be imported, and raise an error when they are used."""
+"""Placeholders for the classes that need numpy, if it is not installed. They can be imported, and raise an error when used."""
 
 from typing import NoReturn
 
@@ -6,7 +6,7 @@ from gen1.errors import NumpyMissing
 
 
 class _Missing(type):
-    """The type of a missing class: calling the class, and accessing its attributes, raises `NumpyMissing`."""
+    """The type of a missing class: calling the class or accessing an attribute raises `NumpyMissing`."""
 
     def __call__(cls, *_: object, **__: object) -> NoReturn:
         raise NumpyMissing(cls.__name__)

@@ -32,20 +32,20 @@ class Damages:
 
 @dataclass(frozen=True)
 class Odds:
-    """The odds of one use of a move by a member that acts now. What keeps a
-    member from acting at all, such as sleep, is not counted.
+    """The odds of one use of a move by a member that acts now. Conditions that
+    keep a member from acting at all, such as sleep, are not counted.
 
     `usual` and `critical` are the damage of a usual and of a critical hit.
     `critical_chance`, 0 to 255/256, is the chance of a critical hit, 0
     without the usual damage. `hit_chance`, 0 to 1, is the chance that the
-    use hits; 0 if it cannot hit or would not work, and then `reason` says
-    why, and is otherwise None. A use that hits without a test has 1. If
-    `takes_hit_test` is false, the move always fails or affects only its
+    use hits. It is 0 if the use cannot hit or would not work; `reason` then
+    says why, and is otherwise None. It is 1 if the use hits without a test.
+    If `takes_hit_test` is false, the move always fails or affects only its
     user.
 
     `fixed` is the least and the most damage of a use without the usual
     damage, such as Night Shade; the numbers from the least to the most are
-    equally likely. Both are 0 for any other use. `hits` has in how many of
+    equally likely. Both are 0 for any other use. `hits` says in how many of
     8 cases a use that hits makes 0, 1, .. 5 hits, which all deal the same
     damage. If `charges_first` is true, the user would only charge now, and
     the odds are those of its strike.
@@ -70,7 +70,7 @@ class Chances:
     If `breaks_substitute` is true, the foe has a substitute, and the
     chances are those of breaking it. Nothing else that happens between the
     two uses is counted: no residual damage, no change of a stat, no
-    recharging, and no fall of the user.
+    recharging, and no fainting of the user.
     """
 
     once: Fraction
@@ -80,9 +80,9 @@ class Chances:
 
 @dataclass(frozen=True)
 class HpChange:
-    """What happens to the HP of the foe between two uses of a move, if it
-    has any left: it gains `gained`, up to its maximum, and then loses
-    `lost`. Both are 0 to 65,535.
+    """The change of the foe's HP between two uses of a move, if it has any
+    left: it gains `gained`, up to its maximum, and then loses `lost`. Both
+    are 0 to 65,535.
     """
 
     gained: int = 0
@@ -96,12 +96,12 @@ NO_CHANGE = HpChange()
 class ThreeChances:
     """The exact chance that one use of a move knocks out the foe (`once`),
     two uses in a row (`twice`), and three (`thrice`), with independent
-    draws and with what happens to the foe's HP between the uses.
+    draws and with the changes of the foe's HP between the uses.
 
     If `breaks_substitute` is true, the foe has a substitute, and the
     chances are those of breaking it. Nothing else that happens between the
-    uses is counted: no change of a stat, no recharging, and no fall of the
-    user.
+    uses is counted: no change of a stat, no recharging, and no fainting of
+    the user.
     """
 
     once: Fraction
@@ -115,7 +115,7 @@ def odds(attacker: Member, defender: Member, move: Move | str | int) -> Odds:
     members in a battle use `Battle.odds`.
 
     The attacker need not know the move. Raises `BadTeam` for an unknown
-    move, `BadType` for a value that is not a `Member`.
+    move, and `BadType` for a value that is not a `Member`.
     """
     known, of = a_move(move), OddsStruct()
     pair = [
@@ -141,19 +141,19 @@ def damage(attacker: Member, defender: Member, move: Move | str | int, critical:
 
 
 def drained(move: Move | str | int, damage: int) -> int:
-    """The HP that a damage of a move gives to its user (Absorb, Mega Drain,
+    """The HP that the user of a move gains by its damage (Absorb, Mega Drain,
     Leech Life, Dream Eater); 0 for any other move.
 
-    `damage`, 0 to 65,535, is the HP that the foe lost, or what its
-    substitute took without breaking. The user gains at most what it lacks.
-    Raises `BadTeam` for an unknown move, `BadArgument`, `BadType`.
+    `damage`, 0 to 65,535, is the HP that the foe lost, or that its
+    substitute lost without breaking. The user's HP do not rise above its
+    maximum. Raises `BadTeam` for an unknown move, `BadArgument`, `BadType`.
     """
     return int(_library.drained(a_move(move), within(damage, "damage", 0, 65_535)))
 
 
 def recoil(move: Move | str | int, damage: int) -> int:
-    """The HP that a damage of a move costs its user (Take Down, Double-Edge,
-    Submission, Struggle); 0 for any other move.
+    """The HP that the user of a move loses by its damage (Take Down,
+    Double-Edge, Submission, Struggle); 0 for any other move.
 
     `damage`, 0 to 65,535, is as in `drained`. Raises `BadTeam` for an
     unknown move, `BadArgument`, `BadType`.

@@ -29,10 +29,11 @@ class Outcomes:
 
     The probabilities are exact for draws that are independent uniform
     bytes. A link battle draws other numbers (docs/MECHANICS.md, "Link
-    numbers"): if its seed is unknown they are an approximation, off by
-    about 0.01 in total variation; with a known seed there is one outcome,
-    that of `Battle.update`. The battles have the numbers to draw of the
-    battle before, so reseed one before you play it on.
+    numbers"): if its seed is unknown, they are an approximation, off by
+    about 0.01 in total variation; if its seed is known, there is one
+    outcome, that of `Battle.update`. The battles keep the numbers to draw
+    of the battle before the update, so reseed one before you play it
+    further.
     """
 
     def __init__(self, rows: bytes, whole: int, left_out: int) -> None:
@@ -40,9 +41,7 @@ class Outcomes:
         self.whole = whole
         """The sum of all weights and of `left_out`."""
         self.left_out = left_out
-        """The exact weight of all that is left out. It is 0 without a
-        `least_probability`.
-        """
+        """The exact weight left out; 0 without a `least_probability`."""
 
     def __len__(self) -> int:
         return len(self._rows) // SIZE
@@ -63,13 +62,13 @@ class Outcomes:
 
     @cached_property
     def battles(self) -> list[Battle]:
-        """The battles, which are made when they are first used."""
+        """The battles, which are created on first use."""
         return list(self._battles())
 
     @cached_property
     def weights(self) -> list[int]:
-        """The exact weights: the probability of a battle is its weight over
-        `whole`.
+        """The exact weights: the probability of a battle is its weight
+        divided by `whole`.
         """
         return [high << 64 | low for low, high in iter_unpack("<384xQQ", self._rows)]
 
@@ -83,13 +82,13 @@ class Outcomes:
 
     @property
     def left_out_probability(self) -> float:
-        """The probability of all that is left out: `left_out` over `whole`."""
+        """The probability left out: `left_out` divided by `whole`."""
         return self.left_out / self.whole
 
     @cached_property
     def states(self) -> Any:
-        """The 384 bytes of each battle, in an array of uint8 with a row for
-        each; without numpy in one `bytes`.
+        """The 384 bytes of each battle: an array of uint8 with a row for each,
+        or without numpy one `bytes`.
         """
         if find_spec("numpy"):
             rows = _numpy().frombuffer(self._rows, dtype="u1").reshape(-1, SIZE)
@@ -98,7 +97,7 @@ class Outcomes:
 
 
 def sums_of(of: OutcomeListStruct) -> tuple[int, int]:
-    """The sum of all weights, and the part of it that is left out."""
+    """The sum of all weights, and the part that is left out."""
     return of.high << 64 | of.low, of.left_high << 64 | of.left_low
 
 
@@ -109,9 +108,9 @@ def _numpy() -> Any:
 
 
 def options_of(damage_classes: object, least_probability: object) -> OutcomeOptionsStruct:
-    """The options of a list of outcomes, as the caller gives them."""
+    """The options of a list of outcomes, as the caller passes them."""
     classes = within(damage_classes, "damage_classes", 0, 39)
-    # In units of 2^-32, rounded down. There are less than 2^32 of them, so that of 1 is the greatest.
+    # In units of 2^-32, rounded down. The greatest number is 2^32 - 1, which also represents 1.
     least = int(probability(least_probability, "least_probability") * 2.0**32)
     return OutcomeOptionsStruct(min(least, 2**32 - 1), classes)
 
@@ -126,7 +125,7 @@ def outcomes_of(held: Any, one: int, two: int, options: OutcomeOptionsStruct) ->
         code = _library.outcomes(byref(held), one, two, byref(options), rows, places, table, 2 * places, byref(of))
         if code == 0:
             return code, Outcomes(string_at(rows, SIZE * of.count), *sums_of(of))
-        if code == _library.TOO_MANY_DRAWS:  # no update is known that has
+        if code == _library.TOO_MANY_DRAWS:  # no such update is known
             raise Error("the update has too many draws to list its outcomes")
         if code not in _library.FEW_PLACES:
             return code, None

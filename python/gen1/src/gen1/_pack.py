@@ -36,7 +36,7 @@ NAMES = {
 
 
 def packed(state: State) -> StateStruct:
-    """The struct of a state. A number that its field cannot hold becomes the greatest that it can, which the library refuses."""
+    """The struct of a state. A number too large for its field becomes the field's greatest number, which the library refuses."""
     if not isinstance(state, State):
         raise BadType(f"state must be a State, not {shown(state)}")
     to = StateStruct()
@@ -72,7 +72,7 @@ def bad_state(of: StateFaultStruct, state: State) -> BadState:
 
 
 def _place(code: StateField, of: StateFaultStruct) -> tuple[int | None, str]:
-    """Which one of several the field is, from 0, and its name."""
+    """The index of the field among several, from 0, and its name."""
     name = NAMES.get(code, code.name.lower())
     if code is StateField.UNNAMED:
         return None, ""
@@ -86,7 +86,7 @@ def _place(code: StateField, of: StateFaultStruct) -> tuple[int | None, str]:
 
 
 def _value(code: StateField, of: StateFaultStruct, state: State, held: int) -> int:
-    """What the field has, which may be more than the struct holds; `held` where the state has no such item."""
+    """The value of the field, which may be too large for the struct; `held` if the state has no such item."""
     if code in (StateField.UNNAMED, StateField.TIED_CONDITION):
         return held
     if code is StateField.REQUEST:
@@ -157,13 +157,13 @@ def _put_active(to: ActiveStateStruct, active: object, side: int) -> None:
 
 
 def _number(value: object, what: str, most: int) -> int:
-    """A whole number as a field that holds 0 to `most`; `most` for one that the field cannot hold."""
+    """A whole number for a field that holds 0 to `most`; `most` if the field cannot hold it."""
     number = whole(value, what)
     return number if 0 <= number <= most else most
 
 
 def _exact(value: object, what: str, most: int, code: StateField | None = None, side: int = 0) -> int:
-    """A whole number from 0 to `most`, of a field in which the library takes each of them."""
+    """A whole number from 0 to `most`, for a field in which the library accepts every number."""
     number = whole(value, what)
     if 0 <= number <= most:
         return number
@@ -175,7 +175,7 @@ def _exact(value: object, what: str, most: int, code: StateField | None = None, 
 
 
 def _items(values: object, what: str, count: int) -> list[object]:
-    """The items of a tuple or list that has this many."""
+    """The items of a tuple or list of this length."""
     given = listed(values, what, count)
     if len(given) != count:
         raise BadArgument(f"{what} must have {count} items, not {count_text(values, given, count)}")

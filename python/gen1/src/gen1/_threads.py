@@ -1,16 +1,16 @@
-"""Calls of the library over parts of an array, each part in a thread of its own."""
+"""Calls of the library over parts of an array, each part in its own thread."""
 
 import os
 from collections.abc import Callable
 from concurrent.futures import ThreadPoolExecutor, wait
 from functools import lru_cache
 
-# The least number of battles for which a part of its own is worth the hand over to another thread.
+# The least number of battles for which a separate part is worth handing over to another thread.
 LEAST = 256
 
 
 def in_parts(call: Callable[[int, int], object], count: int, threads: int) -> None:
-    """Calls `call(first, past)` for parts that cover 0 to `count`, at most `threads` of them at the same time, and waits for all."""
+    """Calls `call(first, past)` for parts that cover 0 to `count`, at most `threads` at a time, and waits for all of them."""
     parts = max(1, min(threads, count // LEAST))
     if parts == 1:
         call(0, count)

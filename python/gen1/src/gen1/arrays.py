@@ -1,4 +1,4 @@
-"""Many battles at once in one numpy array, with no Python loop over them."""
+"""Many battles at once in one numpy array, without a Python loop."""
 
 from __future__ import annotations
 
@@ -36,7 +36,7 @@ ACTIONS = len(CHOICES)
 ALIGNED = 64
 UPDATE_BYTES = 4
 MOST_THREADS = 256
-# For each mask, how many bits it has; and at the index 16 * mask + n, the number of the choice of its n-th bit.
+# For each mask, how many bits are set; and at the index 16 * mask + n, the number of the choice of its n-th set bit.
 COUNTS: NDArray[np.uint32] = np.array([bin(mask).count("1") for mask in range(1 << ACTIONS)], np.uint32)
 NTH: Bytes = np.zeros(16 << ACTIONS, np.uint8)
 for _mask in range(1 << ACTIONS):
@@ -51,19 +51,19 @@ class BattleArray:
     shape (n, 2, 6). `results` (n) are the result bytes of the battles.
     `codes` (n) is 0 for each battle that the last step updated, else the
     number of its `Refusal`. All four are read-only and show the current
-    battles, so copy what is needed after the next step. Battles are changed
-    by `array[place] = battle`, `step`, `random_step`, `reseed` and `reset`.
+    battles, so copy the parts that are needed after the next step. Battles
+    are changed by `array[place] = battle`, `step`, `random_step`, `reseed`
+    and `reset`.
 
     An array must be used by one thread at a time. Steps and masks let other
     threads run, so that different arrays can step in parallel. With
     `threads`, steps and masks of one array run in that many threads, each
-    for a part of the battles. What comes out does not depend on their
-    number.
+    for a part of the battles. The results do not depend on their number.
     """
 
     def __init__(self, n: int, battle: Battle, seeds: ArrayLike | None = None, *, threads: int = 1) -> None:
         """Creates `n` copies of a battle, at least 1. With `seeds`, (n, 10)
-        bytes, each draws numbers of its own.
+        bytes, each copy draws its own numbers.
 
         Without seeds all copies draw the same numbers as the battle.
         `threads` is 1 to 256.
@@ -82,7 +82,7 @@ class BattleArray:
         known = within(threads, "threads", 1, MOST_THREADS)
         rows = [_row(it, f"battles[{at}]") for at, it in enumerate(listed(battles, "battles"))]
         if not rows:
-            raise BadArgument("battles must have at least one battle, and is empty")
+            raise BadArgument("battles must have at least one battle, but is empty")
         return cls._holding(np.stack(rows), known)
 
     def take(self, places: ArrayLike) -> "BattleArray":
@@ -107,7 +107,7 @@ class BattleArray:
 
     @property
     def threads(self) -> int:
-        """How many threads its steps and masks run in, at most."""
+        """The maximum number of threads that its steps and masks run in."""
         return self._threads
 
     def __len__(self) -> int:
@@ -186,10 +186,10 @@ class BattleArray:
         """Updates each battle with a choice of each side, (n) numbers from 0
         to 255 each, and returns a copy of the results, (n).
 
-        A battle that refuses its pair is unchanged, and `codes` says why.
-        So a battle that is over is unchanged whatever its choices are.
-        Raises `BadArgument` or `BadType` for choices of another length,
-        range or type, and then nothing has changed.
+        A battle that refuses its pair is unchanged, and `codes` says why. A
+        battle that is over is unchanged for any choices. Raises
+        `BadArgument` or `BadType` for choices of another length, range or
+        type, and then nothing has changed.
         """
         pair = self._choices(ones, "ones"), self._choices(twos, "twos")
         self._update(*pair)
@@ -204,10 +204,10 @@ class BattleArray:
 
         No battle is changed. A battle that refuses its pair has no
         outcomes, and `codes` of the result says why. An update can have
-        thousands of outcomes, of 400 bytes each. `damage_classes` and
-        `least_probability` make them fewer. Raises `BadArgument` or
+        thousands of outcomes, of 400 bytes each; `damage_classes` and
+        `least_probability` reduce their number. Raises `BadArgument` or
         `BadType` for choices of another length, range or type, and for
-        other numbers of these two.
+        options that are out of range.
         """
         pair = self._choices(ones, "ones"), self._choices(twos, "twos")
         return outcomes_of_array(self._bytes, *pair, options_of(damage_classes, least_probability), self._threads)
@@ -217,10 +217,10 @@ class BattleArray:
         likely, and returns these choices.
 
         A battle that is over is unchanged. With `reset` it is first
-        restored to what it was when the array was created, with random
-        numbers to draw. So all battles are updated, and one that ends can
-        be looked at until the next step. Raises `BadType` if `dice` is not
-        a numpy generator.
+        restored to its state when the array was created, with random
+        numbers to draw. All battles are then updated, and one that ends can
+        be read until the next step. Raises `BadType` if `dice` is not a
+        numpy generator.
         """
         if not isinstance(dice, np.random.Generator):
             raise BadType(f"dice must be a numpy.random.Generator, not {shown(dice)}")
@@ -259,8 +259,8 @@ class BattleArray:
         self._fields["numbers"], self._fields["index"] = self._seeds(seeds), 0
 
     def reset(self, which: ArrayLike | None = None, seeds: ArrayLike | None = None) -> None:
-        """Restores battles to what they were when the array was created: all,
-        or those where `which`, (n) bools, is true.
+        """Restores battles to their state when the array was created: all, or
+        those where `which`, (n) bools, is true.
 
         With `seeds`, (n, 10) bytes, the restored battles draw these
         numbers.
@@ -332,7 +332,7 @@ class BattleArray:
 
 
 def bits(masks: Masks) -> NDArray[np.bool_]:
-    """Converts masks of any shape to bools, with a further axis of length 12:
+    """Converts masks of any shape to bools, with one more axis of length 12:
     the choices in the order of `CHOICES`.
     """
     return (masks[..., None] >> np.arange(ACTIONS, dtype=np.uint16) & 1).astype(bool)
@@ -347,16 +347,16 @@ def nth_choices(masks: Masks, nth: NDArray[Any]) -> Bytes:
 
 
 def _done(code: int) -> None:
-    """Raises an error if a call failed. It refuses arrays of other lengths than the battles', which this class never passes."""
+    """Raises an error if a call failed. A call fails if an array does not have the length of the battles, which this class rules out."""
     if code:
-        raise BadArgument(f"an array has another length than the battles, or the side is not 1 or 2 (code {code})")
+        raise BadArgument(f"an array does not have the length of the battles, or the side is not 1 or 2 (code {code})")
 
 
 def _array(given: ArrayLike, name: str) -> NDArray[Any]:
     try:
         return np.asarray(given)
     except ValueError:
-        raise BadType(f"{name} must be an array, and its rows are of different lengths: {shown(given)}") from None
+        raise BadType(f"{name} must be an array, but its rows have different lengths: {shown(given)}") from None
 
 
 def _all_bytes(given: NDArray[Any], name: str) -> Bytes:

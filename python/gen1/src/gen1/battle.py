@@ -62,7 +62,7 @@ WeightsLike: TypeAlias = Mapping[Move | str | int, int]
 
 @dataclass(frozen=True)
 class Result:
-    """The outcome of a battle so far, and what is asked of side 1 and side 2
+    """The outcome of a battle so far, and the requests to side 1 and side 2
     for the next update.
     """
 
@@ -84,7 +84,7 @@ class Update:
 
     @cached_property
     def events(self) -> tuple[Event, ...]:
-        """The events of the log, which are read when they are first used."""
+        """The events of the log, which are decoded on first use."""
         return events(self.log)
 
     @property
@@ -95,8 +95,8 @@ class Update:
 
 @dataclass(frozen=True)
 class Playouts:
-    """How playouts of a battle ended: how many side 1 won, side 2 won, were a
-    tie, and ended by a fault.
+    """How playouts of a battle ended: how many were won by side 1, won by side
+    2, tied, and ended by a fault.
     """
 
     wins_one: int
@@ -141,13 +141,13 @@ class Battle:
 
     @classmethod
     def new(cls, one: TeamLike, two: TeamLike, seed: SeedLike, rules: int = 0, limit: int = 1000) -> Battle:
-        """The same as `Battle(..)`."""
+        """Creates a battle, like `Battle(..)`."""
         return cls(one, two, seed, rules, limit)
 
     @classmethod
     def load(cls: type[B], given: ReadableBuffer) -> B:
-        """Loads a battle from bytes of any of the three versions, in any
-        bytes-like object. Raises `BadBytes`, `BadType`.
+        """Loads a battle from a bytes-like object, in any of the three
+        versions of the layout. Raises `BadBytes`, `BadType`.
         """
         whole_bytes = octets(given, "a battle")
         made = cls.__new__(cls)
@@ -159,7 +159,7 @@ class Battle:
 
     @classmethod
     def from_state(cls: type[B], state: State) -> B:
-        """Makes a battle of a state, such as one of `Battle.state` in which
+        """Creates a battle from a state, such as a `Battle.state` in which
         fields were changed. Its `state` is then the same.
 
         If the four current stats of an active member are all 0, they are
@@ -177,19 +177,19 @@ class Battle:
     def from_player(
         cls: type[B], player: Player, foes: TeamLike, seed: SeedLike, rules: int = 0, limit: int = 1000
     ) -> B:
-        """A battle that fits what a player knows, with a guess of the rest:
+        """A battle that fits a player's knowledge, with a guess of the rest:
         the base of a search that doesn't cheat.
 
         `foes` is the guess of the foe's team: first the members that have
-        appeared, in the order in which they did, then the others. `seed` is
+        appeared, in the order in which they did, then the others. `seed` has
         the numbers to draw; `rules` and `limit` are as in `Battle(..)`. The
-        own side is as it was shown. The foe's members have the HP, status
-        and stages that were told, and the moves and stats of the guess; PP
-        are those that are left after the uses that were seen. A condition
-        that was announced is on if a move of the guess explains it. Hidden
-        counts have middle values: three turns of sleep and confusion, four
-        of Disable, two of Bide, thrashing and trapping, a Substitute of a
-        quarter of the maximum HP.
+        player's own side is as it was shown. The foe's members have the HP,
+        status and stages that were reported, and the moves and stats of the
+        guess; their PP are those left after the uses that were seen. A
+        condition that was announced is on if a move of the guess explains
+        it. Hidden counts have middle values: three turns of sleep and
+        confusion, four of Disable, two of Bide, thrashing and trapping, a
+        Substitute of a quarter of the maximum HP.
 
         Raises `BadArgument` for a guess that does not fit, and for a battle
         that has not begun or is over; `BadState`, `BadTeam`, `BadType`.
@@ -204,7 +204,7 @@ class Battle:
         return bytes(self._held)
 
     def copy(self: B) -> B:
-        """An independent copy, of the same class. It draws the same numbers,
+        """An independent copy, of the same class. It draws the same numbers
         unless it is reseeded.
         """
         made = type(self).__new__(type(self))
@@ -232,11 +232,11 @@ class Battle:
 
     @property
     def result(self) -> Result:
-        """The outcome so far, and what is asked of each side."""
+        """The outcome so far, and the request to each side."""
         return result_of(self._held)
 
     def place(self, side: Side | int) -> int:
-        """The place of a side's member that is out, 1 to 6; 0 before the first
+        """The place of a side's active member, 1 to 6; 0 before the first
         update.
         """
         return int(struct_of_state(self._held).sides[a_side(side) - 1].active.place)
@@ -266,7 +266,9 @@ class Battle:
         return Update(self.result, log.raw[: length.value])
 
     def update_silent(self, one: Choice | int, two: Choice | int) -> Result:
-        """As `update` without a log, which is faster. Returns the result."""
+        """Like `update`, but without a log, which is faster. Returns the
+        result.
+        """
         pair = a_choice(one, 1), a_choice(two, 2)
         code = _library.update_silent(byref(self._held), *pair)
         if code:
@@ -279,7 +281,7 @@ class Battle:
         return state_of(self._held)
 
     def with_state(self: B, **changes: Any) -> B:
-        """The same battle with other fields of its state:
+        """A copy of the battle with other fields of its state:
         `battle.with_state(turn=10, last_damage=50)`.
 
         For the fields of a member use `State.with_member` and
@@ -289,7 +291,7 @@ class Battle:
         return self.from_state(changed(self.state, changes))
 
     def with_hp(self: B, side: Side | int, place: int, hp: int) -> B:
-        """The same battle with other HP of the member at a place, from 1.
+        """A copy of the battle with other HP of the member at a place, from 1.
 
         Raises `BadState` if the HP are above the maximum, or the battle
         would have ended; `BadArgument` for a place without a member.
@@ -297,13 +299,13 @@ class Battle:
         return self.from_state(self.state.with_member(side, place, hp=hp))
 
     def with_status(self: B, side: Side | int, place: int, status: Status, turns: int = 0) -> B:
-        """The same battle with another status of the member at a place, from
-        1, without the Toxic counter.
+        """A copy of the battle with another status of the member at a place,
+        from 1, without the Toxic counter.
 
-        A new sleep lasts `turns`, 1 to 7, which another status ignores. If
-        the member is out, its current stats are computed anew from its
+        A new sleep lasts `turns`, 1 to 7; other statuses ignore `turns`. If
+        the member is active, its current stats are recomputed from its
         stages and the new status. Raises `BadState` if the turns are not 1
-        to 7, or the member has fallen; `BadArgument` for a place without a
+        to 7, or the member has fainted; `BadArgument` for a place without a
         member.
         """
         number, sleep = within(status, "status", 0, 5), whole(turns, "turns")
@@ -316,10 +318,10 @@ class Battle:
         return self.from_state(state)
 
     def with_stage(self: B, side: Side | int, stat: Stat | int, stage: int) -> B:
-        """The same battle with another stage, -6 to 6, of a stat of the member
-        that is out.
+        """A copy of the battle with another stage, -6 to 6, of a stat of the
+        active member.
 
-        Its current stats are computed anew from its stages and its status.
+        Its current stats are recomputed from its stages and its status.
         Raises `BadState` if the stage is not -6 to 6; `BadArgument` for a
         stat that is not 1 to 6, and before the first update.
         """
@@ -329,8 +331,8 @@ class Battle:
         return self.from_state(state.with_active(side, stages=(*stages[: at - 1], stage, *stages[at:])))
 
     def own_side(self, side: Side | int) -> OwnSide:
-        """What a side is shown of itself. Nothing of it depends on the foe,
-        but whether its trapping move holds the active member.
+        """A side as it is shown to its own player. Only `held`, whether the
+        foe's trapping move holds the active member, depends on the foe.
         """
         return own_side_of(self._held, a_side(side))
 
@@ -348,12 +350,12 @@ class Battle:
         if code == _library.WORDS_CHOICE:
             raise BadArgument(f"side {known}'s choice is {choice_text(number)}")
         if code:
-            raise BadArgument(f"side {known} has nothing there to choose: {choice_text(number)}")
+            raise BadArgument(f"side {known} has no such move or member: {choice_text(number)}")
         return text.raw[: length.value].decode("ascii")
 
     def reseed(self, seed: SeedLike, index: int = 0) -> None:
         """Replaces the numbers to draw: ten bytes, and the index, 0 to 8, of
-        the one that is drawn next.
+        the byte that is drawn next.
 
         Nothing else changes. A copy draws the same numbers as its battle,
         so a search reseeds each copy that it plays out.
@@ -368,23 +370,24 @@ class Battle:
         """Plays `rounds` copies of the battle with random choices, to their
         end or to a depth, and counts how they end. The battle is unchanged.
 
-        Each copy gets ten random numbers to draw, so it does not know those
-        of the battle. Numbers and choices come from `seed`, 0 to 2**64 - 1:
+        Each copy gets ten random numbers to draw, and does not use those of
+        the battle. Numbers and choices come from `seed`, 0 to 2**64 - 1:
         the same seed gives the same counts. `rounds` is 0 to 2**32 - 1. The
         first thousand are those of gen1_playout (include/gen1.h, "many
         battles"); for each further thousand
         `random.Random(seed).getrandbits(64)` gives the next seed.
 
-        With a `depth`, 1 to 2**32 - 1, a copy is played for that many
-        updates at most. If it still goes on, the side with the larger
-        share of its HP left wins, and equal shares are a tie.
+        With a `depth`, 1 to 2**32 - 1, a copy is played for at most that
+        many updates. If it is not over then, the side with the larger share
+        of its HP left wins, and equal shares are a tie.
 
         Without `weights` all offered choices are equally likely. With them
         a choice of weight 6 is twice as likely as one of weight 3, and one
         of weight 0 is made only if the others have 0 too. The keys are
         moves, "switch" for each switch and "move" for all other moves; the
-        weights are 0 to 255, and 1 for a key that is left out. Move 0, with
-        which a member goes on or uses Struggle, has the weight of Struggle.
+        weights are 0 to 255, and 1 for a key that is left out. Move 0, by
+        which a member continues a move or uses Struggle, has the weight of
+        Struggle.
 
         >>> from gen1 import Member
         >>> team = [Member("Gengar", ["Explosion", "Psychic"])]
@@ -393,9 +396,9 @@ class Battle:
         >>> battle.playout(7, 100, weights=weights).rounds
         100
 
-        About ten thousand whole battles are played in a second. Other
-        threads run meanwhile, and `KeyboardInterrupt` ends the call after
-        at most a thousand. Raises `BadArgument`, `BadType`.
+        A second suffices for about ten thousand whole battles. Other threads
+        run meanwhile, and `KeyboardInterrupt` ends the call after at most a
+        thousand battles. Raises `BadArgument`, `BadType`.
         """
         number, left = within(seed, "seed", 0, (1 << 64) - 1), within(rounds, "rounds", 0, (1 << 32) - 1)
         updates = 0 if depth is None else within(depth, "depth", 1, (1 << 32) - 1)
@@ -418,29 +421,31 @@ class Battle:
         self, one: Choice | int, two: Choice | int, *, damage_classes: int = 0, least_probability: float = 0.0
     ) -> Outcomes:
         """All battles that an update by a choice of each side can lead to,
-        each with its exact probability (`Outcomes` says of what draws).
+        each with its exact probability, for the draws that `Outcomes`
+        describes.
 
         The battle is unchanged. Most updates have fewer than a hundred
-        outcomes, and the most that were met are some fifty thousand.
+        outcomes; the most seen so far are about fifty thousand.
 
-        A search may want fewer. With `damage_classes`, 1 to 39, a roll of
-        damage has at most that many classes: the 39 factors from 217 to 255
-        are cut into as many runs, and damages of one run are a class. Of
-        each class one damage near its middle is listed, with the weight of
-        all. All damages from the HP of the target on (or of its substitute)
-        are one class more, so the chance that a roll knocks out stays
-        exact, and so does everything that is not a roll of damage.
+        A search may want fewer outcomes. With `damage_classes`, 1 to 39, a
+        damage roll has at most that many classes: the 39 factors from 217
+        to 255 are divided into that many ranges, and the damages of one
+        range are a class. One damage near the middle of each class is
+        listed, with the weight of the whole class. All damages that reach
+        the HP of the target (or of its substitute) are one more class, so
+        the chance of a knock-out stays exact, and so does everything other
+        than damage rolls.
 
-        With `least_probability`, 0 to 1, draws are left out as soon as
-        those of the update so far are less probable than that together,
-        with all that may come after them. So a weight is that of the ways
-        to its battle that are not left out, and `left_out` of the result
-        is the exact weight of the rest. Of an update with draws, none may
-        be left. The probability is rounded down to a multiple of 2^-32.
+        With `least_probability`, 0 to 1, a course of the update is left out
+        as soon as its draws so far are less probable than that together. A
+        weight is then that of the ways to its battle that are not left out,
+        and `left_out` of the result is the exact weight of the rest. An
+        update with draws may then have no outcome. The probability is
+        rounded down to a multiple of 2^-32.
 
         Raises `Refused` and `BadArgument` as `update` does, and
-        `BadArgument` or `BadType` for another `damage_classes` or
-        `least_probability`. `BadArgument` is a `ValueError` too.
+        `BadArgument` or `BadType` for an option that is out of range or of
+        another type. `BadArgument` is a `ValueError` too.
         """
         pair = a_choice(one, 1), a_choice(two, 2)
         code, found = outcomes_of(self._held, *pair, options_of(damage_classes, least_probability))
@@ -452,10 +457,9 @@ class Battle:
         """The odds of a side's move in the current state: its damage, and its
         chances of a hit and of a critical hit.
 
-        The member need not know the move. A move that goes on under Rage,
-        Thrash or Petal Dance is tested with the accuracy that was kept.
-        Raises `NoDamage` if no member is out, `BadTeam` for an unknown
-        move.
+        The member need not know the move. If Rage, Thrash or Petal Dance
+        continues, the hit test uses the kept accuracy. Raises `NoDamage` if
+        no member is out, `BadTeam` for an unknown move.
         """
         of, known = OddsStruct(), a_move(move)
         code = _library.odds_now(byref(self._held), a_side(side), known, byref(of))
@@ -488,12 +492,12 @@ class Battle:
         """The exact chance that a side's move knocks out the foe's active
         member, with one use and with two or three in a row.
 
-        `after_first` and `after_second` are what happens to the foe's HP
-        after the first use and after the second, such as poison. Against a
-        substitute it is the chance to break it, and they do not count. The
-        member need not know the move, and the chance of a move that charges
-        is that of its strike. Raises `NoDamage` if no member is out,
-        `BadTeam` for an unknown move.
+        `after_first` and `after_second` are the changes of the foe's HP
+        after the first use and after the second, for example by poison.
+        Against a substitute it is the chance to break it, and the changes
+        do not count. The member need not know the move, and the chance of a
+        move that charges is that of its strike. Raises `NoDamage` if no
+        member is out, `BadTeam` for an unknown move.
         """
         between = BetweenStruct(hp_change(after_first, "after_first"), hp_change(after_second, "after_second"))
         of, known = ThreeChancesStruct(), a_move(move)
@@ -539,7 +543,7 @@ def result_of(held: Any) -> Result:
 
 
 def sides_of(one: TeamLike, two: TeamLike) -> tuple[Team, Team]:
-    """Both teams; an error says which side it is about."""
+    """Both teams; an error names the side."""
     return _side(1, one), _side(2, two)
 
 
@@ -553,7 +557,7 @@ def _side(number: int, given: TeamLike) -> Team:
 
 
 def table_of(given: WeightsLike) -> "Array[c_uint8]":
-    """The weights of gen1_playout_options: of each move by its number, and first that of a switch."""
+    """The weights of gen1_playout_options: first that of a switch, then those of the moves by number."""
     if not isinstance(given, Mapping):
         raise BadType(f"weights must be a mapping of moves to numbers, not {shown(given)}")
     known = {key: within(weight, f"weights[{key!r}]", 0, 255) for key, weight in given.items()}
@@ -566,13 +570,13 @@ def table_of(given: WeightsLike) -> "Array[c_uint8]":
 def _load_text(code: LoadFault, given: "bytes") -> str:
     """Why bytes are not a battle."""
     tests = {
-        LoadFault.LENGTH: f"there are {len(given)}, not {_library.BATTLE_BYTES}",
-        LoadFault.VERSION: f"their version is {given[0] if given else 'missing'}, not 1, 2 or 3",
+        LoadFault.LENGTH: f"{len(given)} bytes, not {_library.BATTLE_BYTES}",
+        LoadFault.VERSION: f"the version is {given[0] if given else 'missing'}, not 1, 2 or 3",
     }
     return f"not a battle: {tests.get(code, 'the test of the ' + code.label + ' fails')} (docs/LAYOUT.md, \"Loading\")"
 
 
-# How many playouts run in one call of the library, which nothing interrupts.
+# How many playouts run in one call of the library, which cannot be interrupted.
 PLAYOUT_SLICE = 1000
 CHOICES = c_uint8 * 9
 WEIGHTS = c_uint8 * 166

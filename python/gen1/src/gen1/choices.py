@@ -35,11 +35,11 @@ class Rules(IntFlag, metaclass=NamedType):
 class Choice(Named):
     """A side's choice for an update, with its number.
 
-    `MOVE_0` is the only move that is offered if no slot can be chosen.
-    That is so if the member must recharge; if its move goes on (Rage,
-    Thrash, a move that charges, Bide, trapping); if it sleeps, is frozen
-    or is held by the foe's trapping move; and if each slot lacks PP or
-    is disabled, so that it uses Struggle.
+    `MOVE_0` is the only move that is offered if no slot can be chosen: if
+    the member must recharge; if its move continues (Rage, Thrash, a move
+    that charges, Bide, trapping); if it is asleep, frozen or held by the
+    foe's trapping move; and if every slot is out of PP or disabled, so that
+    it uses Struggle.
 
     Any other number is refused as not offered.
     """
@@ -111,7 +111,7 @@ def choice_text(byte: int) -> str:
 
 
 def explained(choice: Choice, words: str) -> str:
-    """The words for a choice, with the reason for move 0."""
+    """The words for a choice; for move 0 with the reason."""
     return f"{words} (no slot can be chosen)" if choice is Choice.MOVE_0 else words
 
 

@@ -1,10 +1,10 @@
-"""Which numbers an update drew (docs/MECHANICS.md, "Link numbers"), and what
-each of them decided.
+"""The numbers that an update drew (docs/MECHANICS.md, "Link numbers"), and the
+effect of each of them.
 
-What a draw decided is found by trying: copies of the battle, each with
-another byte in the draw's place, are updated with the same choices, and the
-differences are reported. The library doesn't report the drawn bytes, so the
-generator of link numbers is stepped here, from the numbers before an update
+The effect of a draw is found by trial: copies of the battle, each with
+another byte in place of the draw, are updated with the same choices, and the
+differences are reported. The library doesn't report the drawn bytes, so this
+module steps the generator of link numbers, from the numbers before an update
 to those after it. This is the only rule that is implemented in Python; the
 tests compare it with the recorded draws.
 """
@@ -21,19 +21,19 @@ from gen1.errors import Refused
 from gen1.events import DamageEvent, Event, HealEvent
 from gen1.sentences import sentence
 
-# How many numbers are drawn in turn; and a limit that is above the draws of any update.
+# How many numbers are drawn in turn; and a limit above the number of draws of any update.
 NUMBERS, MOST = 9, 4700
 
 
 @dataclass(frozen=True)
 class Draw:
     """A draw: its number in the update from 1, the byte that was drawn, and
-    what other bytes would have decided.
+    the effects that other bytes would have had.
 
     `others` are ranges of bytes, each with a sentence for the first event
     that would have been different; empty if no byte changes the events.
     `again` is true if the byte is computed from that of an earlier draw in
-    the same update, so that it can't be changed alone.
+    the same update, so that it can't be changed on its own.
     """
 
     number: int
@@ -76,7 +76,7 @@ def explained(before: Battle, one: int, two: int) -> tuple[Battle, list[Event], 
 
 
 def _others(before: Battle, one: int, two: int, at: int, told: list[Event]) -> Iterator[tuple[str, str]]:
-    """What other bytes at a draw would have decided, by ranges."""
+    """The effects that other bytes at a draw would have had, by ranges."""
     state = before.state
     index, seed = state.index, bytearray(state.numbers)
     place = (index + at) % NUMBERS

@@ -1,8 +1,8 @@
-"""What a player knows, as a row of numbers: the columns, and the calls that
-fill rows from `gen1_player` structs.
+"""The knowledge of a player as a row of numbers: the columns, and the calls
+that fill rows from `gen1_player` structs.
 
-A row is computed from a `Player` and from nothing else, so it holds nothing
-that the side does not know (docs/MECHANICS.md, "Player's view").
+A row is computed from a `Player` and from nothing else, so it contains only
+what the side may know (docs/MECHANICS.md, "Player's view").
 `print(gen1.encodings.described())` lists all columns.
 """
 
@@ -36,7 +36,7 @@ from gen1.players import Player
 
 Rows: TypeAlias = NDArray[Any]
 
-# The version of the columns: another number where a column has another name, place or meaning.
+# The version of the columns. It changes when a column gets another name, place or meaning.
 VERSION = 1
 STATS = ("attack", "defense", "speed", "special")
 STAGES = (*STATS, "accuracy", "evasion")
@@ -51,8 +51,8 @@ class Column:
 
     `options` is 0 for a number; else the column is a category with that
     many options, 0 to `options` - 1. `low` and `high` are the least and the
-    greatest value in a row of float32, `top` the greatest one in a row of
-    uint8, where the least is 0. `says` is its meaning.
+    greatest value in a row of float32, `top` is the greatest value in a row
+    of uint8, where the least is 0. `says` is its meaning.
     """
 
     name: str
@@ -129,7 +129,7 @@ KNOWN, OWN = PlayerStruct.known.offset, PlayerStruct.own.offset
 
 
 def _public(side: int) -> int:
-    """The offset of what is public of a side."""
+    """The offset of the public information about a side."""
     return KNOWN + PublicStruct.sides.offset + (side - 1) * sizeof(PublicSideStruct)
 
 
@@ -344,14 +344,14 @@ class Encoding:
 
     def rows(self, count: int, out: Rows | None = None) -> Rows:
         """A new array for `count` rows; or `out`, if it is such an array.
-        Raises `BadType` if it is another one.
+        Raises `BadType` or `BadArgument` if it is not.
         """
         if out is None:
             return np.empty((count, self.width), self.dtype)
         if not isinstance(out, np.ndarray) or out.dtype != self.dtype:
             raise BadType(f"out must be an array of {self.dtype}, not {shown(getattr(out, 'dtype', out))}")
         if out.shape != (count, self.width) or not out.flags.c_contiguous or not out.flags.writeable:
-            raise BadArgument(f"out must be ({count}, {self.width}), contiguous and writeable, and is {out.shape}")
+            raise BadArgument(f"out must be ({count}, {self.width}), contiguous and writeable; its shape is {out.shape}")
         return out
 
     def row(self, player: Player) -> Rows:
@@ -368,8 +368,8 @@ class Encoding:
 
 @lru_cache(maxsize=4)
 def filler(dtype: str, short: bool = False) -> Any:
-    """The call of batch.c that fills rows of this type; one that is short
-    keeps the interpreter's lock.
+    """The call of batch.c that fills rows of this type; a short call keeps the
+    interpreter's lock.
     """
     name = {"float32": "gen1_py_observe_floats", "uint8": "gen1_py_observe_bytes"}[dtype]
     of = _library.SHORT if short else _library.LONG
@@ -377,7 +377,7 @@ def filler(dtype: str, short: bool = False) -> Any:
 
 
 def encoding_of(given: "Encoding | str") -> Encoding:
-    """An encoding, which "player" names the usual one of."""
+    """An encoding; "player" names the usual one."""
     if given == "player":
         return Encoding()
     if not isinstance(given, Encoding):

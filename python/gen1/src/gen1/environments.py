@@ -4,8 +4,8 @@ with PettingZoo's parallel API.
 Neither package is needed. If gymnasium is installed, its spaces and its
 `Env` are used. An action is a number from 0 to 11, the bit of a choice: 0
 is pass, 1 to 5 are moves 0 to 4, 6 to 11 are switches to 1 to 6. An
-observation is a row of `gen1.encodings`: what the player knows. Many
-battles at once are in `gen1.vectors`.
+observation is a row of `gen1.encodings`: the knowledge of the player.
+`gen1.vectors` has environments of many battles at once.
 """
 
 from __future__ import annotations
@@ -32,7 +32,7 @@ from gen1.players import Player
 from gen1.spaces import AutoresetMode
 
 _Discrete, _Box, _Base = spaces.made()
-# The numbers of the choices, how many choices each mask has, and the n-th of them, as bytes, since one item is quicker than with numpy.
+# The numbers of the choices, how many choices each mask has, and the n-th of them: as bytes, whose items are faster to read than numpy's.
 _NUMBERS, _COUNTS, _NTH = CHOICES.tobytes(), COUNTS.astype(np.uint8).tobytes(), NTH.tobytes()
 _ALL_MASKS: Masks = np.arange(1 << ACTIONS, dtype=np.uint16)
 _BITS = bits(_ALL_MASKS)
@@ -43,7 +43,7 @@ _REWARDS = tuple({Outcome.WIN_ONE: 1.0, Outcome.WIN_TWO: -1.0}.get(it, 0.0) for 
 
 
 class _Single:
-    """The one battle of an environment, stepped without numpy's cost for each call: an array of one battle, its addresses and its views."""
+    """The one battle of an environment, stepped without numpy's cost per call: an array of one battle, its addresses and its views."""
 
     def __init__(self, episodes: Episodes) -> None:
         self.episodes = episodes
@@ -106,12 +106,12 @@ def _action(action: object, name: str) -> int:
 
 
 class _Environment:
-    """What both environments have."""
+    """The common base of both environments."""
 
     metadata: dict[str, Any] = {"render_modes": ["ansi"], "name": "gen1_v1"}
     render_mode: str | None = None
     _episodes: Episodes
-    # Of the episodes, from their first begin on. A copy makes its own, since it has addresses.
+    # The episodes' battle, from their first start on. A copy creates its own, since it has addresses.
     _single: _Single | None = None
 
     def _prepare(
@@ -146,16 +146,16 @@ class _Environment:
 
     @property
     def battle(self) -> Battle:
-        """A copy of the battle. It includes what the players do not know."""
+        """A copy of the battle. It includes information hidden from players."""
         return self._episodes.players._battles[0]
 
     def player(self, side: Side | int = Side.ONE) -> Player:
-        """A copy of what the player of a side knows."""
+        """A copy of the player of a side."""
         return self._episodes.players.player(0, side)
 
     def render(self) -> str | None:
-        """The turn, and the members that are out, on one line, with render
-        mode "ansi".
+        """With render mode "ansi": the turn and the active members, on one
+        line.
         """
         return self._episodes.sight(0) if self.render_mode == "ansi" else None
 
@@ -179,7 +179,7 @@ class BattleEnv(_Environment, _Base):  # type: ignore[misc, valid-type]
     truncated.
 
     An action that is not offered raises `Refused`, before the opponent is
-    asked, and changes nothing. So use `action_masks()`, and pass a mask to
+    asked, and changes nothing: use `action_masks()`, and pass a mask to
     `action_space.sample()`. If a function returns an action that is not
     offered, `Refused` is raised for side 2; the battle is unchanged.
     """
@@ -207,7 +207,7 @@ class BattleEnv(_Environment, _Base):  # type: ignore[misc, valid-type]
         info, as from `step`.
 
         `options` may have teams "one" and "two" for this battle; other keys
-        are ignored, since wrappers add keys of their own. Raises `BadTeam`,
+        are ignored, since wrappers add their own. Raises `BadTeam`,
         `BadArgument`, `BadType`, and then the battle is unchanged.
         """
         single = self._begin(seed, options)
@@ -216,8 +216,8 @@ class BattleEnv(_Environment, _Base):  # type: ignore[misc, valid-type]
         return single.row(1), {"action_mask": single.truths(1)}
 
     def step(self, action: int) -> tuple[Rows, float, bool, bool, dict[str, Any]]:
-        """Updates the battle with side 1's action and the opponent's:
-        observation, reward, whether it is over, False, and the mask.
+        """Updates the battle with side 1's action and the opponent's. Returns
+        the observation, the reward, whether it is over, False, and the mask.
 
         Raises `ResetNeeded` before the first reset, `Refused`,
         `BadArgument`, `BadType`.
@@ -237,9 +237,9 @@ class BattleEnv(_Environment, _Base):  # type: ignore[misc, valid-type]
 class TwoPlayerEnv(_Environment):
     """Two players, "one" and "two", with PettingZoo's parallel API.
 
-    Both act in each step; a side that is asked for nothing takes action 0,
-    pass. When the battle is over, `agents` becomes empty. The arguments are
-    those of `BattleEnv`.
+    Both act in each step; a side without a request takes action 0, pass.
+    When the battle is over, `agents` becomes empty. The arguments are those
+    of `BattleEnv`.
     """
 
     metadata: dict[str, Any] = {"render_modes": ["ansi"], "name": "gen1_v1", "is_parallelizable": True}
@@ -278,7 +278,7 @@ class TwoPlayerEnv(_Environment):
         return self._each(single.row), self._each(self._info)
 
     def step(self, actions: Mapping[str, int]) -> tuple[dict[str, Any], ...]:
-        """Updates the battle with both actions: observations, rewards,
+        """Updates the battle with both actions. Returns observations, rewards,
         terminations, truncations and infos of the agents.
 
         Raises `ResetNeeded` before the first reset, `Refused`,
@@ -290,7 +290,7 @@ class TwoPlayerEnv(_Environment):
         if not self.agents:
             return {}, {}, {}, {}, {}
         if set(actions) != set(self.agents):
-            raise BadArgument(f"actions must be those of {' and '.join(self.agents)}, not of {shown(list(actions))}")
+            raise BadArgument(f"actions must have the keys {' and '.join(self.agents)}, not {shown(list(actions))}")
         numbers = [_action(actions[it], f"the action of {it}") for it in self.agents]
         outcome = single.update(single.choice(numbers[0], 1), single.choice(numbers[1], 2))
         reward = _REWARDS[outcome]

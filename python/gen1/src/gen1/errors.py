@@ -1,5 +1,5 @@
-"""The package's errors. Each message says what was wrong and what was
-expected.
+"""The package's errors. Each message names the error and the expected
+value.
 """
 
 from __future__ import annotations
@@ -28,15 +28,15 @@ class NumpyMissing(Error, ModuleNotFoundError):
     """A class that needs numpy was used, and numpy is not installed."""
 
     def __init__(self, what: str) -> None:
-        super().__init__(f"{what} needs numpy: install numpy, or gen1 with its extra, as gen1[arrays]", name="numpy")
+        super().__init__(f"{what} needs numpy: install numpy, or gen1 with its extra arrays: gen1[arrays]", name="numpy")
 
 
 class ResetNeeded(Error, RuntimeError):
-    """A step of an environment before its first reset."""
+    """An environment was used before its first reset."""
 
 
 class BadType(Error, TypeError):
-    """An argument has a wrong type."""
+    """An argument has the wrong type."""
 
 
 class BadArgument(Error, ValueError):
@@ -50,15 +50,15 @@ class BadPlace(BadArgument, IndexError):
 
 
 class BadTeam(BadArgument):
-    """A team or a member is refused by the rules of teams (docs/MECHANICS.md,
+    """A team or a member breaks the rules of teams (docs/MECHANICS.md,
     "Teams").
 
     `side` is 1 or 2, or 0 for a team outside a battle. `member` is the
     place from 1 to 6, or 0 if the error is not about one member, or the
     member is not in a team. `field` is the wrong field ("level",
     "moves[2]"). `code` is the library's number, or None if the value was
-    refused before a call of the library. `said` is the message without side
-    and place.
+    refused before the library was called. `said` is the message without
+    side and place.
     """
 
     def __init__(
@@ -69,16 +69,16 @@ class BadTeam(BadArgument):
         self.said, self.side, self.member, self.field, self.code = said, side, member, field, code
 
     def at(self, member: int) -> BadTeam:
-        """The same error for the member at this place."""
+        """A copy of the error, for the member at this place."""
         return BadTeam(self.said, side=self.side, member=member, field=self.field, code=self.code)
 
     def of(self, side: int) -> BadTeam:
-        """The same error for the team of this side."""
+        """A copy of the error, for the team of this side."""
         return BadTeam(self.said, side=side, member=self.member, field=self.field, code=self.code)
 
 
 class BadBytes(BadArgument):
-    """Bytes are not a battle. `code` is the first test that they fail
+    """The bytes are not a battle. `code` is the first test that they fail
     (docs/LAYOUT.md, "Loading").
     """
 
@@ -93,11 +93,11 @@ class BadState(BadArgument):
     `code` is the library's number of the field, and `field` its name in the
     dataclasses ("hp", "active.stages[2]"). `side` is 1 or 2, or 0 for a
     field of the whole battle. `place` is that of the member, 1 to 6, or 0
-    for a field of an active member or of the whole battle. `index` says
-    which one of several, from 0; None for a field that stands once. `value`
-    is what the field has, and `low` and `high` are the least and the
-    greatest that it may have. A value from `low` to `high` does not fit the
-    other fields.
+    for a field of an active member or of the whole battle. `index` is the
+    index in a field with several values, from 0; otherwise None. `value` is
+    the value of the field, and `low` and `high` are the least and the
+    greatest valid value. A value from `low` to `high` does not fit the other
+    fields.
     """
 
     def __init__(
@@ -120,10 +120,10 @@ class BadState(BadArgument):
 
 
 class BadLog(BadArgument):
-    """Bytes are not a log (docs/MECHANICS.md, "Log bytes").
+    """The bytes are not a log (docs/MECHANICS.md, "Log bytes").
 
-    `at` is the offset of the wrong event, from 0; below 0 if it began in
-    bytes that a spectator was fed before.
+    `at` is the offset of the wrong event, from 0; it is below 0 if the event
+    began in bytes that a spectator was fed before.
     """
 
     def __init__(self, code: LogFault, at: int) -> None:
@@ -136,7 +136,7 @@ class Refused(Error):
     """An update was refused; the battle is unchanged.
 
     `side` is the side whose choice was not offered, or 0 if the battle is
-    over; `choice` is the byte, and `offered` are the choices that the side
+    over; `choice` is the byte, and `offered` has the choices that the side
     is offered.
     """
 
@@ -158,10 +158,10 @@ class RoomRefused(Refused):
     """A room refused a choice or a forfeit (docs/MECHANICS.md, "Rooms"); the
     room is unchanged.
 
-    `side` is the side that submitted it, `number` the pair that it was for,
-    `current` the number of the current pair, `choice` the byte (None for a
-    forfeit), and `offered` what the side may submit. None of them reveals
-    the foe's choice.
+    `side` is the side that submitted it, `number` the pair for which it was
+    submitted, `current` the number of the current pair, `choice` the byte
+    (None for a forfeit), and `offered` has the choices that the side may
+    submit. None of them reveals the foe's choice.
     """
 
     code: RoomRefusal
@@ -182,7 +182,7 @@ class RoomRefused(Refused):
 
 
 class NoDamage(Error, ValueError):
-    """There is no damage; `code` says why."""
+    """A move has no damage; `code` says why."""
 
     def __init__(self, code: DamageFault, said: str) -> None:
         super().__init__(said)
@@ -190,11 +190,11 @@ class NoDamage(Error, ValueError):
 
 
 class BadText(BadTeam):
-    """A text is not a team (docs/TEAM_TEXT.md).
+    """The text is not a team (docs/TEAM_TEXT.md).
 
-    `line` is the wrong line from 1, or 0 if the error is not about one
+    `line` is the wrong line, from 1, or 0 if the error is not about one
     line. `member` and `column` are the member and its field in a packed
-    line, from 1, else 0. `text_code` is what was expected there.
+    line, from 1, else 0. `text_code` is the form that was expected there.
     """
 
     def __init__(

@@ -20,13 +20,13 @@ if TYPE_CHECKING:
     from _typeshed import ReadableBuffer
 
 T = TypeVar("T")
-# How many events are kept, and how many lines, by their bytes: most of those of a battle have come before.
+# How many events and lines are cached, by their bytes: most of those of a battle occurred before.
 KEPT = 1 << 13
 
 
 @dataclass(frozen=True)
 class Who:
-    """The member of a side that is out."""
+    """The active member of a side."""
 
     side: Side
     species: Species
@@ -78,8 +78,8 @@ class SwitchEvent(OfOne):
 
 @dataclass(frozen=True)
 class MoveEvent(OfOne):
-    """`who` uses a move; `foe` is the active member of the other side,
-    whatever the target is.
+    """`who` uses a move; `foe` is the active member of the other side, even
+    if it is not the target.
     """
 
     kind = EventKind.MOVED
@@ -280,7 +280,7 @@ class FaultEvent(Event):
 
 
 def _bytes_of(of: _library.EventStruct) -> bytes:
-    """The bytes of an event in a log; none if a field is out of its range."""
+    """The bytes of an event in a log; none if a field is out of range."""
     room, length = _EVENT_BYTES(), c_size_t(0)
     return b"" if _library.event_bytes(of, room, length) else bytes(room[: length.value])
 
@@ -292,7 +292,7 @@ def _length(tag: int) -> int:
 
 
 def _read(log: bytes, read: Callable[[bytes], T]) -> list[T]:
-    """What `read` makes of the bytes of each event of a log. Raises `BadLog`."""
+    """The results of `read` for the bytes of each event of a log. Raises `BadLog`."""
     found, at = [], 0
     while at < len(log):
         end = at + _LENGTHS[log[at]]
@@ -348,11 +348,11 @@ def _of_one(kind: type[OfOne]) -> _Reader:
 
 _Reader: TypeAlias = Callable[[_library.EventStruct], Event]
 _EVENT_BYTES = c_uint8 * 10
-# The length of an event, by its tag. The library knows it.
+# The length of an event by its tag, which the library computes.
 _LENGTHS = bytes(_length(tag) for tag in range(256))
 _MOVE, _STATUS, _STAT = by_number(Move), by_number(Status), by_number(Stat)
 _VOLATILE, _SOURCE, _REASON = by_number(Volatile), by_number(Source), by_number(Reason)
-# What makes the event of a struct, by its tag.
+# The function that makes an event from a struct, by its tag.
 _EVENTS: dict[int, _Reader] = {
     EventKind.TURN: lambda of: TurnEvent(of.turn),
     EventKind.WIN: lambda of: WinEvent(Side(of.side)),
@@ -406,7 +406,7 @@ def log_bytes(given: Iterable[Event]) -> bytes:
     """The log bytes of events (docs/MECHANICS.md, "Log bytes"), from which
     `events` reads the same events.
 
-    Raises `BadArgument` for an event with a field that is out of its range,
+    Raises `BadArgument` for an event with a field that is out of range,
     `BadType`.
     """
     found = []
@@ -420,7 +420,7 @@ def log_bytes(given: Iterable[Event]) -> bytes:
             setattr(of, name, number if 0 <= number <= most else most)
         code = _bytes_of(of)
         if not code:
-            raise BadArgument(f"events[{at}] must have fields in their ranges: {cut(shown(it))}")
+            raise BadArgument(f"events[{at}] has a field that is out of range: {cut(shown(it))}")
         found.append(code)
     return b"".join(found)
 

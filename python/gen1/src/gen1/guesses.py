@@ -1,4 +1,4 @@
-"""States that fit what a player knows, with a guess of the rest, for searches that don't cheat."""
+"""States that fit a player's knowledge, with a guess of the rest, for searches that don't cheat."""
 
 from __future__ import annotations
 
@@ -14,9 +14,9 @@ from gen1.states import ActiveState, MemberState, SideState, State
 from gen1.tables import move_data
 from gen1.teams import Team
 
-# Turns of sleep and confusion, of Disable, and of Bide, thrashing and trapping, where they are hidden.
+# Middle values of hidden counts: turns of sleep and confusion, of Disable, and of Bide, thrashing and trapping.
 ASLEEP, BLOCKED, UNDERWAY = 3, 4, 2
-# Conditions on their own, and those that belong to a current move with one of these effects.
+# Conditions that don't depend on a move, and conditions that belong to a current move with one of these effects.
 FREE = (
     Conditions.MIST
     | Conditions.FOCUS_ENERGY
@@ -52,12 +52,12 @@ ANNOUNCED = {
 
 
 def guessed(player: Player, team: Team, numbers: bytes, rules: int, limit: int) -> State:
-    """The state of a battle that fits what a player knows. `Battle.from_player` says what is filled in."""
+    """The state of a battle that fits a player's knowledge. `Battle.from_player` lists the values that are filled in."""
     if not isinstance(player, Player):
         raise BadType(f"player must be a Player, not {shown(player)}")
     own, foe = player.own, player.foe
     if not own.place or not foe.place or player.outcome is not Outcome.ONGOING:
-        raise BadArgument("player must be of a battle that has begun and is not over")
+        raise BadArgument("player must be in a battle that has begun and is not over")
     mine = SideState(tuple(map(_own_member, own.members)), _own_active(own, player.public(player.side).last_move))
     members = _foes(foe, team)
     theirs = SideState(members, _foe_active(foe, members[foe.place - 1], own.held))
@@ -86,7 +86,7 @@ def _own_member(of: OwnMember) -> MemberState:
 
 
 def _foes(foe: PublicSide, team: Team) -> tuple[MemberState, ...]:
-    """The guessed members, with what is public of those that have appeared."""
+    """The guessed members; those that have appeared have their public values."""
     if len(team) < len(foe.members):
         raise BadArgument(f"foes must have the {len(foe.members)} members that have appeared, not {len(team)}")
     fresh = Battle(team, team, bytes(10)).state.one.members
@@ -95,7 +95,7 @@ def _foes(foe: PublicSide, team: Team) -> tuple[MemberState, ...]:
 
 
 def _appeared(place: int, member: MemberState, seen: Seen) -> MemberState:
-    """A guessed member with what is public of it. HP that was told in 48ths is rounded up."""
+    """A guessed member with its public values. HP reported in 48ths is rounded up."""
     if (member.species, member.level) != (seen.species, seen.level):
         wanted = f"{seen.species.label} of level {seen.level}, which appeared"
         raise BadArgument(f"foes: member {place} must be {wanted}, not {member.species.label} of level {member.level}")
@@ -125,12 +125,12 @@ def _foe_active(foe: PublicSide, member: MemberState, traps: bool) -> ActiveStat
 
 
 def _plain(place: int, types: tuple[Type, Type], stages: tuple[int, ...], stats: tuple[int, ...]) -> ActiveState:
-    """An active member under nothing. Current stats of zeros are computed by the library."""
+    """An active member without conditions. The library computes its current stats, which are zeros here."""
     return ActiveState(place, types, stats, stages, Conditions.NONE, *[0] * 10)
 
 
 def _blocked(active: ActiveState, slot: int) -> ActiveState:
-    """The same with a disabled slot; 0 for none."""
+    """An active member with a disabled slot; 0 for none."""
     if not slot:
         return active
     return replace(
@@ -139,7 +139,7 @@ def _blocked(active: ActiveState, slot: int) -> ActiveState:
 
 
 def _under(active: ActiveState, on: Conditions, member: MemberState, last: Move | None) -> ActiveState:
-    """An active member under these conditions. What belongs to a current move needs a move that explains it."""
+    """An active member under these conditions. A condition that belongs to a current move needs a move that explains it."""
     used = member.moves.index(last) + 1 if last in member.moves else 0
     active = replace(
         active,

@@ -493,13 +493,13 @@ class NewFault(Named):
     """Why teams or terms are refused, of `BadTeam.code`."""
 
     EMPTY = 1, "the team has no member"
-    TOO_MANY = 2, "it has more than six"
+    TOO_MANY = 2, "the team has more than six members"
     LEVEL = 3, "the level is not 1 to 100"
     DV = 4, "a DV is above 15"
-    NO_MOVE = 5, "there is no move"
+    NO_MOVE = 5, "the member has no move"
     MOVE_LEFT_OUT = 6, "a move is one of the four that the engine leaves out"
-    STRUGGLE = 7, "Struggle was chosen"
-    REPEATED_MOVE = 8, "a move is there twice"
+    STRUGGLE = 7, "a move is Struggle"
+    REPEATED_MOVE = 8, "a move is repeated"
     PP_UPS = 9, "a move has more than three PP ups"
     NO_SUCH_SPECIES = 10, "the species is not 1 to 151"
     NO_SUCH_MOVE = 11, "a move is not 1 to 165"
@@ -525,8 +525,8 @@ class Refusal(Named):
     """Why an update was refused, of `Refused.code`."""
 
     OVER = 24, "the battle is over"
-    NOT_OFFERED_ONE = 25, "side 1's choice was not offered (nor perhaps side 2's)"
-    NOT_OFFERED_TWO = 26, "side 2's was not"
+    NOT_OFFERED_ONE = 25, "side 1's choice was not offered (and perhaps not side 2's either)"
+    NOT_OFFERED_TWO = 26, "side 2's choice was not offered"
 
 
 class RoomRefusal(Named):
@@ -534,8 +534,8 @@ class RoomRefusal(Named):
 
     OVER = 24, "the battle is over"
     STALE = 52, "the number is not that of the current pair"
-    CHOSEN = 53, "the side's choice is there"
-    NOT_OFFERED = 54, "the choice is none that the side is offered"
+    CHOSEN = 53, "the side has already chosen"
+    NOT_OFFERED = 54, "the choice is not offered to the side"
 
 
 class EventKind(Named):
@@ -574,8 +574,8 @@ class EventKind(Named):
 class LogFault(Named):
     """Why bytes are not a log, of `BadLog.code`."""
 
-    TAG = 32, "a byte in a tag's place is no tag"
-    FIELD = 33, "a field of an event is out of its range"
+    TAG = 32, "unknown event tag"
+    FIELD = 33, "a field of an event is out of range"
     CUT = 34, "the bytes end within an event"
 
 
@@ -583,19 +583,19 @@ class TextFault(Named):
     """What was expected in a text of a team, of `BadText.code`."""
 
     SPECIES = 64, "the name of a species of the first generation"
-    ITEM = 65, "no item: the first generation has none"
+    ITEM = 65, "no item: the first generation has no items"
     SEVENTH_MEMBER = 66, "at most six members"
     LEVEL = 67, "a level from 1 to 100"
-    EVS = 68, 'EVs from 0 to 255, as "252 HP / 4 Atk", or packed as "252,4,,,,"'
+    EVS = 68, 'EVs from 0 to 255, such as "252 HP / 4 Atk", or packed "252,4,,,,"'
     SPECIAL_EVS = 69, "the same EVs for SpA and SpD: the first generation has one Special"
-    IVS = 70, 'IVs from 0 to 31, as "14 HP / 0 Atk", or packed as "14,0,,,,"'
+    IVS = 70, 'IVs from 0 to 31, such as "14 HP / 0 Atk", or packed "14,0,,,,"'
     SPECIAL_IVS = 71, "the same IVs for SpA and SpD"
     HP_IV = 72, "the HP IV that follows from the others, or none"
     MOVE = 73, "the name of a move of the first generation"
     FIFTH_MOVE = 74, "at most four moves"
-    LINE = 75, 'a line of a member, as "Level: 50", "EVs: 252 HP", "IVs: 0 Atk" or "- Body Slam"'
-    FIELDS = 76, "packed: twelve fields with `|` between them"
-    TEAM = 77, "members that are a team: `rule` says why they are none, and `member` who is at fault"
+    LINE = 75, 'a line of a member, such as "Level: 50", "EVs: 252 HP", "IVs: 0 Atk" or "- Body Slam"'
+    FIELDS = 76, "packed: twelve fields separated by `|`"
+    TEAM = 77, "members that form a valid team: `rule` has the code of the error, `member` the member"
 
 
 class DamageFault(Named):
@@ -603,9 +603,9 @@ class DamageFault(Named):
 
     SIDE = 40, "the side is neither 1 nor 2"
     MOVE = 11, "a move is not 1 to 165"
-    UNUSUAL = 48, "it does not have the usual damage: no power, or a damage rule of its own"
-    DIVISOR = 49, "the defense that counts in this hit is 0, and the damage would be divided by it"
-    NOBODY = 50, "nobody is out: the battle is before its first update"
+    UNUSUAL = 48, "the move does not have the usual damage: it has no power, or its own damage rule"
+    DIVISOR = 49, "the damage would be divided by 0: the defense that counts in this hit is 0"
+    NOBODY = 50, "no member is out: the battle is before its first update"
 
 
 class Effect(Named):
@@ -673,20 +673,20 @@ class OddsReason(Named):
     FAULT = 6, "the battle would end with a fault: a divisor of 0, or Psywave at level 1"
     SLOWER = 7, "a one-hit move, and the user is slower than the foe"
     NOTHING_TO_COUNTER = 8, "the last damage is 0, or the foe's picked move cannot be countered"
-    NO_ENERGY = 9, "Bide has no damage to let out"
+    NO_ENERGY = 9, "Bide has no stored damage to return"
     AWAKE = 10, "Dream Eater, and the foe is awake"
     INVULNERABLE = 11, "the foe has flown up or dug in"
     MIST = 12, "Mist guards the foe's stats"
-    SUBSTITUTE = 13, "the foe's substitute keeps the move away"
-    HAS_STATUS = 14, "the foe has a status already"
+    SUBSTITUTE = 13, "the foe's substitute blocks the move"
+    HAS_STATUS = 14, "the foe already has a status"
     OWN_TYPE = 15, "the foe's type guards it: Poison, Grass, or Ground against Electric paralysis"
-    CONFUSED = 16, "the foe is confused already"
-    SEEDED = 17, "the foe is seeded already"
-    DISABLED = 18, "one of the foe's moves is disabled already"
+    CONFUSED = 16, "the foe is already confused"
+    SEEDED = 17, "the foe is already seeded"
+    DISABLED = 18, "one of the foe's moves is already disabled"
     NO_PP = 19, "Disable, and none of the foe's moves has PP"
-    STAGE = 20, "the stage, or the stat, is at its end"
-    SLEEP_CLAUSE = 21, "the sleep clause: a member of the foe's side sleeps already"
-    ALREADY_UP = 22, "the user has the condition already"
+    STAGE = 20, "the stage, or the stat, is at its limit"
+    SLEEP_CLAUSE = 21, "the sleep clause: a member of the foe's side is already asleep"
+    ALREADY_UP = 22, "the user already has the condition"
     HEALTH = 23, "the user's HP: a loss of 0, 255 or 511 is not healed; a substitute needs a quarter"
 
 

@@ -1,17 +1,17 @@
-"""What a side of a `BattleArray` knows, as a row of numbers from -1 to 1,
-where both sides know both teams.
+"""The knowledge of a side of a `BattleArray`, as a row of numbers from -1 to
+1, if both sides know both teams.
 
-What a `Player` knows, who meets the foe's members as they come out, is a
-row of another form: `gen1.encodings`, whose `VERSION`, `Column` and
-`Encoding` are names of this module too.
+The knowledge of a `Player`, who meets the foe's members as they come out, is
+a row of another form: see `gen1.encodings`, whose `VERSION`, `Column` and
+`Encoding` are also names of this module.
 
-A side knows everything about its own members except what the game hides:
-how long sleep and confusion last, and which numbers are drawn next. Of the
-foe it knows what a spectator of both teams knows (docs/MECHANICS.md,
+A side knows everything about its own members except the values that the game
+hides: how long sleep and confusion last, and the numbers that are drawn
+next. It knows the foe as a spectator of both teams does (docs/MECHANICS.md,
 "Spectator's view"): species and level of each member, HP, the kind of
-status, who is out, the stages, and whether a Substitute, confusion, Light
-Screen and Reflect are up. Moves, PP and stats of the foe are not in any
-column. `COLUMNS` has the name of each column.
+status, the active member, the stages, and whether a Substitute, confusion,
+Light Screen and Reflect are up. No column has moves, PP or stats of the foe.
+`COLUMNS` has the name of each column.
 """
 
 from typing import Any
@@ -63,7 +63,7 @@ def _columns() -> tuple[str, ...]:
     return tuple(names)
 
 
-# The name of each column: its value, and what that is divided by. Without a divisor it is 0 or 1. A place without a member is all 0.
+# The name of each column: its value, and its divisor. Without a divisor it is 0 or 1. All columns of a place without a member are 0.
 COLUMNS = _columns()
 
 
@@ -93,7 +93,7 @@ def _members(side: Any, own: bool) -> Row:
 
 
 def _active(side: Any) -> Row:
-    """The stages and conditions of the member that is out. Before the first update there is none, and all are 0."""
+    """The stages and conditions of the active member. Before the first update there is none, and all are 0."""
     active = side["active"]
     there = (active["place"] > 0)[:, None]
     stages = (active["stages"].astype(np.float32) - 6) / 6 * there

@@ -1,7 +1,7 @@
-"""Who plays the other side of an environment: at random, by the greatest
-damage, or by a function of observations and masks.
+"""Opponents in an environment: random, by the greatest damage, or a function
+of observations and masks.
 
-All of them are given what the player of their side knows, and never the
+Each of them sees the knowledge of its own side's player, and never the
 battle.
 """
 
@@ -24,13 +24,13 @@ from gen1.player_arrays import PlayerArray
 from gen1.rows import SPECIES_ROWS
 from gen1.tables import effectiveness, move_data
 
-# Given the rows of m battles, (m, columns), and which actions are offered in each, (m, 12) bools, it returns an action of each, (m).
+# Takes the rows of m battles, (m, columns), and the offered actions of each, (m, 12) bools, and returns an action for each, (m).
 Policy: TypeAlias = Callable[[Rows, NDArray[np.bool_]], ArrayLike]
-# What chooses for a side in each battle: a choice's number of each, which is not looked at in a battle that is over.
+# Chooses for one side: returns the number of a choice for each battle; those of finished battles are ignored.
 Chooser: TypeAlias = Callable[[PlayerArray, int, Encoding, np.random.Generator], Bytes]
 OpponentLike: TypeAlias = str | Policy
 
-# The worth of moves whose power doesn't say what they do; a share of the power, or a power of its own.
+# The worth of moves whose power is misleading: a share of the power, or a separate power.
 SHARES = {
     Effect.EXPLODE: 0.5,
     Effect.CHARGE: 0.5,
@@ -52,7 +52,7 @@ def random_choices(players: PlayerArray, side: int, encoding: Encoding, dice: np
 
 @lru_cache(maxsize=1)
 def _rows() -> tuple[NDArray[Any], ...]:
-    """Of each move, with 0 for none, its type and its worth; of each species base Defense and Special, and its types; the type chart."""
+    """The type and worth of each move, with index 0 for none; base Defense and Special, and the types, of each species; the type chart."""
     kinds, worths = [0], [0.0]
     for it in Move:
         row = move_data(it)
@@ -65,8 +65,8 @@ def _rows() -> tuple[NDArray[Any], ...]:
 
 
 def worths(players: PlayerArray, side: int) -> NDArray[Any]:
-    """About how much each move of each own member hurts the foe's active
-    member, (n, 6, 4), in no unit.
+    """An estimate of how much each move of each own member hurts the foe's
+    active member, (n, 6, 4), without a unit.
     """
     kinds, powers, bulks, types, chart = _rows()
     known = players.known(side)
@@ -86,8 +86,8 @@ def worths(players: PlayerArray, side: int) -> NDArray[Any]:
 
 
 def greedy_choices(players: PlayerArray, side: int, encoding: Encoding, dice: np.random.Generator) -> Bytes:
-    """The move that hurts most, by a simple estimate; and where a member must
-    be sent out, the one that has such a move.
+    """The move that hurts most, by a simple estimate; if a member must be sent
+    out, the member with the move that hurts most.
     """
     worth, own = worths(players, side), players.known(side)["own"]
     score = np.zeros((len(players), ACTIONS))
@@ -99,8 +99,8 @@ def greedy_choices(players: PlayerArray, side: int, encoding: Encoding, dice: np
 
 
 def by_policy(policy: Policy) -> Chooser:
-    """What a function chooses. It is given the rows of those battles that go
-    on.
+    """The choices of a function, which is passed the rows of the battles that
+    are not over.
     """
 
     def choices(players: PlayerArray, side: int, encoding: Encoding, dice: np.random.Generator) -> Bytes:
@@ -117,7 +117,7 @@ def by_policy(policy: Policy) -> Chooser:
 
 
 def opponent_of(given: OpponentLike) -> Chooser:
-    """The opponent that a name or a function means."""
+    """The opponent for a name or a function."""
     named: dict[object, Chooser] = {"random": random_choices, "greedy": greedy_choices}
     if isinstance(given, str):
         if given not in named:
@@ -147,8 +147,8 @@ def actions_of(given: object, count: int, name: str) -> NDArray[Any]:
 
 
 def must_be_offered(masks: Masks, chosen: Bytes, side: int) -> None:
-    """Raises `Refused` for the first choice that its mask doesn't have. A mask
-    of 0, of a battle that is over, takes any.
+    """Raises `Refused` for the first choice that is not in its mask. A mask of
+    0, of a battle that is over, accepts any choice.
     """
     bit = np.searchsorted(CHOICES, chosen).astype(np.uint16)
     wrong = (masks != 0) & (masks >> bit & 1 == 0)

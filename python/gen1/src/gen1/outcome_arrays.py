@@ -56,16 +56,16 @@ class OutcomeArray:
     ) -> None:
         self._rows = rows
         self.offsets = offsets
-        """Where the outcomes of each battle begin, and where those of the
-        last end, (n + 1).
+        """The index of the first outcome of each battle, and the end of the
+        last battle's outcomes, (n + 1).
         """
         self.wholes = wholes
-        """The sum of all weights of each battle's outcomes and of what is
+        """The sum of the weights of each battle's outcomes and of the weight
         left out, n whole numbers.
         """
         self.left_out = left_out
-        """The exact weight of all that is left out of each battle's outcomes,
-        n whole numbers. They are 0 without a `least_probability`.
+        """The exact weight left out of each battle's outcomes, n whole
+        numbers; 0 without a `least_probability`.
         """
         self.codes = codes
         """0, or for a refused pair the number of its `Refusal`, (n). A
@@ -105,8 +105,8 @@ class OutcomeArray:
 
     @cached_property
     def left_out_probabilities(self) -> NDArray[np.float64]:
-        """The probability of all that is left out of each battle's outcomes,
-        (n). It is 0 for a refused pair.
+        """The probability left out of each battle's outcomes, (n). It is 0
+        for a refused pair.
         """
         return np.array([left / whole if whole else 0.0 for left, whole in zip(self.left_out, self.wholes)])
 
@@ -154,7 +154,7 @@ def _listed(battles: Bytes, ones: list[int], twos: list[int], options: OutcomeOp
             into, table = held.room(used, places)
             battle = first + at * _library.BATTLE_BYTES
             code = _list(battle, one, two, byref(options), into, places, table, 2 * places, byref(of))
-        if code == _library.TOO_MANY_DRAWS:  # no known update has
+        if code == _library.TOO_MANY_DRAWS:  # no such update is known
             raise Error("the update has too many draws to list its outcomes")
         count, (whole, left) = (0, (0, 0)) if code else (of.count, sums_of(of))
         counts.append(count)
@@ -176,8 +176,8 @@ class _Held:
         self._first, self._of_table = rows.ctypes.data, table.ctypes.data
 
     def room(self, used: int, places: int) -> tuple[int, int]:
-        """The addresses of so many places after those that are used, and of a
-        table of twice as many.
+        """The addresses of that many free places, after the used ones, and of
+        a table of twice as many.
         """
         if used + places > len(self.rows):
             rows = np.empty((2 * (used + places), SIZE), np.uint8)

@@ -1,5 +1,5 @@
-"""What a side is shown of itself (docs/MECHANICS.md, "What a side is shown of
-itself").
+"""A side as it is shown to its own player (docs/MECHANICS.md, "What a side is
+shown of itself").
 """
 
 from __future__ import annotations
@@ -19,7 +19,7 @@ class OwnMember:
     """A member of the own side. `pp` has the PP of each move. `stats` are its
     own Attack, Defense, Speed and Special, 5 to 999.
 
-    A sleeping member does not show for how many turns.
+    The turns of sleep of a sleeping member are not shown.
     """
 
     species: Species
@@ -33,13 +33,13 @@ class OwnMember:
 
 
 class OwnSide:
-    """What a side is shown of itself after each update (docs/MECHANICS.md,
-    "What a side is shown of itself").
+    """A side as it is shown to its own player after each update
+    (docs/MECHANICS.md, "What a side is shown of itself").
 
-    It comes from `Battle.own_side`. Nothing of it depends on the foe,
-    except `held`. Two are equal if all of their fields are. Before the
-    first update no member is out: `place` is 0, and the fields of the
-    member that is out are zeros.
+    `Battle.own_side` returns it. Only `held` depends on the foe. Two are
+    equal if all of their fields are equal. Before the first update there is
+    no active member: `place` is 0, and the fields of the active member are
+    zeros.
     """
 
     __slots__ = ("_held",)
@@ -52,55 +52,53 @@ class OwnSide:
 
     @property
     def place(self) -> int:
-        """The place of the member that is out, 1 to 6; 0 before the first
-        update.
-        """
+        """The place of the active member, 1 to 6; 0 before the first update."""
         return int(self._held.place)
 
     @property
     def active(self) -> OwnMember | None:
-        """The member that is out; None before the first update."""
+        """The active member; None before the first update."""
         return self.members[self.place - 1] if self.place else None
 
     @property
     def types(self) -> tuple[Type, Type]:
-        """Both types of the member that is out, the first twice for a member
-        of one type; Normal before the first update.
+        """Both types of the active member, the first twice for a member of one
+        type; Normal before the first update.
         """
         return Type(self._held.types[0]), Type(self._held.types[1])
 
     @property
     def stages(self) -> tuple[int, ...]:
-        """The stages of the member that is out, -6 to 6: Attack, Defense,
-        Speed, Special, accuracy, evasion.
+        """The stages of the active member, -6 to 6: Attack, Defense, Speed,
+        Special, accuracy, evasion.
         """
         return stages_of(self._held.stages) if self.place else (0,) * 6
 
     @property
     def stats(self) -> tuple[int, ...]:
-        """Attack, Defense, Speed and Special of the member that is out, with
-        stages and penalties, 1 to 999.
+        """Attack, Defense, Speed and Special of the active member, with stages
+        and penalties, 1 to 999.
         """
         return tuple(self._held.stats)
 
     @property
     def conditions(self) -> Conditions:
-        """What the member that is out is under; never `Conditions.FLINCH`."""
+        """The conditions of the active member; never `Conditions.FLINCH`."""
         return Conditions(self._held.conditions)
 
     @property
     def disabled_slot(self) -> int:
-        """The slot that Disable blocks, 1 to 4; 0 if none is."""
+        """The slot that Disable blocks, 1 to 4; 0 for none."""
         return int(self._held.disabled_slot)
 
     @property
     def held(self) -> bool:
-        """Whether the foe's trapping move holds the member that is out."""
+        """Whether the foe's trapping move holds the active member."""
         return bool(self._held.held)
 
     @property
     def request(self) -> Request:
-        """What the side is asked for the next update."""
+        """The request to the side for the next update."""
         return Request(self._held.request)
 
     @property
@@ -140,7 +138,7 @@ def _own_member(of: OwnMemberStruct) -> OwnMember:
 
 
 def own_side_of(held: Any, side: int) -> OwnSide:
-    """What a side of the battle with these 384 bytes is shown of itself."""
+    """A side of the battle with these 384 bytes, as it is shown to its own player."""
     made = OwnSide.__new__(OwnSide)
     made._held = OwnSideStruct()
     _library.get_own_side(byref(held), side, byref(made._held))

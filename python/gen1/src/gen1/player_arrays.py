@@ -1,4 +1,4 @@
-"""Many battles at once, with what the players of both sides know of each."""
+"""Many battles at once, with the players of both sides."""
 
 from __future__ import annotations
 
@@ -30,8 +30,8 @@ USUAL = Encoding()
 
 @dataclass(frozen=True)
 class Start:
-    """A battle after its first update, and what its players and tellers know
-    then, as pairs of `PLAYER` and `TELLER`.
+    """A battle after its first update, with its players and tellers, as pairs
+    of `PLAYER` and `TELLER`.
     """
 
     battle: Battle
@@ -56,8 +56,8 @@ def start_of(one: TeamLike, two: TeamLike, rules: int, limit: int, pixels: bool 
 
 @lru_cache(maxsize=2)
 def player_of_play(short: bool = False) -> Any:
-    """The call of batch.c that updates battles and tells their players; one
-    that is short keeps the interpreter's lock.
+    """The call of batch.c that updates battles and their players; a short call
+    keeps the interpreter's lock.
     """
     takes = c_void_p, c_void_p, c_void_p, c_void_p, c_size_t
     return _library.bind("gen1_py_play", None, *takes, of=_library.SHORT if short else _library.LONG)
@@ -67,11 +67,11 @@ class PlayerArray:
     """Battles of two teams in an array, each after its first update, with the
     players of both sides.
 
-    `step` updates all battles in one call, and tells both players of each.
-    What `masks`, `observe`, `known` and `player` return is computed from
-    the players alone, so a side learns nothing from it that it may not know
+    `step` updates all battles in one call, and reports each update to both
+    players. `masks`, `observe`, `known` and `player` compute their results
+    from the players alone, so they contain only what the side may know
     (docs/MECHANICS.md, "Player's view"). Only `battles`, `results` and
-    `codes` are the referee's.
+    `codes` are for the referee.
 
     Battles are changed by `step`, `reset` and `begin`. An array must be
     used by one thread at a time.
@@ -92,10 +92,9 @@ class PlayerArray:
         """Begins `n` battles of two teams, which draw the numbers of `seeds`,
         (n, 10) bytes, or all zeros.
 
-        `rules` and `limit` are those of `Battle`. With `pixels` HP of the
-        foe is told in 48ths. `threads`, 1 to 256, is how many threads
-        `step` and `observe` use. Raises `BadTeam`, `BadArgument`,
-        `BadType`.
+        `rules` and `limit` are those of `Battle`. With `pixels` the foe's HP
+        is reported in 48ths. `threads`, 1 to 256, is how many threads `step`
+        and `observe` use. Raises `BadTeam`, `BadArgument`, `BadType`.
         """
         self._terms = rules, limit, pixels
         start = start_of(one, two, *self._terms)
@@ -129,12 +128,12 @@ class PlayerArray:
 
     @property
     def battles(self) -> BattleArray:
-        """A copy of the battles. It includes what the players do not know."""
+        """A copy of the battles. It includes information hidden from players."""
         return self._battles.copy()
 
     @property
     def results(self) -> Bytes:
-        """The result bytes of the battles, (n), as those of a `BattleArray`."""
+        """The result bytes of the battles, (n), like those of a `BattleArray`."""
         return self._battles.results
 
     @property
@@ -156,14 +155,14 @@ class PlayerArray:
 
     def masks(self, side: Side | int) -> Masks:
         """The offered choices of a side in each battle, (n), as a new array of
-        masks, as those of `BattleArray.masks`.
+        masks like those of `BattleArray.masks`.
         """
         masks: Masks = self._players["offered"][:, a_side(side) - 1].copy()
         return masks
 
     def known(self, side: Side | int) -> Pairs:
-        """What the players of a side know, (n), as a read-only view with the
-        fields of `gen1_player` (include/gen1.h).
+        """The players of a side, (n), as a read-only view with the fields of
+        `gen1_player` (include/gen1.h).
 
         `known(1)["own"]["stats"]` has shape (n, 4). It shows the current
         battles.
@@ -187,7 +186,7 @@ class PlayerArray:
         out: Rows | None = None,
         which: NDArray[np.bool_] | None = None,
     ) -> Rows:
-        """What a side knows of each battle, as rows, (n, `encoding.width`);
+        """A side's knowledge of each battle, as rows, (n, `encoding.width`);
         `encoding.columns` describes the columns.
 
         The rows are a new array, or `out` if it is given, which must have
@@ -205,8 +204,8 @@ class PlayerArray:
         return rows
 
     def step(self, ones: ArrayLike, twos: ArrayLike) -> Bytes:
-        """Updates each battle with a choice of each side, and tells both
-        players. The rest is as of `BattleArray.step`.
+        """Updates each battle with a choice of each side, and reports the
+        update to both players. Otherwise it is like `BattleArray.step`.
         """
         updates, (battles, players, tellers, into) = self._battles._updates, self._places()
         updates[:, 0], updates[:, 1] = self._battles._choices(ones, "ones"), self._battles._choices(twos, "twos")
@@ -220,7 +219,7 @@ class PlayerArray:
         return self._battles.results.copy()
 
     def reset(self, which: ArrayLike | None = None, seeds: ArrayLike | None = None) -> None:
-        """Restores battles and their players to their begin: all, or those
+        """Restores battles and their players to their start: all, or those
         where `which`, (n) bools, is true.
 
         With `seeds`, (n, 10) bytes, the restored battles draw these
@@ -232,8 +231,8 @@ class PlayerArray:
             _octets(held)[chosen] = _octets(first)[chosen]
 
     def begin(self, at: int, one: TeamLike, two: TeamLike, seed: bytes = bytes(10)) -> None:
-        """Begins a new battle of two teams at a place, to which `reset` then
-        goes back. Raises as the constructor does.
+        """Begins a new battle of two teams at a place; `reset` then restores
+        its start. Raises the errors of the constructor.
         """
         number, start = a_place(at, len(self)), start_of(one, two, *self._terms)
         start.battle.reseed(seed)
@@ -259,6 +258,6 @@ class PlayerArray:
 
 
 def _octets(pairs: Pairs) -> Bytes:
-    """The bytes of pairs, one row for each, which numpy copies far faster than fields."""
+    """The bytes of pairs, one row for each. Numpy copies bytes far faster than fields."""
     octets: Bytes = pairs.view(np.uint8)
     return octets

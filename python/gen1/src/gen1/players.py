@@ -1,5 +1,5 @@
-"""What one side of a battle may know, and who tells it (docs/MECHANICS.md,
-"Player's view").
+"""The knowledge that one side of a battle may have, and the teller that
+reports the battle to it (docs/MECHANICS.md, "Player's view").
 """
 
 from __future__ import annotations
@@ -30,7 +30,7 @@ CHOICES = tuple(Choice)
 @dataclass(frozen=True)
 class SeenMove:
     """A move that a member was seen to use, and how often: 1 to 255, where 255
-    is that many and more.
+    means 255 or more.
     """
 
     move: Move
@@ -39,9 +39,9 @@ class SeenMove:
 
 @dataclass(frozen=True)
 class Seen:
-    """A member as the log showed it last.
+    """A member as the log last showed it.
 
-    `hp` is 0 to `max_hp`, which is 48 for a foe whose HP is told in 48ths.
+    `hp` is 0 to `max_hp`, which is 48 for a foe whose HP is given in 48ths.
     `moves` are those that it was seen to use, at most five (four and
     Struggle), in the order of their first use.
     """
@@ -80,16 +80,16 @@ class Announced:
 
 @dataclass(frozen=True)
 class PublicSide:
-    """What the log has made public of a side.
+    """The information about a side that the log has made public.
 
     `members` of a player's own side are in the order of their places; those
     of the foe are the ones that have appeared, in the order in which they
     did. `place` is that of the active member in this order, from 1, or 0
-    before the first came out. `active` is the active member, or None. All
+    before the first comes out. `active` is the active member, or None. All
     later fields belong to it: `stages`, -6 to 6, of Attack, Defense, Speed,
     Special, accuracy and evasion; its types, the first twice for a member
-    of one type; the move that it used last, None since it came out; and the
-    announced conditions.
+    of one type; the move that it used last, None if it has used none since
+    it came out; and the announced conditions.
     """
 
     members: tuple[Seen, ...]
@@ -106,14 +106,14 @@ class PublicSide:
 
 
 class Player:
-    """What one side of a battle may know: its own side in full, and of the foe
-    what the battle has shown.
+    """The knowledge that one side of a battle may have: its own side in full,
+    and the part of the foe's side that the battle has shown.
 
-    A player is made of its own team, of the log that its side is told
-    (`Teller`), of what it is shown of itself (`Battle.own_side`) and of its
-    choices, and of nothing else. So no stat, DV, PP, hidden count or number
-    to be drawn of the foe reaches it. Give one to whatever plays, in place
-    of the `Battle`.
+    A player is computed from its own team, the log that the `Teller` of its
+    side returns, its own side as it is shown (`Battle.own_side`) and its
+    choices, and from nothing else. No stat, DV, PP or hidden count of the
+    foe, and no number to be drawn, reaches it. Pass it to a bot in place of
+    the `Battle`.
 
     Two players are equal if they know the same and hold the same bytes of
     an incomplete event; a player has no hash. A player must be used by one
@@ -125,10 +125,10 @@ class Player:
 
     def __init__(self, side: Side | int, team: TeamLike, foes: int | None = None) -> None:
         """Creates the player of a side before the first update. It knows its
-        own team, at full HP, and nothing of the foe.
+        own team, at full HP, and nothing about the foe.
 
-        `foes` is how many members the foe has, 1 to 6, or None if the
-        player isn't to know it. Raises `BadTeam`, `BadArgument`, `BadType`.
+        `foes` is how many members the foe has, 1 to 6, or None if the player
+        should not know it. Raises `BadTeam`, `BadArgument`, `BadType`.
         """
         known, own = a_side(side), as_team(team)
         count = 0 if foes is None else within(foes, "foes", 1, 6)
@@ -139,11 +139,11 @@ class Player:
             raise BadTeam(code.label, member=answer >> 8 & 0xFF, code=code)
 
     def feed(self, told: ReadableBuffer) -> None:
-        """Reads the next bytes of the log that the side is told, in pieces of
+        """Reads the next bytes of the log of its side's teller, in pieces of
         any size. An event counts as soon as its last byte is read.
 
-        Raises `BadLog` if these bytes, after those that are held, are not a
-        log, and `BadType`; then the player is unchanged.
+        Raises `BadLog` if these bytes, after the held ones, are not a log,
+        and `BadType`; then the player is unchanged.
         """
         given = octets(told, "told")
         code = _library.player_feed(byref(self._held), given, len(given))
@@ -151,15 +151,15 @@ class Player:
             raise BadLog(LogFault(code), fault_place(self.held + given) - len(self.held))
 
     def show(self, own: OwnSide, offered: Iterable[Choice | int]) -> None:
-        """Replaces what the player was last shown of itself, and its choices,
-        which may be in any order. Raises `BadArgument`, `BadType`.
+        """Replaces the own side that the player was last shown, and its
+        choices, which may be in any order. Raises `BadArgument`, `BadType`.
         """
         if not isinstance(own, OwnSide):
             raise BadType(f"own must be an OwnSide, not {shown(own)}")
         mask = 0
         for at, it in enumerate(listed(offered, "offered", len(CHOICES))):
             if at == len(CHOICES):
-                raise BadArgument(f"offered must be at most {len(CHOICES)} choices")
+                raise BadArgument(f"offered must have at most {len(CHOICES)} choices")
             number = whole(it, f"offered[{at}]")
             if number not in CHOICES:
                 raise BadArgument(f"offered[{at}] must be a choice, not {digits(number)}")
@@ -180,24 +180,24 @@ class Player:
 
     @property
     def own(self) -> OwnSide:
-        """What the side was last shown of itself; without members before the
-        first time.
+        """The own side as it was last shown; without members before the first
+        time.
         """
         return own_side_from(bytes(self._held.own))
 
     def public(self, side: Side | int) -> PublicSide:
-        """What the log has made public of a side."""
+        """The information about a side that the log has made public."""
         return _public(self._held.known.sides[a_side(side) - 1])
 
     @property
     def foe(self) -> PublicSide:
-        """What the log has made public of the foe."""
+        """The information about the foe that the log has made public."""
         return self.public(self.side.foe)
 
     @property
     def choices(self) -> tuple[Choice, ...]:
-        """The choices that the side is offered, in rising order. There are
-        none before `show`, and once the battle is over.
+        """The choices that the side is offered, in rising order; none before
+        `show`, and none once the battle is over.
         """
         return tuple(it for at, it in enumerate(CHOICES) if self._held.offered >> at & 1)
 
@@ -240,12 +240,14 @@ class Player:
 
 
 class Teller:
-    """What the host of a battle keeps to tell one side of the events.
+    """Reports the events of a battle to one side. The host of the battle keeps
+    a teller for each side.
 
-    A side must not see the foe's places, so its log names the foe's members
-    by the order of their appearance. It may also hide exact HP. All else is
-    told as it is. Two tellers are equal if they tell the same; a teller has
-    no hash. A teller must be used by one thread at a time.
+    A side must not see the foe's places, so its log numbers the foe's
+    members in the order in which they appeared. It may also hide exact HP.
+    Everything else is reported unchanged. Two tellers are equal if they
+    report the same; a teller has no hash. A teller must be used by one
+    thread at a time.
     """
 
     __slots__ = ("_held",)
@@ -253,7 +255,7 @@ class Teller:
 
     def __init__(self, side: Side | int, pixels: bool = False) -> None:
         """Creates the teller of a side before the first event of a battle.
-        With `pixels` HP of the foe is told in 48ths.
+        With `pixels` the foe's HP is reported in 48ths.
 
         Raises `BadArgument`, `BadType`.
         """
@@ -263,29 +265,31 @@ class Teller:
 
     @property
     def side(self) -> Side:
-        """The side that is told."""
+        """The side to which it reports."""
         return Side(self._held.side)
 
     @property
     def pixels(self) -> bool:
-        """Whether HP of the foe is told in 48ths."""
+        """Whether the foe's HP is reported in 48ths."""
         return bool(self._held.pixels)
 
     @property
     def places(self) -> tuple[int, ...]:
-        """The foe's places that have appeared, in this order."""
+        """The places of the foe's members that have appeared, in the order in
+        which they did.
+        """
         return tuple(it for it in self._held.places if it)
 
     def tell(self, log: ReadableBuffer) -> bytes:
-        """What the side is told of the log of an update: as many log bytes.
-        Call it once for each update, in order.
+        """The log of an update as it is reported to the side: as many log
+        bytes. Call it once for each update, in order.
 
         Raises `BadLog`, `BadArgument` for more than 512 bytes, `BadType`;
         then the teller is unchanged.
         """
         given = octets(log, "log")
         if len(given) > LOG_ROOM:
-            raise BadArgument(f"log must be that of an update, at most {LOG_ROOM} bytes, not {len(given):,}")
+            raise BadArgument(f"log must be the log of one update, at most {LOG_ROOM} bytes, not {len(given):,}")
         told, length = create_string_buffer(LOG_ROOM), c_size_t(0)
         code = _library.tell(byref(self._held), given, len(given), told, LOG_ROOM, byref(length))
         if code:
@@ -293,10 +297,10 @@ class Teller:
         return told.raw[: length.value]
 
     def report(self, battle: Battle, log: ReadableBuffer, player: Player) -> None:
-        """Tells a player of the log of an update, and shows it its own side
-        and its choices as the battle is now.
+        """Reports the log of an update to a player, and shows it its own side
+        and its choices in the current battle.
 
-        For a room, whose battle does not change by a forfeit, use `tell`,
+        For a room, whose battle a forfeit does not change, use `tell`,
         `Player.feed` and `Player.show` with `room.choices`. Raises
         `BadLog`, `BadArgument` for a player of the other side, `BadType`;
         then teller and player are unchanged.
@@ -305,14 +309,14 @@ class Teller:
             if not isinstance(value, kind):
                 raise BadType(f"{name} must be a {kind.__name__}, not {shown(value)}")
         if player.side is not self.side:
-            raise BadArgument(f"player must be of {self.side.label}, as the teller, not of {player.side.label}")
+            raise BadArgument(f"player must be of {self.side.label}, like the teller, not of {player.side.label}")
         teller = self.copy()
         player.feed(teller.tell(log))
         player.show(battle.own_side(self.side), battle.choices(self.side))
         self._held = teller._held
 
     def copy(self) -> Teller:
-        """An independent copy that tells the same."""
+        """An independent copy that reports the same."""
         return _teller(bytes(self._held))
 
     __copy__ = copy

@@ -1,4 +1,4 @@
-"""Progress of long work: a bar of rich on a terminal, else a line of text from time to time, on standard error."""
+"""Progress of long work, on standard error: a progress bar of rich on a terminal, else a line of text from time to time."""
 
 import sys
 import time
@@ -11,7 +11,7 @@ SECONDS = 10.0
 
 
 def progress(items: Iterable[T], total: int, what: str, to: TextIO | None = None) -> Iterator[T]:
-    """Yields the items, of which there are `total`, and shows the progress.
+    """Yields `total` items, and shows the progress.
 
     Without a bar, a line is written every ten seconds and, after the first such line, at the end. Shorter work writes nothing.
     """

@@ -1,6 +1,4 @@
-"""Battles that are recorded while they are played, to play them again
-elsewhere.
-"""
+"""Records battles while they are played, to replay them elsewhere."""
 
 from __future__ import annotations
 
@@ -19,12 +17,11 @@ from gen1.teams import Member
 
 
 class Recorder:
-    """A battle that is recorded: its teams, its seed, and each pair of
-    choices.
+    """Records a battle: its teams, its seed, and each pair of choices.
 
-    From these it can be played again: by `gen1 run` and `python -m gen1
-    run` (`json`), on the page at an address (`link`), and as a page of
-    its own (`write_replay`).
+    From these it can be replayed: by `gen1 run` and `python -m gen1 run`
+    (`json`), on the page at an address (`link`), and as a separate page
+    (`write_replay`).
     """
 
     def __init__(self, one: TeamLike, two: TeamLike, seed: SeedLike, rules: int = 0, limit: int = 1000) -> None:
@@ -45,7 +42,9 @@ class Recorder:
         return tuple(self._pairs)
 
     def choices(self, side: Side | int) -> tuple[Choice, ...]:
-        """The choices that a side is offered, as `Battle.choices`."""
+        """The choices that a side is offered, as `Battle.choices` returns
+        them.
+        """
         return self._battle.choices(side)
 
     def update(self, one: Choice | int, two: Choice | int) -> Update:
@@ -58,22 +57,22 @@ class Recorder:
 
     @property
     def input(self) -> dict[str, Any]:
-        """The battle in the form of docs/PROGRAM.md, "Input"."""
+        """The battle in the format of docs/PROGRAM.md, "Input"."""
         rules, limit = self._terms
         one, two = (it.to_dicts() for it in self.teams)
         pairs = [list(it) for it in self._pairs]
         return {"seed": list(self._seed), "one": one, "two": two, "rules": rules, "limit": limit, "choices": pairs}
 
     def json(self) -> str:
-        """The input as JSON, on one line, which `gen1 run` takes."""
+        """The input of `gen1 run`, as JSON on one line."""
         return json.dumps(self.input)
 
     @classmethod
     def from_json(cls, text: str | bytes) -> Recorder:
         """The recorder of an input of `gen1 run`, after all its pairs.
 
-        Raises `BadArgument` for a text that is not such an input, with
-        the number of a pair that is refused.
+        Raises `BadArgument` for a text that is not such an input; for a
+        refused pair the message has its number.
         """
         from gen1.program.inputs import Fault, an_object, pairs, terms
 
@@ -94,9 +93,9 @@ class Recorder:
         """The address at which the page shows this battle. `page` is the
         address or the path of the page.
 
-        The battle is in the address after the `#`, which a browser keeps
-        to itself. Some programs cut addresses of many kilobytes; a
-        battle of 200 updates has about 1 kB.
+        The battle is in the address after the `#`, which a browser does
+        not send. Some programs cut addresses of many kilobytes; a battle
+        of 200 updates takes about 1 kB.
         """
         rules, limit = self._terms
         parts = [self._seed, bytes([rules, limit & 255, limit >> 8])]
@@ -110,8 +109,8 @@ class Recorder:
         and without a network.
 
         `page` is the page that web/build made; by default the one in the
-        package, which a wheel contains. Raises `BadArgument` if there is
-        no page; `OSError` if the file cannot be written.
+        package, which wheels contain. Raises `BadArgument` if there is no
+        page, and `OSError` if the file cannot be written.
         """
         from gen1.program.inputs import Fault
         from gen1.program.pages import page_with

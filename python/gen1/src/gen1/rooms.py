@@ -21,7 +21,7 @@ NUMBERS = (1 << 32) - 1
 
 class Room:
     """A battle of two players: it keeps the first choice of a pair until the
-    other one comes, and then updates the battle.
+    other one is submitted, and then updates the battle.
 
     Pairs are numbered from 0. Until a pair has ended, no call reveals which
     of the offered choices a side has made. A side may forfeit. Two rooms
@@ -30,7 +30,7 @@ class Room:
     the handlers of both players.
     """
 
-    # Each call of the library is atomic for other threads; the lock makes methods with several calls atomic.
+    # Each call of the library is atomic for other threads; the lock makes methods with several calls atomic too.
     __slots__ = ("_held", "_lock")
 
     def __init__(self, battle: Battle) -> None:
@@ -45,15 +45,15 @@ class Room:
 
     @property
     def battle(self) -> Battle:
-        """A copy of the battle. It includes what the players must not know. A
-        forfeit does not change it.
+        """A copy of the battle. It includes information that the players must
+        not see. A forfeit does not change it.
         """
         return battle_of(self._held.battle)
 
     @property
     def result(self) -> Result:
-        """The outcome so far, and what is asked of each side. After a forfeit
-        the other side has won, and nothing is asked.
+        """The outcome so far, and the request to each side. After a forfeit
+        the other side has won, and both requests are `Request.NOTHING`.
         """
         return RESULTS[_library.room_result(byref(self._held))]
 
@@ -64,8 +64,8 @@ class Room:
 
     @property
     def number(self) -> int:
-        """The number of the current pair of choices, which is how many pairs
-        have ended, 0 to 2 ** 32 - 1.
+        """The number of the current pair of choices: how many pairs have
+        ended, 0 to 2 ** 32 - 1.
         """
         return int(self._held.number)
 
@@ -82,9 +82,8 @@ class Room:
         order.
 
         There are none if the battle is over, a side has forfeited, or the
-        side has chosen. A side that is asked for nothing has chosen from
-        the beginning. Raises `BadArgument`, `BadType` for a value that is
-        not a side.
+        side has chosen. A side without a request counts as having chosen.
+        Raises `BadArgument`, `BadType` for a value that is not a side.
         """
         room = CHOICES()
         count = _library.room_choices(byref(self._held), a_side(side), room)
@@ -94,7 +93,7 @@ class Room:
         """Submits a side's choice for the pair with this number, 0 to 2 ** 32
         - 1.
 
-        Returns the update, or None while the foe's choice is awaited.
+        Returns the update, or None if the room waits for the foe's choice.
         Raises `RoomRefused`, and then the room is unchanged; `BadArgument`
         and `BadType` for an invalid side, number or byte.
         """
@@ -109,13 +108,13 @@ class Room:
 
     def forfeit(self, side: Side | int) -> Update:
         """Ends the current pair by a forfeit of a side: the other side wins.
-        Choices that were submitted for this pair are dropped.
+        Choices that were submitted for this pair are discarded.
 
-        Returns the update, whose log is the one event of the win. `number`
-        has risen by one, and every later submission is refused as over.
-        Raises `RoomRefused` if the battle is over or a side has forfeited,
-        and then the room is unchanged; `BadArgument` and `BadType` for what
-        is not a side.
+        Returns the update, whose log is the single event of the win.
+        `number` has risen by one, and every later submission is refused
+        with `RoomRefusal.OVER`. Raises `RoomRefused` if the battle is over
+        or a side has forfeited, and then the room is unchanged;
+        `BadArgument` and `BadType` for a value that is not a side.
         """
         known = a_side(side)
         with self._lock:

@@ -1,9 +1,9 @@
 """Sample teams, and random teams.
 
 The sample teams are those of examples/teams, whose README says where
-they come from: well-known sets, put together for this project. That a
-cartridge allows them is from general knowledge. Nothing checks it
-against a table of what each species can learn, since there is none.
+they come from: well-known sets, put together for this project. To
+general knowledge a cartridge allows them. Nothing checks that, since the
+repository has no table of the moves that each species can learn.
 """
 
 from __future__ import annotations
@@ -22,7 +22,7 @@ from gen1.teams import Member, Team
 if TYPE_CHECKING:
     from numpy.random import Generator
 
-# The moves that no team may have.
+# Moves that a team may not have.
 _REFUSED = (Move.MIMIC, Move.METRONOME, Move.MIRROR_MOVE, Move.TRANSFORM, Move.STRUGGLE)
 
 
@@ -30,8 +30,8 @@ def sample_teams() -> dict[str, Team]:
     """Twelve teams of six by their names, such as "starmie_lead".
 
     They are those of examples/teams: well-known sets, put together for
-    this project. That a cartridge allows them is from general
-    knowledge; no table of what species can learn was used to check it.
+    this project. To general knowledge a cartridge allows them; that was
+    not checked against a table of the moves that species can learn.
     """
     return dict(_teams())
 
@@ -42,9 +42,9 @@ def _teams() -> dict[str, Team]:
 
 
 def sample_sets(species: Species | str | int | None = None) -> tuple[Member, ...]:
-    """The different members of the sample teams, or those of a species.
+    """The distinct members of the sample teams, or those of a species.
 
-    There are none of a species that no sample team has. Raises
+    The result is empty for a species that no sample team has. Raises
     `BadTeam` for an unknown species.
     """
     known = None if species is None else Member(species, ["Pound"]).species
@@ -57,10 +57,9 @@ def random_team(dice: Random | Generator, legal: bool = True, count: int = 6) ->
     100. `dice` is a `random.Random`, or a generator of numpy, such as an
     environment passes.
 
-    With `legal`, each member is one of the sample teams, `sample_sets()`:
-    so it has a species and moves that such a set has, and no others.
-    Without it, species and moves are any that the engine accepts, and no
-    cartridge need allow them.
+    With `legal`, each member comes from the sample teams, `sample_sets()`.
+    Without it, species and moves are any that the engine accepts, and a
+    cartridge need not allow them.
 
     Equal generators make equal teams. Raises `BadArgument`, `BadType`.
     """
@@ -74,7 +73,7 @@ def random_team(dice: Random | Generator, legal: bool = True, count: int = 6) ->
 
 
 def _draws(dice: Random | Generator) -> Random:
-    """A `random.Random` itself, or one with a seed from a generator of numpy, which the package also runs without."""
+    """A `random.Random`, or one seeded from a numpy generator. The package also runs without numpy."""
     if isinstance(dice, Random):
         return dice
     numpy = sys.modules.get("numpy")

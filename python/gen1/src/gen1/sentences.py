@@ -83,7 +83,7 @@ def sentence(event: Event) -> str:
 
 
 def _does(event: OfOne) -> str:
-    """What a member does, or what happens to it."""
+    """The words for an event about a member, after its name."""
     if isinstance(event, SwitchEvent):
         return f"comes out from place {event.place} at level {event.level} with {health(event.health)}"
     if isinstance(event, MoveEvent):
@@ -102,7 +102,7 @@ def _does(event: OfOne) -> str:
 
 
 def _changes(event: OfOne) -> str:
-    """What begins, ends, rises or falls."""
+    """The words for an event that begins, ends, rises or falls."""
     if isinstance(event, (BoostEvent, UnboostEvent)):
         way = "rises" if isinstance(event, BoostEvent) else "falls"
         return f"has a stat that {way}: {event.stat} by {event.stages}"

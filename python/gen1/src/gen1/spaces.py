@@ -29,8 +29,8 @@ class Discrete:
         return [0 if seed is None else seed]
 
     def sample(self, mask: NDArray[Any] | None = None) -> np.int64:
-        """A random number, or one where the mask, (n), is true; 0 if it is
-        true nowhere.
+        """A random number; with a mask, (n), one at which it is true, or 0 if
+        it is nowhere true.
         """
         allowed = np.arange(self.n) if mask is None else np.flatnonzero(mask)
         return np.int64(self._dice.choice(allowed) if len(allowed) else 0)
@@ -64,8 +64,8 @@ class MultiDiscrete:
         return [0 if seed is None else seed]
 
     def sample(self, mask: Sequence[NDArray[Any]] | None = None) -> NDArray[np.int64]:
-        """An array of random numbers; with a mask for each place, of those
-        that are true in it; 0 if it is true nowhere.
+        """An array of random numbers; with a mask for each place, a number at
+        which the mask is true, or 0 if it is nowhere true.
         """
         if mask is None:
             return self._dice.integers(0, self.nvec, dtype=np.int64)
@@ -130,13 +130,13 @@ class Box:
 
 
 class AutoresetMode(Enum):
-    """What a vector environment does with a battle that is over, as in
+    """How a vector environment treats a battle that is over, as in
     `gymnasium.vector`.
 
     `NEXT_STEP`: the next step starts a new battle in its place, and ignores
-    its action. `SAME_STEP`: the step that ends it starts a new one at once,
-    and the info has the last observation. `DISABLED`: it stays as it is
-    until `reset` is called with a mask.
+    its action. `SAME_STEP`: the step that ends it starts a new battle at
+    once, and the info has the last observation. `DISABLED`: the battle is
+    unchanged until `reset` is called with a mask.
     """
 
     NEXT_STEP = "NextStep"

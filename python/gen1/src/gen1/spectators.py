@@ -1,4 +1,4 @@
-"""What a spectator knows of a battle from both teams and the log alone
+"""A spectator's knowledge of a battle, from both teams and the log alone
 (docs/MECHANICS.md, "Spectator's view").
 """
 
@@ -22,8 +22,8 @@ if TYPE_CHECKING:
 
 @dataclass(frozen=True)
 class ShownMember:
-    """What a spectator knows of a member: HP, 0 to 999, which is the maximum
-    until it first comes out; and the kind of status.
+    """A spectator's knowledge of a member: its HP, 0 to 999, which is the
+    maximum until it first comes out, and the kind of its status.
     """
 
     hp: int
@@ -32,10 +32,10 @@ class ShownMember:
 
 @dataclass(frozen=True)
 class ShownSide:
-    """What a spectator knows of a side: its members in the order of their
-    places, and the place of the one that is out, 0 before the first.
+    """A spectator's knowledge of a side: its members in the order of their
+    places, and the place of the active member, 0 before the first comes out.
 
-    All other fields are of the member that is out. `stages` are -6 to 6:
+    All other fields belong to the active member. `stages` are -6 to 6:
     Attack, Defense, Speed, Special, accuracy, evasion.
     """
 
@@ -54,7 +54,7 @@ class ShownSide:
 
 @dataclass(frozen=True)
 class ShownState:
-    """What a spectator knows of a battle: both sides; the turn, 0 before the
+    """A spectator's knowledge of a battle: both sides; the turn, 0 before the
     first; and the outcome.
     """
 
@@ -90,8 +90,8 @@ class Spectator:
         """Reads the next bytes of the battle's log, in pieces of any size. An
         event counts as soon as its last byte is read.
 
-        Raises `BadLog` if these bytes, after those that are held, are not a
-        log, and `BadType`; then the spectator is unchanged.
+        Raises `BadLog` if these bytes, after the held ones, are not a log,
+        and `BadType`; then the spectator is unchanged.
         """
         given = octets(log, "log")
         code = _library.spectator_feed(byref(self._held), given, len(given))

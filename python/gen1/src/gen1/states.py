@@ -1,5 +1,5 @@
-"""The whole state of a battle, as dataclasses. `Battle.from_state` makes a
-battle of a state that was changed.
+"""The whole state of a battle, as dataclasses. `Battle.from_state` creates a
+battle from a changed state.
 """
 
 from __future__ import annotations
@@ -18,7 +18,7 @@ from gen1.errors import BadArgument, BadType
 from gen1.names import Conditions, Move, Outcome, Request, Species, Stat, Status, Type
 
 S = TypeVar("S", "MemberState", "ActiveState", "SideState", "State")
-# How many members are kept, and how many active ones, by their bytes: most of a state are as they were in the one before.
+# How many members and active members are cached, by their bytes: most members of a state did not change since the state before.
 KEPT = 1 << 12
 
 
@@ -27,8 +27,8 @@ class MemberState:
     """The state of a member.
 
     `hp` is 0 to `max_hp`. `stats` are Attack, Defense, Speed and Special
-    before stages and penalties, 5 to 999. `sleep` is how many more turns it
-    sleeps, 1 to 7, or 0 if it is awake. `marked` says whether the sleep
+    before stages and penalties, 5 to 999. `sleep` is the turns of sleep
+    left, 1 to 7, or 0 if it is awake. `marked` says whether the sleep
     clause counts its sleep. `pp` has the PP of each move.
     """
 
@@ -46,8 +46,8 @@ class MemberState:
 
 @dataclass(frozen=True)
 class ActiveState:
-    """The member of a side that is out, with the state that lasts only while
-    it is.
+    """The active member of a side, with the state that lasts only while it is
+    active.
 
     `place` is 1 to 6. `stats` are after stages and penalties, 1 to 999.
     `stages` are -6 to 6: Attack, Defense, Speed, Special, accuracy,
@@ -83,7 +83,7 @@ class ActiveState:
 @dataclass(frozen=True)
 class SideState:
     """The state of a side: its members in the order of their places, and the
-    one that is out, None before the first update.
+    active member, None before the first update.
     """
 
     members: tuple[MemberState, ...]
@@ -92,7 +92,7 @@ class SideState:
     if not TYPE_CHECKING:
 
         def __getattr__(self, name: str) -> Any:
-            """A field of a battle's own state, whose bytes are read when it is first used."""
+            """A field of a state that a battle returned; its bytes are decoded on first use."""
             held = self.__dict__.get("_held")
             if held is None or name not in self.__dataclass_fields__:
                 raise AttributeError(f"{type(self).__name__!r} object has no attribute {name!r}", name=name, obj=self)
@@ -112,7 +112,7 @@ class State:
     `index`, 0 to 8, says which of the first nine `numbers` is drawn next;
     the tenth is never drawn. A state is never changed in place:
     `with_member`, `with_active` and `dataclasses.replace` return changed
-    ones.
+    copies.
     """
 
     one: SideState
@@ -138,7 +138,7 @@ class State:
         return members[within(place, f"side {int(side)}'s place", 1, len(members)) - 1]
 
     def with_member(self, side: Side | int, place: int, **changes: Any) -> State:
-        """The same state with other fields of the member at a place, from 1:
+        """A copy with other fields of the member at a place, from 1:
         `state.with_member(Side.ONE, 2, hp=30)`.
 
         Raises `BadArgument` for a place without a member, and `BadType` for
@@ -149,7 +149,7 @@ class State:
         return self._with_side(known, members=(*members[: place - 1], other, *members[place:]))
 
     def with_active(self, side: Side | int, **changes: Any) -> State:
-        """The same state with other fields of the member that is out:
+        """A copy with other fields of the active member:
         `state.with_active(Side.ONE, substitute=88)`.
 
         Raises `BadArgument` before the first update, and `BadType` for a
@@ -158,7 +158,7 @@ class State:
         known = a_side(side)
         active = self.side(known).active
         if active is None:
-            raise BadArgument(f"side {known} has nobody out: the battle is before its first update")
+            raise BadArgument(f"side {known} has no active member: the battle is before its first update")
         return self._with_side(known, active=changed(active, changes))
 
     def _with_side(self, side: int, **changes: Any) -> State:
@@ -167,13 +167,13 @@ class State:
 
 
 def changed(of: S, changes: dict[str, Any]) -> S:
-    """The same with other fields. Raises `BadType` for a field that it does
-    not have.
+    """A copy with other fields. Raises `BadType` for a field that does not
+    exist.
     """
     names = [it.name for it in fields(of)]
     for name in changes:
         if name not in names:
-            raise BadType(f"{type(of).__name__} has no field {shown(name)}; its fields: {', '.join(names)}")
+            raise BadType(f"{type(of).__name__} has no field {shown(name)}; its fields are {', '.join(names)}")
     return replace(of, **changes)
 
 
@@ -210,7 +210,7 @@ def stages_of(given: Any) -> tuple[int, ...]:
 
 
 def _made(kind: type[S], read: dict[str, Any]) -> S:
-    """The dataclass with these fields, in less time than its own call takes."""
+    """The dataclass with these fields, created faster than by a call of its constructor."""
     made = object.__new__(kind)
     made.__dict__.update(read)
     return made
@@ -245,7 +245,7 @@ def _active(held: bytes) -> ActiveState | None:
 _SPECIES, _MOVE, _TYPE = by_number(Species), by_number(Move), by_number(Type)
 _STATUS, _OUTCOME, _REQUEST = by_number(Status), by_number(Outcome), by_number(Request)
 _MEMBER, _ACTIVE, _STATS = reader(MemberStateStruct), reader(ActiveStateStruct), Struct("=4H").unpack
-# The fields of gen1_state, each side as its bytes; and of a side the bytes of its members and of the active one.
+# The fields of gen1_state, each side as its bytes; and the members and the active member of a side, as their bytes.
 _STATE = Struct(f"={2 * f'{sizeof(SideStateStruct)}s'}3H5B10s3x").unpack
 _SIDE = Struct(6 * f"{sizeof(MemberStateStruct)}s" + f"{sizeof(ActiveStateStruct)}s").unpack
 _conditions, _rules = cache(Conditions), cache(Rules)

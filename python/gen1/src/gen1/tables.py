@@ -52,14 +52,14 @@ class MoveData:
 
 def base(species: Species | str | int) -> Base:
     """The base stats and types of a species. Raises `BadTeam` for an unknown
-    one.
+    species.
     """
     one, two, hp, attack, defense, speed, special = SPECIES_ROWS[a_species(species) - 1]
     return Base(hp, attack, defense, speed, special, (Type(one), Type(two)))
 
 
 def move_data(move: Move | str | int) -> MoveData:
-    """The row of a move. Raises `BadTeam` for an unknown one."""
+    """The row of a move. Raises `BadTeam` for an unknown move."""
     known, of = a_move(move), MoveStruct()
     kind, power, accuracy, pp = MOVE_ROWS[known - 1]
     _library.move_row(known, byref(of))
@@ -67,11 +67,11 @@ def move_data(move: Move | str | int) -> MoveData:
 
 
 def effectiveness(attack: Type | int, foe: Type | int) -> Fraction:
-    """By what a move of one type multiplies its damage to a foe of one type:
-    2, 1, 1/2 or 0.
+    """The factor of the damage of a move of one type to a foe of one type: 2,
+    1, 1/2 or 0.
 
-    For a foe of two different types both count, one after the other. Raises
-    `BadArgument`, `BadType`.
+    For a foe of two different types both factors apply, one after the other.
+    Raises `BadArgument`, `BadType`.
     """
     tenths = c_uint8(0)
     _library.effectiveness(within(attack, "attack", 0, 14), within(foe, "foe", 0, 14), byref(tenths))

@@ -1,4 +1,4 @@
-"""Members from the text of Pokemon Showdown's team builder and from its packed line, and back to that text (docs/TEAM_TEXT.md)."""
+"""Members from the export text of Pokemon Showdown's team builder or its packed line, and back to text (docs/TEAM_TEXT.md)."""
 
 import math
 from ctypes import POINTER, Structure, byref, c_size_t, c_uint8
@@ -69,7 +69,7 @@ def _fault(of: FaultStruct) -> BadText:
 
 def _block(place: int, of: dict[str, Any]) -> str:
     if any(ups != 3 for _, ups in of["moves"]):
-        raise BadArgument(f"member {place}: a text has three PP ups for each move, and these are {of['moves']}")
+        raise BadArgument(f"member {place}: in a text each move has three PP ups, but the moves are {of['moves']}")
     evs = [min(255, math.isqrt(it - 1) + 1 if it else 0) for it in of["exp"]]
     lines = [of["species"]] + [f"Level: {of['level']}"] * (of["level"] != 100)
     lines.append("EVs: " + " / ".join(f"{ev} {stat}" for ev, stat in zip(evs, STATS)))

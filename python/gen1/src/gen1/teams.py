@@ -1,5 +1,5 @@
-"""Members and teams (docs/MECHANICS.md, "Teams"), from dicts and back. The
-library applies the rules of teams.
+"""Members and teams (docs/MECHANICS.md, "Teams"), and their conversion from
+and to dicts. The library checks the rules of teams.
 """
 
 from __future__ import annotations
@@ -27,7 +27,7 @@ FIELDS = {
     NewFault.EMPTY: "members",
     NewFault.TOO_MANY: "members",
 }
-# What the field must be.
+# The rule of the field that a fault is about, in words.
 MUST = {
     NewFault.LEVEL: "must be 1 to 100",
     NewFault.DV: "must be 0 to 15 each",
@@ -93,7 +93,7 @@ class Member:
         "level", "dvs" and "exp", as in `Member(..)`.
 
         Each move is a name, with three PP ups, or a pair of a name and its
-        PP ups. Raises `BadTeam` for another key, too.
+        PP ups. An unknown key raises `BadTeam` too.
         """
         if not isinstance(given, Mapping):
             raise BadType(f"it must be a Member or a dict, not {shown(given)}")
@@ -101,16 +101,16 @@ class Member:
             if key not in KEYS:
                 near = nearest(key, KEYS) if isinstance(key, str) else None
                 meant = f"; did you mean {near!r}?" if near else f"; a member has {', '.join(KEYS)}"
-                raise BadTeam(f"there is no key {cut(repr(key))}{meant}", field=cut(str(key)))
+                raise BadTeam(f"unknown key {cut(repr(key))}{meant}", field=cut(str(key)))
         for key in ("species", "moves"):
             if key not in given:
-                raise BadTeam(f"there is no {key!r}; a member needs species and moves", field=key)
+                raise BadTeam(f"the key {key!r} is missing; a member needs species and moves", field=key)
         pairs = [_pair(it, f"moves[{at}]") for at, it in enumerate(listed(given["moves"], "moves", 4))]
         others = {key: given[key] for key in ("level", "dvs", "exp") if key in given}
         return cls(given["species"], [it for it, _ in pairs], pp_ups=[ups for _, ups in pairs], **others)
 
     def to_dict(self) -> dict[str, Any]:
-        """The dict from which `from_dict` creates this member; it can be
+        """The dict from which `from_dict` creates this member. It can be
         written as JSON.
         """
         moves = [[it.label, ups] for it, ups in zip(self.moves, self.pp_ups)]
@@ -123,8 +123,8 @@ class Member:
         }
 
     def __repr__(self) -> str:
-        """The call that creates it, without arguments that have their
-        defaults.
+        """The call that creates it, without the arguments that have default
+        values.
         """
         named = [f"{self.species.label!r}", f"{[it.label for it in self.moves]!r}"]
         for name, usual in (
@@ -174,8 +174,8 @@ class Team:
         (docs/TEAM_TEXT.md).
 
         The defaults are level 100, DVs of 15 and experience of 63,504; each
-        move has three PP ups. Raises `BadText` with the line, and what was
-        expected there.
+        move has three PP ups. Raises `BadText` with the line, and the form
+        that was expected there.
         """
         return cls(read_text(text))
 
@@ -254,8 +254,8 @@ def _member(at: int, given: object) -> Member:
 
 
 def struct_of(members: Iterable[Member]) -> _library.TeamStruct:
-    """The library's struct of a team. A number that is not a byte becomes one
-    that the library refuses.
+    """The library's struct of a team. A number that does not fit in a byte
+    becomes one that the library refuses.
     """
     made = _library.TeamStruct()
     for it in members:

@@ -31,7 +31,7 @@ NAMES = ("one", "two")
 
 
 class _Vector:
-    """What both vector environments have."""
+    """The common base of both vector environments."""
 
     metadata: dict[str, Any] = {"render_modes": ["ansi"], "name": "gen1_v1"}
     render_mode: str | None = None
@@ -66,15 +66,15 @@ class _Vector:
 
     @property
     def battles(self) -> BattleArray:
-        """A copy of the battles. It includes what the players do not know."""
+        """A copy of the battles. It includes information hidden from players."""
         return self._episodes.players.battles
 
     def player(self, at: int, side: Side | int = Side.ONE) -> Player:
-        """A copy of what a player of a battle knows."""
+        """A copy of a player of a battle."""
         return self._episodes.players.player(at, side)
 
     def render(self) -> tuple[str, ...]:
-        """A line for each battle: its turn, and the members that are out."""
+        """A line for each battle: its turn, and the active members."""
         return tuple(self._episodes.sight(at) for at in range(self.num_envs))
 
     def close(self, **_: Any) -> None:
@@ -82,7 +82,7 @@ class _Vector:
         self.closed = True
 
     def _choices(self, actions: NDArray[Any], side: int) -> Bytes:
-        """The choices that actions mean. Raises `Refused` for one that is not offered; nothing has changed then."""
+        """The choices that actions mean. Raises `Refused` for one that is not offered, and then nothing has changed."""
         chosen: Bytes = CHOICES[actions]
         must_be_offered(self._episodes.players.masks(side), chosen, side)
         return chosen
@@ -106,9 +106,9 @@ class VectorEnv(_Vector, _Base):  # type: ignore[misc, valid-type]
     meets an opponent, with the API of `gymnasium.vector.VectorEnv`.
 
     `opponent` is "random", "greedy" (the move that hurts most), or a
-    function: given observations, (m, columns), and action masks, (m, 12)
-    bools, of those m battles that go on, it returns their actions, (m). It
-    sees what the player of side 2 knows, and never a battle.
+    function. Given observations, (m, columns), and action masks, (m, 12)
+    bools, of the m battles that are not over, it returns their actions,
+    (m). It sees what the player of side 2 knows, and never a battle.
 
     `one` and `two` are teams, or functions of a numpy generator, such as
     `random_team`, that return the team for each new battle; None is
@@ -151,17 +151,16 @@ class VectorEnv(_Vector, _Base):  # type: ignore[misc, valid-type]
         columns), and the infos.
 
         `options` may have teams "one" and "two" for these battles, and
-        "reset_mask", (n) bools, if only some are to start anew. A seed
-        restarts all random numbers, also those of the opponents that draw
-        any. Raises `BadTeam`, `BadArgument`, `BadType`; then nothing has
-        changed.
+        "reset_mask", (n) bools, to restart only some. A seed restarts all
+        random numbers, including those of opponents that draw any. Raises
+        `BadTeam`, `BadArgument`, `BadType`; then nothing has changed.
         """
         self._episodes.begin(seed, options)
         return self._episodes.rows(1), self._info(1)
 
     def step(self, actions: ArrayLike) -> tuple[Rows, NDArray[np.float64], Truths, Truths, dict[str, Any]]:
-        """Updates each battle by an action, (n): observations, rewards,
-        terminations, truncations, and infos.
+        """Updates each battle by an action, (n). Returns observations,
+        rewards, terminations, truncations and infos.
 
         Raises `ResetNeeded` before the first reset, `Refused`,
         `BadArgument`, `BadType`; then no battle has changed.
@@ -180,10 +179,10 @@ class VectorEnv(_Vector, _Base):  # type: ignore[misc, valid-type]
 
 class TwoPlayerVectorEnv(_Vector):
     """`num_envs` battles of two players, "one" and "two", with PettingZoo's
-    parallel API; each value has a further first axis, of length n.
+    parallel API; each value has one more axis, the first, of length n.
 
-    Both act in each step; a side that is asked for nothing takes action 0,
-    pass. `agents` are always both: battles that are over start anew as
+    Both act in each step; a side without a request takes action 0, pass.
+    `agents` always has both: battles that are over are restarted as
     `autoreset` says, which is as in `VectorEnv`, and so are all other
     arguments.
     """
@@ -231,7 +230,7 @@ class TwoPlayerVectorEnv(_Vector):
         if not isinstance(actions, Mapping):
             raise BadType(f"actions must be a dict, not {shown(actions)}")
         if set(actions) != set(NAMES):
-            raise BadArgument(f"actions must be those of one and two, not of {shown(list(actions))}")
+            raise BadArgument(f"actions must have the keys one and two, not {shown(list(actions))}")
         self._episodes.going_on
         self._episodes.may_act()
         one, two = (actions_of(actions[it], self.num_envs, f"the actions of {it}") for it in NAMES)

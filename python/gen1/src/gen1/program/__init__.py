@@ -1,1 +1,1 @@
-"""What `python -m gen1` does; no part of the package's interface."""
+"""The implementation of `python -m gen1`; not part of the package's interface."""

@@ -39,7 +39,7 @@ def run(asked: argparse.Namespace) -> None:
 
 
 def explain(asked: argparse.Namespace) -> None:
-    """Prints the battle that a JSON object describes in sentences, with each draw and what other bytes would have decided."""
+    """Prints the battle that a JSON object describes in sentences, with each draw and the effect that other bytes would have had."""
     given = an_object(read(asked.file), "seed", "one", "two", "choices")
     battle, all_pairs = a_battle(given), pairs(given)
     for at, pair in enumerate(progress(all_pairs, len(all_pairs), "updates")):
@@ -71,7 +71,7 @@ def state(asked: argparse.Namespace) -> None:
 
 
 def _plain(pairs: list[tuple[str, object]]) -> dict[str, object]:
-    """Fields in a form for JSON: names instead of numbers, and a list of conditions."""
+    """Fields as values for JSON: names instead of numbers, and a list of conditions."""
     return {name: _named(value) for name, value in pairs}
 
 
@@ -122,7 +122,7 @@ def parser() -> argparse.ArgumentParser:
         "--version",
         action="version",
         version=said,
-        help="print the versions of package and library, and the library's build",
+        help="print the versions of the package and the library, and the library's build",
     )
     subcommands = made.add_subparsers(required=True, metavar="SUBCOMMAND")
     for command, said in COMMANDS:
@@ -135,7 +135,7 @@ def parser() -> argparse.ArgumentParser:
     said = "an object of `run`, or the bytes of a log; by default, or with -, standard input"
     words.add_argument("file", nargs="?", default="-", metavar="FILE", help=said)
     words.add_argument(
-        "--page", metavar="HTML", help="the page, as web/build makes it (default: the one in the package)"
+        "--page", metavar="HTML", help="a page that web/build made (default: the one in the package)"
     )
     words.add_argument("--out", metavar="OUT", help="the file to write (default: standard output)")
     words.set_defaults(command=replay)
@@ -145,7 +145,7 @@ def parser() -> argparse.ArgumentParser:
     words.add_argument("file", nargs="?", metavar="FILE", help=said)
     said = "how side 2 chooses (default: %(default)s)"
     words.add_argument("--against", choices=("random", "greedy"), default="greedy", help=said)
-    said = "a number from 0 on, to repeat a battle (default: random)"
+    said = "a number, 0 or more, to repeat a battle (default: random)"
     words.add_argument("--seed", type=int, metavar="N", help=said)
     words.set_defaults(command=play)
     return made

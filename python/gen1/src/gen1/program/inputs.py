@@ -48,7 +48,7 @@ def an_object(given: bytes, *keys: str) -> dict[str, Any]:
     except ValueError:  # json.loads raises it in Pythons that limit the digits of a number
         raise Fault("the input cannot be read as JSON: a number has too many digits") from None
     except RecursionError:
-        raise Fault("the input cannot be read as JSON: it is nested too deep") from None
+        raise Fault("the input cannot be read as JSON: it is nested too deeply") from None
     if not isinstance(it, dict):
         raise Fault(f"the input must be a JSON object, not {shown(it)}")
     for key in keys:
@@ -74,18 +74,18 @@ def teams(asked: dict[str, Any]) -> tuple[Team, Team]:
 
 
 def _members(given: Any, side: str) -> Any:
-    """The members of a side; what isn't a list is refused later."""
+    """The members of a side; a value that isn't a list is refused later."""
     return [_strict(it, f"{side}, member {at}") for at, it in enumerate(given, 1)] if isinstance(given, list) else given
 
 
 def _strict(given: Any, where: str) -> Any:
-    """A member in the form of docs/PROGRAM.md, where `Member.from_dict` takes more: all keys are there, each move is a pair, and names
-    are exact. Other keys are ignored."""
+    """A member in the form of docs/PROGRAM.md, which is stricter than `Member.from_dict`: all keys are required, each move is a pair, and
+    names are exact. Other keys are ignored."""
     if not isinstance(given, dict):
         return given
     for key in KEYS:
         if key not in given:
-            raise Fault(f"{where}: there is no {key!r}; a member has {', '.join(KEYS)}")
+            raise Fault(f"{where}: the key {key!r} is missing; a member has {', '.join(KEYS)}")
     moves = [listed(it, f"{where}: moves[{at}]") for at, it in enumerate(listed(given["moves"], f"{where}: moves"))]
     exact(Species, given["species"], where)
     for pair in moves:
@@ -94,9 +94,9 @@ def _strict(given: Any, where: str) -> Any:
 
 
 def exact(kind: type[Species] | type[Move], name: object, where: str) -> None:
-    """Refuses a name that differs from that of the tables, if only in its letters' case."""
+    """Refuses a name that differs from the name in the tables, even if only in upper and lower case."""
     if isinstance(name, str) and name not in [it.label for it in kind]:
-        raise Fault(f"{where}: there is no {cut(repr(name))}; names are those of docs/TABLES.md, exactly")
+        raise Fault(f"{where}: there is no {cut(repr(name))}; names must be written exactly as in docs/TABLES.md")
 
 
 def pairs(asked: dict[str, Any]) -> list[tuple[int, int]]:
@@ -114,7 +114,7 @@ def pairs(asked: dict[str, Any]) -> list[tuple[int, int]]:
 
 
 def a_member(asked: dict[str, Any], key: str) -> Member:
-    """A member in an object of `calc`; an error says which of the two it is about."""
+    """A member in an object of `calc`; an error names the member."""
     try:
         return Member.from_dict(_strict(asked[key], key))
     except Error as fault:

@@ -13,14 +13,14 @@ def page_with(given: bytes, page: str | None) -> str:
     """The page with the battle of an object of `run` or of a log's bytes."""
     held = _battle(given).replace("<", "\\u003c")
     if page is None and not CARRIED.is_file():
-        raise Fault("the package has no page; name one that web/build made with --page HTML", 2)
+        raise Fault("the package contains no page; pass one that web/build made, with --page HTML", 2)
     try:
         text = read(str(CARRIED) if page is None else page).decode("utf-8")
     except UnicodeDecodeError:
         text = ""
     if text.count(PLACE) != 1:
         raise Fault(
-            f"{page or CARRIED} is not a page of web/build: it has {text.count(PLACE)} places for a battle, and must have one"
+            f"{page or CARRIED} is not a page of web/build: it has {text.count(PLACE)} places for a battle, not 1"
         )
     return text.replace(PLACE, PLACE.replace("null", held))
 
@@ -34,5 +34,5 @@ def _battle(given: bytes) -> str:
     a_battle(asked), pairs(asked)
     for it in (*asked["one"], *asked["two"]):
         if not all(isinstance(name, str) for name in (it["species"], *(move for move, _ in it["moves"]))):
-            raise Fault("a page needs species and moves as names, and one of them is a number")
+            raise Fault("a page needs species and moves as names, but one of them is a number")
     return given.decode("utf-8").strip()

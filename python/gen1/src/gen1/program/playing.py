@@ -47,7 +47,7 @@ def _pair(battle: Battle, sides: tuple[Team, Team], against: str, dice: random.R
 
 
 def _asked(battle: Battle, offered: tuple[Choice, ...]) -> Choice | None:
-    """The choice that is typed; None at the end of the input, or for q."""
+    """The choice that the user types; None at the end of the input, or for q."""
     for at, it in enumerate(offered, 1):
         print(f"  {at}  {explained(it, battle.words(Side.ONE, it))}")
     while True:
@@ -59,7 +59,7 @@ def _asked(battle: Battle, offered: tuple[Choice, ...]) -> Choice | None:
             return None
         if word.isascii() and word.isdigit() and 1 <= int(word) <= len(offered):
             return offered[int(word) - 1]
-        print(f"{word!r} is not 1 to {len(offered)}, nor q to end")
+        print(f"{word!r} is neither 1 to {len(offered)} nor q, which ends the battle")
 
 
 def greedy(battle: Battle, side: Side, team: Team, dice: random.Random) -> Choice:
