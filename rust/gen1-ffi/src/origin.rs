@@ -1,4 +1,4 @@
-//! gen1_build of include/gen1.h: what this library was built from.
+//! gen1_build of include/gen1.h: the origin of this library.
 #![allow(unsafe_code)]
 
 use core::ffi::c_char;
@@ -9,7 +9,7 @@ const BUILD: &str = match option_env!("GEN1_BUILD") {
     None => "plain, rustc unknown, sources sha256 unknown",
 };
 
-/// The text and the zero after it.
+/// The text with a NUL at its end.
 static TEXT: [u8; BUILD.len() + 1] = {
     let (mut text, mut at) = ([0; BUILD.len() + 1], 0);
     while at < BUILD.len() {
@@ -19,7 +19,7 @@ static TEXT: [u8; BUILD.len() + 1] = {
     text
 };
 
-/// Returns what this library was built from: a text that ends with a zero and begins with "plain".
+/// Returns the origin of this library: a NUL-terminated string that begins with "plain".
 #[unsafe(no_mangle)]
 pub extern "C" fn gen1_build() -> *const c_char {
     TEXT.as_ptr().cast()

@@ -1,5 +1,5 @@
 //! Added to the sources (docs/PLAIN.md, "What is added"): the panic handler of a library without std. The sources are proved not
-//! to panic, but rustc doesn't know that and requires a handler.
+//! to panic, but rustc cannot know that and requires a handler.
 
 #[cfg(all(feature = "panic_handler", not(target_family = "wasm")))]
 unsafe extern "C" {

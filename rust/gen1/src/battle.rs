@@ -14,7 +14,7 @@ use core::hash::{Hash, Hasher};
 /// A battle of two teams: 384 bytes, changed in place.
 ///
 /// Two battles that were created and updated in the same way are equal, byte for byte. A clone is independent. A battle is aligned
-/// to 64 bytes, so it occupies exactly six cache lines, also in an array.
+/// to 64 bytes, so it occupies exactly six cache lines, even in an array.
 #[derive(Clone)]
 #[repr(align(64))]
 pub struct Battle {
@@ -32,7 +32,7 @@ impl Battle {
         }
     }
 
-    /// As [`Battle::new`], with the given rules (sleep clause, freeze clause) and turn limit.
+    /// Like [`Battle::new`], with the given rules (sleep clause, freeze clause) and turn limit.
     #[must_use]
     pub fn with_limit(
         one: &Team,
@@ -91,9 +91,9 @@ impl Battle {
 
     /// The bytes of the battle without the numbers to be drawn: a key for tables of positions.
     ///
-    /// It leaves out only the ten numbers and which of them is next: bytes 5 to 15 are 0. Two battles with the same key go on in the same
-    /// way once they are reseeded alike. The turn, the turn limit, the last damage, PP and hidden counts (sleep, confusion) are in the key,
-    /// because what follows depends on them. So the same position in another turn has another key.
+    /// It leaves out only the ten numbers and the index of the next one: bytes 5 to 15 are 0. Two battles with the same key continue in the
+    /// same way once they are reseeded with the same numbers. The turn, the turn limit, the last damage, PP and hidden counts (sleep,
+    /// confusion) are in the key, because the rest of the battle depends on them. The same position in another turn has another key.
     ///
     /// ```
     /// # use gen1::{Battle, Team, member};
@@ -109,20 +109,19 @@ impl Battle {
         key
     }
 
-    /// The choices that a side is offered now, in the order of their bytes: one to nine while the battle goes on, none once it is
-    /// over.
+    /// The choices that a side is offered now, in the order of their bytes: one to nine, or none once the battle is over.
     #[must_use]
     pub fn choices(&self, side: Side) -> Choices {
         offers::offered(&self.packed, side)
     }
 
-    /// The offered choices as twelve bits, which takes a fraction of the time of [`Battle::choices`]. Updates don't check them again.
+    /// The offered choices as twelve bits, in a fraction of the time of [`Battle::choices`]. Updates don't check them again.
     #[must_use]
     pub fn offered_mask(&self, side: Side) -> OfferedMask {
         OfferedMask(packed::offered_mask(&self.packed, side))
     }
 
-    /// The outcome so far, and what is asked of each side.
+    /// The outcome so far, and the request to each side.
     #[must_use]
     pub fn result(&self) -> BattleResult {
         packed::result(&self.packed)
@@ -154,7 +153,7 @@ impl Battle {
 
     /// Replaces the ten random numbers, of which the first is drawn next, and changes nothing else.
     ///
-    /// A clone draws the same numbers as the battle. A search that must not know them reseeds each clone before it plays it out.
+    /// A clone draws the same numbers as the battle. A search that must not know them reseeds each clone before playing it.
     ///
     /// ```
     /// # use gen1::{Battle, Team, member};
@@ -187,7 +186,7 @@ impl Battle {
     /// The first reason that applies: the battle is over, or a side's choice is not one of [`Battle::choices`]. The battle is
     /// unchanged.
     pub fn update(&mut self, one: Choice, two: Choice) -> Result<Update, Refusal> {
-        // One value from the beginning to the return, so that the list is written where the caller gets it, and not copied.
+        // One value from the beginning to the return, so that the list is written directly to the caller's memory, and not copied.
         let mut update = Ok(Update::empty());
         if let Ok(Update { result, events }) = &mut update {
             match self.update_with(one, two, events) {
@@ -223,7 +222,7 @@ impl Battle {
     ///
     /// # Panics
     ///
-    /// In a debug build, if an [`Offered`](crate::Offered) choice is of another battle, or of an earlier update.
+    /// In a debug build, if an [`Offered`](crate::Offered) choice comes from another battle, or from an earlier update.
     pub fn update_with<A: Chosen, B: Chosen, S: EventSink>(
         &mut self,
         one: A,

@@ -1,4 +1,4 @@
-//! Events as values: what they have in common, and events from lines of text.
+//! Events as values: their common fields, and events from lines of text.
 use crate::{
     CantReason, DamageSource, Event, Health, HitCount, Kind, Line, MoveId, Side, Species,
     StageCount, Stat, TurnNumber, Volatile, Who,
@@ -89,7 +89,7 @@ impl Hash for Event {
     }
 }
 
-/// Why a line has no event.
+/// Why a line is not that of an event.
 #[derive(Clone, Copy, Debug, PartialEq, Eq)]
 #[non_exhaustive]
 pub enum LineFault {
@@ -130,7 +130,7 @@ impl FromStr for Event {
     fn from_str(line: &str) -> Result<Event, LineFault> {
         let mut fields = line.split('|').skip(1);
         let [word, first, second, third] = core::array::from_fn(|_| fields.next().unwrap_or(""));
-        // What is found has exactly this line. So the words in lines are those of one place, the printer.
+        // The event that is found prints exactly this line, so only the printer defines the words of lines.
         let has_line = |event: &Event| Line::of(event).as_str() == line;
         let event = match who_in(first) {
             Some(_) if word == "switch" => return Err(LineFault::NoPlace),
@@ -154,7 +154,7 @@ fn who_in(text: &str) -> Option<Who> {
     Some(Who { side, species })
 }
 
-/// The event of the whole battle with a word and a field.
+/// The event about the whole battle with this word and field.
 fn of_battle(word: &str, field: &str) -> Option<Event> {
     match word {
         "turn" => TurnNumber::new(field.parse().ok()?).map(Event::Turn),
@@ -168,7 +168,7 @@ fn of_battle(word: &str, field: &str) -> Option<Event> {
     }
 }
 
-/// The event about a member with a word and the fields after the member. Where a field is a word, it is the one that gives the line.
+/// The event about a member with this word and the fields after the member. A field that is a word is the one that gives the line.
 fn about(
     who: Who,
     word: &str,
@@ -216,16 +216,16 @@ fn damage(who: Who, health: &str, has_line: impl Fn(&Event) -> bool) -> Option<E
     })
 }
 
-/// The healths whose HP are those of a text, without a status and with each.
+/// The healths with the HP in a text, without a status and with each status.
 fn healths(text: &str) -> impl Iterator<Item = Health> {
     let numbers = text.split(' ').next().unwrap_or("");
     let (hp, max) = numbers.split_once('/').unwrap_or(("", ""));
-    // A maximum of 0 is that of no health.
+    // No health has a maximum of 0.
     let [hp, max] = [hp, max].map(|number| number.parse().unwrap_or(0));
     (0..=5).filter_map(move |kind| Health::new(hp, max, Kind::from_number(kind)))
 }
 
-/// Each stat with the number of stages that a text is.
+/// Each stat with the number of stages in a text.
 fn shifts(count: &str) -> impl Iterator<Item = (Stat, StageCount)> {
     let count = count.parse().ok().and_then(StageCount::new);
     let stats = [

@@ -1,4 +1,4 @@
-//! Battles of states that were written or changed.
+//! Battles from states that were written or changed.
 use crate::generated::states::{self, BattleState};
 use crate::{
     ActiveState, Battle, Kind, MemberState, Outcome, Place, Request, Side, SideState, Stat, State,
@@ -26,11 +26,11 @@ impl fmt::Display for StateFault {
         }
         write!(f, " is {}", self.value)?;
         if self.low == self.high {
-            write!(f, ", and has to be {}", self.low)
+            write!(f, ", not {}", self.low)
         } else if (self.low..=self.high).contains(&self.value) {
             write!(f, ", which does not fit the other fields")
         } else {
-            write!(f, ", and has to be {} to {}", self.low, self.high)
+            write!(f, ", not {} to {}", self.low, self.high)
         }
     }
 }
@@ -77,7 +77,7 @@ fn name_of(field: StateField) -> &'static str {
 }
 
 impl Battle {
-    /// Makes a battle of a state, such as one from [`Battle::state`] in which fields were changed.
+    /// Creates a battle from a state, such as one from [`Battle::state`] in which fields were changed.
     ///
     /// It accepts exactly the states whose 384 bytes [`Battle::load`] accepts, and [`Battle::state`] then returns the same state. If the
     /// four current stats of an active member are all 0, they are computed from its stages and its status.
@@ -95,7 +95,7 @@ impl Battle {
     /// assert_eq!(battle.state(), state);
     /// state.sides[1].members[0].hp = 400;
     /// let fault = Battle::from_state(&state).unwrap_err();
-    /// assert_eq!(fault.to_string(), "side 2, member 1: the HP is 400, and has to be 0 to 353");
+    /// assert_eq!(fault.to_string(), "side 2, member 1: the HP is 400, not 0 to 353");
     /// # Ok(())
     /// # }
     /// ```
@@ -108,7 +108,7 @@ impl Battle {
         Ok(Battle { packed })
     }
 
-    /// The same battle with a state that a function has changed.
+    /// A copy of the battle with a state that a function has changed.
     ///
     /// ```
     /// # use gen1::{Battle, Choice, Kind, Side, Stat, Team, member};
@@ -124,18 +124,18 @@ impl Battle {
     ///
     /// # Errors
     ///
-    /// As [`Battle::from_state`].
+    /// As for [`Battle::from_state`].
     pub fn with_state(&self, change: impl FnOnce(&mut State)) -> Result<Self, StateFault> {
         let mut state = self.state();
         change(&mut state);
         Battle::from_state(&state)
     }
 
-    /// The same battle with other HP of a member. A place without a member changes nothing.
+    /// A copy of the battle with other HP of a member. A place without a member changes nothing.
     ///
     /// # Errors
     ///
-    /// As [`Battle::from_state`]: the HP are above the maximum, or the battle would have ended.
+    /// As for [`Battle::from_state`]: the HP are above the maximum, or the battle would have ended.
     pub fn with_hp(&self, side: Side, place: Place, hp: u16) -> Result<Self, StateFault> {
         self.with_state(|state| {
             if let Some(member) = member_mut(state, side, place) {
@@ -144,8 +144,8 @@ impl Battle {
         })
     }
 
-    /// The same battle with another status of a member, without the Toxic counter. A new sleep lasts `turns`, 1 to 7, which another
-    /// status ignores. If the member is out, its current stats are computed anew from its stages and the new status. A place without a
+    /// A copy of the battle with another status of a member, without the Toxic counter. A new sleep lasts `turns`, 1 to 7; other statuses
+    /// ignore `turns`. If the member is active, its current stats are recomputed from its stages and the new status. A place without a
     /// member changes nothing.
     ///
     /// ```
@@ -164,7 +164,7 @@ impl Battle {
     ///
     /// # Errors
     ///
-    /// As [`Battle::from_state`]: the turns are not 1 to 7, or the member has fallen.
+    /// As for [`Battle::from_state`]: the turns are not 1 to 7, or the member has fainted.
     pub fn with_status(
         &self,
         side: Side,
@@ -186,7 +186,7 @@ impl Battle {
         })
     }
 
-    /// The same battle with another stage of the active member, -6 to 6. Its current stats are computed anew from its stages and its
+    /// A copy of the battle with another stage of the active member, -6 to 6. Its current stats are recomputed from its stages and its
     /// status. Before the first update nothing changes.
     ///
     /// ```
@@ -205,7 +205,7 @@ impl Battle {
     ///
     /// # Errors
     ///
-    /// As [`Battle::from_state`]: the stage is not -6 to 6.
+    /// As for [`Battle::from_state`]: the stage is not -6 to 6.
     pub fn with_stage(&self, side: Side, stat: Stat, stage: i8) -> Result<Self, StateFault> {
         self.with_state(|state| {
             if let Some(active) = side_mut(state, side).active.as_mut() {
@@ -223,7 +223,7 @@ fn side_mut(state: &mut State, side: Side) -> &mut SideState {
     }
 }
 
-/// Where [`ActiveState::stages`] has a stat.
+/// The index of a stat in [`ActiveState::stages`].
 fn stage_place(stat: Stat) -> usize {
     match stat {
         Stat::Attack => 0,

@@ -1,4 +1,4 @@
-//! Battles that fit what a player knows, for searches that don't cheat.
+//! Battles that fit a player's knowledge, for searches that don't cheat.
 use crate::from_state::StateFault;
 use crate::generated::layout::Conditions;
 use crate::generated::player::{OwnSide, PublicSide, Seen};
@@ -10,7 +10,7 @@ use crate::{
 use arrayvec::ArrayVec;
 use core::fmt;
 
-/// What a caller guesses of what a player can't know.
+/// A guess of what a player can't know.
 ///
 /// Counts that neither player knows, such as turns of sleep, have middle values; [`Battle::with_state`] changes them.
 #[derive(Clone, Debug)]
@@ -39,17 +39,17 @@ impl Guess {
     }
 }
 
-/// Why a guess does not fit what a player knows.
+/// Why a guess does not fit a player's knowledge.
 #[derive(Clone, Copy, Debug, PartialEq, Eq)]
 #[non_exhaustive]
 pub enum GuessFault {
     /// The battle has not begun, or it is over.
     NotGoingOn,
-    /// The member that appeared at this number, from 1, has another species or level in the guess, or is not in it.
+    /// The member that appeared with this number, from 1, has another species or level in the guess, or is not in it.
     Member(u8),
-    /// The member that appeared at this number was seen to use this move, and doesn't know it in the guess.
+    /// The member that appeared with this number was seen to use this move, but doesn't know it in the guess.
     Move(u8, MoveId),
-    /// The state that follows is not that of a battle.
+    /// The resulting state is not that of a battle.
     State(StateFault),
 }
 
@@ -75,12 +75,12 @@ impl fmt::Display for GuessFault {
 impl core::error::Error for GuessFault {}
 
 impl Battle {
-    /// A battle that fits what a player knows, with a guess of the rest: the base of a search that doesn't cheat.
+    /// A battle that fits a player's knowledge, with a guess of the rest: the base of a search that doesn't cheat.
     ///
-    /// The player's own side is as it was shown. The foe's members have the HP, status and stages that were told, and the moves and stats
-    /// of the guess; PP are those that are left after the uses that were seen. HP that was told in 48ths is rounded up. A condition that
-    /// was announced is on if a move of the guess explains it. Counts that are hidden have middle values: three turns of sleep and
-    /// confusion, four of Disable, two of Bide, thrashing and trapping, a Substitute of a quarter of the maximum HP.
+    /// The player's own side is as it was shown. The foe's members have the HP, status and stages that were reported, and the moves and
+    /// stats of the guess; their PP are those left after the uses that were seen. HP that was reported in 48ths is rounded up. A condition
+    /// that was announced is on if a move of the guess explains it. Hidden counts have middle values: three turns of sleep and confusion,
+    /// four of Disable, two of Bide, thrashing and trapping, a Substitute of a quarter of the maximum HP.
     ///
     /// ```
     /// use gen1::{Battle, Choice, Guess, Player, Side, Team, Teller, member};
@@ -174,7 +174,7 @@ fn own_member(own: &crate::OwnMember) -> Option<MemberState> {
     })
 }
 
-/// The guessed members, with what is public of those that have appeared.
+/// The guessed members; those that have appeared have their public values.
 fn foe_members(foe: &PublicSide, team: &Team) -> Result<ArrayVec<MemberState, 6>, GuessFault> {
     let mut members = ArrayVec::new();
     for (at, member) in team.members().iter().enumerate() {
@@ -232,7 +232,7 @@ fn appeared(
     Ok(state)
 }
 
-/// An active member in whose state nothing is on, for conditions to be put into.
+/// The state of an active member without conditions, to which conditions are added.
 fn plain_active(place: u8, types: [Element; 2], stages: [u8; 6]) -> Option<ActiveState> {
     Some(ActiveState {
         place: Place::new(place)?,
@@ -252,7 +252,7 @@ fn plain_active(place: u8, types: [Element; 2], stages: [u8; 6]) -> Option<Activ
     })
 }
 
-/// Puts conditions with middle counts into the state of an active member. What belongs to a current move needs a move that explains it.
+/// Adds conditions with middle counts to the state of an active member. One that belongs to a current move needs a move that explains it.
 fn put_on(active: &mut ActiveState, on: Conditions, member: &MemberState, last: Option<MoveId>) {
     const FREE: [Conditions; 8] = [
         Conditions::MIST,

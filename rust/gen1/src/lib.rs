@@ -18,7 +18,7 @@
 //! Here each side takes the first choice that [`Battle::choices`] lists. In the first update both sides pass, and their first members
 //! come out.
 //!
-//! The sources are those of a proved engine without their contracts, built by your own compiler. [docs/PLAIN.md][plain] says what was
+//! The sources are those of a proved engine without their contracts, built by your compiler. [docs/PLAIN.md][plain] describes what was
 //! proved and how the two builds are compared. The rules are in [docs/MECHANICS.md][rules].
 //!
 //! [plain]: https://hibsuloy.example/gen1/blob/main/docs/PLAIN.md
@@ -32,19 +32,19 @@
 //! | battles | [`Battle`], [`Choice`], [`Update`], [`Event`], [`Line`] |
 //! | the whole state of a battle | [`Battle::state`], [`State`], [`Battle::from_state`], [`Battle::with_hp`] |
 //! | damage and exact chances | [`Battle::damage`], [`Battle::odds`], [`Battle::knock_out`], [`Battle::knock_out_in_three`] |
-//! | all that an update can lead to, with exact probabilities | `Battle::outcomes`, [`Battle::outcomes_into`], [`Battle::ways`] |
+//! | all outcomes of an update, with exact probabilities | `Battle::outcomes`, [`Battle::outcomes_into`], [`Battle::ways`] |
 //! | battles played by random choices, and how they end | [`Battle::playout`], [`PlayoutOptions`], [`Weights`], [`Playouts`] |
 //! | searches | [`Battle::offered_mask`], [`Battle::update_silent`], [`Battle::reseed`], [`Battle::key`] |
 //! | events without a list, logs | [`Battle::update_with`], [`EventSink`], [`events_of`] |
-//! | what a player knows | [`Player`], [`Teller`], [`Battle::own_side`], [`Battle::from_player`] |
-//! | what a spectator knows | [`Spectator`] |
+//! | a player's view | [`Player`], [`Teller`], [`Battle::own_side`], [`Battle::from_player`] |
+//! | a spectator's view | [`Spectator`] |
 //! | two players who choose independently | [`Room`] |
 //!
 //! # Names
 //!
-//! Species and moves are constants, as [`Species::TAUROS`] and [`MoveId::BODY_SLAM`]. Wherever a text names one, only letters and digits
-//! are compared, in either case: in [`member`], in `parse`, in teams as text and in serde's data. An unknown name is an error that says
-//! which name is nearest. Only `from_name` compares every letter.
+//! Species and moves are constants, such as [`Species::TAUROS`] and [`MoveId::BODY_SLAM`]. Where a text names one, only letters and
+//! digits are compared, ignoring case: in [`member`], in `parse`, in teams as text and in serde's data. For an unknown name the error
+//! suggests the nearest name. Only `from_name` compares every letter.
 //!
 //! # Features
 //!
@@ -69,13 +69,13 @@
 //!
 //! # What may grow
 //!
-//! A type is `#[non_exhaustive]` if this crate alone makes it and may add to it: the states, [`Odds`], and the errors [`NameFault`],
-//! [`DamageRefusal`] and [`LineFault`]. What the rules or a format fix is exhaustive: events, choices, outcomes, effects, types, and the
-//! errors that have numbers.
+//! A type is `#[non_exhaustive]` if only this crate creates it and may add to it: the states, [`Odds`], and the errors [`NameFault`],
+//! [`DamageRefusal`] and [`LineFault`]. Types that the rules or a format determine are exhaustive: events, choices, outcomes, effects,
+//! types, and the errors that have numbers.
 //!
 //! # Rust version
 //!
-//! Rust 1.85 is the first with the edition of 2024, which the crate is written in. Nothing in it needs a later one.
+//! The crate needs Rust 1.85, the first version with the 2024 edition, and no later one.
 #![no_std]
 #![forbid(unsafe_code)]
 #![warn(missing_docs, missing_debug_implementations)]

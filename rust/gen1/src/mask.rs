@@ -2,7 +2,7 @@
 use crate::Offered;
 use crate::generated::offers::{choice_at, count_of};
 
-/// The choices that a side is offered, as twelve bits: for callers that draw a choice and need no list.
+/// The choices that a side is offered, as twelve bits: for callers that pick a choice and need no list.
 ///
 /// ```
 /// # use gen1::{Battle, Choice, Side, Team, member};

@@ -9,7 +9,7 @@ use core::fmt;
 #[cfg_attr(feature = "serde", derive(serde::Serialize, serde::Deserialize))]
 #[non_exhaustive]
 pub enum DamageRefusal {
-    /// The move doesn't use the usual damage formula: it has no power, a fixed damage, or rules of its own.
+    /// The move doesn't use the usual damage formula: it has no power, a fixed damage, or its own damage rule.
     NoUsualDamage(MoveId),
     /// No member is out yet: the battle has had no update.
     NobodyOut,
@@ -48,7 +48,7 @@ pub struct Chances {
     pub breaks_substitute: bool,
 }
 
-/// What happens to the HP of the foe between two uses of a move, if it has any left. By default they stay as they are.
+/// The change of the foe's HP between two uses of a move, if it has any left. By default they stay as they are.
 #[derive(Clone, Copy, Debug, Default, PartialEq, Eq)]
 #[cfg_attr(feature = "serde", derive(serde::Serialize, serde::Deserialize))]
 pub struct HpChange {
@@ -58,7 +58,7 @@ pub struct HpChange {
     pub lost: u16,
 }
 
-/// What happens to the HP of the foe after the first use of a move and after the second. By default they stay as they are.
+/// The changes of the foe's HP after the first use of a move and after the second. By default they stay as they are.
 #[derive(Clone, Copy, Debug, Default, PartialEq, Eq)]
 #[cfg_attr(feature = "serde", derive(serde::Serialize, serde::Deserialize))]
 pub struct Between {
@@ -93,7 +93,7 @@ pub struct ThreeChances {
 
 /// The odds of a use of a move: its damage, and its chances of a critical hit and of a hit.
 ///
-/// Chances are exact. They are given as how many of the 256 numbers that may be drawn have that result.
+/// Chances are exact: each is the count of the 256 possible numbers of a draw that have the result.
 #[derive(Clone, Debug, PartialEq, Eq)]
 #[cfg_attr(feature = "serde", derive(serde::Serialize, serde::Deserialize))]
 #[non_exhaustive]
@@ -122,7 +122,7 @@ pub struct Odds {
 }
 
 impl Battle {
-    /// The damage of a side's move at each factor from 217 to 255, in the current state of both members that are out
+    /// The damage of a side's move at each factor from 217 to 255, in the current state of both active members
     /// ([docs/MECHANICS.md, "Damage numbers"](https://hibsuloy.example/gen1/blob/main/docs/MECHANICS.md#damage-numbers) to "Factors"). The member need not know the move.
     ///
     /// ```
@@ -155,10 +155,10 @@ impl Battle {
         crate::generated::hits::damage_list(&numbers).ok_or(DamageRefusal::DividedByZero)
     }
 
-    /// The odds of a side's move, in the current state of both members that are out ([docs/MECHANICS.md, "Critical hits"](https://hibsuloy.example/gen1/blob/main/docs/MECHANICS.md#critical-hits), "Hit test").
+    /// The odds of a side's move, in the current state of both active members ([docs/MECHANICS.md, "Critical hits"](https://hibsuloy.example/gen1/blob/main/docs/MECHANICS.md#critical-hits), "Hit test").
     ///
-    /// The member need not know the move. A move that goes on under Thrash or Rage is tested with the accuracy that they keep. What may
-    /// keep the member from acting at all, such as paralysis, is not counted.
+    /// The member need not know the move. If Thrash or Rage continues, the hit test uses the kept accuracy. Conditions that may keep the
+    /// member from acting at all, such as paralysis, are not counted.
     ///
     /// ```
     /// use gen1::{Battle, Choice, Side, Team, member};
@@ -199,8 +199,8 @@ impl Battle {
         })
     }
 
-    /// The exact chance that a side's move knocks out the foe, with one use and with two in a row, in the current state of both members
-    /// that are out. Against a Substitute it is the chance to break it.
+    /// The exact chance that a side's move knocks out the foe, with one use and with two in a row, in the current state of both active
+    /// members. Against a Substitute it is the chance to break it.
     ///
     /// The draws are taken as independent. Nothing else that happens between the two uses counts, such as residual damage.
     ///
@@ -234,7 +234,7 @@ impl Battle {
     }
 
     /// The exact chance that a side's move knocks out the foe, with one use and with two or three in a row, in the current state of both
-    /// members that are out. Against a Substitute it is the chance to break it, and `between` does not count.
+    /// active members. Against a Substitute it is the chance to break it, and `between` does not count.
     ///
     /// The draws are taken as independent. Between two uses the foe's HP change as `between` says. Nothing else that happens then counts.
     ///

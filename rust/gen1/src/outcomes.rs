@@ -10,15 +10,15 @@ use core::iter::FusedIterator;
 #[derive(Clone, Debug, PartialEq, Eq)]
 #[non_exhaustive]
 pub struct Way {
-    /// The battle after the update. The numbers to draw are those from before.
+    /// The battle after the update. The numbers to draw are as before it.
     pub battle: Battle,
     /// Its exact probability.
     pub chance: Chance,
-    /// What happens on the way.
+    /// The events of the way.
     pub events: EventList,
 }
 
-/// The ways of an update, each with other bytes for its draws: an iterator of [`Battle::ways`].
+/// The ways of an update, each with different bytes for its draws: an iterator of [`Battle::ways`].
 #[derive(Debug)]
 pub struct Ways {
     ways: outcomes::Ways,
@@ -56,9 +56,9 @@ impl FusedIterator for Ways {}
 impl Battle {
     /// Plays all ways of an update by a choice of each side, one after the other, without a list.
     ///
-    /// Two ways may lead to equal battles with other events, such as a critical hit and a usual one that both knock out. Ways exclude each
-    /// other, and their probabilities sum to 1. They are exact for draws that are independent uniform bytes; `Battle::outcomes` says what
-    /// that means for a link battle.
+    /// Two ways may lead to equal battles by different events, such as a critical hit and a usual hit that both knock out. Ways exclude
+    /// each other, and their probabilities sum to 1. They are exact for draws that are independent uniform bytes; `Battle::outcomes`
+    /// explains what that means for a link battle.
     ///
     /// ```
     /// use gen1::{Battle, Choice, Event, Side, Team, member};
@@ -83,12 +83,12 @@ impl Battle {
     ///
     /// # Errors
     ///
-    /// As for [`Battle::update`]. An item is [`OutcomesFault::Size`], and the last, if a way has too many draws. No update is known that has.
+    /// As for [`Battle::update`]. If a way has too many draws, its item is [`OutcomesFault::Size`], and the last. No such update is known.
     pub fn ways<A: Chosen, B: Chosen>(&self, one: A, two: B) -> Result<Ways, Refusal> {
         self.ways_with(one, two, &OutcomeOptions::new())
     }
 
-    /// As [`Battle::ways`], with options. With a least probability, the ways that are left out are skipped, and the probabilities of the
+    /// Like [`Battle::ways`], with options. With a least probability, the ways that are left out are skipped, and the probabilities of the
     /// others sum to less than 1.
     ///
     /// ```
@@ -124,10 +124,10 @@ impl Battle {
         })
     }
 
-    /// As `Battle::outcomes_with`, in the caller's memory: writes the outcomes to the first places of `successors`.
+    /// Like `Battle::outcomes_with`, in the caller's memory: writes the outcomes to the first places of `successors`.
     ///
-    /// `table` is for the call's own use. It needs as many places as there are outcomes; twice as many make the call faster. Most updates
-    /// have fewer than 100 outcomes, and all that were met have fewer than 65,536.
+    /// `table` is working memory of the call. It needs as many places as there are outcomes; twice as many make the call faster. Most
+    /// updates have fewer than 100 outcomes, and all that were met have fewer than 65,536.
     ///
     /// ```
     /// use core::array::from_fn;
@@ -150,7 +150,7 @@ impl Battle {
     ///
     /// # Errors
     ///
-    /// A refusal as of [`Battle::update`], and then nothing is written. With any other error both slices may have any content.
+    /// A refusal as for [`Battle::update`], and then nothing is written. With any other error the content of both slices is unspecified.
     pub fn outcomes_into<A: Chosen, B: Chosen>(
         &self,
         one: A,
@@ -174,7 +174,7 @@ impl Battle {
     }
 }
 
-/// Options of lists of outcomes and of ways. By default each damage of a roll is an outcome of its own, and nothing is left out.
+/// Options of lists of outcomes and of ways. By default each damage of a roll is a separate outcome, and nothing is left out.
 ///
 /// `Battle::outcomes_with`, [`Battle::outcomes_into`] and [`Battle::ways_with`] take it.
 #[derive(Clone, Copy, Debug, Default, PartialEq, Eq, Hash)]
@@ -184,7 +184,7 @@ pub struct OutcomeOptions {
 }
 
 impl OutcomeOptions {
-    /// Each damage of a roll is listed apart, and nothing is left out.
+    /// Each damage of a roll is listed separately, and nothing is left out.
     #[must_use]
     pub const fn new() -> Self {
         OutcomeOptions {
@@ -193,12 +193,12 @@ impl OutcomeOptions {
         }
     }
 
-    /// The same with at most so many classes of damage for each roll: for a search, which wants fewer outcomes.
+    /// These options with at most that many classes of damage for each roll: for a search that wants fewer outcomes.
     ///
-    /// The 39 factors from 217 to 255 are cut into as many runs, and damages of one run are a class. Of each class one damage near its
-    /// middle is listed, with the weight of all. All damages from the HP of the target on (or of its substitute) are one class more, so
-    /// the chance that a roll knocks out stays exact, and so does everything that is not a roll of damage. 0 lists each damage, and so
-    /// does any number from 39 on.
+    /// The 39 factors from 217 to 255 are divided into that many ranges, and the damages of one range are a class. One damage near the
+    /// middle of each class is listed, with the weight of the whole class. All damages that reach the HP of the target (or of its
+    /// substitute) are one more class, so the chance of a knock-out stays exact, and so does everything other than damage rolls. 0 lists
+    /// each damage, and so does any number from 39 on.
     #[must_use]
     pub const fn with_damage_classes(self, damage_classes: u8) -> Self {
         OutcomeOptions {
@@ -207,13 +207,14 @@ impl OutcomeOptions {
         }
     }
 
-    /// The same without what is less probable than this: for a search, which saves the time to play it.
+    /// These options without courses of the update that are less probable than this: for a search that saves the time to play them.
     ///
-    /// Draws are left out as soon as those of an update so far are less probable together, with all that may come after them. So the
-    /// weight of an outcome is that of its ways that are not left out: at most its full weight. `left_out` of the list is the exact weight
-    /// of all the rest. An outcome without a draw is always listed. Of an update with draws, none may be left.
+    /// A course is left out as soon as its draws so far are less probable together. The weight of an outcome is then that of its ways that
+    /// are not left out: at most its full weight. `left_out` of the list is the exact weight of the rest. An outcome without a draw is
+    /// always listed. An update with draws may have no outcome left.
     ///
-    /// The probability is rounded down to a multiple of 2^-32. 0, a negative number or NaN leaves nothing out, and 1 or more is as 1 - 2^-32.
+    /// The probability is rounded down to a multiple of 2^-32. 0, a negative number or NaN leaves nothing out; 1 or more counts as
+    /// 1 - 2^-32.
     ///
     /// ```
     /// use gen1::{Battle, Choice, OutcomeOptions, Team, member};
@@ -259,19 +260,19 @@ pub struct OutcomeList {
 
 #[cfg(feature = "alloc")]
 impl OutcomeList {
-    /// The outcomes with their exact weights, in no particular order. There is at least one, if nothing is left out.
+    /// The outcomes with their exact weights, in no particular order. There is at least one if nothing is left out.
     #[must_use]
     pub fn successors(&self) -> &[Successor] {
         &self.successors
     }
 
-    /// The sum of all weights and of what is left out, of which each weight is its outcome's part.
+    /// The sum of all weights and of the weight left out. A weight divided by it is the probability of its outcome.
     #[must_use]
     pub const fn whole(&self) -> u128 {
         self.whole
     }
 
-    /// The weight of all that is left out: 0 without [`OutcomeOptions::with_least_probability`].
+    /// The weight left out: 0 without [`OutcomeOptions::with_least_probability`].
     ///
     /// ```
     /// use gen1::{Battle, Choice, OutcomeOptions, Successor, Team, member};
@@ -293,7 +294,7 @@ impl OutcomeList {
         self.left_out
     }
 
-    /// Each outcome with its probability. They sum to 1, if nothing is left out.
+    /// Each outcome with its probability. The probabilities sum to 1 if nothing is left out.
     pub fn iter(&self) -> impl ExactSizeIterator<Item = (Battle, f64)> + '_ {
         let whole = self.whole as f64;
         self.successors
@@ -308,8 +309,8 @@ impl Battle {
     ///
     /// The probabilities are exact for draws that are independent uniform bytes. A link battle draws other numbers
     /// ([docs/MECHANICS.md, "Link numbers"](https://hibsuloy.example/gen1/blob/main/docs/MECHANICS.md#link-numbers)). If its seed is
-    /// unknown they are an approximation, off by about 0.01 in total variation; with a known seed there is one outcome, that of
-    /// [`Battle::update`]. The numbers to draw are not used, and the outcomes keep them. So reseed an outcome before you play it on.
+    /// unknown, they are an approximation, off by about 0.01 in total variation; if its seed is known, there is one outcome, that of
+    /// [`Battle::update`]. The numbers to draw are not used, and the outcomes keep them: reseed an outcome before you play it further.
     ///
     /// ```
     /// use gen1::{Battle, Choice, Side, Team, member};
@@ -328,7 +329,7 @@ impl Battle {
     ///
     /// # Errors
     ///
-    /// A refusal as of [`Battle::update`], or [`OutcomesFault::Size`], of which no update is known.
+    /// A refusal as for [`Battle::update`], or [`OutcomesFault::Size`], for which no update is known.
     pub fn outcomes<A: Chosen, B: Chosen>(
         &self,
         one: A,
@@ -337,7 +338,7 @@ impl Battle {
         self.outcomes_with(one, two, &OutcomeOptions::new())
     }
 
-    /// As [`Battle::outcomes`], with options. Needs the feature `alloc`.
+    /// Like [`Battle::outcomes`], with options. Needs the feature `alloc`.
     ///
     /// ```
     /// use gen1::{Battle, Choice, OutcomeOptions, Team, member};

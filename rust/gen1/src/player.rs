@@ -1,16 +1,16 @@
-//! What one side of a battle may know.
+//! The knowledge that one side of a battle may have.
 use crate::generated::player::{self as plain, OwnSide, Public, PublicSide};
 use crate::{Battle, Choice, Event, LogBuf, LogFault, OfferedMask, Outcome, Side, Team};
 use core::fmt;
 
-/// What one side of a battle may know ([docs/MECHANICS.md, "Player's view"][view]): its own side in full, and of the foe what the battle
-/// has shown.
+/// The knowledge that one side of a battle may have ([docs/MECHANICS.md, "Player's view"][view]): its own side in full, and the part of
+/// the foe's side that the battle has shown.
 ///
 /// [view]: https://hibsuloy.example/gen1/blob/main/docs/MECHANICS.md#players-view
 ///
-/// A player is made of its own team, of the log that its side is told ([`Teller`]), of what it is shown of itself
-/// ([`Battle::own_side`]) and of its choices, and of nothing else. So no stat, DV, PP, hidden count or number to be drawn of the foe
-/// reaches it. Give one to whatever plays, in place of the [`Battle`].
+/// A player is computed from its own team, the log that the [`Teller`] of its side returns, its own side as it is shown
+/// ([`Battle::own_side`]) and its choices, and from nothing else. No stat, DV, PP or hidden count of the foe, and no number to be drawn,
+/// reaches it. Pass it to a bot in place of the [`Battle`].
 ///
 /// # Example
 ///
@@ -42,21 +42,21 @@ pub struct Player {
 }
 
 impl Player {
-    /// The player of a side before the first update. It knows its own team, and nothing of the foe.
+    /// The player of a side before the first update. It knows its own team, and nothing about the foe.
     #[must_use]
     pub fn new(side: Side, team: &Team) -> Self {
         let inner = plain::Player::new(side, team, 0);
         Player { inner, side }
     }
 
-    /// As [`Player::new`], with the number of the foe's members, 1 to 6, where the players know it. A larger number counts as 6.
+    /// Like [`Player::new`], with the number of the foe's members, 1 to 6, if the players know it. A larger number counts as 6.
     #[must_use]
     pub fn with_foes(side: Side, team: &Team, foes: u8) -> Self {
         let inner = plain::Player::new(side, team, foes.min(6));
         Player { inner, side }
     }
 
-    /// Takes the next bytes of the log that the side is told, which may be cut anywhere.
+    /// Reads the next bytes of the log of its side's teller, which may be cut anywhere.
     ///
     /// # Errors
     ///
@@ -65,7 +65,7 @@ impl Player {
         self.inner.feed(told)
     }
 
-    /// Replaces what the player was last shown of itself, and its choices.
+    /// Replaces the own side that the player was last shown, and its choices.
     pub fn show(&mut self, own: &OwnSide, offered: OfferedMask) {
         self.inner.show(own, offered.bits());
     }
@@ -76,39 +76,38 @@ impl Player {
         self.side
     }
 
-    /// What the side was last shown of itself; zeros before the first time.
+    /// The own side as it was last shown; zeros before the first time.
     #[must_use]
     pub fn own(&self) -> &OwnSide {
         &self.inner.own
     }
 
-    /// What the log has made public of a side. The members of the player's own side are in the order of their places, those of the foe
-    /// in the order in which they appeared.
+    /// The information about a side that the log has made public. The members of the player's own side are in the order of their places,
+    /// those of the foe in the order in which they appeared.
     #[must_use]
     pub fn public(&self, side: Side) -> &PublicSide {
         self.inner.public.side(side)
     }
 
-    /// What the log has made public of the foe.
+    /// The information about the foe that the log has made public.
     #[must_use]
     pub fn foe(&self) -> &PublicSide {
         self.public(self.side.other())
     }
 
-    /// How many members the foe has, 1 to 6; `None` if the player was not told.
+    /// How many members the foe has, 1 to 6; `None` if the player does not know.
     #[must_use]
     pub fn foes(&self) -> Option<u8> {
         (self.inner.foes > 0).then_some(self.inner.foes)
     }
 
-    /// The choices that the side is offered, in the order of their bytes. There are none before [`Player::show`], and once the battle is
-    /// over.
+    /// The choices that the side is offered, in the order of their bytes; none before [`Player::show`], and none once the battle is over.
     #[must_use]
     pub fn choices(&self) -> crate::Choices {
         self.offered().iter().map(Choice::from).collect()
     }
 
-    /// The same choices as twelve bits.
+    /// The choices that the side is offered, as twelve bits.
     #[must_use]
     pub fn offered(&self) -> OfferedMask {
         OfferedMask(self.inner.offered & 0xfff)
@@ -145,12 +144,13 @@ impl fmt::Debug for Player {
     }
 }
 
-/// What the host of a battle keeps to tell one side of the events ([docs/MECHANICS.md, "Player's view"][view]).
+/// Reports the events of a battle to one side ([docs/MECHANICS.md, "Player's view"][view]). The host of the battle keeps a teller for each
+/// side.
 ///
 /// [view]: https://hibsuloy.example/gen1/blob/main/docs/MECHANICS.md#players-view
 ///
-/// A side must not see the foe's places, so its log names the foe's members by the order of their appearance. It may also hide exact HP.
-/// All else is told as it is.
+/// A side must not see the foe's places, so its log numbers the foe's members in the order in which they appeared. It may also hide exact
+/// HP. Everything else is reported unchanged.
 #[derive(Clone, Copy, Debug, PartialEq, Eq)]
 pub struct Teller {
     inner: plain::Teller,
@@ -158,26 +158,26 @@ pub struct Teller {
 }
 
 impl Teller {
-    /// The teller of a side before the first event of a battle. HP of the foe is told as it is.
+    /// The teller of a side before the first event of a battle. The foe's HP is reported unchanged.
     #[must_use]
     pub fn new(side: Side) -> Self {
         let inner = plain::Teller::new(side, false);
         Teller { inner, side }
     }
 
-    /// As [`Teller::new`], but HP of the foe's members is told in 48ths: the maximum is 48.
+    /// Like [`Teller::new`], but the HP of the foe's members is reported in 48ths: the maximum is 48.
     #[must_use]
     pub fn in_pixels(side: Side) -> Self {
         let inner = plain::Teller::new(side, true);
         Teller { inner, side }
     }
 
-    /// What the side is told of the next event of the battle.
+    /// The next event of the battle as it is reported to the side.
     pub fn tell(&mut self, event: &Event) -> Event {
         self.inner.tell(event)
     }
 
-    /// The log bytes that the side is told of the log of an update: as many bytes as it has.
+    /// The log of an update as it is reported to the side: as many log bytes.
     ///
     /// # Errors
     ///
@@ -189,7 +189,7 @@ impl Teller {
         self.inner.tell_log(log)
     }
 
-    /// Tells a player of the log of an update, and shows it its own side and its choices as the battle is now.
+    /// Reports the log of an update to a player, and shows it its own side and its choices in the current battle.
     ///
     /// # Errors
     ///
@@ -208,8 +208,8 @@ impl Teller {
 }
 
 impl Battle {
-    /// What a side is shown of itself ([docs/MECHANICS.md, "What a side is shown of itself"][own]). Nothing of it depends on the foe, but
-    /// whether its trapping move holds the active member.
+    /// A side as it is shown to its own player ([docs/MECHANICS.md, "What a side is shown of itself"][own]). Only `held`, whether the foe's
+    /// trapping move holds the active member, depends on the foe.
     ///
     /// [own]: https://hibsuloy.example/gen1/blob/main/docs/MECHANICS.md#what-a-side-is-shown-of-itself
     #[must_use]

@@ -5,8 +5,8 @@ use crate::{Battle, PlayoutOptions, Playouts};
 impl Battle {
     /// Plays copies of the battle by random choices, to their end or to a depth, and counts how they end.
     ///
-    /// Each round draws ten numbers for its copy from a generator of this call alone, so rounds are independent and none knows the
-    /// numbers that the battle itself will draw. Then in each update each side takes one of the choices that it is offered. Without
+    /// Each round draws ten numbers for its copy from a generator that only this call uses, so rounds are independent, and none of them uses
+    /// the numbers that the battle itself will draw. Then in each update each side takes one of the choices that it is offered. Without
     /// [`PlayoutOptions::with_weights`] all of them are equally likely. A battle that is over counts as it ended. The same options give
     /// the same counts, which are also those of `gen1_playout` in C.
     ///

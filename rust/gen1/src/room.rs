@@ -5,7 +5,7 @@ use crate::{Battle, BattleResult, Choice, Choices, Reply, RoomRefusal, Side};
 /// A battle of two players who submit their choices independently, and do not see each other's ([docs/MECHANICS.md, "Rooms"](https://hibsuloy.example/gen1/blob/main/docs/MECHANICS.md#rooms)).
 ///
 /// Pairs of choices are numbered from 0, which is the first pair after the start of the battle. A pair ends, and the battle is
-/// updated, as soon as both choices are submitted. A side that is asked for nothing passes automatically.
+/// updated, as soon as both choices are submitted. A side without a request passes automatically.
 ///
 /// ```
 /// use gen1::{Battle, Room, RoomRefusal, Side, Submitted, Team, member};
@@ -23,7 +23,7 @@ use crate::{Battle, BattleResult, Choice, Choices, Reply, RoomRefusal, Side};
 /// # }
 /// ```
 ///
-/// A clone is independent, as a battle's is, so that a room can be kept while a copy is tried.
+/// A clone is independent, like a battle's, so that a room can be kept while a copy is tried.
 #[derive(Clone, Debug, PartialEq, Eq)]
 pub struct Room {
     inner: PlainRoom,
@@ -86,7 +86,7 @@ impl Room {
         self.submit_byte(side, number, choice.byte())
     }
 
-    /// As [`Room::submit`], with the choice as a byte, as players send it ([docs/MECHANICS.md, "Offered choices"](https://hibsuloy.example/gen1/blob/main/docs/MECHANICS.md#offered-choices)). A byte that is not
+    /// Like [`Room::submit`], with the choice as a byte, as players send it ([docs/MECHANICS.md, "Offered choices"](https://hibsuloy.example/gen1/blob/main/docs/MECHANICS.md#offered-choices)). A byte that is not
     /// a choice is refused as not offered.
     ///
     /// # Errors
@@ -96,8 +96,8 @@ impl Room {
         plain::submit(&mut self.inner, side, number, byte)
     }
 
-    /// Ends the current pair by a forfeit of a side: the other side wins, and [`Room::log`] is the event of that. Choices that were
-    /// submitted for the pair are dropped. The room's battle stays as it was, since its bytes can't represent such a win.
+    /// Ends the current pair by a forfeit of a side: the other side wins, and [`Room::log`] is the event of the win. Choices that were
+    /// submitted for the pair are discarded. The room's battle is unchanged, since its bytes can't represent such a win.
     ///
     /// ```
     /// # use gen1::{Battle, Outcome, Room, RoomRefusal, Side, Team, member};
@@ -124,7 +124,7 @@ impl Room {
         Side::from_number(self.inner.forfeit)
     }
 
-    /// The outcome so far and what each side is asked: that of the battle, or the win after a forfeit.
+    /// The outcome so far and the request to each side: those of the battle, or the win after a forfeit.
     #[must_use]
     pub fn result(&self) -> BattleResult {
         plain::result(&self.inner)

@@ -1,9 +1,9 @@
-//! What a spectator knows of a battle.
+//! A spectator's knowledge of a battle.
 use crate::generated::spectator::View;
 use crate::{Event, Kind, LogFault, LogReader, Outcome, Side, Stat, Team};
 use core::fmt;
 
-/// What can be known of a battle from both teams and its events alone ([docs/MECHANICS.md, "Spectator's view"][view]).
+/// The knowledge of a battle that follows from both teams and its events alone ([docs/MECHANICS.md, "Spectator's view"][view]).
 ///
 /// A spectator that has seen every event of a battle from its start agrees with the battle.
 ///
@@ -38,14 +38,14 @@ pub struct Spectator {
 }
 
 impl Spectator {
-    /// A spectator before the first event of a battle of these teams: no member is out, and the turn is 0.
+    /// A spectator before the first event of a battle of these teams: no member is active, and the turn is 0.
     #[must_use]
     pub fn new(one: &Team, two: &Team) -> Self {
         let view = View::new(one, two);
         Spectator { view }
     }
 
-    /// Takes the next event of the battle.
+    /// Applies the next event of the battle.
     ///
     /// An event that names a side without an active member changes nothing, unless it is a switch. A switch to a place without a member
     /// changes nothing either.
@@ -64,7 +64,7 @@ impl Spectator {
         self.view.follow(reader, bytes)
     }
 
-    /// The place of the side's active member, 1 to 6; 0 before the first one came out.
+    /// The place of the side's active member, 1 to 6; 0 before the first comes out.
     #[must_use]
     pub fn place(&self, side: Side) -> u8 {
         self.view.place(side)

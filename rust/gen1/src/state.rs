@@ -9,8 +9,8 @@ use arrayvec::ArrayVec;
 
 /// The whole state of a battle ([docs/LAYOUT.md](https://hibsuloy.example/gen1/blob/main/docs/LAYOUT.md)).
 ///
-/// It includes both teams and the numbers still to be drawn, so it must not be shown to the players. What a spectator may know is in
-/// [`Spectator`](crate::Spectator).
+/// It includes both teams and the numbers still to be drawn, so it must not be shown to the players.
+/// [`Spectator`](crate::Spectator) holds what a spectator may know.
 #[derive(Clone, Debug, PartialEq, Eq)]
 #[cfg_attr(feature = "serde", derive(serde::Serialize, serde::Deserialize))]
 #[non_exhaustive]
@@ -25,7 +25,7 @@ pub struct State {
     pub rules: Rules,
     /// The outcome so far.
     pub outcome: Outcome,
-    /// What is asked of side 1, and of side 2.
+    /// The requests to side 1 and side 2.
     pub requests: [Request; 2],
     /// Which of the first nine `numbers` is drawn next, from 0 to 8.
     pub index: u8,
@@ -51,14 +51,14 @@ impl State {
 #[cfg_attr(feature = "serde", derive(serde::Serialize, serde::Deserialize))]
 #[non_exhaustive]
 pub struct SideState {
-    /// The member that is out, with the state that lasts only while it is; `None` before the first update.
+    /// The active member, with the state that lasts only while it is active; `None` before the first update.
     pub active: Option<ActiveState>,
     /// The members, in the order of their places.
     pub members: ArrayVec<MemberState, 6>,
 }
 
 impl SideState {
-    /// The member that is out; `None` before the first update.
+    /// The active member; `None` before the first update.
     #[must_use]
     pub fn member_out(&self) -> Option<&MemberState> {
         let place = self.active.as_ref()?.place.number();
@@ -66,7 +66,7 @@ impl SideState {
     }
 }
 
-/// The member of a side that is out, and the state that lasts only while it is.
+/// The active member of a side, and the state that lasts only while it is active.
 #[derive(Clone, Debug, PartialEq, Eq)]
 #[cfg_attr(feature = "serde", derive(serde::Serialize, serde::Deserialize))]
 #[non_exhaustive]
@@ -89,13 +89,13 @@ pub struct ActiveState {
     pub kept_accuracy: Option<u8>,
     /// The HP of the Substitute, from 0 to 249.
     pub substitute: Option<u8>,
-    /// How many more turns it is confused, from 1 to 5.
+    /// Turns of confusion left, from 1 to 5.
     pub confusion: Option<u8>,
-    /// The slot that Disable blocks, and for how many more turns.
+    /// The slot that Disable blocks, and the turns left.
     pub disabled: Option<DisabledSlot>,
     /// The counter that Toxic starts, from 0 to 64.
     pub bad_poison: Option<u8>,
-    /// How many more turns Bide or Thrash (1 to 3) or trapping (0 to 4) goes on. At most one of them is on.
+    /// Turns left of Bide or Thrash (1 to 3) or trapping (0 to 4). At most one of them is on.
     pub turns: Option<u8>,
     /// The damage that Bide has stored, from 0 to 65,535; 0 without Bide.
     pub energy: u16,
@@ -134,7 +134,7 @@ pub struct MemberState {
     pub stats: [u16; 4],
     /// The kind of its status; `None` without one. A member at 0 HP has none.
     pub status: Option<Kind>,
-    /// How many more turns it sleeps, from 1 to 7; `None` if it is awake.
+    /// Turns of sleep left, from 1 to 7; `None` if it is awake.
     pub sleep: Option<u8>,
     /// Whether the sleep clause counts its sleep, because the foe's move caused it.
     pub marked: bool,

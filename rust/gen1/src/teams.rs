@@ -1,4 +1,4 @@
-//! Members of teams, from names.
+//! Members of teams from names.
 use crate::{MemberSpec, UnknownName};
 use arrayvec::ArrayVec;
 use core::fmt;
@@ -29,7 +29,7 @@ impl core::error::Error for NameFault {}
 
 /// A member at level 100 with maximum DVs, experience and PP, as in most competitive rules.
 ///
-/// In names only letters and digits are compared, in either case. The fields of the member may be changed before it goes into a
+/// In names only letters and digits are compared, ignoring case. The fields of the member may be changed before it becomes part of a
 /// [`Team`](crate::Team), which checks all of them.
 ///
 /// ```

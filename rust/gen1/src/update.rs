@@ -1,4 +1,4 @@
-//! What an update takes and returns: choices, sinks for its events, and its result.
+//! The arguments and results of an update: choices, sinks for its events, and its result.
 use crate::generated::events;
 use crate::lines::Lines;
 use crate::{BattleResult, Choice, Event, EventList, LogBuf, Outcome, Request};
@@ -33,7 +33,7 @@ impl fmt::Display for Offered {
     }
 }
 
-/// What [`Battle::update_with`](crate::Battle::update_with) takes for a side: a [`Choice`], the byte of one, or an [`Offered`] choice.
+/// A side's argument of [`Battle::update_with`](crate::Battle::update_with): a [`Choice`], the byte of one, or an [`Offered`] choice.
 pub trait Chosen: Copy + sealed::Chosen {}
 
 impl Chosen for Choice {}

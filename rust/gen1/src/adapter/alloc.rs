@@ -1,4 +1,4 @@
-//! Memory: in the kit each list is passed its allocator, and each growth returns whether there was enough memory.
+//! Memory: in the kit each list is passed its allocator, and each growth may return that memory is exhausted.
 use core::fmt;
 
 /// There was not enough memory. Rust's own `AllocError` is not stable.

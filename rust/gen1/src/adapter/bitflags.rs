@@ -20,7 +20,7 @@ impl<B> Flag<B> {
         self.name
     }
 
-    /// The set that holds it alone.
+    /// The set with this flag only.
     pub const fn value(&self) -> &B {
         &self.value
     }

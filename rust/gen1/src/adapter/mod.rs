@@ -1,7 +1,7 @@
-//! What the generated sources call and Rust does not have, or has in another form (docs/PLAIN.md, "The adapter").
+//! Items that the generated sources use and that Rust lacks, or has in another form (docs/PLAIN.md, "The adapter").
 //!
-//! The sources are written for the std and the crates of the kit that proves them. Nearly all of those have the names and the
-//! meaning of Rust's. What has not is here, each item with the reason.
+//! The sources are written for the std and the crates of the kit that proves them. Nearly all of their items have the names and the
+//! meaning of Rust's. Those that differ are here, each with the reason.
 
 pub mod alloc;
 pub mod bitflags;

@@ -57,7 +57,7 @@ impl<T, A: Allocator> Vec<T, A> {
         Ok(())
     }
 
-    /// Appends items. Without an allocator there is no room for any.
+    /// Appends items. Without an allocator there is room for none.
     ///
     /// # Errors
     ///

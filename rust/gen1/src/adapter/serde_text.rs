@@ -1,4 +1,4 @@
-//! Types that serde writes as their text or their number, and reads from it.
+//! Types that serde writes and reads as a text or a number.
 
 /// Implements `Serialize` through `Display`, and `Deserialize` through `FromStr`.
 macro_rules! serde_as_text {

@@ -29,7 +29,7 @@ impl Hash for Battle {
 }
 
 impl BattleResult {
-    /// What is asked of a side for the next update.
+    /// The request to a side for the next update.
     #[must_use]
     pub fn request(self, side: Side) -> Request {
         match side {

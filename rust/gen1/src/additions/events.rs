@@ -2,7 +2,7 @@
 use crate::generated::events::LogReader;
 use core::fmt;
 
-/// Does not show the held bytes, which are of an incomplete event.
+/// Omits the held bytes, which belong to an incomplete event.
 impl fmt::Debug for LogReader {
     fn fmt(&self, f: &mut fmt::Formatter<'_>) -> fmt::Result {
         f.debug_struct("LogReader").finish_non_exhaustive()

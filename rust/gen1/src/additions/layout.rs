@@ -53,7 +53,7 @@ impl fmt::Display for Conditions {
 impl FromStr for Conditions {
     type Err = UnknownText;
 
-    /// Reads what `Display` writes: names with blanks between them, in any order.
+    /// Reads the text that `Display` writes: names separated by spaces, in any order.
     fn from_str(text: &str) -> Result<Self, UnknownText> {
         let mut conditions = Conditions::default();
         for name in text.split_whitespace() {

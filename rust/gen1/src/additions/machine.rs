@@ -7,7 +7,7 @@ use crate::generated::machine::{
 use core::fmt;
 use core::str::FromStr;
 
-/// A text that is not a choice, not a side, or not the names of conditions.
+/// A text that is not a choice, a side, or a list of conditions.
 #[derive(Clone, Copy, Debug, PartialEq, Eq)]
 pub struct UnknownText(pub(super) &'static str);
 
@@ -44,7 +44,7 @@ impl FromStr for Choice {
             _ => None,
         };
         choice.ok_or(UnknownText(
-            "no choice: pass, move 0 to 4, or switch 1 to 6",
+            "not a choice: expected pass, move 0 to 4, or switch 1 to 6",
         ))
     }
 }
@@ -67,7 +67,7 @@ impl FromStr for Side {
         match text {
             "1" => Ok(Side::One),
             "2" => Ok(Side::Two),
-            _ => Err(UnknownText("no side: 1 or 2")),
+            _ => Err(UnknownText("not a side: expected 1 or 2")),
         }
     }
 }
@@ -183,7 +183,7 @@ mod serde_impls {
     impl<'de> Deserialize<'de> for Health {
         fn deserialize<D: Deserializer<'de>>(deserializer: D) -> Result<Self, D::Error> {
             let HealthObject { hp, max, kind } = HealthObject::deserialize(deserializer)?;
-            Health::new(hp, max, kind).ok_or_else(|| D::Error::custom("HP that are out of range"))
+            Health::new(hp, max, kind).ok_or_else(|| D::Error::custom("the HP are out of range"))
         }
     }
 }
@@ -205,7 +205,7 @@ const fn switch_to(place: u8) -> Choice {
 }
 
 impl Choice {
-    /// The one move that is left if no slot can be chosen.
+    /// The only move that is offered if no slot can be chosen.
     pub const MOVE_0: Choice = move_at(0);
     /// The move in slot 1.
     pub const MOVE_1: Choice = move_at(1);
@@ -246,7 +246,7 @@ impl Rules {
     pub const FREEZE_CLAUSE: Rules = rules(2);
 }
 
-/// The clauses of both, as `Rules::SLEEP_CLAUSE | Rules::FREEZE_CLAUSE`.
+/// The clauses of both, as in `Rules::SLEEP_CLAUSE | Rules::FREEZE_CLAUSE`.
 impl core::ops::BitOr for Rules {
     type Output = Rules;
 
@@ -270,7 +270,7 @@ impl Side {
 }
 
 impl Outcome {
-    /// The side that has won; `None` while the battle goes on, and if neither side won.
+    /// The side that has won; `None` if the battle is not over, or neither side has won.
     #[must_use]
     pub fn winner(self) -> Option<Side> {
         match self {
@@ -292,7 +292,7 @@ impl Outcome {
     }
 }
 
-/// A health has no order, whose `max` would hide the maximum HP.
+/// A health has no order: `max` of `Ord` would hide the maximum HP.
 impl core::hash::Hash for Health {
     fn hash<H: core::hash::Hasher>(&self, state: &mut H) {
         (self.hp(), self.max(), self.kind()).hash(state);

@@ -1,5 +1,5 @@
-//! What Rust's users expect of the engine's types beside the generated sources: text, order, hash and serde's data. It converts,
-//! and has no rule of battle (docs/PLAIN.md, "What is added").
+//! Traits that Rust users expect of the engine's types, in addition to the generated sources: text, order, hash and serde's data. These
+//! convert values, and contain no rule of battle (docs/PLAIN.md, "What is added").
 
 mod engine;
 mod events;

@@ -32,7 +32,7 @@ impl Reason {
         Reason::Health,
     ];
 
-    /// What keeps the use from hitting, as the end of a sentence: "the user is slower than the foe".
+    /// Why the use can't hit, as the end of a sentence: "the user is slower than the foe".
     #[must_use]
     pub const fn words(self) -> &'static str {
         match self {

@@ -5,7 +5,7 @@ use crate::generated::outcomes::{Chance, OutcomesFault, Successor, Ways};
 use core::fmt;
 
 impl Successor {
-    /// The battle that the update leads to. The numbers to draw are those from before.
+    /// The battle that the update leads to. The numbers to draw are as before it.
     #[must_use]
     pub fn battle(&self) -> Battle {
         Battle {
@@ -14,7 +14,7 @@ impl Successor {
     }
 }
 
-/// A place for an outcome, with weight 0.
+/// A place for an outcome: the battle with weight 0.
 impl From<&Battle> for Successor {
     fn from(battle: &Battle) -> Self {
         Successor::new(battle.packed.clone(), 0)

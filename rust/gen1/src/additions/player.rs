@@ -17,7 +17,7 @@ impl Seen {
         Kind::from_number(self.status)
     }
 
-    /// The moves that it was seen to use, and how often: 1 to 255, where 255 is that many and more.
+    /// The moves that it was seen to use, and how often: 1 to 255, where 255 means 255 or more.
     pub fn moves(&self) -> impl Iterator<Item = (MoveId, u8)> + '_ {
         self.moves
             .iter()
@@ -26,19 +26,19 @@ impl Seen {
 }
 
 impl PublicSide {
-    /// The active member, as the log showed it last; `None` before the first came out.
+    /// The active member, as the log last showed it; `None` before the first comes out.
     #[must_use]
     pub fn member_out(&self) -> Option<&Seen> {
         self.members.get(usize::from(self.place).checked_sub(1)?)
     }
 
-    /// Both types of the active member; the first is there twice if it has one type. Before the first came out both are Normal.
+    /// Both types of the active member; the first twice if it has one type. Before the first member comes out both are Normal.
     #[must_use]
     pub fn types(&self) -> [Element; 2] {
         elements_at([self.first_type, self.second_type])
     }
 
-    /// The move that the active member used last; `None` since it came out.
+    /// The move that the active member used last; `None` if it has used none since it came out.
     #[must_use]
     pub fn last_move(&self) -> Option<MoveId> {
         MoveId::new(self.last_move)

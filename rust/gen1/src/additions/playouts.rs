@@ -4,7 +4,7 @@ use crate::generated::machine::Side;
 use crate::generated::playouts::{PlayoutOptions, Playouts};
 use core::fmt;
 
-/// How often each choice is made compared to others in playouts, 0 to 255.
+/// How often each choice is made in playouts, compared to others: 0 to 255.
 ///
 /// A choice of weight 6 is twice as likely as one of weight 3, and one of weight 0 is made only if the others have 0 too.
 /// By default each has the weight 1.
@@ -33,7 +33,7 @@ impl Weights {
         self.0[0]
     }
 
-    /// The same weights but for one move. Move 0, with which a member goes on or uses Struggle, has the weight of
+    /// These weights with another weight for one move. Move 0, by which a member continues a move or uses Struggle, has the weight of
     /// [`MoveId::STRUGGLE`].
     #[must_use]
     pub fn with_move(mut self, id: MoveId, weight: u8) -> Self {
@@ -41,14 +41,14 @@ impl Weights {
         self
     }
 
-    /// The same weight for all moves.
+    /// These weights with one weight for all moves.
     #[must_use]
     pub fn with_moves(mut self, weight: u8) -> Self {
         self.0[1..].fill(weight);
         self
     }
 
-    /// The same weights but for switches.
+    /// These weights with another weight for switches.
     #[must_use]
     pub const fn with_switch(mut self, weight: u8) -> Self {
         self.0[0] = weight;
@@ -63,7 +63,7 @@ impl Default for Weights {
 }
 
 impl PlayoutOptions {
-    /// So many rounds from a seed, each played to its end by choices that are equally likely.
+    /// That many rounds from a seed, each played to its end by choices that are equally likely.
     #[must_use]
     pub const fn new(seed: u64, rounds: u32) -> Self {
         PlayoutOptions {
@@ -74,8 +74,8 @@ impl PlayoutOptions {
         }
     }
 
-    /// The same with rounds of that many updates at most. One that still goes on is won by the side that has the larger share of
-    /// its HP left, and equal shares are a tie.
+    /// These options with rounds of at most that many updates. A round that has not ended then is won by the side with the larger share
+    /// of its HP left, and equal shares are a tie.
     #[must_use]
     pub const fn with_depth(self, updates: u32) -> Self {
         PlayoutOptions {
@@ -84,7 +84,7 @@ impl PlayoutOptions {
         }
     }
 
-    /// The same with choices by weights.
+    /// These options with choices by weights.
     #[must_use]
     pub const fn with_weights(self, weights: Weights) -> Self {
         PlayoutOptions {
@@ -103,7 +103,7 @@ impl PartialEq for PlayoutOptions {
 
 impl Eq for PlayoutOptions {}
 
-/// Leaves out the weights.
+/// Omits the weights.
 impl fmt::Debug for PlayoutOptions {
     fn fmt(&self, f: &mut fmt::Formatter<'_>) -> fmt::Result {
         f.debug_struct("PlayoutOptions")

@@ -7,7 +7,7 @@ mod serde_impls {
     use serde::de::Error;
     use serde::{Deserialize, Deserializer, Serialize, Serializer};
 
-    /// The object of docs/PROGRAM.md, "Input". Each key is required; other keys are ignored, as in the program.
+    /// The object in docs/PROGRAM.md, "Input". Each key is required; other keys are ignored, as in the program.
     #[derive(Serialize, Deserialize)]
     #[serde(remote = "MemberSpec")]
     struct MemberObject {
@@ -30,8 +30,8 @@ mod serde_impls {
         }
     }
 
-    /// Reads a list of members, and checks it as `Team::new` does. A team is not written: it has the stats of its members, and not the
-    /// DVs and experience that they come from.
+    /// Reads a list of members, and checks it as `Team::new` does. A team cannot be serialized: it has the stats of its members, but not
+    /// the DVs and experience from which they were computed.
     impl<'de> Deserialize<'de> for Team {
         fn deserialize<D: Deserializer<'de>>(deserializer: D) -> Result<Self, D::Error> {
             let members = ArrayVec::<MemberSpec, 6>::deserialize(deserializer)?;

@@ -8,9 +8,9 @@ use core::str::FromStr;
 /// How many letters and digits of a text are compared with names. No name has more.
 const LETTERS: usize = 24;
 
-/// A text that names no species, or no move, with the name that is nearest to it.
+/// A text that names no species or no move, with the nearest name.
 ///
-/// In names only ASCII letters and digits are compared, in either case: `body slam`, `BodySlam` and `Body-Slam` name the same move.
+/// In names only ASCII letters and digits are compared, ignoring case: `body slam`, `BodySlam` and `Body-Slam` name the same move.
 ///
 /// ```
 /// let fault = "Body Slap".parse::<gen1::MoveId>().unwrap_err();
@@ -43,7 +43,7 @@ impl UnknownName {
         }
     }
 
-    /// The name that is nearest to the text; `None` if a third of its letters differ from every name.
+    /// The name nearest to the text; `None` if a third of its letters differ from every name.
     #[must_use]
     pub fn suggestion(&self) -> Option<&'static str> {
         self.nearest
@@ -71,7 +71,7 @@ fn letters(text: &str) -> ArrayVec<u8, LETTERS> {
         .collect()
 }
 
-/// How many letters have to be put in, taken out or replaced to make one text of the other.
+/// The edit distance of two texts: how many letters must be inserted, removed or replaced.
 fn distance(one: &[u8], two: &[u8]) -> usize {
     let mut row: [usize; LETTERS + 1] = core::array::from_fn(|place| place);
     for (place, letter) in one.iter().enumerate() {
@@ -86,7 +86,7 @@ fn distance(one: &[u8], two: &[u8]) -> usize {
     row[two.len()]
 }
 
-/// The name without blanks and punctuation, as `BodySlam`.
+/// The name without spaces and punctuation, such as `BodySlam`.
 fn debug_name(name: &str, f: &mut fmt::Formatter<'_>) -> fmt::Result {
     let mut parts = name.split(|letter: char| !letter.is_ascii_alphanumeric());
     parts.try_for_each(|part| f.write_str(part))
@@ -99,7 +99,7 @@ impl fmt::Display for Species {
     }
 }
 
-/// The name without blanks and punctuation, as `MrMime`.
+/// The name without spaces and punctuation, such as `MrMime`.
 impl fmt::Debug for Species {
     fn fmt(&self, f: &mut fmt::Formatter<'_>) -> fmt::Result {
         debug_name(self.name(), f)
@@ -109,7 +109,7 @@ impl fmt::Debug for Species {
 impl FromStr for Species {
     type Err = UnknownName;
 
-    /// Reads a name, of which only letters and digits are compared, in either case.
+    /// Reads a name, of which only letters and digits are compared, ignoring case.
     fn from_str(text: &str) -> Result<Self, UnknownName> {
         let unknown = || UnknownName::new("species", text, Species::all().map(Species::name));
         species_called(text.as_bytes()).ok_or_else(unknown)
@@ -123,7 +123,7 @@ impl fmt::Display for MoveId {
     }
 }
 
-/// The name without blanks and punctuation, as `BodySlam`.
+/// The name without spaces and punctuation, such as `BodySlam`.
 impl fmt::Debug for MoveId {
     fn fmt(&self, f: &mut fmt::Formatter<'_>) -> fmt::Result {
         debug_name(self.name(), f)
@@ -133,8 +133,8 @@ impl fmt::Debug for MoveId {
 impl FromStr for MoveId {
     type Err = UnknownName;
 
-    /// Reads a name, of which only letters and digits are compared, in either case. `Vise Grip` and `Hi Jump Kick`, the names that two
-    /// moves have in other generations, are accepted too.
+    /// Reads a name, of which only letters and digits are compared, ignoring case. `Vise Grip` and `Hi Jump Kick`, the names of two moves
+    /// in other generations, are accepted too.
     fn from_str(text: &str) -> Result<Self, UnknownName> {
         let unknown = || UnknownName::new("move", text, MoveId::all().map(MoveId::name));
         move_called(text.as_bytes()).ok_or_else(unknown)
@@ -213,7 +213,7 @@ ordered_by_key! {
 
 pub(crate) use ordered_by_key;
 
-/// A number that is out of a type's range.
+/// A number that is out of the range of a type.
 #[derive(Clone, Copy, Debug, PartialEq, Eq)]
 pub struct OutOfRange;
 
