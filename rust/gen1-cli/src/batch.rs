@@ -19,12 +19,12 @@ pub struct Batch {
     /// Reads a battle from each line, and prints an object for each
     #[arg(long)]
     pub lines: bool,
-    /// How many battles of --lines are played at a time; 0 is one for each core
+    /// How many battles of --lines are played at a time; 0 is one per core
     #[arg(long, value_name = "N", default_value_t = 0, requires = "lines", value_parser = clap::value_parser!(u16).range(0..=1024))]
     jobs: u16,
 }
 
-/// What a line of the input gave.
+/// The result of a line of the input.
 #[derive(Serialize)]
 struct LineObject {
     /// The number of the line, from 1.

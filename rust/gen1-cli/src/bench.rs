@@ -80,7 +80,7 @@ fn game(random: &mut Random) -> Game {
     let (mut battle, mut pairs) = (start.clone(), Vec::new());
     while let Some((one, two)) = drawn(&battle, random) {
         pairs.push((one.choice(), two.choice()));
-        // What the mask offers is accepted.
+        // Choices from the mask are accepted.
         let _ = battle.update_silent(one, two);
     }
     Game { start, pairs }

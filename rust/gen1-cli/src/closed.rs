@@ -1,7 +1,7 @@
 //! Whether standard output was closed when the program started.
 //!
 //! Rust's runtime opens /dev/null in place of a closed standard stream before `main`, so that each write seems to succeed. On
-//! Unix a function that the loader calls earlier looks at the stream; elsewhere nothing is known of it.
+//! Unix a function that the loader calls earlier checks the stream; on other systems this is unknown.
 #![cfg_attr(unix, allow(unsafe_code))]
 use std::sync::atomic::{AtomicBool, Ordering};
 
@@ -16,7 +16,7 @@ pub fn is_closed() -> bool {
 mod before_main {
     use std::ffi::c_int;
 
-    /// The same number on each Unix.
+    /// F_GETFD, whose number is the same on each Unix.
     const F_GETFD: c_int = 1;
 
     unsafe extern "C" {

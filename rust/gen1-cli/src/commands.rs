@@ -66,7 +66,7 @@ pub fn state(given: &Given, bytes: bool, json: bool) -> Result<(), Fault> {
     })
 }
 
-/// The state of a battle with what both sides may choose, and its bytes.
+/// The state of a battle, the choices of both sides, and its bytes.
 pub fn state_json(battle: &Battle) -> String {
     #[derive(Serialize)]
     struct StateObject {
@@ -190,7 +190,7 @@ pub fn room(given: &Given, json: bool) -> Result<(), Fault> {
     Ok(())
 }
 
-/// What a room prints before the first submission.
+/// The text of a room before the first submission.
 fn begun_text(room: &Room, json: bool) -> Result<String, Fault> {
     if !json {
         return Ok(text_of(&events_of(room.log())?));
@@ -226,7 +226,7 @@ struct ReplyObject {
     update: Option<AdvancedObject>,
 }
 
-/// What a pair that ended leaves.
+/// The result of a pair that has ended.
 #[derive(Serialize)]
 struct AdvancedObject {
     events: Vec<EventObject>,

@@ -1,11 +1,11 @@
-//! Which numbers an update drew (docs/MECHANICS.md, "Link numbers").
+//! The numbers that an update drew (docs/MECHANICS.md, "Link numbers").
 use gen1::Battle;
 
 /// How many numbers are drawn in turn.
 pub const NUMBERS: usize = 9;
 /// No update draws more numbers (docs/PROVED.md).
 const MOST: usize = 4700;
-/// Where the index of the next number is in a battle's bytes, and the first of the numbers (docs/LAYOUT.md).
+/// The offsets of the index of the next number, and of the first number, in a battle's bytes (docs/LAYOUT.md).
 const INDEX: usize = 5;
 const FIRST: usize = 6;
 
@@ -37,7 +37,7 @@ pub fn drawn(before: &Battle, after: &Battle) -> Vec<u8> {
 pub fn with_draw(battle: &Battle, at: usize, byte: u8) -> Option<Battle> {
     let (index, _) = drawing(battle);
     let mut bytes = *battle.as_bytes();
-    // Draws after the ninth number are renewed; this is the number that becomes `byte` by that.
+    // Draws after the ninth number are renewed; this is the number that becomes `byte` when renewed.
     let renewed = index + at >= NUMBERS;
     let number = if renewed {
         byte.wrapping_sub(1).wrapping_mul(205)

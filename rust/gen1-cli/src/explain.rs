@@ -1,6 +1,6 @@
-//! `gen1 explain`: a battle in sentences, with each draw, what it decided, and what another byte would have decided.
+//! `gen1 explain`: a battle in sentences, with each draw, its effect, and the effect that another byte would have had.
 //!
-//! What a draw decided is found by trying: the update is made from copies of the battle in which the draw gives another byte.
+//! The effect of a draw is found by trial: copies of the battle, in which the draw gives another byte, are updated.
 use crate::draws::{NUMBERS, drawn, with_draw};
 use crate::fault::Fault;
 use crate::files::put;
@@ -46,7 +46,7 @@ fn update(step: &Step) -> String {
     text
 }
 
-/// What a draw decided.
+/// The effect of a draw.
 fn decided(step: &Step, at: usize) -> String {
     if at >= NUMBERS {
         return ": a number of this update again, renewed\n".into();
@@ -61,7 +61,7 @@ fn decided(step: &Step, at: usize) -> String {
     format!("; with another byte:\n{}", lines.collect::<String>())
 }
 
-/// What other bytes would have decided, in the order of their first bytes.
+/// The effects that other bytes would have had, in the order of their first bytes.
 fn others(step: &Step, at: usize) -> Vec<(String, Vec<u8>)> {
     let mut ways: Vec<(String, Vec<u8>)> = Vec::new();
     let mut events = EventList::new();

@@ -37,13 +37,13 @@ impl Fault {
         Fault::new(1, line, format!("team {side}{comma} {why}"))
     }
 
-    /// The pair with this number, from 0, is refused; `more` says what was chosen and what is offered.
+    /// The pair with this number, from 0, is refused; `more` has the choice and the offered choices.
     pub fn pair(pair: usize, why: Refusal, more: &str) -> Fault {
         let line = format!("pair {pair} refused {}", why.number());
         Fault::new(1, line, format!("at .choices[{pair}]: {why}{more}"))
     }
 
-    /// A key that nothing reads is refused by `--strict`.
+    /// An unknown key, refused because of `--strict`.
     pub fn unknown_key(why: &str) -> Fault {
         Fault::new(1, "json", why)
     }
@@ -63,7 +63,7 @@ impl Fault {
         Fault::new(1, "showdown", format!("line {line}: {why}"))
     }
 
-    /// The guess of a team does not fit what was seen of it.
+    /// The guess of a team does not fit the members that were seen.
     pub fn guess(why: &str) -> Fault {
         Fault::new(1, "guess", why)
     }
@@ -73,7 +73,7 @@ impl Fault {
         Fault::new(1, "names", why)
     }
 
-    /// An option that is needed where FILE is a text of choices.
+    /// A missing option that is needed if FILE is a text of choices.
     pub fn missing(option: &str) -> Fault {
         let why = "the input is not a JSON object, so --one, --two and --seed are needed";
         Fault::new(2, format!("{option} is missing"), why)
@@ -85,7 +85,7 @@ impl Fault {
         Fault::new(2, "only one input can be standard input", why)
     }
 
-    /// The words or options of a calculation do not fit together.
+    /// The arguments or options of a calculation do not fit together.
     pub fn words(line: &str, why: &str) -> Fault {
         Fault::new(2, line, why)
     }
@@ -116,12 +116,12 @@ impl Fault {
         )
     }
 
-    /// The file to write is one of those that are read.
+    /// The file to write is also read.
     pub fn out() -> Fault {
         Fault::new(
             2,
             "--out is a file that is read too",
-            "it would be lost: give --out another name",
+            "it would be overwritten: give --out another name",
         )
     }
 
@@ -130,7 +130,7 @@ impl Fault {
         Fault::new(3, "read", format!("{name}: {why}"))
     }
 
-    /// A write failed. A reader that wants no more, as `head` does, is not an error to report.
+    /// A write failed. A reader that stops early, such as `head`, is not an error to report.
     pub fn write(name: &str, why: &Error) -> Fault {
         let line = if why.kind() == ErrorKind::BrokenPipe {
             ""
@@ -140,7 +140,7 @@ impl Fault {
         Fault::new(3, line, format!("{name}: {why}"))
     }
 
-    /// The same error with the name of the file that it is in.
+    /// This error with the name of the file in which it occurred.
     pub fn within(self, name: &str) -> Fault {
         Fault {
             explanation: format!("{name}: {}", self.explanation),
@@ -148,7 +148,7 @@ impl Fault {
         }
     }
 
-    /// The same error with what else is known of its input.
+    /// This error with further notes on its input.
     pub fn with_notes(mut self, notes: &[String]) -> Fault {
         for note in notes {
             self.explanation += "; ";
@@ -162,12 +162,12 @@ impl Fault {
         &self.line
     }
 
-    /// Where the error is and what was expected.
+    /// The place of the error, and what was expected there.
     pub fn explanation(&self) -> &str {
         &self.explanation
     }
 
-    /// Whether the error is one of the forms that only this program has, so that its explanation is always printed.
+    /// Whether only this program has errors of this form, so that the explanation is always printed.
     fn is_own(&self) -> bool {
         let own = ["text", "choices", "names", "page", "showdown", "guess"];
         self.status == 2 || own.contains(&self.line.as_str()) || self.line.starts_with("lines ")
@@ -186,7 +186,7 @@ impl Fault {
     }
 }
 
-/// A value of the input is not what is expected there.
+/// A value of the input is not of the expected form.
 impl From<Misfit> for Fault {
     fn from(misfit: Misfit) -> Fault {
         Fault::new(1, "json", misfit.to_string())

@@ -9,7 +9,7 @@ const LIMIT: u64 = 1_048_576;
 /// The maximum length of a battle log, which may have the requests of each turn, in bytes.
 const LOG_LIMIT: u64 = 16 * LIMIT;
 
-/// A file; `None` for a standard stream, which is meant by `-` too.
+/// A file; `None` for a standard stream, which `-` also means.
 pub fn named(file: Option<&Path>) -> Option<&Path> {
     file.filter(|path| *path != Path::new("-"))
 }
@@ -24,7 +24,7 @@ pub fn read(file: Option<&Path>) -> Result<Vec<u8>, Fault> {
     read_up_to(LIMIT, file)
 }
 
-/// Reads a battle log in the same way.
+/// Reads a battle log from a file, or from standard input if none is named.
 pub fn read_battle_log(file: Option<&Path>) -> Result<Vec<u8>, Fault> {
     read_up_to(LOG_LIMIT, file)
 }
@@ -51,7 +51,7 @@ pub fn read_line() -> Result<Vec<u8>, Fault> {
     within(LIMIT, line, None)
 }
 
-/// Reads the lines of a file or of standard input, as many at a time as are there.
+/// Reads the lines of a file or of standard input, as many at a time as are available.
 pub struct LineReader {
     name: String,
     length: Option<u64>,
@@ -94,7 +94,7 @@ impl LineReader {
         self.taken
     }
 
-    /// The next line, and those after it that need no more reading; none at the end. Line feeds are left out.
+    /// The next line, and the lines after it that are already in memory; none at the end. Line feeds are left out.
     pub fn next_lines(&mut self) -> Result<Vec<Vec<u8>>, Fault> {
         let mut lines = Vec::new();
         while lines.is_empty() || self.input.buffer().contains(&b'\n') {
@@ -165,12 +165,12 @@ pub fn is_open() -> Result<(), Fault> {
     Ok(())
 }
 
-/// Writes a file whole or not at all: to a new file beside it, which then gets its name.
+/// Writes a file completely or not at all: to a new file next to it, which is then renamed.
 ///
-/// What is not a regular file, such as a pipe or a device, is written to directly.
+/// A pipe, a device, or anything else that is not a regular file is written to directly.
 pub fn replace(path: &Path, text: &[u8]) -> Result<(), Fault> {
     let failed = |why: io::Error| Fault::write(&path.display().to_string(), &why);
-    // A link stays a link.
+    // A symbolic link is kept: its target is written.
     let target = fs::canonicalize(path).unwrap_or(path.into());
     let old = fs::metadata(&target).ok();
     if old.as_ref().is_some_and(|old| !old.is_file()) {
@@ -193,7 +193,7 @@ pub fn replace(path: &Path, text: &[u8]) -> Result<(), Fault> {
     })
 }
 
-/// A name in the same folder, for this process alone.
+/// A name in the folder of a file, unique to this process.
 fn name_beside(path: &Path) -> PathBuf {
     let mut name = path.as_os_str().to_owned();
     name.push(format!(".{}.part", std::process::id()));

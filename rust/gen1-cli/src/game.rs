@@ -36,7 +36,7 @@ pub fn play(
             number,
             before: &before,
             after: battle,
-            // What was accepted is a choice.
+            // A byte that was accepted is a choice.
             choices: [one, two].map(|byte| Choice::from_byte(byte).unwrap_or_default()),
             events: &events,
             result,
@@ -45,7 +45,7 @@ pub fn play(
     Ok(())
 }
 
-/// The bytes of a pair; a choice that fits nothing is a byte that is not offered.
+/// The bytes of a pair. A choice that matches nothing becomes a byte that is not offered.
 fn bytes_of(battle: &Battle, pair: &[Chosen; 2]) -> [u8; 2] {
     [
         pair[0].byte(battle, Side::One),
@@ -53,7 +53,7 @@ fn bytes_of(battle: &Battle, pair: &[Chosen; 2]) -> [u8; 2] {
     ]
 }
 
-/// The error of a pair, with what was chosen and what is offered.
+/// The error of a pair, with the choice and the offered choices.
 fn refused(battle: &Battle, number: usize, why: Refusal, pair: &[Chosen; 2]) -> Fault {
     let more = match why {
         Refusal::Over => format!(", {}", battle.outcome()),

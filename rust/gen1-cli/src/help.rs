@@ -1,4 +1,4 @@
-//! What help prints after the arguments (docs/PROGRAM.md).
+//! The texts that help prints after the arguments (docs/PROGRAM.md).
 
 pub const PROGRAM: &str = "\
 FILE is the input. Without it, or with -, the input is standard input.
@@ -32,7 +32,7 @@ pub const RUN: &str = r#"The input is a JSON object:
   limit     may be left out: the last turn, from 1 to 9999
 
 Without JSON: --one, --two and --seed give teams and seed, and each line of FILE has
-the choices of both sides with a comma between them, as in: move 1, switch Chansey"#;
+the choices of both sides, separated by a comma, as in: move 1, switch Chansey"#;
 
 pub const PRINT: &str =
     "The input is what `gen1 log` writes: gen1 log examples/tauros.json | gen1 print";
@@ -86,7 +86,7 @@ Standard input has your choices, a number on each line, and q to leave the game.
 The choices in FILE are ignored. With FILE - the whole of standard input is the battle,
 so the game ends at your first choice.";
 
-pub const REPLAY: &str = "A file is written whole or not at all.";
+pub const REPLAY: &str = "A file is written completely or not at all.";
 
 pub const BENCH: &str = "\
 Each row takes a quarter of the time, and says what one step includes. It is the plain

@@ -17,9 +17,9 @@ pub struct UpdateObject {
     choices: [String; 2],
     events: Vec<EventObject>,
     result: BattleResult,
-    /// What both sides may choose next.
+    /// The choices of both sides for the next update.
     offered: [Vec<OfferedObject>; 2],
-    /// The bytes that the update has drawn, in their order.
+    /// The bytes that the update drew, in order.
     draws: Vec<u8>,
 }
 
@@ -51,7 +51,7 @@ pub struct OfferedObject {
     name: Option<&'static str>,
 }
 
-/// What both sides may choose.
+/// The choices of both sides.
 pub fn offered(battle: &Battle) -> [Vec<OfferedObject>; 2] {
     Side::BOTH.map(|side| {
         let choices = battle.choices(side).into_iter();
@@ -187,6 +187,6 @@ impl EventObject {
 
 /// A value as one line of JSON.
 pub fn line_of(value: &impl Serialize) -> String {
-    // Every object of the program has texts as keys, so that it can be written.
+    // Every object of the program has texts as keys, so that it can be serialized.
     serde_json::to_string(value).unwrap_or_default() + "\n"
 }

@@ -33,7 +33,7 @@ use std::io::IsTerminal;
 use std::process::ExitCode;
 use words::{Battle, Command, Words};
 
-/// Reads the input of a battle and runs a command on it. Keys that nothing reads are named in the explanation.
+/// Reads the input of a battle and runs a command on it. The explanation names unknown keys.
 fn on_battle(of: &Battle, run: impl FnOnce(&Given) -> Result<(), Fault>) -> Result<(), Fault> {
     let given = Given::read(&of.input, &of.terms)?;
     noted(&of.input, &given.notes, run(&given))

@@ -9,10 +9,10 @@ use gen1::{MoveId, Species};
 /// The arguments of `names`.
 #[derive(Args)]
 pub struct Names {
-    /// What is named
+    /// What to list
     #[arg(value_enum)]
     kind: Named,
-    /// Prints only names that have this text in them; only letters and digits are compared, in either case
+    /// Prints only names that contain this text; only letters and digits are compared, ignoring case
     pattern: Option<String>,
     /// Prints types and base stats (HP, Attack, Defense, Speed, Special), or type, power, accuracy (of 255) and PP
     #[arg(long)]
@@ -25,7 +25,7 @@ enum Named {
     Moves,
 }
 
-/// Prints the names that have a pattern.
+/// Prints the names that contain a pattern.
 pub fn names(asked: &Names) -> Result<(), Fault> {
     let pattern = asked.pattern.as_deref().unwrap_or_default();
     let (lines, meant) = match asked.kind {
@@ -45,11 +45,7 @@ pub fn names(asked: &Names) -> Result<(), Fault> {
         }
     };
     if lines.is_empty() {
-        let why = format!(
-            "no name has {} in it{}",
-            shown(pattern),
-            did_you_mean(meant)
-        );
+        let why = format!("no name contains {}{}", shown(pattern), did_you_mean(meant));
         return Err(Fault::names(&why));
     }
     put(lines)

@@ -15,7 +15,7 @@ use std::path::{Path, PathBuf};
 pub struct Game {
     /// Teams and seed, as in the input of run; you are side 1. Without FILE both teams are drawn
     file: Option<PathBuf>,
-    /// Who plays side 2
+    /// How side 2 chooses
     #[arg(long, value_enum, default_value = "playouts")]
     against: Foe,
     /// How many members a drawn team has
@@ -112,7 +112,7 @@ fn asked(battle: &Battle) -> Result<Option<Choice>, Fault> {
                 return Ok(Some(choice));
             }
         }
-        put("That is none of them. ")?;
+        put("That is not one of them. ")?;
     }
 }
 

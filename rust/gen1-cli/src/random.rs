@@ -1,4 +1,4 @@
-//! Random numbers for players and measurements; a battle has its own.
+//! Random numbers for players and measurements. A battle has its own.
 use gen1::{MemberSpec, MoveId, Offered, OfferedMask, Species, Team};
 use std::hash::{BuildHasher, Hasher, RandomState};
 

@@ -76,7 +76,7 @@ fn filled(page: &[u8], battle: &str) -> Option<String> {
     Some([before, &PLACE.replace("null", &held), after].concat())
 }
 
-/// The JSON for an input: the text of an object of run with lawful teams, or the digits of a log.
+/// The JSON for an input: the text of an object of run with valid teams, or the digits of a log.
 fn battle_in(input: &[u8]) -> Result<String, Fault> {
     if input.trim_ascii_start().first() != Some(&b'{') {
         events_of(input)?;
@@ -89,7 +89,7 @@ fn battle_in(input: &[u8]) -> Result<String, Fault> {
         // JSON that was read is UTF-8.
         return Ok(String::from_utf8_lossy(input).into());
     }
-    // The page knows neither choices in words nor teams as text, and is given the log instead.
+    // The page reads neither choices in words nor teams as text, so it gets the log instead.
     let (mut battle, mut digits) = (start.battle, String::new());
     game::play(&mut battle, &pairs, |step| {
         let mut log = LogBuf::new();

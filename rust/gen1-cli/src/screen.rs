@@ -32,7 +32,7 @@ fn member(it: &MemberState) -> String {
     )
 }
 
-/// The members that are out, on both sides.
+/// The active members of both sides.
 pub fn both(battle: &Battle) -> String {
     let state = battle.state();
     let mut text = format!("-- turn {} --\n", state.turn);

@@ -1,4 +1,4 @@
-//! What a system installs beside the program: completions for shells, and the manual page.
+//! Files that a system installs with the program: completions for shells, and the manual page.
 use crate::fault::Fault;
 use crate::files::put;
 use crate::words::Words;
@@ -106,7 +106,7 @@ fn form_of(arg: &Arg) -> String {
     }
 }
 
-/// What an argument is for, its possible values and its default.
+/// The purpose of an argument, its possible values and its default.
 fn help_of(arg: &Arg) -> String {
     let mut text = arg.get_help().map(ToString::to_string).unwrap_or_default();
     let values = arg.get_possible_values();

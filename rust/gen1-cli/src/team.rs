@@ -20,7 +20,7 @@ pub struct Convert {
     packed: bool,
 }
 
-/// Reads a team in any form, and prints it in the form that is asked for, which is the export text by default.
+/// Reads a team in any form, and prints it in the requested form, which is the export text by default.
 pub fn convert(asked: &Convert) -> Result<(), Fault> {
     let members = team_in(asked.file.as_deref())?;
     team(1, &members.specs)?;
@@ -31,7 +31,7 @@ pub fn convert(asked: &Convert) -> Result<(), Fault> {
     })
 }
 
-/// The stats of a text, with the index of the experience in a member: the Special is both of SpA and SpD.
+/// The stats of a text, with the index of the experience in a member: the Special is both SpA and SpD.
 const STATS: [(&str, usize); 6] = [
     ("HP", 0),
     ("Atk", 1),
@@ -40,7 +40,7 @@ const STATS: [(&str, usize); 6] = [
     ("SpD", 4),
     ("Spe", 3),
 ];
-/// The highest EV that is written. Higher ones give the same stats.
+/// The highest EV that is written. Higher EVs give the same stats.
 const HIGHEST: u8 = 252;
 
 /// The export text of a team.
@@ -54,7 +54,7 @@ pub fn packed(members: &Members) -> Result<String, Fault> {
     Ok(each(members, fields)?.join("]") + "\n")
 }
 
-/// What `write` makes of each member, whose moves must have three PP ups, since no text has any.
+/// The results of `write` for each member. Its moves must have three PP ups, since texts have none.
 fn each(
     members: &Members,
     write: fn(&MemberSpec, Option<&str>) -> String,

@@ -5,7 +5,7 @@ use crate::{
 };
 use clap::{Args, Parser, Subcommand};
 
-/// Which build of the engine this is.
+/// The build of the engine.
 const BUILD: &str = "plain build; docs/PLAIN.md";
 
 /// The version and the build.
@@ -41,7 +41,7 @@ pub enum Command {
     /// Plays the choices of an input, and prints the state of the battle after them
     #[command(after_help = help::RUN)]
     State(Look),
-    /// Prints a battle in sentences, with each draw and what it decided
+    /// Prints a battle in sentences, with each draw and its effect
     #[command(after_help = help::RUN)]
     Explain(explain::Explain),
     /// Converts a team between export text, packed line and JSON
@@ -109,7 +109,7 @@ pub struct Look {
     /// Prints the 384 bytes of the battle as hexadecimal digits
     #[arg(long)]
     pub bytes: bool,
-    /// Prints an object with the state, what both sides may choose, and the bytes
+    /// Prints an object with the state, the choices of both sides, and the bytes
     #[arg(long, conflicts_with = "bytes")]
     pub json: bool,
 }

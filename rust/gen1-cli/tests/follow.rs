@@ -265,7 +265,7 @@ fn other_forms_of_showdown_are_read() {
     let object: Value = serde_json::from_slice(&done.stdout).expect("JSON");
     assert_eq!(
         String::from_utf8_lossy(&done.stderr),
-        "note: line 27: the word \"-transform\" is not known\n"
+        "note: line 27: the word \"-transform\" is unknown\n"
     );
     assert_eq!(object["own"]["player"], "Alice");
     assert_eq!(
@@ -328,7 +328,7 @@ fn a_wrong_line_leads_to_its_fault() {
         ),
         (
             "|move|p1a: Bob|Body Slam|p2a: Chansey",
-            "in |move|: expected \"Bo\", which side 1 has out, found \"Bob\"",
+            "in |move|: expected \"Bo\", the active member of side 1, found \"Bob\"",
         ),
         (
             "|move|Bo|Body Slam",
@@ -349,7 +349,7 @@ fn a_wrong_line_leads_to_its_fault() {
         ),
         (
             "|win|Bob\n|turn|2",
-            "in |turn|: the battle has ended in line 11",
+            "in |turn|: the battle ended in line 11",
         ),
         ("|gen|2", "in |gen|: expected 1, found \"2\""),
         (
@@ -386,7 +386,7 @@ fn a_wrong_line_leads_to_its_fault() {
         ),
         (
             "|move|p1a: Bo|Tackle|",
-            "line 1: in |move|: side 1 has no member out before |switch|",
+            "line 1: in |move|: side 1 has no active member before |switch|",
         ),
         (
             "|turn|\u{7f}",

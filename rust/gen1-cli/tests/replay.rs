@@ -212,8 +212,7 @@ fn a_file_that_is_read_is_not_written() {
     let [folder, log, html] = folder_of("read", PAGE);
     let link = folder.join("link");
     std::os::unix::fs::symlink(&html, &link).expect("a link");
-    let due =
-        "error: --out is a file that is read too\nit would be lost: give --out another name\n";
+    let due = "error: --out is a file that is read too\nit would be overwritten: give --out another name\n";
     for out in [&html, &log, &link, &folder.join("../read/html")] {
         assert_eq!(told(&written(RUN, &log, &html, out)), (2, due));
     }

@@ -287,7 +287,7 @@ fn a_wrong_request_leads_to_its_fault() {
         ),
         (
             at("/side/pokemon/1/moves/0", json!("surf")),
-            "Chansey knows Surf, and doesn't in the team",
+            "Chansey knows Surf, but not in the team",
         ),
         (
             at("/side/pokemon/0/condition", json!("100/353 par")),
@@ -337,7 +337,7 @@ fn a_guess_that_contradicts_the_log_is_refused() {
         ),
         (
             "Gengar\n- Hypnosis\n\nJynx\n- Psychic\n",
-            "Alakazam, L100, which has been out, is not in it",
+            "Alakazam, L100, which has been out, is not in the guess",
         ),
         (
             "Gengar\n- Hypnosis\n\nAlakazam\n- Recover\n",

@@ -58,7 +58,7 @@ fn a_line_that_is_no_text_is_asked_for_again() {
 fn a_choice_in_words_is_played() {
     let done = ran(&["play", "--seed", "1"], b"move 1\nmove 9\nq\n");
     let text = String::from_utf8(done.stdout).expect("UTF-8");
-    assert_eq!(text.matches("That is none of them.").count(), 1);
+    assert_eq!(text.matches("That is not one of them.").count(), 1);
     assert!(text.contains("|turn|2\n"), "{text}");
 }
 

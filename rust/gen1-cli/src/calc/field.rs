@@ -1,12 +1,12 @@
-//! A battle for a calculation: two members that are out, with the stages, status, HP and conditions that were asked for.
+//! A battle for a calculation: two active members, with the stages, status, HP and conditions of the options.
 use crate::commands::begun;
 use clap::{Args, ValueEnum};
 use gen1::{Battle, Conditions, HpChange, Kind, SideState, Team};
 
-/// What differs from two members that have just been sent out.
+/// The differences from two members that have just been sent out.
 #[derive(Args, Clone, Default)]
 pub struct Field {
-    /// Stages of the attacker, as atk=+2,spc=-1; the stats are atk, def, spe, spc, acc and eva
+    /// Stages of the attacker, such as atk=+2,spc=-1; the stats are atk, def, spe, spc, acc and eva
     #[arg(long, value_name = "STAGES", value_parser = stages_in, allow_hyphen_values = true)]
     attacker_stages: Option<Stages>,
     /// Stages of the defender
@@ -18,10 +18,10 @@ pub struct Field {
     /// The defender's status
     #[arg(long, value_enum, value_name = "STATUS")]
     defender_status: Option<Ailment>,
-    /// The HP that the attacker has left, as a number or per cent
+    /// The HP that the attacker has left, as a number or a percentage
     #[arg(long, value_name = "HP", value_parser = hp_in)]
     attacker_hp: Option<Hp>,
-    /// The HP that the defender has left, as a number or per cent
+    /// The HP that the defender has left, as a number or a percentage
     #[arg(long, value_name = "HP", value_parser = hp_in)]
     defender_hp: Option<Hp>,
     /// The defender has Reflect
@@ -91,8 +91,9 @@ const STATS: [&str; 6] = ["atk", "def", "spe", "spc", "acc", "eva"];
 fn stages_in(text: &str) -> Result<Stages, String> {
     let mut stages = Stages::default();
     for part in text.split(',') {
-        let refused =
-            || format!("expected a stat and a stage from -6 to 6, as atk=+2, found \"{part}\"");
+        let refused = || {
+            format!("expected a stat and a stage from -6 to 6, such as atk=+2, found \"{part}\"")
+        };
         let (name, stage) = part.split_once('=').ok_or_else(refused)?;
         let at = STATS
             .iter()
@@ -109,7 +110,7 @@ fn stages_in(text: &str) -> Result<Stages, String> {
 }
 
 fn hp_in(text: &str) -> Result<Hp, String> {
-    let refused = || "expected a number from 1 to 999, or per cent from 1% to 100%".to_string();
+    let refused = || "expected a number from 1 to 999, or a percentage from 1% to 100%".to_string();
     let hp = match text.strip_suffix('%') {
         Some(part) => part
             .parse()
@@ -129,7 +130,7 @@ fn hp_in(text: &str) -> Result<Hp, String> {
 const ASLEEP: u8 = 7;
 
 impl Field {
-    /// The battle of two teams whose first members are out as asked, or what does not fit them.
+    /// The battle of two teams whose first members are active as the options say, or which option does not fit them.
     pub fn battle(&self, one: &Team, two: &Team) -> Result<Battle, String> {
         let begun = begun(one, two);
         let state = begun.state();
@@ -167,7 +168,7 @@ fn left(hp: Option<Hp>, max: u16, option: &str) -> Result<u16, String> {
     }
 }
 
-/// Puts in HP, stages and status of a side's first member, which is out. A burn and paralysis give one penalty each.
+/// Sets HP, stages and status of a side's first member, which is active. A burn and paralysis give one penalty each.
 fn put_member(side: &mut SideState, hp: u16, stages: Option<Stages>, status: Option<Ailment>) {
     let member = &mut side.members[0];
     member.hp = hp;
@@ -187,7 +188,7 @@ fn put_condition(side: &mut SideState, is_on: bool, which: Conditions) {
 }
 
 impl Field {
-    /// What differs, in words before the attacker and after the defender.
+    /// The differences, in words before the attacker and after the defender.
     pub fn words(&self) -> [String; 2] {
         let shifts = |stages: Option<Stages>| stages.map_or_else(String::new, shifted);
         let attacker = [shifts(self.attacker_stages), ailing(self.attacker_status)].concat();
@@ -195,7 +196,7 @@ impl Field {
         [attacker, defender]
     }
 
-    /// What happens to the defender's HP between two uses.
+    /// The change of the defender's HP between two uses.
     pub fn change(&self) -> HpChange {
         HpChange {
             gained: self.defender_gains,

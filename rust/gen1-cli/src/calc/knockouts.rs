@@ -2,7 +2,7 @@
 use gen1::{Battle, Between, HpChange, MoveId, Odds, Side, ThreeChances};
 use serde::Serialize;
 
-/// How many uses are looked at.
+/// The maximum number of uses.
 pub const MOST: usize = 9;
 
 /// An exact chance.
@@ -18,7 +18,7 @@ impl Fraction {
     }
 }
 
-/// The chances of 1, 2, .. up to nine uses in the same state, which each add to those of fewer.
+/// The chances of 1, 2, .. up to nine uses in the same state. Each includes those of fewer uses.
 #[derive(Debug, PartialEq, Serialize)]
 pub struct KnockOuts {
     /// The HP that are taken: those of the defender, or one more than its Substitute has.
@@ -36,7 +36,7 @@ pub struct KnockOuts {
     pub uses: Vec<f64>,
 }
 
-/// A defender's HP, and what happens to them between two uses.
+/// A defender's HP, and their change between two uses.
 #[derive(Clone, Copy)]
 pub struct Target {
     pub hp: u16,
@@ -45,7 +45,7 @@ pub struct Target {
 }
 
 impl Target {
-    /// The HP before the next use, of so many that are left.
+    /// The HP before the next use, if that many are left.
     fn before_next(&self, left: usize) -> usize {
         let gained = (left + usize::from(self.change.gained)).min(usize::from(self.max));
         gained
@@ -145,7 +145,7 @@ fn in_turn(each: &[(u16, f64)], target: Target, halves: bool) -> Vec<f64> {
                 }
             }
         }
-        // Where none is left standing all are taken for certain, and the rounded sum is left aside.
+        // If no HP can be left, all are taken for certain, and the rounded sum is ignored.
         let is_certain = next.iter().all(|chance| *chance == 0.0);
         chances.push(if is_certain { 1.0 } else { fallen.min(1.0) });
         standing = vec![0.0; most + 1];

@@ -16,7 +16,7 @@ use std::path::{Path, PathBuf};
 /// The arguments of `calc`.
 #[derive(Args)]
 pub struct Calc {
-    /// FILE, a JSON object; or words: ATTACKER [MOVE] vs DEFENDER. Without words and without --attacker, standard input is FILE
+    /// FILE, a JSON object; or words: ATTACKER [MOVE] vs DEFENDER. Without words and without --attacker, FILE is standard input
     #[arg(value_name = "WORDS")]
     words: Vec<PathBuf>,
     /// A species; or a file with a team, or its text, whose first member attacks
@@ -25,7 +25,7 @@ pub struct Calc {
     /// A species; or a file with a team, or its text, whose first member defends
     #[arg(long, value_name = "MEMBER")]
     defender: Option<PathBuf>,
-    /// A move, which may be given again; without it the moves that the attacker's team text has
+    /// A move; may be repeated. Without it, the moves in the attacker's team text
     #[arg(long = "move", value_name = "MOVE")]
     moves: Vec<String>,
     /// The attacker's level, in place of that of its team text
@@ -48,12 +48,12 @@ pub struct Calc {
     /// After the line of an error, says where it is and what was expected; the default in a terminal
     #[arg(long)]
     explain: bool,
-    /// Refuses keys of the input that nothing reads; without it they are ignored
+    /// Refuses unknown keys of the input; without it they are ignored
     #[arg(long)]
     strict: bool,
 }
 
-/// What is calculated.
+/// The calculation that was asked for.
 struct Asked {
     attacker: MemberSpec,
     defender: MemberSpec,
@@ -91,7 +91,7 @@ pub fn calc(asked: &Calc) -> Result<(), Fault> {
     put(text(asked, &what, [&one, &two])?)
 }
 
-/// What is printed for a calculation.
+/// The text that is printed for a calculation.
 fn text(asked: &Calc, what: &Asked, teams: [&Team; 2]) -> Result<String, Fault> {
     let battle = asked.field.battle(teams[0], teams[1]);
     let battle = battle.map_err(|why| Fault::words("the options do not fit the members", &why))?;
@@ -236,8 +236,12 @@ fn species_called(text: &str) -> Result<MemberSpec, Fault> {
 /// The calculation of `ATTACKER [MOVE] vs DEFENDER`.
 fn of_words(asked: &Calc) -> Result<Asked, Fault> {
     let words: Option<Vec<&str>> = asked.words.iter().map(|word| word.to_str()).collect();
-    let words = words
-        .ok_or_else(|| Fault::words("a word is not UTF-8", "names have only letters and digits"))?;
+    let words = words.ok_or_else(|| {
+        Fault::words(
+            "an argument is not UTF-8",
+            "names have only letters and digits",
+        )
+    })?;
     let words = words.join(" ");
     let words: Vec<_> = words.split_whitespace().collect();
     let between = words.iter().position(|word| matches!(*word, "vs" | "vs."));

@@ -7,12 +7,12 @@ use gen1::{
 };
 use serde::Serialize;
 
-/// A chance that prints as neither 0 nor 100 per cent.
+/// The least chance that is not printed as 0 per cent, and the least distance from 1 that is not printed as 100 per cent.
 const VISIBLE: f64 = 0.0005;
-/// How many numbers of uses a line names.
+/// The maximum number of chances in a line, each for a number of uses.
 const NAMED: usize = 3;
 
-/// What the lines of a calculation have in common.
+/// The common parts of the lines of a calculation.
 pub struct Words<'a> {
     battle: &'a Battle,
     attacker: String,
@@ -168,7 +168,7 @@ impl<'a> Words<'a> {
         }
     }
 
-    /// What happens to the defender's HP between the uses, where that counts.
+    /// The change of the defender's HP between the uses, if it counts.
     fn between(&self) -> String {
         let HpChange { gained, lost } = self.change;
         match (gained, lost, self.substitute) {
@@ -182,7 +182,7 @@ impl<'a> Words<'a> {
     }
 }
 
-/// How often a use hits, where that is not once.
+/// How often a use hits, if not once.
 fn hits_of(hits: [u8; 6]) -> String {
     let counts: Vec<_> = (0..6).filter(|count| hits[*count] > 0).collect();
     match counts.as_slice() {
@@ -203,7 +203,7 @@ fn critical(odds: &Odds) -> String {
     }
 }
 
-/// Why there is no damage.
+/// The reason why a move has no damage.
 fn without(odds: &Odds) -> &'static str {
     match odds.usual {
         Err(DamageRefusal::DividedByZero) => "the damage would be divided by 0",
@@ -211,12 +211,12 @@ fn without(odds: &Odds) -> &'static str {
     }
 }
 
-/// How much of 256 draws this is.
+/// The share of 256 draws.
 fn part_of(draws: u16) -> f64 {
     f64::from(draws) / 256.0
 }
 
-/// A chance in per cent; neither 0 nor 100 unless it is.
+/// A chance in per cent. A chance below 1 is not printed as 100%.
 fn percent(chance: f64) -> String {
     match chance {
         1.0 => "100%".into(),

@@ -1,4 +1,4 @@
-//! A battle that fits what a player knows.
+//! A battle that fits a player's knowledge.
 use super::own::Shown;
 use super::reader::Reader;
 use super::roster::{Entry, Roster};
@@ -9,10 +9,10 @@ use gen1::{
     Battle, Guess, GuessFault, MemberSpec, MoveId, OfferedMask, Player, Seen, Team, TurnLimit,
 };
 
-/// Parts in which HP of the foe may be told.
+/// The number of parts in which the foe's HP may be reported.
 const PARTS: [u16; 2] = [48, 100];
 
-/// A battle that fits what a player knows and a guess of the foe's team, which is in any order. Its choices are those of the request.
+/// A battle that fits a player's knowledge and a guess of the foe's team, in any order. Its choices are those of the request.
 pub fn fitting(
     mut player: Player,
     shown: &Shown,
@@ -36,7 +36,8 @@ pub fn fitting(
     let offered = battle.choices(side);
     if *offered != *shown.choices {
         let [due, found] = [&offered[..], &shown.choices[..]].map(words);
-        let why = format!("in |request|: the choices are {found}, and those of the battle {due}");
+        let why =
+            format!("in |request|: the choices are {found}, but those of the battle are {due}");
         return Err(Fault::protocol(shown.line, &why));
     }
     Ok(battle)
@@ -72,7 +73,10 @@ fn guessed_team(player: &Player, roster: &Roster, guess: &Members) -> Result<Tea
             )
         };
         let Some(at) = (0..count).filter(same).min_by_key(differs) else {
-            return Err(contradiction(entry, "which has been out, is not in it"));
+            return Err(contradiction(
+                entry,
+                "which has been out, is not in the guess",
+            ));
         };
         check(member(&at), entry, seen)?;
         order.push(at);
@@ -82,7 +86,7 @@ fn guessed_team(player: &Player, roster: &Roster, guess: &Members) -> Result<Tea
     team(side, &ordered.collect::<Vec<MemberSpec>>())
 }
 
-/// Compares a guessed member with what was seen of it.
+/// Compares a guessed member with the log.
 fn check(member: &gen1::Member, entry: &Entry, seen: &Seen) -> Result<(), Fault> {
     if let Some(id) = unknown_move(member, seen) {
         return Err(contradiction(
@@ -92,7 +96,7 @@ fn check(member: &gen1::Member, entry: &Entry, seen: &Seen) -> Result<(), Fault>
     }
     let max = member.max_hp();
     if seen.max != max && !PARTS.contains(&seen.max) {
-        let why = format!("has a maximum of {max} HP, and of {} in the log", seen.max);
+        let why = format!("has a maximum of {max} HP, but {} in the log", seen.max);
         return Err(contradiction(entry, &why));
     }
     Ok(())

@@ -14,7 +14,7 @@ pub const KINDS: &Words<Kind> = &[
     ("frz", Kind::Freeze),
     ("par", Kind::Paralysis),
 ];
-/// Showdown has two stats for the Special, and reports a change of it for both. So `spd` isn't a change.
+/// Showdown has two stats for the Special, and reports a change of it for both. A change of `spd` is therefore ignored.
 pub const STATS: &Words<Option<Stat>> = &[
     ("atk", Some(Stat::Attack)),
     ("def", Some(Stat::Defense)),
@@ -60,12 +60,12 @@ pub const VOLATILES: &Words<Volatile> = &[
     ("Splash", Volatile::Splash),
 ];
 
-/// What is wrong with a field.
+/// The error text for a field.
 pub fn unexpected(expected: &str, found: &str) -> String {
     format!("expected {expected}, found {}", shown(found))
 }
 
-/// The value of a word in either case, which may have `move: ` before it.
+/// The value of a word, ignoring case, with or without `move: ` before it.
 pub fn value_of<T: Copy>(words: &Words<T>, text: &str) -> Option<T> {
     let word = text.strip_prefix("move: ").unwrap_or(text);
     let found = words
@@ -74,7 +74,7 @@ pub fn value_of<T: Copy>(words: &Words<T>, text: &str) -> Option<T> {
     found.map(|(_, value)| *value)
 }
 
-/// The value of a word, or which words there are.
+/// The value of a word, or an error that lists the words.
 pub fn known_value<T: Copy>(words: &Words<T>, text: &str) -> Result<T, String> {
     let names = || words.iter().map(|(name, _)| *name);
     value_of(words, text).ok_or_else(|| {

@@ -1,4 +1,4 @@
-//! What a player knows, for programs and for people.
+//! The knowledge of a player, for programs and for people.
 use super::reader::Reader;
 use super::roster::Entry;
 use crate::json::EventObject;
@@ -7,7 +7,7 @@ use crate::showdown::index;
 use gen1::{Announced, Conditions, Element, Kind, MoveId, Outcome, Player, PublicSide, Seen, Side};
 use serde::Serialize;
 
-/// What a player knows of a battle.
+/// A player's knowledge of a battle.
 #[derive(Serialize)]
 pub struct Known {
     side: u8,
@@ -18,7 +18,7 @@ pub struct Known {
     events: Vec<EventObject>,
 }
 
-/// What a player knows of a side.
+/// A player's knowledge of a side.
 #[derive(Serialize)]
 struct KnownSide {
     /// The name of the player; `None` if the log has none.
@@ -138,7 +138,7 @@ fn announced(it: &Announced) -> Conditions {
 }
 
 impl Known {
-    /// The same as text.
+    /// The player's knowledge as text.
     pub fn text(&self) -> String {
         let own = self.own.text("own side", self.side);
         let foe = self.foe.text("foe", 3 - self.side);

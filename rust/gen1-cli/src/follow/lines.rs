@@ -17,7 +17,7 @@ pub fn log_in(text: &str) -> (Cow<'_, str>, usize) {
     (Cow::Owned(log.replace("\\/", "/")), before)
 }
 
-/// The lines that a side sees, with their numbers. Of the two lines after `|split|` it sees the first if they are of its own side, else
+/// The lines that a side sees, with their numbers. After `|split|` with its own side it sees the first of the next two lines, otherwise
 /// the second.
 pub fn seen_by(side: Side, log: &str, before: usize) -> Vec<(usize, &str)> {
     let mut lines = (before + 1..).zip(log.lines());

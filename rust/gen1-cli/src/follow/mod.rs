@@ -1,4 +1,4 @@
-//! `gen1 follow`: a battle log of Showdown, read back as what a player knows (docs/PROGRAM.md, "follow").
+//! `gen1 follow`: a battle log of Showdown, read back as the knowledge of a player (docs/PROGRAM.md, "follow").
 mod battle;
 mod fields;
 mod known;
@@ -43,10 +43,10 @@ pub struct Follow {
     /// With --battle: the foe's whole team as it is guessed, in the forms of --team
     #[arg(long, value_name = "TEAM", requires = "battle")]
     guess: Option<PathBuf>,
-    /// With --battle: the numbers that it draws, as ten numbers with commas between them or one that they are made from; without it by chance
+    /// With --battle: the numbers that it draws, as ten numbers separated by commas, or one from which they are made; random by default
     #[arg(long, value_parser = seed_in, requires = "battle")]
     seed: Option<Seed>,
-    /// Refuses lines that may say something of the battle and are not known; without it a note names them
+    /// Refuses unknown lines that may concern the battle; without it a note names them
     #[arg(long)]
     strict: bool,
     /// A battle log, a replay page, or what gen1 showdown prints; without FILE, or with -, standard input
@@ -149,7 +149,7 @@ fn read_all(read: &mut Reader, side: Side, bytes: &[u8]) -> Result<(), (usize, S
     }
 }
 
-/// The player that is told the events. Without a team it gets one of the members that came out: all that it knows of them is in the log.
+/// The player that reads the events. Without a team it gets a team of the members that came out, and knows only their values in the log.
 fn player_of_log(side: Side, own: Option<Team>, read: &Reader) -> Result<Player, Fault> {
     let [one, two] = &read.sides;
     let (roster, foe) = match side {

@@ -1,4 +1,4 @@
-//! What a player is shown of its own side, from its requests and the events between them.
+//! The own side as it is shown to a player, from its requests and the events between them.
 use super::reader::Reader;
 use super::request::{Asked, Listed, ListedMove, ListedName, Request};
 use gen1::{
@@ -14,7 +14,7 @@ pub struct Placed {
     pub request: Request,
 }
 
-/// What the player is shown, and what it may choose.
+/// The own side as it is shown to the player, and its choices.
 pub struct Shown {
     pub own: OwnSide,
     pub choices: Vec<Choice>,
@@ -22,7 +22,7 @@ pub struct Shown {
     pub line: usize,
 }
 
-/// What the events and requests say of the own side.
+/// The own side according to the events and requests.
 struct Own<'a> {
     side: Side,
     team: &'a [Member],
@@ -33,9 +33,9 @@ struct Own<'a> {
     pp: Vec<[u8; 4]>,
     /// The slot that Disable blocks, as the last request with slots has it.
     disabled_slot: u8,
-    /// The effect of the move that goes on without PP.
+    /// The effect of the move that continues without PP.
     goes_on: Option<Effect>,
-    /// Whether Thrash goes on.
+    /// Whether Thrash continues.
     thrashes: bool,
     /// The move that is charged.
     prepared: Option<MoveId>,
@@ -43,7 +43,7 @@ struct Own<'a> {
     has_just_used: bool,
 }
 
-/// What the player is shown after the last event. An error is a line's number and a sentence.
+/// The own side as it is shown after the last event. An error is a line's number and a sentence.
 pub fn shown(
     read: &Reader,
     player: &Player,
@@ -162,7 +162,7 @@ impl<'a> Own<'a> {
         (self.thrashes, self.has_just_used) = (id.effect().thrashes(), true);
     }
 
-    /// Takes a PP of the active member's move. After 0 come 63.
+    /// Deducts a PP of the active member's move. 0 wraps to 63.
     fn pay(&mut self, id: MoveId) {
         let place = self.out();
         if let Some(slot) = self.slot_of(place, id) {
@@ -237,7 +237,7 @@ impl<'a> Own<'a> {
             for id in &listed.moves {
                 if self.slot_of(place, *id).is_none() {
                     let name = &self.names[place];
-                    return Err(format!("{name} knows {id}, and doesn't in the team"));
+                    return Err(format!("{name} knows {id}, but not in the team"));
                 }
             }
             places.push(place);
@@ -245,7 +245,7 @@ impl<'a> Own<'a> {
         Ok(places)
     }
 
-    /// What is shown and offered with the last request.
+    /// The own side and the choices at the last request.
     fn now(&self, request: &Request, player: &Player) -> Result<(OwnSide, Vec<Choice>), String> {
         let public = player.public(self.side);
         // Before the first time a player is shown zeros.
@@ -317,7 +317,7 @@ impl<'a> Own<'a> {
         })
     }
 
-    /// The conditions of the active member. Of those that belong to a move the request has the one that is on, if a move is asked for.
+    /// The conditions of the active member. If a move is asked for, the request shows which condition that belongs to a move is on.
     fn conditions(&self, asked: &Asked, public: &PublicSide) -> Conditions {
         let it = &public.announced;
         let on = all_of(&[
@@ -348,7 +348,7 @@ impl<'a> Own<'a> {
         (on | of_move).with(Conditions::INVULNERABLE, is_away)
     }
 
-    /// The slot that Disable blocks. If no request has listed it, it is taken to be the first with PP.
+    /// The slot that Disable blocks. If no request has listed it, it is assumed to be the first with PP.
     fn disabled(&self, public: &PublicSide) -> u8 {
         if public.announced.disabled == 0 || self.disabled_slot > 0 {
             return self.disabled_slot * public.announced.disabled;

@@ -13,7 +13,7 @@ use gen1::{
     DamageSource, Event, FaultCode, Health, HitCount, Rules, Side, StageCount, TurnNumber, Who,
 };
 
-/// Words of lines that say nothing of the battle.
+/// Words of lines that do not concern the battle.
 const PASSED_OVER: &str = "\
     start upkeep tier rated t: request error c c: chat j J join l L leave n N name raw html \
     uhtml uhtmlchange inactive inactiveoff init title debug bigerror askreg message -hint -center \
@@ -24,27 +24,27 @@ const WORDS: &str = "\
     -supereffective -resisted -immune -miss -fail -status -curestatus -boost -unboost \
     -clearallboost -start -end -activate -prepare -mustrecharge -hitcount -ohko -message fault";
 
-/// What was read of a log.
+/// The part of a log that has been read.
 pub struct Reader {
     pub sides: [Roster; 2],
     /// The names of the players; empty before the log names them.
     pub names: [String; 2],
     pub events: Vec<Event>,
-    /// What the log has that is not known, each once.
+    /// Unknown words and names of the log, each once.
     pub unknown: Vec<Unknown>,
     /// The clauses that the log names.
     pub clauses: [bool; 2],
     /// The requests of the side whose requests are read.
     pub requests: Vec<Placed>,
     asked: Option<Side>,
-    /// The last line that was taken.
+    /// The last line that was read.
     pub last_line: usize,
     turn: u16,
     /// The line in which the battle ended.
     end: Option<usize>,
 }
 
-/// A word of a line, or a name in it, that is not known and may say something of the battle.
+/// An unknown word of a line, or an unknown name in it, that may concern the battle.
 pub struct Unknown {
     /// The first line that has it.
     pub line: usize,
@@ -58,10 +58,10 @@ impl Unknown {
     pub fn why(&self) -> String {
         let (word, names) = (&self.word, WORDS.split(' '));
         match &self.name {
-            Some(name) => format!("in |{word}|: {} is not known", shown(name)),
+            Some(name) => format!("in |{word}|: {} is unknown", shown(name)),
             None => {
                 let meant = did_you_mean(nearest_word(word, names));
-                format!("the word {} is not known{meant}", shown(word))
+                format!("the word {} is unknown{meant}", shown(word))
             }
         }
     }
@@ -80,7 +80,7 @@ impl<'a> Fields<'a> {
         health_in(self.at(1, "HP")?, before)
     }
 
-    /// What a hit is from. An unknown tag means a direct hit.
+    /// The source of a hit. An unknown tag means a direct hit.
     fn source(&self) -> DamageSource {
         let tags = self.0.iter().filter_map(|it| it.strip_prefix("[from] "));
         let known = tags.filter_map(|tag| value_of(SOURCES, tag)).next();
@@ -104,7 +104,7 @@ impl Reader {
         }
     }
 
-    /// The same, which reads the requests of a side too.
+    /// A reader of a log that also reads the requests of a side.
     pub fn with_requests(self, side: Side) -> Reader {
         Reader {
             asked: Some(side),
@@ -118,7 +118,7 @@ impl Reader {
         Rules::new(sleep + 2 * freeze).unwrap_or_default()
     }
 
-    /// Takes the next line. Lines that don't begin with a bar are passed over.
+    /// Reads the next line. Lines that don't begin with a bar are skipped.
     pub fn take(&mut self, number: usize, line: &str) -> Result<(), String> {
         self.last_line = number;
         let mut parts = line.split('|');
@@ -209,7 +209,7 @@ impl Reader {
 
     fn goes_on(&self) -> Result<(), String> {
         match self.end {
-            Some(line) => Err(format!("the battle has ended in line {line}")),
+            Some(line) => Err(format!("the battle ended in line {line}")),
             None => Ok(()),
         }
     }
@@ -277,7 +277,7 @@ impl Reader {
         Ok(Event::Switch(Who { side, species }, place, level, health))
     }
 
-    /// The event of a member that is out; none for a line that changes nothing.
+    /// The event of an active member; none for a line that changes nothing.
     fn of_member(
         &mut self,
         number: usize,

@@ -8,7 +8,7 @@ use serde_json::Value;
 /// The maximum length of a request in bytes.
 const LIMIT: usize = 16_384;
 
-/// What a player is asked, and what it is shown of its members.
+/// The request to a player, and its members as they are shown to it.
 pub struct Request {
     pub asked: Asked,
     /// The active member first.
@@ -93,12 +93,12 @@ fn read(side: Side, value: &Value) -> Result<Option<Request>, Misfit> {
     Ok(Some(Request { asked, members }))
 }
 
-/// What is wrong with the value under a key.
+/// The error for the value under a key.
 fn misfit(value: &Value, name: &str, expected: &str) -> Misfit {
     Misfit::new(&value[name], expected).under(&format!(".{name}"))
 }
 
-/// The text under a key, as something else.
+/// The text under a key, converted by a function.
 fn parsed<T>(
     value: &Value,
     name: &str,

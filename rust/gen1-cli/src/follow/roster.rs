@@ -1,4 +1,4 @@
-//! The members of a side, told apart by what a log says of them.
+//! The members of a side, distinguished by their lines in a log.
 use crate::input::{Members, shown};
 use crate::showdown::numbered;
 use gen1::{Health, Level, Place, Side, Species, Team, Who};
@@ -9,7 +9,7 @@ pub struct Entry {
     pub level: Level,
     /// Its name in the log; before it comes out, that of the team.
     pub name: String,
-    /// HP and status as the log had them last; `None` before the member comes out.
+    /// HP and status as the log last had them; `None` before the member comes out.
     pub health: Option<Health>,
 }
 
@@ -18,14 +18,14 @@ pub struct Roster {
     side: Side,
     pub entries: Vec<Entry>,
     has_team: bool,
-    /// Which member is out, from 0.
+    /// The index of the active member, from 0.
     out: Option<usize>,
-    /// The number of members; `None` if the log has not said it.
+    /// The number of members; `None` if the log has not given it.
     pub count: Option<u8>,
 }
 
 impl Roster {
-    /// A side of which nothing is known.
+    /// A side about which nothing is known.
     pub fn new(side: Side) -> Roster {
         Roster {
             side,
@@ -88,8 +88,8 @@ impl Roster {
         Ok(place)
     }
 
-    /// The member that comes out: one that went in with the same name, HP and status, else one of the team that has not been out, of the
-    /// same name if there is one.
+    /// The member that comes out: one that was withdrawn with the same name, HP and status; otherwise one of the team that has not been
+    /// out, with the same name if there is one.
     fn find(&self, coming: &Entry) -> Option<usize> {
         let same = |at: &usize| {
             let entry = &self.entries[*at];
@@ -106,7 +106,7 @@ impl Roster {
         found.or_else(|| fresh().next())
     }
 
-    /// Why a member can't come out that is none of those which are known.
+    /// Why an unknown member can't come out.
     fn no_other(&self, coming: &Entry, most: usize) -> String {
         let (name, species, level) = (shown(&coming.name), coming.species, coming.level);
         let found = format!("found {name} ({species}, L{level})");
@@ -125,24 +125,24 @@ impl Roster {
         }
     }
 
-    /// The member that is out.
+    /// The active member.
     pub fn active(&self) -> Option<&Entry> {
         self.entries.get(self.out?)
     }
 
-    /// The same, or what is wrong with a line before there is one.
+    /// The active member, or the error for a line before the first one comes out.
     pub fn sent_out(&self) -> Result<&Entry, String> {
-        let none = || format!("side {} has no member out before |switch|", self.side);
+        let none = || format!("side {} has no active member before |switch|", self.side);
         self.active().ok_or_else(none)
     }
 
-    /// The member that a line names, which has to be the one that is out.
+    /// The member that a line names, which must be the active one.
     pub fn named(&self, name: &str) -> Result<Who, String> {
         let (side, active) = (self.side, self.sent_out()?);
         match active.name == name {
             true => Ok(self.who(active)),
             false => Err(format!(
-                "expected {}, which side {side} has out, found {}",
+                "expected {}, the active member of side {side}, found {}",
                 shown(&active.name),
                 shown(name)
             )),
@@ -156,7 +156,7 @@ impl Roster {
         }
     }
 
-    /// Changes the HP and status of the member that is out.
+    /// Changes the HP and status of the active member.
     pub fn set_health(&mut self, health: Option<Health>) {
         let out = self.out.and_then(|at| self.entries.get_mut(at));
         if let (Some(entry), Some(health)) = (out, health) {

@@ -6,7 +6,7 @@ use gen1::{Battle, Choice, MoveId, Side, Species};
 use serde_json::Value;
 use std::fmt;
 
-/// A choice as it was given. A name is looked up when the choice is made.
+/// A choice as the input has it. A name is looked up when the choice is made.
 #[derive(Clone, Copy, Debug, PartialEq)]
 pub enum Chosen {
     Byte(u8),
@@ -24,7 +24,7 @@ const NAMED_MOVE: &str = "a slot or the name of a move after \"move\"";
 const NAMED_MEMBER: &str = "a place or the name of a species after \"switch\"";
 
 impl Chosen {
-    /// The choice in a text, which is a byte or words; otherwise what is expected there.
+    /// The choice in a text, which is a byte or words; otherwise the expected form.
     pub fn in_text(text: &str) -> Result<Chosen, String> {
         let text = text.trim();
         if let Ok(byte) = text.parse() {
@@ -33,7 +33,7 @@ impl Chosen {
         Chosen::in_words(text)
     }
 
-    /// The choice in words; otherwise what is expected there.
+    /// The choice in words; otherwise the expected form.
     fn in_words(text: &str) -> Result<Chosen, String> {
         let text = text.trim();
         let (word, rest) = text.split_once(char::is_whitespace).unwrap_or((text, ""));
@@ -63,7 +63,7 @@ impl Chosen {
         })
     }
 
-    /// The byte of the choice; if it is none of a side's choices now, a byte that is not offered.
+    /// The byte of the choice; a byte that is not offered if the side does not have the choice now.
     pub fn byte(&self, battle: &Battle, side: Side) -> u8 {
         match self {
             Chosen::Byte(byte) => *byte,
@@ -79,7 +79,7 @@ impl Chosen {
     fn fitting(&self, battle: &Battle, side: Side) -> Vec<Choice> {
         let mut offered = battle.choices(side).to_vec();
         offered.retain(|choice| match self {
-            // Where no slot can be chosen, each name that could be one is move 0.
+            // If no slot can be chosen, the name of any move that the member knows is move 0.
             Chosen::MoveCalled(id) if *choice == Choice::MOVE_0 => {
                 *id == MoveId::STRUGGLE || knows(battle, side, *id)
             }
@@ -90,7 +90,7 @@ impl Chosen {
         offered
     }
 
-    /// Why a side's choice is not offered: what was chosen, and what is offered.
+    /// Why a side's choice is refused: the choice, and the offered choices.
     pub fn refused(&self, battle: &Battle, side: Side) -> String {
         let fitting = self.fitting(battle, side);
         let offered = if fitting.len() > 1 {
@@ -120,7 +120,7 @@ pub fn move_of(battle: &Battle, side: Side, choice: Choice) -> Option<MoveId> {
     known.map(|it| it.id)
 }
 
-/// Whether a side's member that is out knows a move.
+/// Whether a side's active member knows a move.
 fn knows(battle: &Battle, side: Side, id: MoveId) -> bool {
     let state = battle.state();
     let out = state.side(side).member_out();
@@ -144,7 +144,7 @@ impl fmt::Display for Chosen {
         match self {
             Chosen::Byte(byte) => match Choice::from_byte(*byte) {
                 Some(choice) => write!(f, "{byte} ({choice})"),
-                None => write!(f, "{byte}, which is no choice"),
+                None => write!(f, "{byte}, which is not a choice"),
             },
             Chosen::Exactly(choice) => choice.fmt(f),
             Chosen::MoveCalled(id) => write!(f, "move {id}"),

@@ -1,4 +1,4 @@
-//! Keys of an input that nothing reads.
+//! Unknown keys of an input.
 use super::near::{did_you_mean, nearest_word};
 use super::typed::shown;
 use serde_json::Value;
@@ -27,7 +27,7 @@ struct Found {
     more: usize,
 }
 
-/// A sentence for each key of an input that nothing reads, with the key that may be meant. Only the first are listed.
+/// A sentence for each unknown key of an input, with the key that may be meant. Only the first are listed.
 pub fn unknown(value: &Value, known: &[&str]) -> Vec<String> {
     let mut found = Found::default();
     found.collect(value, known, ".");

@@ -16,16 +16,16 @@ use std::path::Path;
 pub use teams::Members;
 pub use typed::{Misfit, Typed, key, optional_key, shown};
 
-/// An input before it is read: a JSON object, or a text of choices; and what the command line has in its place.
+/// An input before it is read: a JSON object, or a text of choices; and the command line's values in place of its keys.
 pub struct Given {
     value: Value,
     pairs: Option<Vec<[Chosen; 2]>>,
     terms: ReadTerms,
-    /// A sentence for each key that nothing reads.
+    /// A sentence for each unknown key.
     pub notes: Vec<String>,
 }
 
-/// A battle before its first update, and what it was made of.
+/// A battle before its first update, with its teams and terms.
 pub struct Start {
     pub battle: Battle,
     pub teams: [Members; 2],
@@ -128,7 +128,7 @@ impl Given {
     }
 }
 
-/// The keys of an object that nothing reads, or with `strict` the error for the first of them.
+/// The unknown keys of an object, or with `strict` the error for the first of them.
 pub fn noted(value: &Value, known: &[&str], strict: bool) -> Result<Vec<String>, Fault> {
     let notes = keys::unknown(value, known);
     match notes.first() {
@@ -137,7 +137,7 @@ pub fn noted(value: &Value, known: &[&str], strict: bool) -> Result<Vec<String>,
     }
 }
 
-/// The pairs of a text: on each line the choices of both sides with a comma between them.
+/// The pairs of a text: on each line the choices of both sides, separated by a comma.
 fn pairs_in(bytes: &[u8], name: &str) -> Result<Vec<[Chosen; 2]>, Fault> {
     let refused = |line: usize, why: &str| Fault::choices(&format!("{name}, line {line}: {why}"));
     let text = std::str::from_utf8(bytes).map_err(|why| {
@@ -156,7 +156,7 @@ fn pairs_in(bytes: &[u8], name: &str) -> Result<Vec<[Chosen; 2]>, Fault> {
         let Some((one, two)) = line.split_once(',') else {
             let found = shown(line.trim());
             return Err(fault(format!(
-                "expected two choices with a comma between them, found {found}"
+                "expected two choices separated by a comma, found {found}"
             )));
         };
         pairs.push([

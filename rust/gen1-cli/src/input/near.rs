@@ -1,4 +1,4 @@
-//! Names that may be meant where something else is written.
+//! Suggestions for misspelt names.
 use gen1::{MoveId, Species, UnknownName};
 use std::str::FromStr;
 

@@ -1,4 +1,4 @@
-//! The arguments that many subcommands have.
+//! Arguments that several subcommands share.
 use super::teams::Members;
 use crate::fault::Fault;
 use crate::files;
@@ -12,7 +12,7 @@ pub struct Input {
     /// After the line of an error, says where it is and what was expected; the default in a terminal
     #[arg(long)]
     explain: bool,
-    /// Refuses keys of the input that nothing reads; without it they are ignored
+    /// Refuses unknown keys of the input; without it they are ignored
     #[arg(long)]
     pub strict: bool,
     /// The input; without FILE, or with -, standard input
@@ -35,7 +35,7 @@ impl Input {
     }
 }
 
-/// What a battle is made of, in place of keys of the input.
+/// The parts of a battle, in place of keys of the input.
 #[derive(Args)]
 pub struct Terms {
     /// The team of side 1: a file with an export text, a packed line or JSON; or the text itself
@@ -44,7 +44,7 @@ pub struct Terms {
     /// The team of side 2, in the same forms
     #[arg(long, value_name = "TEAM")]
     two: Option<PathBuf>,
-    /// Ten numbers from 0 to 255 with commas between them, or one number that they are made from
+    /// Ten numbers from 0 to 255, separated by commas, or one number from which they are made
     #[arg(long, value_parser = seed_in)]
     seed: Option<Seed>,
     /// 1 sleep clause, 2 freeze clause, 3 both
@@ -99,7 +99,7 @@ pub fn seed_in(text: &str) -> Result<Seed, String> {
         return Ok(Seed(Random::new(number).seed()));
     }
     let numbers: Option<Vec<u8>> = text.split(',').map(|it| it.trim().parse().ok()).collect();
-    let expected = "expected ten numbers from 0 to 255 with commas between them, or one number";
+    let expected = "expected ten numbers from 0 to 255, separated by commas, or one number";
     let ten = numbers.and_then(|numbers| numbers.try_into().ok());
     ten.map(Seed).ok_or(expected.into())
 }

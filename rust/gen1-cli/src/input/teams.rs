@@ -89,7 +89,7 @@ fn nickname_in(line: &str) -> Option<String> {
     (!name.is_empty()).then(|| name.to_string())
 }
 
-/// What is wrong with an export text, with the line and what is there.
+/// The error in an export text, with the line and its content.
 fn text_fault(text: &str, why: TextFault) -> String {
     let TextFault::Line { line, fault } = why else {
         return why.to_string();
@@ -120,13 +120,13 @@ fn species_in(line: &str) -> &str {
     inner.map_or(line, |(_, species)| species)
 }
 
-/// What is wrong with a packed line, with the field and what is there.
+/// The error in a packed line, with the field and its content.
 fn packed_fault(text: &str, why: PackedFault) -> String {
     match why {
         PackedFault::Fields { member } => {
             let found = packed_members(text).nth(member - 1).unwrap_or_default();
             let count = found.split('|').count();
-            format!("member {member}: expected twelve fields with bars between them, found {count}")
+            format!("member {member}: expected twelve fields separated by bars, found {count}")
         }
         PackedFault::Field {
             member,

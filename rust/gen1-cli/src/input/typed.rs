@@ -12,7 +12,7 @@ pub fn shown(text: &str) -> String {
     }
 }
 
-/// A value of an input that is not what is expected there.
+/// A value of an input that is not of the expected form.
 #[derive(Debug)]
 pub struct Misfit {
     /// The path to the value, empty for the whole input.
@@ -39,13 +39,13 @@ impl Misfit {
         }
     }
 
-    /// The same with the name that may be meant, if there is one.
+    /// This error with the name that may be meant, if there is one.
     pub fn or(mut self, name: Option<&str>) -> Misfit {
         self.why += &did_you_mean(name);
         self
     }
 
-    /// The same value, seen from the value that contains it.
+    /// This error, with the path from the value that contains the wrong one.
     pub fn under(mut self, step: &str) -> Misfit {
         self.path.insert_str(0, step);
         self
@@ -180,7 +180,7 @@ pub fn key<T: Typed>(value: &Value, key: &str) -> Result<T, Misfit> {
     T::of(found).map_err(|why| why.under(&format!(".{key}")))
 }
 
-/// As [`key`], for a key that may be absent.
+/// Like [`key`], for a key that may be absent.
 pub fn optional_key<T: Typed + Default>(value: &Value, name: &str) -> Result<T, Misfit> {
     value
         .get(name)

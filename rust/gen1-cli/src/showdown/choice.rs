@@ -57,7 +57,7 @@ fn switch_in(text: &str, seat: &Seat) -> Result<Choice, String> {
     offered.ok_or("Can't switch: The active Pokémon is trapped".into())
 }
 
-/// Where the order has a member of this name or species, one that can come out if there is one.
+/// The index in the order of a member with this name or species; one that can come out if there is one.
 fn called(text: &str, seat: &Seat) -> Option<usize> {
     let own = seat.player.own();
     let species = |place: usize| own.members[place].species().map_or("", |it| it.name());

@@ -9,7 +9,7 @@ use crate::input::{Members, team};
 use gen1::{Battle, Choice, LogBuf, Outcome, Rules, Side};
 use serde::Serialize;
 
-/// What a battle begins with.
+/// The settings with which a battle begins.
 pub struct Setup {
     pub rules: Rules,
     pub seed: [u8; 10],
@@ -74,7 +74,7 @@ impl Game {
         Ok((game, blocks))
     }
 
-    /// Takes a choice of a side. The blocks are empty while the other side has to choose.
+    /// Handles a choice of a side. The blocks are empty while the other side has to choose.
     pub fn choose(&mut self, side: Side, text: &str) -> Result<String, Fault> {
         if self.has_ended {
             return Ok(refusal(side, "Can't do anything: The game is over"));
@@ -129,7 +129,7 @@ impl Game {
         })
     }
 
-    /// Keeps the choices of both sides as commands.
+    /// Records the choices of both sides as commands.
     fn note(&mut self, choices: [Choice; 2]) {
         for (seat, choice) in self.seats.iter().zip(choices) {
             if choice != Choice::Pass {
@@ -167,7 +167,7 @@ impl Game {
             score: [one.left(), two.left()],
             input_log: &self.inputs,
         };
-        // Every object of the program has texts as keys, so that it can be written.
+        // Every object of the program has texts as keys, so that it can be serialized.
         let object = serde_json::to_string(&object).unwrap_or_default();
         format!("end\n{object}\n\n")
     }

@@ -1,4 +1,4 @@
-//! A battle log as Showdown's replays have it (docs/PROGRAM.md, "Showdown's battle log").
+//! A battle log in the form of Showdown's replays (docs/PROGRAM.md, "Showdown's battle log").
 use crate::input::{Members, Start};
 use gen1::{Event, Line, Rules, Side};
 
@@ -12,12 +12,12 @@ pub struct Log {
     players: [String; 2],
     /// The name of each member of both sides.
     names: [Vec<String>; 2],
-    /// Which member of each side is out, from 0.
+    /// The index of each side's active member, from 0.
     out: [usize; 2],
 }
 
 impl Log {
-    /// The lines before the first event of a battle. Members of one name are numbered.
+    /// The lines before the first event of a battle. Members with the same name are numbered.
     pub fn begun(start: &Start) -> Log {
         let names = [numbered(&start.teams[0]), numbered(&start.teams[1])];
         Log::of(PLAYERS.map(String::from), names, start.rules)
@@ -64,8 +64,8 @@ impl Log {
         self.line("");
     }
 
-    /// Adds the events of an update, and what side 1 and side 2 are told of each. Where the two forms of an event differ, its own side's
-    /// form stands first, after `|split|`.
+    /// Adds the events of an update, each in the forms for side 1 and side 2. If the two forms differ, the form for the event's own side
+    /// comes first, after `|split|`.
     pub fn push_told(&mut self, events: &[Event], told: [&[Event]; 2]) {
         for (number, event) in events.iter().enumerate() {
             self.sent_out(event);
@@ -83,7 +83,7 @@ impl Log {
         self.line("");
     }
 
-    /// Ends the battle before its end: a win, or a tie.
+    /// Ends the battle early: by a win, or a tie.
     pub fn end(&mut self, winner: Option<Side>) {
         match winner {
             Some(side) => self.line(&format!("win|{}", self.players[index(side)])),
@@ -124,7 +124,7 @@ impl Log {
         with_stat(fields).join("|")
     }
 
-    /// A field of a line, with the name of the member that is out in place of its species.
+    /// A field of a line, with the name of the active member in place of its species.
     fn field(&self, field: &str) -> String {
         let side = match field.get(..5) {
             Some("p1a: ") => Side::One,
@@ -164,7 +164,7 @@ pub fn index(side: Side) -> usize {
     usize::from(side.number()) - 1
 }
 
-/// Showdown names the Special by one of the two stats that it became, and has no short names of accuracy and evasion.
+/// Showdown names the Special by one of the two stats that it became, and has no short names for accuracy and evasion.
 fn with_stat(mut fields: Vec<String>) -> Vec<String> {
     let [word, _, stat, _] = fields.as_mut_slice() else {
         return fields;
@@ -205,7 +205,7 @@ pub fn numbered(members: &Members) -> Vec<String> {
     names
 }
 
-/// A name without what would end a field or a line.
+/// A name without characters that end a field or a line.
 pub fn clean(name: &str) -> String {
     name.chars()
         .filter(|letter| *letter != '|' && !letter.is_control())

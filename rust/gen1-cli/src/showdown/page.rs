@@ -21,6 +21,6 @@ document.write('<script src="https://play.pokemonshowdown.com/js/replay-embed.js
 
 /// The page of a log.
 pub fn page(log: &str) -> String {
-    // Showdown writes each slash with a backslash, so that no text of the log can end the element.
+    // Like Showdown, this writes each slash with a backslash, so that no text of the log can end the element.
     [BEFORE, &log.replace('/', "\\/"), AFTER].concat()
 }

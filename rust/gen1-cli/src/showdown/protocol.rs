@@ -11,7 +11,7 @@ use serde_json::Value;
 /// The arguments of `showdown`.
 #[derive(Args)]
 pub struct Simulator {
-    /// Tells a player the HP of the foe's members in 48ths; without it they are told as they are
+    /// Shows the HP of the foe's members to a player in 48ths; without it, exactly
     #[arg(long)]
     pixels: bool,
 }
@@ -26,7 +26,7 @@ pub fn simulate(asked: &Simulator) -> Result<(), Fault> {
         }
         let wrong = |why: String| Fault::protocol(number, &why);
         let text = std::str::from_utf8(&line).map_err(|_| wrong("expected UTF-8".into()))?;
-        // What does not begin with this sign is not a command.
+        // A line that does not begin with this sign is not a command.
         if let Some(command) = text.trim().strip_prefix('>') {
             put(table.take(command).map_err(|why| why.or_at(number))?)?;
         }
@@ -61,7 +61,7 @@ impl From<String> for Refused {
     }
 }
 
-/// What the commands have said so far.
+/// The settings of the commands so far.
 struct Table {
     in_pixels: bool,
     terms: Option<(Rules, [u8; 10])>,
@@ -79,7 +79,7 @@ impl Table {
         }
     }
 
-    /// Takes a command without its first sign, and returns the blocks that follow from it.
+    /// Runs a command without its first sign, and returns the resulting blocks.
     fn take(&mut self, command: &str) -> Result<String, Refused> {
         let (word, rest) = command.split_once(' ').unwrap_or((command, ""));
         match (word, &mut self.game) {
@@ -112,7 +112,7 @@ impl Table {
         }
     }
 
-    /// Begins the battle once all is there.
+    /// Begins the battle once all settings are known.
     fn begin(&mut self) -> Result<String, Refused> {
         let Some((rules, seed)) = self.terms else {
             return Err(">player before >start".to_string().into());
@@ -162,7 +162,7 @@ fn terms_in(value: &Value) -> Result<(Rules, [u8; 10]), String> {
     ))
 }
 
-/// The ten bytes of a seed: as they are, made of four numbers, or by chance.
+/// The ten bytes of a seed: as given, made from four numbers, or random.
 fn seed_in(value: &Value) -> Result<[u8; 10], String> {
     if value.is_null() {
         return Ok(Random::any().seed());

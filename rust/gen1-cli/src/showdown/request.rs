@@ -1,4 +1,4 @@
-//! What a player is asked, as an object (docs/PROGRAM.md, "Requests").
+//! The request to a player, as an object (docs/PROGRAM.md, "Requests").
 use super::log::player_of;
 use super::seat::{Seat, id_of};
 use gen1::{Kind, OwnMember};
@@ -89,7 +89,7 @@ pub fn request(seat: &Seat, rqid: u32) -> String {
         side: side(seat),
         rqid,
     };
-    // Every object of the program has texts as keys, so that it can be written.
+    // Every object of the program has texts as keys, so that it can be serialized.
     serde_json::to_string(&object).unwrap_or_default()
 }
 

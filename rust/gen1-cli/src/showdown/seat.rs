@@ -1,11 +1,11 @@
-//! A side of a game of the protocol: what its player knows, and how it names members and moves.
+//! A side of a game of the protocol: the knowledge of its player, and its names for members and moves.
 use super::log::names_of;
 use crate::commands::events_of;
 use crate::fault::Fault;
 use crate::input::Members;
 use gen1::{Battle, Choice, Conditions, Event, Kind, MoveId, Player, Side, Team, Teller, Volatile};
 
-/// A player of a game. Requests and choices are made of what is in here, and so of nothing that the player may not know.
+/// A player of a game. Requests and choices are made only from these fields, which hold nothing that the player may not know.
 pub struct Seat {
     pub side: Side,
     /// The name of the player.
@@ -51,7 +51,7 @@ impl Seat {
         }
     }
 
-    /// Tells the player of an update, and returns the events that it is told.
+    /// Reports an update to the player, and returns the events as reported.
     pub fn tell(&mut self, battle: &Battle, log: &[u8]) -> Result<Vec<Event>, Fault> {
         let wrong = |why| Fault::log(1, 0, why);
         let told = self.teller.tell_log(log).map_err(wrong)?;
@@ -142,7 +142,7 @@ impl Seat {
         }
     }
 
-    /// Whether living members can't come out because of what the active does.
+    /// Whether the active member keeps living members from coming out.
     pub fn is_trapped(&self) -> bool {
         let own = self.player.own();
         let may_come = |place: usize| own.members[place].hp > 0;
