@@ -1,7 +1,7 @@
-// The places of battles in the module's memory, which has no allocator of its own.
+// The places of battles in the module's memory. The module has no allocator.
 //
-// A block holds one battle. Blocks belong to packs, and a pack is given back when no battle with one of its blocks is left: registering each
-// battle with the garbage collector takes longer than an update. A region holds the battles of an array.
+// A block holds one battle. Blocks belong to packs, and a pack is freed when no battle with one of its blocks is left: registering each
+// battle with the garbage collector would take longer than an update. A region holds the battles of an array.
 
 const PAGE = 65536;
 /** The size of a battle. */
@@ -10,7 +10,7 @@ const PACKED = 16;
 // A page holds ten packs.
 const PACKS = Math.floor(PAGE / (PACKED * BATTLE_SIZE));
 
-/** The space of a battle: a pointer, the same as an offset in the memory, and the pack, which it keeps alive. */
+/** The space of a battle: a pointer, its offset in the memory, and the pack, which the block keeps alive. */
 class Block {
   constructor(pointer, place, pack) {
     this.pointer = pointer;
@@ -28,7 +28,7 @@ class Region {
   }
 }
 
-/** Gives out memory that `library` grows. */
+/** Allocates from memory that `library` grows. */
 export class Arena {
   #library;
   #pack = {};
@@ -56,7 +56,7 @@ export class Arena {
     return new Block(this.#library.size(place), place, this.#pack);
   }
 
-  /** Gives a block back at once. */
+  /** Frees a block at once. */
   free(block) {
     this.#blocks.push(block);
   }
@@ -72,7 +72,7 @@ export class Arena {
     [this.#pack, this.#next, this.#left] = [pack, place, PACKED];
   }
 
-  /** A region of at least `count` bytes for `owner`. It is given back when the owner is gone, or by `freeRegion`. */
+  /** A region of at least `count` bytes for `owner`. It is freed when the owner is garbage collected, or by `freeRegion`. */
   region(count, owner) {
     const pages = 2 ** Math.ceil(Math.log2(Math.max(1, count / PAGE)));
     const place = this.#regionsOf(pages).pop() ?? this.#library.grow(pages);
@@ -81,7 +81,7 @@ export class Arena {
     return region;
   }
 
-  /** Gives a region back, once. */
+  /** Frees a region, once. */
   freeRegion(region) {
     if (region.pages) this.#regionsOf(region.pages).push(region.place);
     region.pages = 0;

@@ -1,4 +1,4 @@
-// Checks and converts the caller's arguments before a call of the library, whose numbers are bytes. Each error says what is lawful.
+// Checks and converts the caller's arguments before the library is called, whose numbers are bytes. Each error names the valid values.
 import {ArgumentError, ArgumentTypeError} from "./errors.mjs";
 
 /** The choices in the order of their bits in a mask (include/gen1.h, GEN1_CHOICE_BIT), which is also the order of their bytes. */
@@ -24,7 +24,7 @@ export function shown(value) {
   return text.length > MOST_SHOWN ? `${text.slice(0, MOST_SHOWN)}..` : text;
 }
 
-/** The error for an argument of a wrong type. */
+/** The error for an argument of the wrong type. */
 export function wrongType(value, what, lawful) {
   return new ArgumentTypeError(`${what} is ${shown(value)}, not ${lawful}`, what);
 }
@@ -49,7 +49,7 @@ export function probability(value, what) {
   return value;
 }
 
-/** A number as a byte; 255 if it is out of range, which the library refuses where this is used. */
+/** A number as a byte; 255 if it is out of range, which the library then refuses. */
 export function byteOr255(value, what) {
   return whole(value, what) >= 0 && value <= 255 ? value : 255;
 }
@@ -62,7 +62,7 @@ export function truth(value, what) {
 
 /** A string. */
 export function text(value, what) {
-  if (typeof value !== "string") throw wrongType(value, what, "a text");
+  if (typeof value !== "string") throw wrongType(value, what, "a string");
   return value;
 }
 
@@ -72,7 +72,7 @@ export function object(value, what, lawful) {
   return value;
 }
 
-/** An object with fields, and with no keys but these. */
+/** An object with fields, and with only these keys. */
 export function record(value, what, lawful, keys) {
   for (const key of Object.keys(object(value, what, lawful))) {
     if (keys.includes(key)) continue;
@@ -83,7 +83,7 @@ export function record(value, what, lawful, keys) {
   return value;
 }
 
-// How many letters one text must gain, lose or change to become the other one.
+// The edit distance of two texts: how many letters must be inserted, removed or replaced.
 function distance(one, two) {
   let row = Array.from({length: two.length + 1}, (_, at) => at);
   for (let at = 1; at <= one.length; at++) {
@@ -95,7 +95,7 @@ function distance(one, two) {
   return row[two.length];
 }
 
-/** The name that differs least from a text, if it differs by at most `most` letters. */
+/** The name nearest to a text, if it differs by at most `most` letters. */
 export function nearest(given, names, most) {
   const small = given.slice(0, MOST_SHOWN).toLowerCase();
   const found = names.map((name) => [distance(small, name.toLowerCase()), name])
@@ -120,7 +120,7 @@ export function numbers(value, what, count, of) {
 const SEED_SIZE = 10;
 const isByte = (value) => Number.isInteger(value) && value >= 0 && value <= 255;
 
-/** The seed, whose ten numbers are tested. */
+/** The seed, after a test of its ten numbers. */
 export function seedOf(value) {
   const {length} = list(value, "seed", `a list of ${SEED_SIZE} numbers`);
   if (length !== SEED_SIZE) throw new ArgumentError(`seed has ${length} numbers, not ${SEED_SIZE}`, "seed");

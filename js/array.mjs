@@ -13,7 +13,7 @@ const MOST_BATTLES = 2 ** 20;
 const SEED_SIZE = 10;
 const PLAYOUTS_SIZE = 16;
 const KEYS = ["battle", "count", "seeds", "sides"];
-// The state of a generator of gen1_step_random_many, at whose multiples its array begins.
+// The size of a generator of gen1_step_random_many, to which its array is aligned.
 const STATE_SIZE = 8;
 // Both sides of one battle: their players, and their tellers.
 const SIDES_SIZE = 2 * (PLAYER_SIZE + TELLER_SIZE);
@@ -55,7 +55,7 @@ export class BattleArray {
 
   /** How many battles there are. */
   length;
-  /** What gen1_result returns for each battle after the last step, in one array whose values change. */
+  /** The value of gen1_result for each battle after the last step, in one array whose values change. */
   results;
   /** 0 for each battle that the last step updated, else why it did not: CODES.ERROR_OVER and so on, in one array whose values change. */
   codes;
@@ -133,7 +133,7 @@ export class BattleArray {
     this.#note(updates);
   }
 
-  // An update of each battle, as the C interface reads and writes it.
+  // An update of each battle, in the form of the C interface.
   get #updates() {
     return new Uint32Array(this.#library.bytes.buffer, this.#at + this.#places.updates, this.length);
   }
@@ -145,7 +145,7 @@ export class BattleArray {
     }
   }
 
-  // Updates one battle after the other, and tells both sides of each the log.
+  // Updates one battle after the other, and reports each log to both sides.
   #stepAll(ones, twos) {
     const {calls, log, length: told} = this.#library;
     const room = this.#library.size(CODES.LOG_ROOM);
@@ -195,7 +195,7 @@ export class BattleArray {
     return [ones, twos];
   }
 
-  // A random step of each battle, by a generator of its own: two words of its state for each.
+  // A random step of each battle, by its own generator, whose state is two 32-bit words.
   #stepRandomMany(states) {
     const {calls, bytes, length} = this.#library;
     new Uint32Array(bytes.buffer, this.#at + this.#places.scratch, states.length).set(states);
@@ -206,7 +206,7 @@ export class BattleArray {
     return this.#updates;
   }
 
-  /** What a side knows in each battle: a row of COLUMNS.length numbers each, from its player alone. The array needs `sides`. */
+  /** The knowledge of a side in each battle: a row of COLUMNS.length numbers each, from its player alone. The array needs `sides`. */
   observe(side) {
     if (!this.#isWatched) throw new ArgumentError("the array has no players: it was created without sides", "sides");
     const [own, width] = [sideOf(side), COLUMNS.length];
@@ -249,7 +249,7 @@ export class BattleArray {
   }
 
   /**
-   * Restores battles, with their players, to what they were when the array was created: all, or those where `which`, an array with a value for
+   * Restores battles, with their players, to their state when the array was created: all, or those where `which`, an array with a value for
    * each, is not 0 or false. With `seeds`, ten bytes for each battle, the restored battles draw these numbers.
    */
   reset(which = null, seeds = null) {
@@ -277,10 +277,10 @@ export class BattleArray {
     this.#library.bytes.set(this.#first.subarray(offset, offset + count), this.#at + offset);
   }
 
-  /** A new array with copies of the battles at these places, with their players. A place may be there many times. */
+  /** A new array with copies of the battles at these places, with their players. A place may be repeated. */
   take(places) {
     const from = Array.from(list(places, "places"), (place, at) => within(place, `places[${at}]`, 0, this.length - 1));
-    if (!from.length) throw new ArgumentError("places has no place", "places");
+    if (!from.length) throw new ArgumentError("places is empty, and must have at least one place", "places");
     const [{sides}, library] = [placesOf(from.length, this.#isWatched), this.#library];
     return new BattleArray(library, from.length, (to) => {
       for (const [at, place] of from.entries()) {
@@ -292,7 +292,7 @@ export class BattleArray {
     }, this.#isWatched);
   }
 
-  /** Gives the memory back at once. Every later call but `free` throws FreedError. */
+  /** Frees the memory at once. Every later call except `free` throws FreedError. */
   free() {
     if (this.#region !== null) this.#library.arena.freeRegion(this.#region);
     this.#region = null;

@@ -16,7 +16,7 @@ import {chancesOf, oddsOf, ownSideOf, resultOf, stateOf, STATS, STATUSES, threeC
 const FACTORS = 39;
 const TERMS_KEYS = ["one", "two", "seed", "rules", "limit"];
 
-/** Why a choice that is not offered was refused. */
+/** The error text for a choice that is not offered. */
 export function notOffered(sentence, byte, offered) {
   return `${sentence}: ${choiceText(byte)}; offered: ${offered.join(", ")}`;
 }
@@ -44,8 +44,8 @@ export function blockOfTerms(library, terms) {
 }
 
 /**
- * A battle. `update` changes it in place; `clone` keeps it. Its bytes are in the module's memory until `free` is called, or until the garbage
- * collector finds that nothing uses it.
+ * A battle. `update` changes it in place; `clone` copies it. Its bytes are in the module's memory until `free` is called, or until the garbage
+ * collector finds that it is unused.
  */
 export class Battle {
   #library;
@@ -57,13 +57,13 @@ export class Battle {
   }
 
   /**
-   * A battle that fits what a player knows, with a guess of the rest: the base of a search that doesn't cheat.
+   * A battle that fits a player's knowledge, with a guess of the rest: the base of a search that doesn't cheat.
    *
    * `guess` has the foe's team, first the members that have appeared, in the order in which they did, then the others; the seed of the numbers
-   * to draw; and rules and limit as in `gen1.battle`. The own side is as it was shown. The foe's members have the HP, status and stages that
-   * were reported, and the moves and stats of the guess; PP are those that are left after the uses that were seen. A condition that was announced is
-   * on if a move of the guess explains it. Hidden counts have middle values: three turns of sleep and confusion, four of Disable, two of Bide,
-   * thrashing and trapping, a Substitute of a quarter of the maximum HP.
+   * to draw; and rules and limit as in `gen1.battle`. The player's own side is as it was shown. The foe's members have the HP, status and stages
+   * that were reported, and the moves and stats of the guess; their PP are those left after the uses that were seen. A condition that was
+   * announced is on if a move of the guess explains it. Hidden counts have middle values: three turns of sleep and confusion, four of Disable,
+   * two of Bide, thrashing and trapping, a Substitute of a quarter of the maximum HP.
    */
   static fromPlayer(player, guess) {
     const library = libraryOf(player);
@@ -82,7 +82,7 @@ export class Battle {
     return block.pointer;
   }
 
-  // The same, as the first argument of a call that also needs other space.
+  // The battle's pointer, as the first argument of a call that also needs other space.
   #begin() {
     this.#library.begin();
     return this.#at;
@@ -93,7 +93,7 @@ export class Battle {
     return this.#library.read(this.#at, BATTLE_SIZE);
   }
 
-  /** An independent copy. It draws the same numbers, unless it is reseeded. */
+  /** An independent copy. It draws the same numbers unless it is reseeded. */
   clone() {
     return new Battle(this.#library, this.#library.blockOf(this.#at));
   }
@@ -109,13 +109,13 @@ export class Battle {
       this.#library.bytes.set(battle.bytes, to);
   }
 
-  /** Gives the battle's memory back at once. Every later call of this battle, but `free`, throws FreedError. */
+  /** Frees the battle's memory at once. Every later call of this battle, except `free`, throws FreedError. */
   free() {
     if (this.#block !== null) this.#library.arena.free(this.#block);
     this.#block = null;
   }
 
-  /** The outcome so far, and what is asked of each side. */
+  /** The outcome so far, and the request to each side. */
   get result() {
     return resultOf(this.#library.calls.gen1_result(this.#at));
   }
@@ -131,14 +131,14 @@ export class Battle {
     return stateOf(this.#library.bytes, Number(state));
   }
 
-  /** What a side is shown of itself. */
+  /** A side as it is shown to its own player. */
   ownSide(side) {
     const [battle, own] = [this.#begin(), this.#library.roomOf("gen1_own_side")];
     this.#library.calls.gen1_get_own_side(battle, sideOf(side), own);
     return ownSideOf(this.#library.bytes, Number(own));
   }
 
-  /** Another battle: this one with the state as `change`, which is passed a copy of it, has changed it. */
+  /** A copy of this battle with the state as `change` changed it. `change` is passed a copy of the state. */
   withState(change) {
     if (typeof change !== "function") throw wrongType(change, "change", "a function that changes a state");
     const {state} = this;
@@ -146,7 +146,7 @@ export class Battle {
     return new Battle(this.#library, blockOfState(this.#library, state));
   }
 
-  /** This battle with other HP of a member. */
+  /** A copy of this battle with other HP of a member. */
   withHp(side, place, hp) {
     const given = whole(hp, "hp");
     return this.withState((state) => {
@@ -154,7 +154,7 @@ export class Battle {
     });
   }
 
-  /** This battle with another status of a member; a sleep lasts `turns`. If the member is out, its current stats are computed anew. */
+  /** A copy with another status of a member; a sleep lasts `turns`. If the member is active, its current stats are recomputed. */
   withStatus(side, place, status, turns = 0) {
     indexOf(STATUSES, status, "status");
     const sleep = status === "sleep" ? whole(turns, "turns") : 0;
@@ -165,14 +165,14 @@ export class Battle {
     });
   }
 
-  /** This battle with another stage of the active member, whose current stats are computed anew. */
+  /** A copy of this battle with another stage of the active member, whose current stats are recomputed. */
   withStage(side, stat, stage) {
     const [at, given] = [indexOf(STATS, stat, "stat"), whole(stage, "stage")];
     return this.withState((state) => {
       const {active} = sideOf(side) === 1 ? state.one : state.two;
       if (!active)
         throw new ArgumentError(
-            `side is ${side}, of which nobody is out: the battle is before its first update`, "side");
+            `side is ${side}, which has no active member: the battle is before its first update`, "side");
       active.stages[at] = given;
       active.stats = [0, 0, 0, 0];
     });
@@ -210,7 +210,7 @@ export class Battle {
         library, library.calls.gen1_result(battle), library.bytes, library.logAt, library.sizeAt(library.length));
   }
 
-  /** As `update` without a log, which is faster. Returns the result. */
+  /** Like `update`, but without a log, which is faster. Returns the result. */
   updateSilent(one, two) {
     const first = choiceByte(one, 1);
     const second = choiceByte(two, 2);
@@ -230,7 +230,7 @@ export class Battle {
     return new RefusedError(notOffered(sentence, choice, offered), code, {side, choice, offered, reason: sentence});
   }
 
-  /** Replaces the numbers to draw: ten bytes, and the index, 0 to 8, of the one that is drawn next. */
+  /** Replaces the numbers to draw: ten bytes, and the index, 0 to 8, of the byte that is drawn next. */
   reseed(seed, index = 0) {
     const numbers = seedOf(seed);
     const place = whole(index, "index");
@@ -277,7 +277,7 @@ export class Battle {
     return chancesOf(this.#library.readStruct("gen1_chances", chances));
   }
 
-  /** The same in one use, two and three, with what happens to its HP between them. */
+  /** The chances that a side's move knocks out the foe in one use, two and three, with the changes of the foe's HP between them. */
   knockOutInThree(side, move, between = {}) {
     const number = moveOf(this.#library, move);
     const given = betweenUses(this.#library, between);
@@ -347,7 +347,7 @@ function weightsOf(library, given) {
   return table;
 }
 
-/** The bytes of a gen1_between. What is not given does not change. */
+/** The bytes of a gen1_between. Changes that are left out are 0. */
 function betweenUses(library, between) {
   const {afterFirst, afterSecond} =
       record(between, "between", "an object with afterFirst and afterSecond", ["afterFirst", "afterSecond"]);
@@ -362,13 +362,13 @@ function betweenUses(library, between) {
   return bytesOf("gen1_between", library.isLong, changes);
 }
 
-/** Why there are no damage numbers of a move. */
+/** The error for a move without damage numbers. */
 export function damageError(library, code, move) {
   const sentence = library.sentence(code);
   return new DamageError(`no damage of ${shown(move)}: ${sentence}`, code, sentence);
 }
 
-/** Why `count` bytes are not a battle. */
+/** The error for `count` bytes that are not a battle. */
 export function loadError(library, code, count) {
   const was = code === CODES.ERROR_LOAD_LENGTH ? `: there are ${count}` : "";
   const sentence = library.sentence(code);

@@ -1,8 +1,8 @@
-// Types of errors.mjs: what the calls of gen1.mjs throw.
+// Types of errors.mjs: the errors that the calls of gen1.mjs throw.
 
 import type { ChoiceName } from "./gen1.mjs";
 
-/** An argument has a wrong type. */
+/** An argument has the wrong type. */
 export class ArgumentTypeError extends TypeError {
   /** Its name, such as `two[0].level`. */
   readonly argument: string;
@@ -16,7 +16,7 @@ export class ArgumentError extends RangeError {
 export class Gen1Error extends Error {
   /** The number in include/gen1.h. */
   readonly code: number;
-  /** What the code means, without the place and the values: "a move is there twice". Of a text, what was expected. */
+  /** The meaning of the code, without the place and the values: "a move is there twice". For a text, the expected form. */
   readonly reason: string;
 }
 /** The module was not found, cannot run here, or is not the C library's. `cause` is the host's error, if there was one. */
@@ -43,19 +43,19 @@ export class TextError extends Gen1Error {
   /** With code 77 the code of a TeamError; else 0. */
   readonly rule: number;
 }
-/** Bytes are not a battle. `code`, 16 to 22, is that of the first of the seven tests that they fail (docs/LAYOUT.md, "Loading"). */
+/** The bytes are not a battle. `code`, 16 to 22, belongs to the first of the seven tests that they fail (docs/LAYOUT.md, "Loading"). */
 export class LoadError extends Gen1Error {}
 /** A state cannot be that of a battle. */
 export class StateError extends Gen1Error {
-  /** Where the state has the first wrong field: `state.two.members[0].hp`. Empty if the fields do not fit together. */
+  /** The path of the first wrong field in the state: `state.two.members[0].hp`. Empty if the fields do not fit together. */
   readonly field: string;
   /** 1 or 2; 0 for a field of the whole battle. */
   readonly side: number;
   /** The place of the member; 0 for a field of the active member or of the whole battle. */
   readonly place: number;
-  /** Which one of a list, from 1; else 0. */
+  /** The index in a list, from 1; else 0. */
   readonly index: number;
-  /** What the field has. From `low` to `high` it does not fit other fields. */
+  /** The value of the field. From `low` to `high` it does not fit other fields. */
   readonly value: unknown;
   readonly low: number;
   readonly high: number;
@@ -70,15 +70,15 @@ export class RefusedError extends Gen1Error {
 }
 /** A room refused a choice or a forfeit. */
 export class RoomError extends RefusedError {
-  /** The pair that the choice was for. */
+  /** The pair for which the choice was submitted. */
   readonly number: number;
   /** The current pair. */
   readonly current: number;
 }
-/** Bytes are not a log. */
+/** The bytes are not a log. */
 export class LogError extends Gen1Error {
-  /** The offset of the event that could not be read; below 0 if it began in bytes that a spectator was fed before. */
+  /** The offset of the event that could not be read; below 0 if the event began in bytes that a spectator was fed before. */
   readonly at: number;
 }
-/** There is no damage: the move doesn't have the usual damage, or no member is out. */
+/** A move has no damage: it doesn't have the usual damage, or no member is out. */
 export class DamageError extends Gen1Error {}

@@ -1,6 +1,6 @@
 // The library's errors. A call that throws one of them has changed nothing.
 
-/** The library refused a call. `code` is the number in include/gen1.h, and `reason` what it means, without the place and the values. */
+/** The library refused a call. `code` is the number in include/gen1.h, and `reason` its meaning, without the place and the values. */
 export class Gen1Error extends Error {
   constructor(message, code = 0, reason = message) {
     super(message);
@@ -10,7 +10,7 @@ export class Gen1Error extends Error {
   }
 }
 
-/** An argument has a wrong type. `argument` is its name, such as `two[0].level`. */
+/** An argument has the wrong type. `argument` is its name, such as `two[0].level`. */
 export class ArgumentTypeError extends TypeError {
   constructor(message, argument) {
     super(message);
@@ -37,7 +37,7 @@ export class MemoryError extends Gen1Error {}
 /** A battle or an array of battles was used after `free`. */
 export class FreedError extends Gen1Error {}
 
-/** Teams, rules or limit are refused: the side (0 if neither team is wrong), the place of the member, and the field. */
+/** Teams, rules or limit are refused. Has the side (0 if neither team is wrong), the place of the member, and the field. */
 export class TeamError extends Gen1Error {
   constructor(message, code, {side = 0, place = 0, field = "", reason} = {}) {
     super(message, code, reason);
@@ -55,13 +55,13 @@ export class TextError extends Gen1Error {
   }
 }
 
-/** Bytes are not a battle. `code`, 16 to 22, is that of the first of the seven tests that they fail. */
+/** The bytes are not a battle. `code`, 16 to 22, belongs to the first of the seven tests that they fail. */
 export class LoadError extends Gen1Error {}
 
 /**
- * A state cannot be that of a battle. `field` is where the state has the first field that is wrong, such as `state.two.members[0].hp`, and empty if the
- * fields do not fit together. The side and place are 0 if it is not about one, and `index` is from 1 in a list, else 0. A `value` from `low`
- * to `high` does not fit other fields.
+ * A state cannot be that of a battle. `field` is the path of the first wrong field in the state, such as `state.two.members[0].hp`, or empty if the
+ * fields do not fit together. `side` and `place` are 0 if the error is not about one, and `index` is from 1 in a list, else 0. A `value` from
+ * `low` to `high` does not fit other fields.
  */
 export class StateError extends Gen1Error {
   constructor(message, code, {field, side, place, index, value, low, high}) {
@@ -70,7 +70,7 @@ export class StateError extends Gen1Error {
   }
 }
 
-/** A choice was refused: the side (0 if the battle is over), the byte of the choice, and what is offered. */
+/** A choice was refused. Has the side (0 if the battle is over), the byte of the choice, and the offered choices. */
 export class RefusedError extends Gen1Error {
   constructor(message, code, {side = 0, choice = null, offered = [], reason} = {}) {
     super(message, code, reason);
@@ -89,7 +89,7 @@ export class RoomError extends RefusedError {
   }
 }
 
-/** Bytes are not a log. `at` is the offset of the wrong event; below 0 if it began in bytes that a spectator was fed before. */
+/** The bytes are not a log. `at` is the offset of the wrong event; below 0 if the event began in bytes that a spectator was fed before. */
 export class LogError extends Gen1Error {
   constructor(message, code, at, reason) {
     super(message, code, reason);
@@ -97,5 +97,5 @@ export class LogError extends Gen1Error {
   }
 }
 
-/** There is no damage. */
+/** A move has no damage. */
 export class DamageError extends Gen1Error {}

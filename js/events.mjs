@@ -9,16 +9,16 @@ import {namesOf, STATS, STATUSES} from "./views.mjs";
 export const EVENT_KINDS = namesOf("EVENT_");
 /** Why a member can't act, by number less 1. */
 export const CANT_REASONS = namesOf("REASON_");
-/** What damaged a member, by number. */
+/** The source of damage, by number. */
 export const DAMAGE_SOURCES = namesOf("SOURCE_");
-/** What starts, ends or acts, by number less 1. */
+/** The condition that starts, ends or takes effect, by number less 1. */
 export const VOLATILES = namesOf("VOLATILE_");
 /** Why a battle had to stop, by number less 1. */
 export const FAULTS = namesOf("FAULT_");
 
 const WHO = ["side", "species"];
 const HEALTH = ["hp", "maxHp", "status"];
-// The fields of each kind; of all others they are WHO.
+// The fields of each kind; all other kinds have WHO.
 const FIELDS = {
   turn: ["turn"],
   switch: [...WHO, "place", "level", ...HEALTH],
@@ -77,15 +77,15 @@ function eventAt(bytes, at, size) {
   return event;
 }
 
-// Why bytes are not a log. The wrong event begins at byte `at` of these, or, below 0, in the bytes before them.
+// The error for bytes that are not a log. The wrong event begins at byte `at`, or, below 0, in the bytes before these.
 function logError(library, code, at) {
   const where = at < 0 ? `${- at} bytes before these` : `byte ${at}`;
   const sentence = library.sentence(code);
   return new LogError(`${where}: ${sentence}`, code, at, sentence);
 }
 
-// Reads each event of a log, which is put into memory once. `reader` is passed the first arguments of the call, and returns a function
-// that reads the next event. That returns the code, and a function for the event.
+// Reads each event of a log, which is copied to memory once. `reader` is passed the first arguments of the call, and returns a function
+// that reads the next event, which returns the code and a function for the event.
 function told(library, log, reader) {
   library.begin();
   const [bytes, at, found] = [library.put(log), library.room(8), []];
@@ -123,7 +123,7 @@ export function linesOf(library, log) {
   });
 }
 
-/** Why bytes are not a log that goes on after `held`, the bytes of an incomplete event. */
+/** The error for bytes that do not continue a log after `held`, the bytes of an incomplete event. */
 export function logErrorAfter(library, code, held, given) {
   const all = new Uint8Array(held.length + given.length);
   all.set(held);

@@ -1,5 +1,5 @@
 // Types of gen1.mjs. TypeScript finds them by name: the resolutions node, node16, nodenext and bundler look for a .d.mts next to an
-// .mjs. uses.mjs compares them with what the module does.
+// .mjs. uses.mjs compares them with the module.
 
 import type { MoveName, SpeciesName, TypeName } from "./names.mjs";
 export type { MoveName, SpeciesName, TypeName };
@@ -15,9 +15,9 @@ declare global {
   }
 }
 
-/** A species as an argument: its exact name (docs/TABLES.md), or its number from 1 to 151. Other texts are refused when the call is made. */
+/** A species as an argument: its exact name (docs/TABLES.md), or its number from 1 to 151. The call refuses other texts. */
 export type SpeciesLike = SpeciesName | number | (string & {});
-/** A move as an argument: its exact name (docs/TABLES.md), or its number from 1 to 165. Other texts are refused when the call is made. */
+/** A move as an argument: its exact name (docs/TABLES.md), or its number from 1 to 165. The call refuses other texts. */
 export type MoveLike = MoveName | number | (string & {});
 /** A choice as `choices` returns it. */
 export type ChoiceName = "pass" | `move ${0 | 1 | 2 | 3 | 4}` | `switch ${1 | 2 | 3 | 4 | 5 | 6}`;
@@ -29,7 +29,7 @@ export type Request = "pass" | "move" | "switch";
 export type Status = "none" | "sleep" | "poison" | "burn" | "freeze" | "paralysis";
 /** A stat with stages. */
 export type Stat = "attack" | "defense" | "speed" | "special" | "accuracy" | "evasion";
-/** A condition of the member that is out (docs/MECHANICS.md, "Conditions"). */
+/** A condition of the active member (docs/MECHANICS.md, "Conditions"). */
 export type Condition = "bide" | "thrash" | "trapping" | "flinch" | "charging" | "invulnerable" | "confused" | "mist" | "focus energy"
   | "substitute" | "recharge" | "rage" | "seeded" | "bad poison" | "light screen" | "reflect" | "disabled";
 /** Numbers in an array, a typed array, or another object with a length. */
@@ -55,13 +55,13 @@ export interface Terms {
   two: Team | Members;
   /** Ten numbers from 0 to 255. */
   seed: Numbers;
-  /** 0 is no clause, which is the default, 1 the sleep clause, 2 the freeze clause, 3 both. */
+  /** 0 for no clause (the default), 1 for the sleep clause, 2 for the freeze clause, 3 for both. */
   rules?: number;
   /** The last turn, 1 to 9999; 1000 by default. */
   limit?: number;
 }
 
-/** What a caller of Battle.fromPlayer guesses of what the player can't know. */
+/** The guess that a caller passes to Battle.fromPlayer: the parts of a battle that the player can't know. */
 export interface Guess {
   /** The foe's team: first the members that have appeared, in the order in which they did, then the others. */
   team: Team | Members;
@@ -81,7 +81,7 @@ export interface WholeMember {
   moves: [MoveName, number][];
 }
 
-/** How a battle stands. Objects of the same values may be the same object. */
+/** The outcome and the requests of a battle. Objects with the same values may be the same object. */
 export interface Result {
   readonly outcome: Outcome;
   readonly requests: readonly [Request, Request];
@@ -89,9 +89,9 @@ export interface Result {
 
 /** Why a member cannot act. */
 export type CantReason = "asleep" | "frozen" | "partially trapped" | "flinched" | "recharging" | "disabled" | "paralysed";
-/** What damaged a member. */
+/** The source of damage. */
 export type DamageSource = "direct" | "poison" | "burn" | "leech seed" | "recoil" | "confusion";
-/** What starts, ends or acts. */
+/** The condition that starts, ends or takes effect. */
 export type Volatile = "confusion" | "bide" | "substitute" | "leech seed" | "mist" | "focus energy" | "light screen" | "reflect" | "disable"
   | "type change" | "trapped" | "rage" | "splash";
 /** Why a battle had to stop: a division by 0, or a Psywave of level 1. */
@@ -135,7 +135,7 @@ export interface MemberState {
   species: SpeciesName;
   level: number;
   status: Status;
-  /** How many more turns it sleeps, 1 to 7; 0 if it is awake. */
+  /** Turns of sleep left, 1 to 7; 0 if it is awake. */
   sleep: number;
   /** Whether the sleep clause counts its sleep. */
   marked: boolean;
@@ -148,7 +148,7 @@ export interface MemberState {
   stats: number[];
 }
 
-/** The member that is out, with the state that lasts only while it is. A counter that doesn't apply is 0; docs/LAYOUT.md has the ranges. */
+/** The active member, with the state that lasts only while it is active. A counter that doesn't apply is 0; docs/LAYOUT.md has the ranges. */
 export interface ActiveState {
   /** 1 to 6. */
   place: number;
@@ -205,7 +205,7 @@ export interface ShownMember {
   status: Status;
 }
 
-/** What a spectator knows of a side. All fields but `members` are of the member that is out. */
+/** A spectator's knowledge of a side. All fields except `members` belong to the active member. */
 export interface ShownSide {
   members: ShownMember[];
   /** 1 to 6; 0 before the first member comes out. */
@@ -233,17 +233,17 @@ export interface Damages {
 
 /**
  * The odds of one use of a move by a member that acts now: its damage, and its chances of a hit and of a critical hit. Chances of draws are
- * exact multiples of 1/256. What keeps a member from acting at all, such as sleep, is not counted.
+ * exact multiples of 1/256. Conditions that keep a member from acting at all, such as sleep, are not counted.
  */
 export interface Odds {
   usual: Damages;
   critical: Damages;
   criticalChance: number;
-  /** 0 if the use cannot hit, or not work; `reason` says why. */
+  /** 0 if the use cannot hit or cannot work; `reason` says why. */
   hitChance: number;
   /** Why the use cannot hit, one of REASONS; null if it can. */
   reason: string | null;
-  /** Without the usual damage: the least and the most damage, from which to which all are equally likely. Null if there is none. */
+  /** Without the usual damage: the least and the most damage; all from the least to the most are equally likely. Null if there is none. */
   fixed: [number, number] | null;
   /** The chances that a use that hits makes 0 to 5 hits, each with the same damage: multiples of 1/8. */
   hits: number[];
@@ -272,7 +272,7 @@ export interface KnockOut {
   chanceTwice: number;
 }
 
-/** What happens to the HP of the foe between two uses of a move, if it has any left. */
+/** The change of the foe's HP between two uses of a move, if it has any left. */
 export interface HpChange {
   /** The HP that it gains first, up to its maximum: 0 to 65535, and 0 if it is left out. */
   gained?: number;
@@ -280,13 +280,13 @@ export interface HpChange {
   lost?: number;
 }
 
-/** What happens to the HP of the foe after the first use of a move and after the second. Without it the HP stay as they are. */
+/** The changes of the foe's HP after the first use of a move and after the second. Without them the HP do not change. */
 export interface Between {
   afterFirst?: HpChange;
   afterSecond?: HpChange;
 }
 
-/** The chances of a KnockOut, and that of three uses in a row, with what happens to the HP of the foe between the uses. */
+/** The chances of a KnockOut, and that of three uses in a row, with the changes of the foe's HP between the uses. */
 export interface KnockOutInThree extends KnockOut {
   /** Rounded. */
   chanceThrice: number;
@@ -311,7 +311,7 @@ export interface OwnActive {
   held: boolean;
 }
 
-/** What a side is shown of itself. */
+/** A side as it is shown to its own player. */
 export interface OwnSide {
   members: OwnMember[];
   /** Null before the first update. */
@@ -321,7 +321,7 @@ export interface OwnSide {
   outcome: Outcome;
 }
 
-/** A member as the log showed it last. */
+/** A member as the log last showed it. */
 export interface SeenMember {
   species: SpeciesName;
   level: number;
@@ -344,31 +344,31 @@ export interface SeenActive {
   types: TypeName[];
   /** -6 to 6: Attack, Defense, Speed, Special, accuracy, evasion. */
   stages: number[];
-  /** Null for none since it came out. */
+  /** Null if it has used none since it came out. */
   lastMove: MoveName | null;
   /** Those that were announced and have not ended. */
   announced: Announced[];
 }
 
-/** What the log has made public of a side. */
+/** The information about a side that the log has made public. */
 export interface PublicSide {
-  /** Of the own side in the order of the places, of the foe those that appeared, in the order of their appearance. */
+  /** For the player's own side in the order of their places; for the foe those that have appeared, in the order in which they did. */
   members: SeenMember[];
   /** Null before the first member comes out. */
   active: SeenActive | null;
 }
 
-/** What a player knows (docs/MECHANICS.md, "Player's view"). */
+/** The knowledge of a player (docs/MECHANICS.md, "Player's view"). */
 export interface PlayerView {
   side: Side;
   turn: number;
   outcome: Outcome;
-  /** What it was last shown of its own side; null before the first time. */
+  /** Its own side as last shown; null before the first time. */
   own: OwnSide | null;
-  /** What the log has made public of its own side. */
+  /** The information about its own side that the log has made public. */
   ownPublic: PublicSide;
   foe: PublicSide;
-  /** How many members the foe has; null if it was not told. */
+  /** How many members the foe has; null if unknown. */
   foes: number | null;
 }
 
@@ -399,7 +399,7 @@ export interface MoveData {
   isHighCritical: boolean;
 }
 
-/** What a member has without a battle: its maximum HP, 11 to 999, and its stats before stages and penalties, 5 to 999. */
+/** The stats of a member without a battle: its maximum HP, 11 to 999, and its stats before stages and penalties, 5 to 999. */
 export interface Stats {
   hp: number;
   attack: number;
@@ -411,11 +411,11 @@ export interface Stats {
 /**
  * How likely choices are compared to others, 0 to 255: a choice of weight 6 is twice as likely as one of weight 3, and one of weight 0 is made only
  * if the others have 0 too. The keys are names of moves, `switch` for each switch and `move` for all other moves; one that is left out has the
- * weight 1. Move 0, with which a member goes on or uses Struggle, has the weight of Struggle.
+ * weight 1. Move 0, by which a member continues a move or uses Struggle, has the weight of Struggle.
  */
 export type Weights = { [key in MoveName | "switch" | "move"]?: number };
 
-/** How playouts are played: at most for `depth` updates, and with choices by `weights`. */
+/** How playouts are played: for at most `depth` updates, and with choices by `weights`. */
 export interface PlayoutOptions {
   depth?: number;
   weights?: Weights;
@@ -432,16 +432,16 @@ export interface Playouts {
 /** How outcomes are listed. */
 export interface OutcomeOptions {
   /**
-   * At most how many classes of damage a roll has, 1 to 39; by default 0, each damage. For a search, which wants fewer outcomes: the 39 factors
-   * from 217 to 255 are cut into as many runs, and damages of one run are a class. Of each class one damage near its middle is listed, with
-   * the weight of all. All damages from the HP of the target on (or of its substitute) are one class more, so the chance that a roll knocks
-   * out stays exact, and so does everything that is not a roll of damage.
+   * The most classes of a damage roll, 1 to 39; by default 0, which lists each damage. For a search that wants fewer outcomes: the 39 factors
+   * from 217 to 255 are divided into that many ranges, and the damages of one range are a class. One damage near the middle of each class is
+   * listed, with the weight of the whole class. All damages that reach the HP of the target (or of its substitute) are one more class, so the
+   * chance of a knock-out stays exact, and so does everything other than damage rolls.
    */
   damageClasses?: number;
   /**
-   * Draws are left out as soon as those of the update so far are less probable than this together, with all that may come after them: 0 to 1,
-   * by default 0, which leaves nothing out. For a search, which saves the time to play them. A weight is then that of the ways to its battle
-   * that are not left out, and `leftOut` of the list is the exact weight of the rest. It is rounded down to a multiple of 2 ** -32.
+   * A course of the update is left out as soon as its draws so far are less probable than this together: 0 to 1, by default 0, which leaves
+   * nothing out. For a search that saves the time to play them. A weight is then that of the ways to its battle that are not left out, and
+   * `leftOut` of the list is the exact weight of the rest. The probability is rounded down to a multiple of 2 ** -32.
    */
   leastProbability?: number;
 }
@@ -450,8 +450,8 @@ export interface OutcomeOptions {
  * All battles that an update can lead to, each once. `Battle.outcomes` makes it.
  *
  * The probabilities are exact for draws that are independent uniform bytes. A link battle draws other numbers (docs/MECHANICS.md, "Link
- * numbers"): if its seed is unknown they are an approximation, off by about 0.01 in total variation; with a known seed there is one outcome,
- * that of `update`. The battles have the numbers to draw of the battle before, so reseed one before you play it on.
+ * numbers"): if its seed is unknown, they are an approximation, off by about 0.01 in total variation; if its seed is known, there is one
+ * outcome, that of `update`. The battles keep the numbers to draw of the battle before the update, so reseed one before you play it further.
  */
 export class Outcomes implements Iterable<OutcomeAt> {
   private constructor();
@@ -459,9 +459,9 @@ export class Outcomes implements Iterable<OutcomeAt> {
   readonly length: number;
   /** The sum of all weights and of `leftOut`. */
   readonly whole: bigint;
-  /** The exact weight of all that is left out: 0n without a `leastProbability`. */
+  /** The exact weight left out: 0n without a `leastProbability`. */
   readonly leftOut: bigint;
-  /** `leftOut` of `whole`, as a number. */
+  /** `leftOut` divided by `whole`, as a number. */
   readonly leftOutProbability: number;
   /** The outcome at a place from 0. Each call makes a new battle. */
   at(place: number): OutcomeAt;
@@ -471,7 +471,7 @@ export class Outcomes implements Iterable<OutcomeAt> {
 /** One of the battles that an update can lead to. */
 export interface OutcomeAt {
   battle: Battle;
-  /** `weight` of the `whole` of its list, as a number. */
+  /** `weight` divided by the `whole` of its list, as a number. */
   probability: number;
   /** The exact weight. */
   weight: bigint;
@@ -482,7 +482,7 @@ export class Update {
   private constructor();
   readonly result: Result;
   readonly log: Uint8Array;
-  /** Decoded when they are first read. */
+  /** Decoded on first use. */
   readonly events: readonly GameEvent[];
   readonly lines: readonly string[];
   toJSON(): { result: Result; events: readonly GameEvent[] };
@@ -501,18 +501,18 @@ export class Team {
 /**
  * A battle. `gen1.battle` and `gen1.load` create it; `update` changes it in place.
  *
- * Its 384 bytes are in the module's memory. The garbage collector gives them back some time after the last use of the battle, which a program
- * that does not return to its event loop must not wait for. Such a program frees its battles, or reuses one by `copyFrom`.
+ * Its 384 bytes are in the module's memory. The garbage collector frees them some time after the last use of the battle, but not while a program
+ * does not return to its event loop. Such a program must free its battles, or reuse one by `copyFrom`.
  */
 export class Battle {
   private constructor();
   /**
-   * A battle that fits what a player knows, with a guess of the rest: the base of a search that doesn't cheat.
+   * A battle that fits a player's knowledge, with a guess of the rest: the base of a search that doesn't cheat.
    *
-   * The own side is as it was shown. The foe's members have the HP, status and stages that were reported, and the moves and stats of the guess; PP
-   * are those that are left after the uses that were seen. A condition that was announced is on if a move of the guess explains it. Hidden counts
-   * have middle values: three turns of sleep and confusion, four of Disable, two of Bide, thrashing and trapping, a Substitute of a quarter of the
-   * maximum HP.
+   * The player's own side is as it was shown. The foe's members have the HP, status and stages that were reported, and the moves and stats of the
+   * guess; their PP are those left after the uses that were seen. A condition that was announced is on if a move of the guess explains it. Hidden
+   * counts have middle values: three turns of sleep and confusion, four of Disable, two of Bide, thrashing and trapping, a Substitute of a quarter
+   * of the maximum HP.
    *
    * Throws ArgumentError for a guess that does not fit, and for a battle that has not begun or is over; TeamError; StateError.
    */
@@ -522,25 +522,25 @@ export class Battle {
   readonly result: Result;
   readonly isOver: boolean;
   readonly state: State;
-  /** An independent copy. It draws the same numbers, unless it is reseeded. */
+  /** An independent copy. It draws the same numbers unless it is reseeded. */
   clone(): Battle;
   /** Becomes a copy of another battle, which takes less time than a clone. */
   copyFrom(battle: Battle): void;
-  /** Gives the memory back at once. Every later call of this battle, but `free`, throws FreedError. */
+  /** Frees the memory at once. Every later call of this battle, except `free`, throws FreedError. */
   free(): void;
-  /** The same as `free`, for `using` declarations, where the host has Symbol.dispose. */
+  /** Calls `free`, for `using` declarations, if the host has Symbol.dispose. */
   [Symbol.dispose](): void;
   /** The state, from which `gen1.battleOfState` creates the battle. */
   toJSON(): State;
-  /** What a side is shown of itself. Nothing of it depends on the foe, but whether its trapping move holds the active member. */
+  /** A side as it is shown to its own player. Only whether the foe's trapping move holds the active member depends on the foe. */
   ownSide(side: Side): OwnSide;
-  /** Another battle: this one with the state as `change`, which is passed a copy of it, has changed it. Throws StateError. */
+  /** A copy of this battle with the state as `change` changed it. `change` is passed a copy of the state. Throws StateError. */
   withState(change: (state: State) => void): Battle;
-  /** This battle with other HP of a member. Throws StateError. */
+  /** A copy of this battle with other HP of a member. Throws StateError. */
   withHp(side: Side, place: number, hp: number): Battle;
-  /** This battle with another status of a member; a sleep lasts `turns`, 1 to 7. Current stats follow the status. Throws StateError. */
+  /** A copy with another status of a member; a sleep lasts `turns`, 1 to 7. Current stats follow the status. Throws StateError. */
   withStatus(side: Side, place: number, status: Status, turns?: number): Battle;
-  /** This battle with another stage, -6 to 6, of the active member. Current stats follow the stages. Throws StateError. */
+  /** A copy with another stage, -6 to 6, of the active member. Current stats follow the stages. Throws StateError. */
   withStage(side: Side, stat: Stat, stage: number): Battle;
   /** The choices that a side is offered; none if the battle is over. */
   choices(side: Side): readonly ChoiceName[];
@@ -550,15 +550,15 @@ export class Battle {
   words(side: Side, choice: Choice): string;
   /** Updates the battle with a choice of each side. Throws RefusedError, and then the battle is unchanged. */
   update(one: Choice, two: Choice): Update;
-  /** As `update` without a log, which is faster. Throws RefusedError. */
+  /** Like `update`, but without a log, which is faster. Throws RefusedError. */
   updateSilent(one: Choice, two: Choice): Result;
   /** Replaces the numbers to draw: ten bytes, and the index, 0 to 8, of the next one. A search reseeds each copy that it plays out. */
   reseed(seed: Numbers, index?: number): void;
   /**
    * Plays copies to their end with random choices, and counts how they end. The same seed gives the same counts. Each copy gets ten
-   * random numbers to draw, so it doesn't know those of the battle. With a `depth` a copy is played for that many updates at most. If it
-   * still goes on, the side with the larger share of its HP left wins, and equal shares are a tie. Without `weights` all offered choices are
-   * equally likely.
+   * random numbers to draw, and does not use those of the battle. With a `depth` a copy is played for at most that many updates. If it is
+   * not over then, the side with the larger share of its HP left wins, and equal shares are a tie. Without `weights` all offered choices
+   * are equally likely.
    */
   playout(seed: number | bigint, rounds: number, options?: PlayoutOptions): Playouts;
   /**
@@ -571,35 +571,35 @@ export class Battle {
   /** The chances that a side's move knocks out the foe's active member, in one use and in two. Throws DamageError if no member is out. */
   knockOut(side: Side, move: MoveLike): KnockOut;
   /**
-   * The same in one use, two and three, with what happens to the HP of the foe between the uses. It doesn't count against a substitute.
-   * Throws DamageError if no member is out.
+   * The chances that a side's move knocks out the foe's active member, in one use, two and three, with the changes of the foe's HP between
+   * the uses. The changes don't count against a substitute. Throws DamageError if no member is out.
    */
   knockOutInThree(side: Side, move: MoveLike, between?: Between): KnockOutInThree;
   /** The damage of a side's move: 39 numbers, at the factors from 217 to 255. Throws DamageError. */
   damage(side: Side, move: MoveLike, critical?: boolean): number[];
 }
 
-/** What a BattleArray is made of. */
+/** The arguments from which a BattleArray is made. */
 export interface ArrayTerms {
   battle: Battle;
   /** How many copies of the battle, 1 to 1,048,576. */
   count: number;
-  /** Ten bytes for each, so that each draws numbers of its own. Without them all draw the battle's. */
+  /** Ten bytes for each copy, so that each draws its own numbers. Without them all draw the battle's. */
   seeds?: Numbers;
-  /** Of side 1 and side 2, the teller and the player of the battle as it stands. With them the array keeps players for each battle. */
+  /** For side 1 and side 2, the teller and the player in the current battle. With them the array keeps players for each battle. */
   sides?: readonly [{ teller: Teller; player: Player }, { teller: Teller; player: Player }];
 }
 
 /**
  * Many battles, which are updated together. `gen1.battleArray` creates it. Numbers are in typed arrays, with the battle at place 0 first. Its
- * memory is given back as that of a Battle is.
+ * memory is freed like that of a Battle.
  */
 export class BattleArray {
   private constructor();
   readonly length: number;
   /**
-   * How each battle stands: the outcome (an index of OUTCOMES) in bits 0 to 2, the requests of side 1 and of side 2 (an index of REQUESTS) in
-   * bits 3 and 4, 5 and 6. One array, whose values change.
+   * The result of each battle: the outcome (an index of OUTCOMES) in bits 0 to 2, the requests to side 1 and side 2 (indexes of REQUESTS) in
+   * bits 3 and 4, and 5 and 6. One array, whose values change.
    */
   readonly results: Uint8Array;
   /** 0 for each battle that the last step updated, else the code of a RefusedError. One array, whose values change. */
@@ -612,7 +612,7 @@ export class BattleArray {
   masks(side: Side): Uint16Array;
   /**
    * Updates each battle with a choice of each side, as bytes (`byteOf`), and returns `results`. A battle that refuses its pair is unchanged,
-   * and `codes` says why; so one that is over is unchanged whatever its choices are.
+   * and `codes` says why; a battle that is over is unchanged for any choices.
    */
   step(ones: Numbers, twos: Numbers): Uint8Array;
   /**
@@ -621,8 +621,8 @@ export class BattleArray {
    */
   randomStep(random?: () => number): [Uint8Array, Uint8Array];
   /**
-   * What a side knows in each battle: a row of COLUMNS.length numbers for each, one row after the other. A row is made of the side's Player
-   * alone, so it has nothing that the side may not know. Throws ArgumentError if the array was created without `sides`.
+   * The knowledge of a side in each battle: a row of COLUMNS.length numbers for each, one row after the other. A row is computed from the
+   * side's Player alone, so it contains only what the side may know. Throws ArgumentError if the array was created without `sides`.
    */
   observe(side: Side): Uint16Array;
   /** A copy of the player of a side. Throws ArgumentError if the array was created without `sides`. */
@@ -635,13 +635,13 @@ export class BattleArray {
   /** Replaces the numbers that each battle draws: ten bytes for each, of which the first is drawn next. */
   reseed(seeds: Numbers): void;
   /**
-   * Restores battles, with their players, to what they were when the array was created: all, or those whose value in `which` is not 0 or
+   * Restores battles, with their players, to their state when the array was created: all, or those whose value in `which` is not 0 or
    * false. With `seeds`, ten bytes for each battle, the restored battles draw these numbers.
    */
   reset(which?: ArrayLike<unknown> | null, seeds?: Numbers | null): void;
-  /** A new array with copies of the battles at these places, with their players. A place may be there many times. */
+  /** A new array with copies of the battles at these places, with their players. A place may be repeated. */
   take(places: Numbers): BattleArray;
-  /** Gives the memory back at once. Every later call but `free` throws FreedError. */
+  /** Frees the memory at once. Every later call except `free` throws FreedError. */
   free(): void;
   [Symbol.dispose](): void;
 }
@@ -659,11 +659,11 @@ export class Room {
   clone(): Room;
   /** The choices that a side may submit for the current pair; none if it has chosen. */
   choices(side: Side): ChoiceName[];
-  /** Returns the update, or null while the foe's choice is awaited. Throws RoomError, and then the room is unchanged. */
+  /** Returns the update, or null if the room waits for the foe's choice. Throws RoomError, and then the room is unchanged. */
   submit(side: Side, number: number, choice: Choice): Update | null;
   /**
-   * Ends the battle by a forfeit: the other side wins, and choices for the current pair are dropped. The update has the one event "win". The
-   * bytes of `battle` stay as they are. Throws RoomError if the battle is over.
+   * Ends the battle by a forfeit: the other side wins, and choices for the current pair are discarded. The update has the single event "win".
+   * The bytes of `battle` do not change. Throws RoomError if the battle is over.
    */
   forfeit(side: Side): Update;
   /** The side that has forfeited; null for none. */
@@ -672,7 +672,7 @@ export class Room {
   toJSON(): { number: number; result: Result; log: number[] };
 }
 
-/** A spectator, which knows both teams and the log alone. `gen1.spectator` creates it. */
+/** A spectator, which knows only both teams and the log. `gen1.spectator` creates it. */
 export class Spectator {
   private constructor();
   readonly state: ShownState;
@@ -685,27 +685,27 @@ export class Spectator {
 }
 
 /**
- * What one side of a battle may know: its own team, what it is told of the log, what it is shown of its side, and its choices. `gen1.player`
- * creates it.
+ * The knowledge that one side of a battle may have: its own team, the log as it is reported to it, its own side as it is shown, and its choices.
+ * `gen1.player` creates it.
  */
 export class Player {
   private constructor();
   readonly side: Side;
   /** A copy of its gen1_player (include/gen1.h). */
   readonly bytes: Uint8Array;
-  /** What it knows, decoded each time when it is read. */
+  /** Its knowledge, decoded each time it is read. */
   readonly view: PlayerView;
-  /** Its choices when it was last shown its side; none before, and once the battle is over. */
+  /** Its choices when it was last shown its side; none before that, and none once the battle is over. */
   readonly choices: readonly ChoiceName[];
   clone(): Player;
-  /** Reads the next bytes that its side is told, in pieces of any size. Throws LogError, and then the player is unchanged. */
+  /** Reads the next bytes of the log of its side's teller, in pieces of any size. Throws LogError, and then the player is unchanged. */
   feed(told: Uint8Array | ArrayBuffer): void;
-  /** Shows it its own side and its choices as they are now in the battle, and nothing else of it. */
+  /** Shows it its own side and its choices as they are now in the battle, and nothing else about it. */
   show(battle: Battle): void;
   toJSON(): { view: PlayerView; choices: readonly ChoiceName[] };
 }
 
-/** What the host of a battle keeps to tell one side of the events. `gen1.teller` creates it. */
+/** Reports the events of a battle to one side. The host of the battle keeps one for each side. `gen1.teller` creates it. */
 export class Teller {
   private constructor();
   readonly side: Side;
@@ -713,11 +713,11 @@ export class Teller {
   readonly bytes: Uint8Array;
   clone(): Teller;
   /**
-   * The bytes that its side is told of the log of an update, which name the foe's members by their appearance. It is passed the log of every
-   * update, in their order. Throws LogError, and then the teller is unchanged.
+   * The log of an update as it is reported to its side, in bytes, which number the foe's members in the order in which they appeared. It must be
+   * passed the log of every update, in order. Throws LogError, and then the teller is unchanged.
    */
   tell(log: Uint8Array | ArrayBuffer): Uint8Array;
-  /** Tells a player of its side the log of an update, and shows it its own side and its choices. Throws LogError. */
+  /** Reports the log of an update to a player of its side, and shows it its own side and its choices. Throws LogError. */
   report(battle: Battle, log: Uint8Array | ArrayBuffer, player: Player): void;
 }
 
@@ -728,11 +728,11 @@ export class Gen1 {
   readonly is64: boolean;
   /** How many bytes the module's memory has. It grows with the battles that are held at the same time, and never shrinks. */
   readonly memorySize: number;
-  /** Which module runs, by the key that `load` was passed; null if it was passed one source without a key. */
+  /** The module that runs, by the key that `load` was passed; null if it was passed one source without a key. */
   readonly build: "proved" | "plain" | null;
   /** The version of the library, such as "1.0.0". */
   readonly version: string;
-  /** What the library was built from, as gen1_build of include/gen1.h says. The proved module has no such call: "unknown". */
+  /** The origin of the library, as gen1_build of include/gen1.h returns it. The proved module has no such function: "unknown". */
   readonly libraryBuild: string;
   /** Creates a battle before its first update, in which both sides pass. Throws TeamError. */
   battle(terms: Terms): Battle;
@@ -742,20 +742,20 @@ export class Gen1 {
   battleArray(terms: ArrayTerms): BattleArray;
   /** Loads a battle from its 384 bytes. Throws LoadError. */
   load(bytes: Uint8Array | ArrayBuffer): Battle;
-  /** The code of the LoadError for bytes, or 0 if they are a battle. Costs less than a `load` that throws. */
+  /** The code of the LoadError for bytes, or 0 if they are a battle. Faster than a `load` that throws. */
   testBytes(bytes: Uint8Array | ArrayBuffer): number;
   /**
-   * Creates the battle in a state, such as `battle.state` with other values. If the four `stats` of an active member are 0, they follow from its
-   * stages and its status. Throws StateError.
+   * Creates a battle from a state, such as `battle.state` with other values. If the four `stats` of an active member are 0, they are computed from
+   * its stages and its status. Throws StateError.
    */
   battleOfState(state: State): Battle;
   /** Creates a room with a copy of the battle, which is started at once if it has not begun. */
   room(battle: Battle): Room;
   /** Creates a spectator of a battle of two teams, before its start. Throws TeamError. */
   spectator(one: Team | Members, two: Team | Members): Spectator;
-  /** Creates a player of a side, before the first update. `foes` is the number of the foe's members, if it is to know it. Throws TeamError. */
+  /** Creates a player of a side, before the first update. `foes` is the number of the foe's members, if the player may know it. Throws TeamError. */
   player(terms: { side: Side; team: Team | Members; foes?: number }): Player;
-  /** Creates a teller of a side, before the first event. With `pixels` it tells HP of the foe's members in 48ths. */
+  /** Creates a teller of a side, before the first event. With `pixels` it reports the HP of the foe's members in 48ths. */
   teller(terms: { side: Side; pixels?: boolean }): Teller;
   /** The members in a team builder's text (docs/TEAM_TEXT.md). Throws TextError. */
   teamFromText(text: string): WholeMember[];
@@ -765,26 +765,26 @@ export class Gen1 {
   odds(attacker: Member, defender: Member, move: MoveLike): Odds;
   /** The damage of a move between two members that have just been sent out: 39 numbers. Throws TeamError, DamageError. */
   damage(attacker: Member, defender: Member, move: MoveLike, critical?: boolean): number[];
-  /** The row of a species. Throws ArgumentError for an unknown one. */
+  /** The row of a species. Throws ArgumentError for an unknown species. */
   base(species: SpeciesLike): Base;
-  /** The row of a move. Throws ArgumentError for an unknown one. */
+  /** The row of a move. Throws ArgumentError for an unknown move. */
   moveData(move: MoveLike): MoveData;
   /**
-   * By what a move of one type multiplies its damage to a foe of one type: 0, 0.5, 1 or 2. For a foe of two types both count, one after the
-   * other. A type is a name of TYPES, or its number.
+   * The factor of the damage of a move of one type to a foe of one type: 0, 0.5, 1 or 2. For a foe of two types both factors apply, one after
+   * the other. A type is a name of TYPES, or its number.
    */
   effectiveness(attack: TypeName | number, foe: TypeName | number): number;
   /** The stats of a member without a battle. Throws TeamError. */
   stats(member: Member): Stats;
-  /** The HP that a damage of a move gives to its user: 0 for a move that drains none. The user gains at most what it lacks. */
+  /** The HP that the user of a move gains by its damage: 0 for a move that drains none. The user's HP do not rise above its maximum. */
   drained(move: MoveLike, damage: number): number;
-  /** The HP that a damage of a move costs its user: 0 for a move without recoil. */
+  /** The HP that the user of a move loses by its damage: 0 for a move without recoil. */
   recoil(move: MoveLike, damage: number): number;
   /** The events of log bytes. Throws LogError. */
   events(log: Uint8Array | ArrayBuffer): GameEvent[];
   /** The lines of log bytes, without line feeds. Throws LogError. */
   lines(log: Uint8Array | ArrayBuffer): string[];
-  /** The log bytes of events, from which `events` reads the same events. A `size` is ignored. Throws ArgumentError for a field out of its range. */
+  /** The log bytes of events, from which `events` reads the same events. A `size` is ignored. Throws ArgumentError for a field out of range. */
   logBytes(events: readonly (EventFields & { size?: number })[]): Uint8Array;
 }
 
@@ -792,7 +792,7 @@ export class Gen1 {
 export type Source = URL | string | BufferSource;
 
 /**
- * Loads the library: the module of this package, or one from its URL, its path in Node, or its bytes. Of two modules, it loads the proved one if
+ * Loads the library: the module of this package, or one from its URL, its path in Node, or its bytes. With two modules, it loads the proved one if
  * this host has 64-bit memories, else the plain one. Rejects with ArgumentTypeError, ModuleError.
  */
 export function load(source?: Source | { proved?: Source; plain: Source }): Promise<Gen1>;
@@ -805,36 +805,36 @@ export function choiceOf(byte: number): ChoiceName;
 /** The choices in the order of their bits in a mask. */
 export const CHOICES: readonly ChoiceName[];
 export const LOG_ROOM: 512;
-/** Each at the index that is its number less 1. */
+/** The names of the species. The index of each is its number less 1. */
 export const SPECIES: readonly SpeciesName[];
-/** Each at the index that is its number less 1. */
+/** The names of the moves. The index of each is its number less 1. */
 export const MOVES: readonly MoveName[];
-/** Each at the index that is its number. */
+/** The index of each is its number. */
 export const TYPES: readonly TypeName[];
-/** Each at the index that is its number. */
+/** The index of each is its number. */
 export const STATUSES: readonly Status[];
-/** Each at the index that is its bit. */
+/** The index of each is its bit. */
 export const CONDITIONS: readonly Condition[];
 /** The stats with stages, in the order of a list of stages. */
 export const STATS: readonly Stat[];
-/** Why a use of a move cannot hit. Each at the index that is its number less 1. */
+/** Why a use of a move cannot hit. The index of each is its number less 1. */
 export const REASONS: readonly string[];
-/** Each at the index that is its number. */
+/** The index of each is its number. */
 export const OUTCOMES: readonly Outcome[];
-/** Each at the index that is its number. */
+/** The index of each is its number. */
 export const REQUESTS: readonly Request[];
 /**
  * The columns of a row that `BattleArray.observe` returns. Numbers are those of gen1_player (include/gen1.h): a species, move or type has its
  * number, a stage is from 0 to 12, and a condition or an offered choice is 1 or 0.
  */
 export const COLUMNS: readonly string[];
-/** Each at the index that is its number less 1. */
+/** The index of each is its number less 1. */
 export const EVENT_KINDS: readonly EventKind[];
-/** Each at the index that is its number less 1. */
+/** The index of each is its number less 1. */
 export const CANT_REASONS: readonly CantReason[];
-/** Each at the index that is its number. */
+/** The index of each is its number. */
 export const DAMAGE_SOURCES: readonly DamageSource[];
-/** Each at the index that is its number less 1. */
+/** The index of each is its number less 1. */
 export const VOLATILES: readonly Volatile[];
-/** Each at the index that is its number less 1. */
+/** The index of each is its number less 1. */
 export const FAULTS: readonly Fault[];

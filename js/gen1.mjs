@@ -5,8 +5,8 @@
 //     const battle = gen1.battle({ one: [member], two: [member], seed });
 //     const { lines } = battle.update("pass", "pass");
 //
-// The 384 bytes of a battle are in the module's memory. The garbage collector gives them back, or `battle.free()` at once. JavaScript
-// contains no rules of battle.
+// The 384 bytes of a battle are in the module's memory. The garbage collector frees them, or `battle.free()` frees them at once.
+// JavaScript contains no rules of battle.
 import {byteOf, choiceOf, CHOICES, octets, truth, wrongType} from "./arguments.mjs";
 import {arrayOf, BattleArray} from "./array.mjs";
 import {Battle, blockOfTerms, damageError, loadError} from "./battle.mjs";
@@ -33,7 +33,7 @@ const HIT_SIDES = ["", "attacker: ", "defender: "];
 export class Gen1 {
   #library;
 
-  /** Which module runs, "proved" or "plain", by the key that `load` was passed; null if it was passed one source without a key. */
+  /** The module that runs, "proved" or "plain", by the key that `load` was passed; null if it was passed one source without a key. */
   build;
 
   constructor(library, build = null) {
@@ -59,7 +59,7 @@ export class Gen1 {
     return [number >> 16, (number >> 8) & 255, number & 255].join(".");
   }
 
-  /** What the library was built from, such as "plain, rustc 1.95.0, sources sha256 HEX"; "unknown" if it doesn't say. */
+  /** The origin of the library, such as "plain, rustc 1.95.0, sources sha256 HEX"; "unknown" if the module doesn't contain it. */
   get libraryBuild() {
     return this.#library.build;
   }
@@ -84,7 +84,7 @@ export class Gen1 {
     throw loadError(library, code, bytes.byteLength);
   }
 
-  /** The code of the LoadError for bytes, or 0 if they are a battle. Costs less than a `load` that throws. */
+  /** The code of the LoadError for bytes, or 0 if they are a battle. Faster than a `load` that throws. */
   testBytes(bytes) {
     const block = this.#library.arena.block();
     const code = this.#loadInto(block, bytes);
@@ -92,7 +92,7 @@ export class Gen1 {
     return code;
   }
 
-  /** Creates the battle in a state: an object as `battle.state` is. Active members whose four stats are 0 get theirs from stages and status. */
+  /** Creates a battle from a state: an object like `battle.state`. If an active member's four stats are 0, they are computed from stages and status. */
   battleOfState(state) {
     return new Battle(this.#library, blockOfState(this.#library, state));
   }
@@ -119,12 +119,12 @@ export class Gen1 {
     return new Spectator(this.#library, spectatorOf(this.#library, one, two));
   }
 
-  /** Creates a player of a side with its team, before the first update; `foes` is the number of the foe's members, if it is to know. */
+  /** Creates a player of a side with its team, before the first update; `foes` is the number of the foe's members, if the player may know it. */
   player(terms) {
     return new Player(this.#library, playerOf(this.#library, terms));
   }
 
-  /** Creates a teller of a side, before the first event. With `pixels` it tells HP of the foe in 48ths. */
+  /** Creates a teller of a side, before the first event. With `pixels` it reports the foe's HP in 48ths. */
   teller(terms) {
     return new Teller(this.#library, tellerOf(this.#library, terms));
   }
@@ -171,7 +171,7 @@ export class Gen1 {
     return moveDataOf(this.#library, move);
   }
 
-  /** By what a move of one type multiplies its damage to a foe of one type: 0, 0.5, 1 or 2. */
+  /** The factor of the damage of a move of one type to a foe of one type: 0, 0.5, 1 or 2. */
   effectiveness(attack, foe) {
     return effectivenessOf(this.#library, attack, foe);
   }
@@ -181,12 +181,12 @@ export class Gen1 {
     return statsOf(this.#library, member);
   }
 
-  /** The HP that a damage of a move gives to its user. */
+  /** The HP that the user of a move gains by its damage. */
   drained(move, damage) {
     return sharedOf(this.#library, "gen1_drained", move, damage);
   }
 
-  /** The HP that a damage of a move costs its user. */
+  /** The HP that the user of a move loses by its damage. */
   recoil(move, damage) {
     return sharedOf(this.#library, "gen1_recoil", move, damage);
   }
@@ -212,7 +212,7 @@ const HAS_FILES = typeof process === "object" && Boolean(process?.versions?.node
 // The scheme of a URL. One letter before a colon is a drive of Windows.
 const SCHEME = /^[a-z][a-z0-9+.-]+:/i;
 
-// The module of Node that reads files. Bundlers for browsers leave it alone where its name is not in the import.
+// The module of Node that reads files. Bundlers for browsers ignore it if its name is not in the import.
 const FILES = "node:fs/promises";
 
 // The bytes of a file.
@@ -242,11 +242,11 @@ async function instanceOf(source, what) {
   }
 }
 
-/** Whether this host runs modules with a 64-bit memory, which the proved one has. It is tested with the smallest such module. */
+/** Whether this host runs modules with a 64-bit memory, such as the proved one. The test is the smallest such module. */
 export const HAS_LONG_MEMORIES = WebAssembly.validate(Uint8Array.of(0, 0x61, 0x73, 0x6d, 1, 0, 0, 0, 5, 3, 1, 4, 1));
 
 /**
- * Loads the library: the module of this package, or one from its URL, its path in Node, or its bytes. Of two modules, `{ proved, plain }`, it
+ * Loads the library: the module of this package, or one from its URL, its path in Node, or its bytes. With two modules, `{ proved, plain }`, it
  * loads the proved one if the host can run it, else the plain one; `build` says which.
  */
 export async function load(source = new URL("./gen1.wasm", import.meta.url)) {

@@ -1,13 +1,13 @@
-// The state of a battle that fits what a player knows, with a guess of the rest, for searches that don't cheat.
+// The state of a battle that fits a player's knowledge, with a guess of the rest, for searches that don't cheat.
 import {record, seedOf} from "./arguments.mjs";
 import {ArgumentError} from "./errors.mjs";
 import {moveDataOf} from "./teams.mjs";
 
 const KEYS = ["team", "seed", "rules", "limit"];
-// Turns of sleep and confusion, of Disable, and of Bide, thrashing and trapping, where they are hidden.
+// Middle values of hidden counts: turns of sleep and confusion, of Disable, and of Bide, thrashing and trapping.
 const [ASLEEP, BLOCKED, UNDERWAY] = [3, 4, 2];
 const MOST_SUBSTITUTE = 249;
-// Conditions without a move, and those that belong to a current move with one of these effects. At most one of the latter is on.
+// Conditions that don't depend on a move, and conditions that belong to a current move with one of these effects. At most one of these is on.
 const FREE = ["mist", "focus energy", "seeded", "light screen", "reflect", "confused", "substitute", "bad poison"];
 const TIED = {
   bide: ["Bide"],
@@ -19,7 +19,7 @@ const TIED = {
 };
 const COUNTED = ["bide", "thrash", "trapping"];
 const ACCURATE = ["thrash", "rage"];
-// The conditions of what the log announces, where they have another name.
+// The conditions that the log announces by another name.
 const ANNOUNCED = {
   toxic: "bad poison",
   recharging: "recharge"
@@ -27,19 +27,19 @@ const ANNOUNCED = {
 
 const sleepOf = (status) => (status === "sleep" ? ASLEEP : 0);
 
-/** The terms of a guess, tested as far as they are not those of a team. */
+/** The terms of a guess, tested except for the team. */
 export function guessOf(guess) {
   const {team, seed, rules = 0, limit = 1000} = record(guess, "guess", "an object with team and seed", KEYS);
   return {team, seed: Array.from(seedOf(seed)), rules, limit};
 }
 
 /**
- * The state that fits what a player knows. `fresh` has the members of the guessed team, unhurt. Battle.fromPlayer says what is filled in.
+ * The state that fits a player's knowledge. `fresh` has the members of the guessed team, unhurt. Battle.fromPlayer lists the values filled in.
  */
 export function stateGuessed(library, player, {seed, rules, limit}, fresh) {
   const {side, own, ownPublic, foe, outcome} = player.view;
   if (!own?.active || !foe.active || outcome !== "ongoing")
-    throw new ArgumentError("player must be of a battle that has begun and is not over", "player");
+    throw new ArgumentError("player must be in a battle that has begun and is not over", "player");
   const mine = {members: own.members.map(ownMember), active: ownActive(library, own, ownPublic.active?.lastMove)};
   const members = foes(foe, fresh);
   const member = members[foe.active.place - 1];
@@ -65,7 +65,7 @@ function ownMember(member) {
   return {...member, sleep: sleepOf(member.status), marked: false};
 }
 
-// The guessed members, with what is public of those that have appeared.
+// The guessed members; those that have appeared have their public values.
 function foes({members: seen}, fresh) {
   if (fresh.length < seen.length)
     throw new ArgumentError(
@@ -73,7 +73,7 @@ function foes({members: seen}, fresh) {
   return fresh.map((member, at) => (at < seen.length ? appeared(member, seen[at], `guess.team[${at}]`) : member));
 }
 
-// A guessed member with what is public of it. HP in 48ths is rounded up.
+// A guessed member with its public values. HP in 48ths is rounded up.
 function appeared(member, seen, what) {
   const named = ({species, level}) => `${species} of level ${level}`;
   if (named(member) !== named(seen))
@@ -101,7 +101,7 @@ function foeActive(library, {place, types, stages, announced, lastMove}, member,
   return blocked(under(library, plain, on, member, lastMove), on.includes("disabled") ? 1 : 0);
 }
 
-// An active member under nothing.
+// An active member without conditions.
 function activeWith(known) {
   return {
     ...known,
@@ -119,13 +119,13 @@ function activeWith(known) {
   };
 }
 
-// The same with a disabled slot; 0 for none.
+// An active member with a disabled slot; 0 for none.
 function blocked(active, slot) {
   if (!slot) return active;
   return {...active, conditions: [...active.conditions, "disabled"], disabledSlot: slot, disabledTurns: BLOCKED};
 }
 
-// An active member under these conditions. What belongs to a current move needs a move that explains it.
+// An active member under these conditions. One that belongs to a current move needs a move that explains it.
 function under(library, active, on, member, last) {
   const used = member.moves.indexOf(last) + 1;
   const free = {
@@ -145,7 +145,7 @@ function under(library, active, on, member, last) {
   return free;
 }
 
-// The same with a condition that belongs to the move in a slot.
+// An active member with a condition that belongs to the move in a slot.
 function tied(active, name, slot, on) {
   const hidden = name === "charging" && on.includes("invulnerable") ? ["invulnerable"] : [];
   return {

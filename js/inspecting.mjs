@@ -1,4 +1,4 @@
-// How objects of the library are shown by console.log and util.inspect in Node.
+// How console.log and util.inspect show the library's objects in Node.
 
 /** A name and fields, as Node shows an object of a class. */
 export function inspected(name, fields, options, inspect) {

@@ -37,7 +37,7 @@ export class Library {
   bytes;
   /** The places of battles. */
   arena;
-  /** Space for a log, its length, what of it is reported to a side, what a side is shown, and a seed: pointers, and the same as offsets. */
+  /** Space for a log, its length, the log as it is reported to a side, a side as it is shown, and a seed: pointers, and some as offsets. */
   log;
   logAt;
   length;
@@ -78,7 +78,7 @@ export class Library {
     return this.size(place);
   }
 
-  // Takes a new space, of at least twice the length.
+  // Allocates a new space, of at least twice the length.
   #widen(count) {
     const pages = Math.ceil(Math.max(2 * (this.#limit - this.#begin), count + PAGE) / PAGE);
     this.#end = this.#begin = this.grow(pages);
@@ -99,7 +99,7 @@ export class Library {
     return place;
   }
 
-  // For a 64-bit memory some hosts take the number of pages as a BigInt; others, such as Node 20, take a number.
+  // For a 64-bit memory some hosts expect the number of pages as a BigInt; others, such as Node 20, as a number.
   #grow(pages) {
     try {
       this.#memory.grow(this.size(pages));
@@ -126,7 +126,7 @@ export class Library {
     return this.room(layoutOf(struct, this.isLong).size);
   }
 
-  /** A number as the module takes pointers and sizes. */
+  /** A number in the type of the module's pointers and sizes. */
   size(number) {
     return this.isLong ? BigInt(number) : number;
   }
@@ -143,7 +143,7 @@ export class Library {
     return this.bytes.slice(Number(pointer), Number(pointer) + count);
   }
 
-  /** A copy of the battle at a pointer in a block of its own. */
+  /** A copy of the battle at a pointer, in a separate block. */
   blockOf(pointer) {
     const block = this.arena.block();
     const from = Number(pointer);
@@ -156,7 +156,7 @@ export class Library {
     return DECODER.decode(this.bytes.subarray(Number(pointer), Number(pointer) + count));
   }
 
-  /** What the module was built from, as gen1_build of gen1.h says; "unknown" if it has no such call. */
+  /** The origin of the module, as gen1_build of gen1.h returns it; "unknown" if the module has no such function. */
   get build() {
     if (!this.calls.gen1_build) return "unknown";
     const pointer = this.calls.gen1_build();
@@ -175,7 +175,7 @@ export class Library {
     return [code, code ? "" : this.textAt(text, this.sizeAt(length))];
   }
 
-  /** A code in words, which is one of CODES.ERROR_.. */
+  /** The sentence for a code, which is one of CODES.ERROR_.. */
   sentence(code) {
     this.begin();
     return this.written("gen1_error_text", CODES.SENTENCE_ROOM, code)[1];

@@ -1,4 +1,4 @@
-// The observation of a side: the fields of its gen1_player as a row of numbers, so that it has nothing that the side may not know.
+// The observation of a side: the fields of its gen1_player as a row of numbers, which contain only what the side may know.
 import {CHOICES} from "./arguments.mjs";
 import {CODES} from "./header.mjs";
 import {layoutOf, offsetsOf} from "./structs.mjs";
@@ -7,7 +7,7 @@ import {CONDITIONS} from "./views.mjs";
 export const PLAYER_SIZE = CODES.PLAYER_SIZE;
 export const TELLER_SIZE = layoutOf("gen1_teller", false).size;
 
-// Fields that say nothing, and those of the own side that are public too.
+// Fields without information, and those of the own side that are also public.
 const LEFT_OUT = {
   gen1_own_side: ["turn", "outcome"],
   gen1_own_member: ["unused"],
@@ -42,7 +42,7 @@ function wordsOf({key, count}, number) {
 const bitsOf = (name, at, names) =>
     names.map((bit, place) => ({name: `${name} ${bit}`, at: at + (place >> 3), bit: place & 7}));
 
-// The columns of a player of a side. What is public is that of its own side, then that of the foe.
+// The columns of a player of a side. The public information about its own side comes before that about the foe.
 function columnsOf(side) {
   const sidesAt = PLAYER.known + PUBLIC.sides;
   return [
@@ -60,7 +60,7 @@ function columnsOf(side) {
 const OF_SIDES = [1, 2].map(columnsOf);
 /** The names of the columns of a row. */
 export const COLUMNS = Object.freeze(OF_SIDES[0].map(({name}) => name));
-// Of each column its offset, times 16, and 0 to 7 for a bit, 8 for a byte, and 9 for two bytes.
+// For each column its offset, times 16, plus 0 to 7 for a bit, 8 for a byte, and 9 for two bytes.
 const PLANS =
     OF_SIDES.map((columns) => Int32Array.from(columns, ({at, bit, isWord}) => 16 * at + (bit ?? (isWord ? 9 : 8))));
 

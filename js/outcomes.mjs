@@ -28,10 +28,10 @@ export class Outcomes {
   length;
   /** The sum of all weights and of `leftOut`. */
   whole;
-  /** The weight of all that is left out. */
+  /** The weight left out. */
   leftOut;
 
-  /** Of the rows of gen1_successor, `whole` and `leftOut`, and a function that makes a battle of a block. */
+  /** From the rows of gen1_successor, `whole` and `leftOut`, and a function that makes a battle from a block. */
   constructor(library, rows, sums, battleOf) {
     this.#library = made(library, "Outcomes", "Battle.outcomes");
     [this.#rows, this.#battleOf] = [rows, battleOf];
@@ -39,12 +39,12 @@ export class Outcomes {
     this.length = rows.length / SUCCESSOR_SIZE;
   }
 
-  /** The probability of all that is left out. */
+  /** The probability left out. */
   get leftOutProbability() {
     return Number(this.leftOut) / Number(this.whole);
   }
 
-  /** The outcome at a place from 0: its battle, its probability, and its exact weight, of which the probability is that of `whole`. */
+  /** The outcome at a place from 0: its battle, its probability, and its exact weight. The probability is the weight divided by `whole`. */
   at(place) {
     const at = within(place, "place", 0, this.length - 1) * SUCCESSOR_SIZE;
     const weight = numberAt(new DataView(this.#rows.buffer), at + BATTLE_SIZE);
@@ -82,7 +82,7 @@ export function outcomesOf(library, battle, asked, battleOf) {
   return [code, new Outcomes(library, rows, [0, 16].map((at) => numberAt(view, Number(list) + at)), battleOf)];
 }
 
-// The code of the call with space for so many outcomes, and a copy of their rows.
+// The code of the call with space for that many outcomes, and a copy of their rows.
 function listed(library, battle, asked, list, places) {
   const table = places * SUCCESSOR_SIZE;
   const region = library.arena.region(table + 8 * places, {});

@@ -1,4 +1,4 @@
-// What one side of a battle may know, and what it is told (docs/MECHANICS.md, "Player's view").
+// The knowledge that one side of a battle may have, and the teller that reports to it (docs/MECHANICS.md, "Player's view").
 import {choicesIn, octets, record, sideOf, truth, within, wrongType} from "./arguments.mjs";
 import {Battle} from "./battle.mjs";
 import {ArgumentError} from "./errors.mjs";
@@ -19,7 +19,7 @@ export function playerOf(library, terms) {
   library.begin();
   const player = library.roomOf("gen1_player");
   const answer = library.calls.gen1_player_begin(player, own, teamAt(library, given), number);
-  // The answer names a member, and no side.
+  // The code names a member, but no side.
   if (answer)
     throw teamError(
         library, answer + own * 65536, [team, team], {}, (_, place) => (place ? `team: member ${place}: ` : "team: "));
@@ -39,7 +39,7 @@ export function tellerOf(library, terms) {
 /** The library of a player. */
 export let libraryOf;
 
-/** A player: one side with what it may know, and nothing else of the battle. */
+/** A player: one side with what it may know, and nothing else about the battle. */
 export class Player {
   #library;
   #bytes;
@@ -70,12 +70,12 @@ export class Player {
     return this.#field("side");
   }
 
-  /** What it knows, decoded when it is read. */
+  /** Its knowledge, decoded when it is read. */
   get view() {
     return viewOf(this.#bytes, readStruct("gen1_player", new DataView(this.#bytes.buffer), 0, this.#library.isLong));
   }
 
-  /** Its choices when it was last shown its side; none before, and once the battle is over. */
+  /** Its choices when it was last shown its side; none before that, and none once the battle is over. */
   get choices() {
     const offered = this.#field("offered");
     return choicesIn(offered);
@@ -86,7 +86,7 @@ export class Player {
     return new Player(this.#library, this.#bytes.slice());
   }
 
-  /** Reads the next bytes that its side is told, in pieces of any size. An event counts as soon as its last byte is read. */
+  /** Reads the next bytes of the log of its side's teller, in pieces of any size. An event counts as soon as its last byte is read. */
   feed(told) {
     const given = octets(told, "told");
     const library = this.#library;
@@ -97,7 +97,7 @@ export class Player {
     this.#bytes = library.read(player, this.#bytes.length);
   }
 
-  /** Shows it its own side and its choices as they are now in a battle, and nothing else of the battle. */
+  /** Shows it its own side and its choices as they are now in a battle, and nothing else about the battle. */
   show(battle) {
     if (!(battle instanceof Battle)) throw wrongType(battle, "battle", "a Battle");
     const [library, side] = [this.#library, this.side];
@@ -108,7 +108,7 @@ export class Player {
     this.#bytes = library.read(player, this.#bytes.length);
   }
 
-  /** What it knows, and its choices. */
+  /** Its knowledge, and its choices. */
   toJSON() {
     return {view: this.view, choices: this.choices};
   }
@@ -118,7 +118,7 @@ export class Player {
   }
 }
 
-/** A teller: what the host of a battle keeps to tell one side of the events. */
+/** A teller: reports the events of a battle to one side. The host of the battle keeps one for each side. */
 export class Teller {
   #library;
   #bytes;
@@ -133,22 +133,22 @@ export class Teller {
     return this.#bytes.slice();
   }
 
-  /** The side that it tells. */
+  /** The side to which it reports. */
   get side() {
     return fieldOf("gen1_teller", "side", this.#bytes, this.#library.isLong);
   }
 
-  /** An independent copy that has told the same. */
+  /** An independent copy that has reported the same. */
   clone() {
     return new Teller(this.#library, this.#bytes.slice());
   }
 
-  /** The bytes that its side is told of the log of an update. It is passed the log of every update, in their order. */
+  /** The log of an update as it is reported to its side, in bytes. It must be passed the log of every update, in order. */
   tell(log) {
     const given = octets(log, "log");
     const [library, {length: count}] = [this.#library, given];
     if (count > CODES.LOG_ROOM)
-      throw new ArgumentError(`log has ${count} bytes, but that of an update has at most ${CODES.LOG_ROOM}`, "log");
+      throw new ArgumentError(`log has ${count} bytes, but the log of an update has at most ${CODES.LOG_ROOM}`, "log");
     library.begin();
     const [teller, from, told, length] =
         [library.put(this.#bytes), library.put(given), library.room(CODES.LOG_ROOM), library.room(8)];
@@ -158,12 +158,13 @@ export class Teller {
     return library.read(told, library.sizeAt(length));
   }
 
-  /** Tells a player of its side the log of an update, and shows it its own side and its choices as they are now. */
+  /** Reports the log of an update to a player of its side, and shows it its own side and its choices as they are now. */
   report(battle, log, player) {
     if (!(battle instanceof Battle)) throw wrongType(battle, "battle", "a Battle");
     if (!(player instanceof Player)) throw wrongType(player, "player", "a Player");
     if (player.side !== this.side)
-      throw new ArgumentError(`player plays side ${player.side}, but side ${this.side} is told`, "player");
+      throw new ArgumentError(
+          `player plays side ${player.side}, but the teller reports to side ${this.side}`, "player");
     const next = this.clone();
     player.feed(next.tell(log));
     player.show(battle);

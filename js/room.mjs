@@ -22,7 +22,7 @@ export function roomOf(library, battle) {
   return library.read(room, layoutOf("gen1_room", library.isLong).size);
 }
 
-/** A room keeps the first choice of a pair until the other one comes, and then updates the battle. Pairs are numbered from 0. */
+/** A room keeps the first choice of a pair until the other one is submitted, and then updates the battle. Pairs are numbered from 0. */
 export class Room {
   #library;
   #bytes;
@@ -36,12 +36,12 @@ export class Room {
     return fieldOf("gen1_room", name, this.#bytes, this.#library.isLong);
   }
 
-  /** A copy of the battle. It includes what the players must not know. */
+  /** A copy of the battle. It includes information that the players must not see. */
   get battle() {
     return new Battle(this.#library, this.#library.blockOf(this.#put()));
   }
 
-  /** The outcome so far, and what is asked of each side. */
+  /** The outcome so far, and the request to each side. */
   get result() {
     return resultOf(this.#result);
   }
@@ -55,7 +55,7 @@ export class Room {
     return this.#field("forfeit") || null;
   }
 
-  /** The number of the current pair of choices, which is how many pairs have ended. */
+  /** The number of the current pair of choices: how many pairs have ended. */
   get number() {
     return this.#field("number");
   }
@@ -82,7 +82,7 @@ export class Room {
     return Array.from(this.#library.read(choices, count), choiceOf);
   }
 
-  /** Submits a side's choice for the pair with this number. Returns the update, or null while the foe's choice is awaited. */
+  /** Submits a side's choice for the pair with this number. Returns the update, or null if the room waits for the foe's choice. */
   submit(side, number, choice) {
     const asked = [sideOf(side), within(number, "number", 0, MOST_NUMBER), choiceByte(choice, side)];
     const [before, room] = [this.number, this.#put()];
@@ -93,7 +93,7 @@ export class Room {
     return this.number === before ? null : new Update(this.#library, this.#result, log, 0, log.length);
   }
 
-  /** Ends the battle: the other side wins. The update has the one event "win". The bytes of `battle` stay as they are. */
+  /** Ends the battle: the other side wins. The update has the single event "win". The bytes of `battle` do not change. */
   forfeit(side) {
     const [given, number, room] = [sideOf(side), this.number, this.#put()];
     const code = this.#library.calls.gen1_room_forfeit(room, given);

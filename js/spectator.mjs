@@ -1,4 +1,4 @@
-// What a spectator knows of a battle from both teams and the log alone (docs/MECHANICS.md, "Spectator's view").
+// A spectator's knowledge of a battle, from both teams and the log alone (docs/MECHANICS.md, "Spectator's view").
 import {octets} from "./arguments.mjs";
 import {logErrorAfter} from "./events.mjs";
 import {inspected} from "./inspecting.mjs";

@@ -1,4 +1,4 @@
-// Battles from states that were written or changed: an object as `battle.state` returns it becomes a gen1_state, which the library tests.
+// Battles from states that were written or changed: an object like `battle.state` becomes a gen1_state, which the library tests.
 import {byteOr255, list, numbers, record, shown, text, truth, whole, within} from "./arguments.mjs";
 import {ArgumentError, StateError} from "./errors.mjs";
 import {CODES} from "./header.mjs";
@@ -13,7 +13,7 @@ const MIDDLE = 6;
 const MEMBER_KEYS = ["species", "level", "status", "sleep", "marked", "moves", "pp", "hp", "maxHp", "stats"];
 const STATE_KEYS = ["one", "two", "turn", "limit", "lastDamage", "rules", "outcome", "requests", "index", "numbers"];
 
-/** A number as a word; the greatest, which the library refuses, if it is out of range. */
+/** A number as two bytes; if it is out of range the greatest number, which the library refuses. */
 export const wordOrMost = (value, what) => (whole(value, what) >= 0 && value <= MOST_WORD ? value : MOST_WORD);
 // A stage from -6 as one from 0.
 const stageOf = (value, what) => byteOr255(whole(value, what) + MIDDLE, what);
@@ -62,7 +62,7 @@ const COUNTS = [
 ];
 const ACTIVE_KEYS = [...COUNTS, "types", "stats", "stages", "conditions", "keptAccuracy", "energy"];
 
-// The active member; of none every field is 0, as in new memory.
+// The active member; without one every field is 0, as in new memory.
 function activeForm(given, what) {
   if (given === null) return {};
   const it = record(given, what, "the state of the active member, or null", ACTIVE_KEYS);
@@ -87,7 +87,7 @@ function sideForm(library, given, what) {
 }
 
 function stateForm(library, given) {
-  const it = record(given, "state", "a state: an object as battle.state is", STATE_KEYS);
+  const it = record(given, "state", "a state: an object like battle.state", STATE_KEYS);
   return {
     sides: [sideForm(library, it.one, "state.one"), sideForm(library, it.two, "state.two")],
     turn: wordOrMost(it.turn, "state.turn"),
@@ -101,7 +101,7 @@ function stateForm(library, given) {
   };
 }
 
-// The fields of the header by number: BAD_POISON is badPoison. Those of which a member has several have the name of the list.
+// The fields of the header by number: BAD_POISON is badPoison. Fields that a member has several of have the name of the list.
 const FIELDS = Object.fromEntries(Object.entries(CODES).filter(([name]) => name.startsWith("FIELD_")).map(([
   name, code
 ]) => [code, name.slice("FIELD_".length).toLowerCase().replace(/_(.)/g, (_, letter) => letter.toUpperCase())]));
@@ -126,13 +126,13 @@ const NAMES = {
   [CODES.FIELD_MARKED]: [false, true],
 };
 
-// A number of the library as the value that a state has for it.
+// A number of the library as the corresponding value in a state.
 function valueOf(field, number) {
   if (field === CODES.FIELD_STAGE) return number - MIDDLE;
   return NAMES[field]?.[number] ?? number;
 }
 
-// Where the state has the field at fault, as in `state.two.members[0].hp`. `index` is from 1 in a list.
+// The path of the wrong field in the state, such as `state.two.members[0].hp`. `index` is from 1 in a list.
 function pathOf({field, side, place, index}) {
   const path = ["state", ...(side && field !== CODES.FIELD_REQUEST ? [side === 1 ? "one" : "two"] : [])];
   if (place)
@@ -148,7 +148,7 @@ function valueAt(state, path) {
   return path.match(/\w+/g).slice(1).reduce((it, key) => it?.[key], state);
 }
 
-// What is wrong with the field, and what it may be.
+// The error text: the wrong value and the valid ones.
 function faultWords(of, path, {value, low, high}) {
   const {field} = of;
   if (field === CODES.FIELD_TIED_CONDITION) return `${path} is ${shown(value)}, which the current move does not cause`;
@@ -157,7 +157,7 @@ function faultWords(of, path, {value, low, high}) {
   return `${path} is ${shown(value)}, not ${low === high ? shown(valueOf(field, of.low)) : `${low} to ${high}`}`;
 }
 
-// Of a condition the library has the bit, and the state a place in its list.
+// For a condition the library has the bit, and the state a place in its list.
 function stateError(found, state) {
   const of = {...found};
   if (of.field === CODES.FIELD_UNNAMED)
@@ -183,7 +183,7 @@ export function blockOfState(library, state) {
   throw stateError(library.readStruct("gen1_state_fault", fault), state);
 }
 
-/** The place of the member of a state's side; refuses one that is not there. */
+/** The place of a member of a state's side; refuses a place without a member. */
 export function memberAt(state, side, place) {
   const {members} = side === 1 ? state.one : state.two;
   if (within(place, "place", 1, MOST_MEMBERS) > members.length)

@@ -1,7 +1,7 @@
 // The structs of include/gen1.h in the module's memory, by C's layout rules, from the fields in header.mjs.
 import {STRUCTS} from "./header.mjs";
 
-// Of each type of number its bytes, and what a DataView calls it. A size_t is 4 or 8 bytes.
+// The size of each type of number in bytes, and its name in a DataView. A size_t is 4 or 8 bytes.
 const NUMBERS = {
   uint8_t: [1, "Uint8"],
   int8_t: [1, "Int8"],
@@ -9,7 +9,7 @@ const NUMBERS = {
   uint32_t: [4, "Uint32"],
   uint64_t: [8, "BigUint64"]
 };
-// Fields that are only filled.
+// Fields without information.
 const FILLS = ["reserved", "unused", "zeros"];
 const layouts = [new Map(), new Map()];
 

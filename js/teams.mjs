@@ -23,7 +23,7 @@ const MOVE_KIND = {
   rows: MOVE_ROWS,
   find: "gen1_move_from_name"
 };
-// The field that a code of gen1_new is about; for other codes it is the moves.
+// The field that a code of gen1_new is about; other codes are about the moves.
 const FIELDS = {
   [CODES.ERROR_TEAM_EMPTY]: "members",
   [CODES.ERROR_TEAM_TOO_LONG]: "members",
@@ -81,7 +81,7 @@ export function moveDataOf(library, value) {
   return {type: TYPES[type], power, accuracy, pp, effect, priority, isHighCritical: highCritical === 1};
 }
 
-/** The HP that a damage of a move gives to its user, or costs it. `call` is gen1_drained or gen1_recoil. */
+/** The HP that the user of a move gains or loses by its damage. `call` is gen1_drained or gen1_recoil. */
 export function sharedOf(library, call, move, damage) {
   rowOf(library, move, MOVE_KIND, "move");
   return library.calls[call](moveOf(library, move), within(damage, "damage", 0, MOST_DAMAGE));
@@ -95,7 +95,7 @@ function typeOf(value, what) {
   return number;
 }
 
-/** By what a move of one type multiplies its damage to a foe of one type. */
+/** The factor of the damage of a move of one type to a foe of one type. */
 export function effectivenessOf(library, attack, foe) {
   const pair = [typeOf(attack, "attack"), typeOf(foe, "foe")];
   library.begin();
@@ -222,7 +222,7 @@ export function teamAt(library, team) {
 
 const ofTeams = (side, place) => (side ? `team ${side}: ` : "") + (place ? `member ${place}: ` : "");
 
-/** Why gen1_new refuses teams and terms, by the number that it returns; `where` names the member. */
+/** The error for teams or terms that gen1_new refuses, by the number that it returns; `where` names the member. */
 export function teamError(library, answer, teams, terms = {}, where = ofTeams) {
   const [code, place, side] = [answer & 255, (answer >> 8) & 255, answer >> 16];
   const [field, team] = [FIELDS[code] ?? "moves", teams[Math.max(side, 1) - 1]];
@@ -232,7 +232,7 @@ export function teamError(library, answer, teams, terms = {}, where = ofTeams) {
   return new TeamError(`${where(side, place)}${reason}: ${was}`, code, {side, place, field, reason});
 }
 
-// A member as `battle` takes it, from the library's form.
+// A member in the form of an argument of `battle`, from the library's form.
 function memberFrom(of) {
   const moves = of.moves.flatMap((move, slot) => (move ? [[MOVES[move - 1], of.ppUps[slot]]] : []));
   return {species: SPECIES[of.species - 1], level: of.level, dvs: of.dvs, exp: of.exp, moves};

@@ -5,7 +5,7 @@ import {inspected} from "./inspecting.mjs";
 import {Library} from "./memory.mjs";
 import {resultOf} from "./views.mjs";
 
-// Logs are kept in pieces of longer arrays, since to create an array for each takes the time of an update.
+// Logs are kept in pieces of longer arrays, since creating an array for each would take as long as an update.
 const SLAB = 32768;
 let slab = new Uint8Array(SLAB);
 let used = 0;
@@ -40,7 +40,7 @@ export class Update {
     used += count;
   }
 
-  /** The outcome after the update, and what is asked of each side. */
+  /** The outcome after the update, and the request to each side. */
   get result() {
     return resultOf(this.#result);
   }

@@ -11,7 +11,7 @@ export function namesOf(start) {
 
 /** The statuses of a member, by number. */
 export const STATUSES = namesOf("STATUS_");
-/** The conditions of a member that is out, by bit (docs/LAYOUT.md, "Condition bits"). */
+/** The conditions of an active member, by bit (docs/LAYOUT.md, "Condition bits"). */
 export const CONDITIONS = namesOf("CONDITION_");
 /** The outcomes, by number. */
 export const OUTCOMES = Object.freeze(["ongoing", "win one", "win two", "tie", "fault 1", "fault 2"]);
@@ -19,7 +19,7 @@ export const OUTCOMES = Object.freeze(["ongoing", "win one", "win two", "tie", "
 export const REQUESTS = Object.freeze(["pass", "move", "switch"]);
 /** The stats with stages, in the order of a list of stages. */
 export const STATS = namesOf("STAT_");
-/** Why a use of a move can't hit, or not work, by the number less 1 (include/gen1.h, GEN1_ODDS_FALLEN and so on). */
+/** Why a use of a move can't hit or can't work, by the number less 1 (include/gen1.h, GEN1_ODDS_FALLEN and so on). */
 export const REASONS = Object.freeze([
   "the user or the foe has no HP",
   "the engine leaves the move out",
@@ -47,10 +47,10 @@ export const REASONS = Object.freeze([
 ]);
 const MIDDLE = 6;
 
-// The objects of the numbers that gen1_result returns.
+// The objects for the numbers that gen1_result returns.
 const RESULTS = new Array(128).fill(null);
 
-/** The object of a number that gen1_result returns. Each number has one object, which is frozen. */
+/** The object for a number that gen1_result returns. Each number has one object, which is frozen. */
 export function resultOf(answer) {
   return (RESULTS[answer] ??= Object.freeze({
     outcome: OUTCOMES[answer & 7],

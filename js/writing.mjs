@@ -1,4 +1,4 @@
-// The log bytes of events (docs/MECHANICS.md, "Log bytes"). What the fields of an event mean is in events.mjs.
+// The log bytes of events (docs/MECHANICS.md, "Log bytes"). The fields of events are described in events.mjs.
 import {byteOr255, list, object, record, shown} from "./arguments.mjs";
 import {ArgumentError} from "./errors.mjs";
 import {CANT_REASONS, DAMAGE_SOURCES, EVENT_KINDS, FAULTS, FIELDS_OF, VOLATILES} from "./events.mjs";
@@ -8,7 +8,7 @@ import {STATS, STATUSES} from "./views.mjs";
 
 const EVENT_ROOM = 10;
 const LAWFUL = "an event, as `events` returns it";
-// Of each field with names, the names and the number of the first; the number of a field with none.
+// For each field with names: the names, and the number of the first.
 const NAMES = {
   status: [STATUSES, 0],
   reason: [CANT_REASONS, 1],
@@ -23,7 +23,7 @@ const NUMBERS = {
   move: moveOf
 };
 const WORDS = ["hp", "maxHp", "turn"];
-// Where a gen1_event keeps fields that are not there by their own name.
+// The fields of a gen1_event that have another name there.
 const KEYS = {
   reason: "detail",
   source: "detail",
@@ -51,11 +51,11 @@ function eventBytes(library, event, what) {
   const [bytes, length] = [library.room(EVENT_ROOM), library.room(8)];
   if (library.calls.gen1_event_bytes(struct, bytes, length))
     throw new ArgumentError(
-        `${what} is ${shown(event)}, of which a field is out of its range (docs/MECHANICS.md, "Log bytes")`, what);
+        `${what} is ${shown(event)}, which has a field that is out of range (docs/MECHANICS.md, "Log bytes")`, what);
   return library.read(bytes, library.sizeAt(length));
 }
 
-/** The log bytes of events, which are as `events` returns them. */
+/** The log bytes of events in the form that `events` returns. */
 export function logBytesOf(library, events) {
   const pieces = Array.from(
       list(events, "events", "a list of events"), (event, place) => eventBytes(library, event, `events[${place}]`));

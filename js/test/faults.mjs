@@ -235,7 +235,7 @@ function bytes(gen1, check) {
     for (const it of [...NO_OBJECTS, [1]])
       wrong(() => gen1.logBytes([{kind: "tie"}, it]), /^events\[1\] is .*, not an event/);
     for (const it of [undefined, 26, null])
-      equal(wrong(() => gen1.logBytes([{kind: it}]), /, not a text$/).argument, "events[0].kind");
+      equal(wrong(() => gen1.logBytes([{kind: it}]), /, not a string$/).argument, "events[0].kind");
     outside(
         () => gen1.logBytes([{kind: "won", side: 1}]), /^events\[0\]\.kind is "won", not one of "turn", "switch", /);
     outside(() => gen1.logBytes([{kind: "win", sides: 1}]),
@@ -256,14 +256,14 @@ function bytes(gen1, check) {
       {kind: "status", ...who, status: "none"},
     ];
     for (const event of fields)
-      equal(
-          outside(() => gen1.logBytes([event]), /^events\[0\] is \{.*, of which a field is out of its range/).argument,
+      equal(outside(() => gen1.logBytes([event]), /^events\[0\] is \{.*, which has a field that is out of range/)
+                .argument,
           "events[0]");
   });
   check("texts", () => {
     for (const it of [undefined, null, 5, ["Tauros"], Uint8Array.of(1)])
       for (const call of [gen1.teamFromText, gen1.teamFromPacked])
-        wrong(() => call.call(gen1, it), /^text is .*, not a text$/);
+        wrong(() => call.call(gen1, it), /^text is .*, not a string$/);
     const lines = [
       ["Tauros\n- Body Slm\n", 2, 73], ["\n\nTaurus\n- Body Slam\n", 3, 64],
       ["Tauros @ Leftovers\n- Body Slam\n", 1, 65], ["Tauros\nLevel: 101\n- Body Slam\n", 2, 67],
@@ -471,7 +471,7 @@ function guesses(gen1, check) {
     const over = player.clone();
     over.feed(Uint8Array.of(26, 1));
     for (const it of [over, gen1.player({side: 1, team: [TAUROS]})])
-      outside(() => guessed({}, it), /^player must be of a battle that has begun and is not over$/);
+      outside(() => guessed({}, it), /^player must be in a battle that has begun and is not over$/);
     equal(player.view, before);
   });
   check("guesses that are none", () => {
@@ -534,7 +534,7 @@ function arrays(gen1, check) {
     for (const call of [() => array.observe(1), () => array.player(0, 1)])
       outside(call, /^the array has no players: it was created without sides$/);
     outside(() => array.take([0, 2]), /^places\[1\] is 2, not 0 to 1$/);
-    outside(() => array.take([]), /^places has no place$/);
+    outside(() => array.take([]), /^places is empty, and must have at least one place$/);
     outside(() => array.reset([true]), /^which has 1 values, not 2$/);
     wrong(() => array.randomStep(5), /^random is 5, not a function that returns numbers/);
     outside(() => array.playouts(-1, 1), /^seed is -1, not 0 to 2/);
@@ -650,7 +650,7 @@ function states(gen1, battle, check) {
   check(`${UNREADABLE.length} changes of a state that are none`, () => {
     for (const [change, type, text] of UNREADABLE) thrown(() => battle.withState(change), type, text);
     for (const it of [...NO_OBJECTS, []])
-      wrong(() => gen1.battleOfState(it), /^state is .*, not a state: an object as battle.state is$/);
+      wrong(() => gen1.battleOfState(it), /^state is .*, not a state: an object like battle.state$/);
     for (const it of [...NO_OBJECTS, {}])
       wrong(() => battle.withState(it), /^change is .*, not a function that changes a state$/);
   });
@@ -671,7 +671,7 @@ function states(gen1, battle, check) {
       wrong(() => battle.withHp(1, 1, it), /^hp is .*, not a whole number$/);
       wrong(() => battle.withStage(1, "speed", it), /^stage is .*, not a whole number$/);
     }
-    outside(() => gen1.battle(TERMS).withStage(1, "speed", 1), /^side is 1, of which nobody is out/);
+    outside(() => gen1.battle(TERMS).withStage(1, "speed", 1), /^side is 1, which has no active member/);
   });
 }
 
@@ -705,7 +705,7 @@ function players(gen1, check) {
     for (const call of [(bytes) => player.feed(bytes), (bytes) => teller.tell(bytes)])
       equal(thrown(() => call(Uint8Array.of(26, 1, 0)), LogError, /^byte 2: a byte in a tag's place is no tag/).at, 2);
     thrown(() => teller.tell(log.subarray(0, 3)), LogError, /^byte 0: the bytes end within an event/);
-    outside(() => teller.tell(new Uint8Array(513)), /^log has 513 bytes, but that of an update has at most 512$/);
+    outside(() => teller.tell(new Uint8Array(513)), /^log has 513 bytes, but the log of an update has at most 512$/);
     for (const it of [...NO_OBJECTS, player]) {
       wrong(() => teller.report(it, log, player), /^battle is .*, not a Battle$/);
       wrong(() => player.show(it), /^battle is .*, not a Battle$/);
@@ -713,7 +713,7 @@ function players(gen1, check) {
     for (const it of [...NO_OBJECTS, battle])
       wrong(() => teller.report(battle, log, it), /^player is .*, not a Player$/);
     outside(() => teller.report(battle, log, gen1.player({side: 2, team: [TAUROS]})),
-        /^player plays side 2, but side 1 is told$/);
+        /^player plays side 2, but the teller reports to side 1$/);
     equal([player.view, hexOf(teller.clone().tell(log))], before);
   });
 }
