@@ -1,5 +1,5 @@
 /*
- * What a player knows: side 1 gets what its side is told of each log, and prints what it knows of the foe.
+ * The view of a player: side 1 reads each log as it is reported to it, and prints what it knows about the foe.
  *
  *     cc -O2 -I include examples/c/known.c crates/gen1_c/out/libgen1_c.a -o known
  *     ./known

@@ -45,8 +45,8 @@ static bool show_odds(const gen1_battle *battle, uint8_t move) {
 }
 
 /*
- * Whether side 1 wins by this pair of choices, tried on a copy. The copy gets other numbers to draw, so this is a guess, as any
- * player's is.
+ * Whether side 1 wins by this pair of choices, tried on a copy. The copy gets other numbers to draw, so this is a guess, like that
+ * of any player.
  */
 static bool may_win_at_once(const gen1_battle *battle, uint8_t one, uint8_t two) {
     static const uint8_t other[10] = {9, 8, 7, 6, 5, 4, 3, 2, 1, 0};

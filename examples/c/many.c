@@ -1,6 +1,6 @@
 /*
- * Plays many battles of a team at once, with masks and batches and at random. Uses playouts to see which side is ahead. Lists all that an
- * update can lead to, and goes through its ways.
+ * Plays many battles of a team at once, with masks and batches and at random. Uses playouts to see which side is ahead. Lists all outcomes
+ * of an update, and walks through its ways.
  *
  *     cc -O2 -I include examples/c/many.c crates/gen1_c/out/libgen1_c.a -o many
  *     ./many
@@ -46,7 +46,7 @@ static int step(gen1_battle battles[BATTLES]) {
     return went_on;
 }
 
-/* Plays all battles to their end by random choices. Returns after how many steps none is left, or -1 if a call failed. */
+/* Plays all battles to their end by random choices. Returns the number of steps, or -1 if a call failed. */
 static int play_at_random(gen1_battle battles[BATTLES]) {
     gen1_batch_update updates[BATTLES];
     uint64_t generators[BATTLES];
@@ -72,7 +72,7 @@ static bool begin(gen1_battle battles[BATTLES]) {
     return are_made;
 }
 
-/* Prints how many outcomes it has that side 1 uses Body Slam while side 2 sends out Chansey, and the chance of a miss. */
+/* Prints how many outcomes there are if side 1 uses Body Slam while side 2 sends out Chansey, and the chance of a miss. */
 static bool list_outcomes(gen1_battle battle) {
     static gen1_successor found[PLACES];
     static uint32_t table[2 * PLACES];

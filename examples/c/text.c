@@ -26,7 +26,7 @@ static bool show_fault(reading *read, const char *of) {
     return code != 0;
 }
 
-/* The first choice that a side is offered, while the battle goes on. */
+/* The first choice that a side is offered. The battle must not be over. */
 static uint8_t first_choice(const gen1_battle *battle, uint8_t side) {
     uint8_t choices[9] = {GEN1_CHOICE_PASS};
     gen1_choices(battle, side, choices);

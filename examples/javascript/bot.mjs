@@ -38,7 +38,7 @@ const seed = () => Array.from({length: 10}, () => random(256));
 /** @template T @param {readonly T[]} list */
 const any = (list) => list[random(list.length)];
 
-// How often side 1 wins after a choice. A copy draws the same numbers as the battle, so each fork gets others.
+// How often side 1 wins after a choice. A copy would draw the same numbers as the battle, so each fork gets others.
 /** @param {import("gen1").Battle} battle @param {import("gen1").ChoiceName} choice */
 function wins(battle, choice) {
   let won = 0;

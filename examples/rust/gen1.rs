@@ -30,7 +30,7 @@ pub struct Team {
     pub reserved: u8,
 }
 
-/// The damage of a hit at each factor, or the code of why there is none.
+/// The damage of a hit at each factor, or a code that says why there is none.
 #[repr(C)]
 #[derive(Clone, Copy, Debug, PartialEq, Eq)]
 pub struct Damages {
@@ -67,7 +67,7 @@ pub struct Room {
     log: [u8; 512],
 }
 
-/// What a spectator knows of a member.
+/// A spectator's knowledge of a member.
 #[repr(C)]
 #[derive(Clone, Copy, Debug, Default, PartialEq, Eq)]
 pub struct ShownMember {
@@ -76,7 +76,7 @@ pub struct ShownMember {
     pub reserved: u8,
 }
 
-/// What a spectator knows of a side.
+/// A spectator's knowledge of a side.
 #[repr(C)]
 #[derive(Clone, Copy, Debug, Default, PartialEq, Eq)]
 pub struct ShownSide {
@@ -90,7 +90,7 @@ pub struct ShownSide {
     pub reflect: u8,
 }
 
-/// What a spectator knows from both teams and the logs.
+/// A spectator's knowledge, from both teams and the logs.
 #[repr(C)]
 #[derive(Clone, Copy, Debug, Default, PartialEq, Eq)]
 pub struct Spectator {
@@ -187,7 +187,7 @@ pub fn odds_between(user: &Member, foe: &Member, id: u8) -> Result<Odds, TeamFau
     }
 }
 
-/// An update or a submission to a room was refused; with the code.
+/// An update or a submission to a room was refused, with this code.
 pub struct Refused(pub u8);
 
 /// The log of one update.
@@ -251,13 +251,13 @@ impl Battle {
         }
     }
 
-    /// The outcome, and what is asked of each side.
+    /// The outcome, and the request to each side.
     pub fn result(&self) -> (u8, u8, u8) {
         let result = gen1_result(self);
         (result & 7, result >> 3 & 3, result >> 5 & 3)
     }
 
-    /// The odds of a side's move in the current state, or the code of why there are none.
+    /// The odds of a side's move in the current state, or a code that says why there are none.
     pub fn odds(&self, side: u8, id: u8) -> Result<Odds, u8> {
         let mut odds = NO_ODDS;
         match gen1_odds_now(self, side, id, &mut odds) {

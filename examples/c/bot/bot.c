@@ -14,7 +14,7 @@
 #include <stdlib.h>
 #include <string.h>
 
-/* How many forks are played for each choice; how many members a side has; and from how many they are drawn. */
+/* How many forks are played for each choice, how many members a side has, and how many members there are to draw from. */
 enum { PLAYOUTS = 32, MEMBERS_OF_A_SIDE = 4, MEMBERS = 12 };
 
 /* The members to draw from: species, and four moves. */
@@ -81,7 +81,7 @@ static void update(gen1_battle *battle, uint8_t one, uint8_t two) {
     stop_if_refused(gen1_update_silent(battle, one, two));
 }
 
-/* A copy that draws other numbers than the battle, so that the bot doesn't know its luck. */
+/* A copy that draws other numbers than the battle, so that the bot can't foresee its luck. */
 static gen1_battle fork_of(const gen1_battle *battle) {
     gen1_battle fork = *battle;
     uint8_t seed[10];

@@ -4,15 +4,15 @@
  *     cc -O2 replay.c $(pkg-config --cflags --libs gen1) -o replay
  *     ./replay [FILE]
  *
- * The log bytes are what gen1_update writes, of any number of updates one after the other. Without FILE they are read from standard
- * input. Status 0 means that all lines were printed. Status 1 means that the bytes are not a log; then only an error is printed.
+ * The log bytes are those that gen1_update writes, of any number of updates one after the other. Without FILE they are read from
+ * standard input. Status 0: all lines were printed. Status 1: the bytes are not a log, and only an error was printed.
  */
 #include "gen1.h"
 
 #include <stdio.h>
 #include <stdlib.h>
 
-/* The log of a battle is never longer: it has at most eleven updates more than its turn limit. */
+/* The greatest length of a battle's log: a battle has at most eleven updates more than its turn limit. */
 enum { MOST = (9999 + 11) * GEN1_LOG_ROOM };
 
 /* All bytes of a file, which the caller frees; NULL if they cannot be read, or are more than any battle has. */

@@ -13,7 +13,7 @@
  *
  * Neither player sees the other's choice before both have chosen. Any other line of a player is refused with a code, and changes nothing.
  * A player that floods the room is read no faster than the other, and lines that it does not read in time are dropped. For a player that
- * leaves, or does not choose within SECONDS (1 to 86,400; 10 by default), the room makes the first choice that is offered. So every
+ * leaves, or does not choose within SECONDS (1 to 86,400; 10 by default), the room makes the first choice that is offered, so that every
  * battle ends. The room prints the battle's lines, and on standard error how often each player was refused, by code. After the battle it
  * closes a player's input and sends SIGTERM; a second later it kills the player.
  */
@@ -252,7 +252,7 @@ int main(int count, char **words) {
     }
     FILE *from = fopen(words[1], "r");
     if (from == NULL || !read_battle(from, &file)) {
-        fprintf(stderr, "error: %s is no battle\n", words[1]);
+        fprintf(stderr, "error: %s is not a battle\n", words[1]);
         return 2;
     }
     fclose(from);

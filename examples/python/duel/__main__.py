@@ -1,11 +1,11 @@
-"""How often each side wins a duel if both play as well as can be, and how they play.
+"""How often each side wins a duel if both play optimally, and how they play.
 
     python3 examples/python/duel [--species NAME] [--moves NAME ..] [--level N] [--tolerance X] [--plot FILE]
 
 Both sides have the same member: a Tauros of level 5 that knows Body Slam, Hyper Beam and Blizzard. For each pair of choices in each
-position all outcomes are listed (Battle.outcomes). A position is worth what the game of its choices is worth, whose entries are the means
-over these outcomes, and in which both sides choose at the same time. Such a game is a small linear program. The values are computed again
-and again from each other, until none changes by more than the tolerance. PP are taken to last.
+position all outcomes are listed (Battle.outcomes). The value of a position is the value of the matrix game of its choices: both sides
+choose at the same time, and the entries are the means over these outcomes. Such a game is a small linear program. The values are computed
+from each other repeatedly, until none changes by more than the tolerance. PP are assumed not to run out.
 """
 
 import argparse
@@ -19,7 +19,7 @@ ENDS = {Outcome.WIN_ONE: 1.0, Outcome.WIN_TWO: 0.0}
 
 
 class Fighter(NamedTuple):
-    """What a position has of a member."""
+    """A member in a position."""
 
     hp: int
     status: Status = Status.NONE
@@ -28,7 +28,7 @@ class Fighter(NamedTuple):
 
 
 class Play(NamedTuple):
-    """What a game is worth for side 1, and how often each side makes each of its choices."""
+    """The value of a game for side 1, and how often each side makes each of its choices."""
 
     value: float
     one: list[float]
@@ -42,14 +42,14 @@ Game = list[list[Chances]]
 
 
 def start(member: Member) -> Battle:
-    """A duel of two such members after its first update."""
+    """A duel of two equal members after its first update."""
     battle = Battle([member], [member], bytes(10))
     battle.update(Choice.PASS, Choice.PASS)
     return battle
 
 
 def position(battle: Battle) -> Position:
-    """What the rest of the duel depends on."""
+    """The position: everything that the rest of the duel depends on."""
 
     def fighter(side: Side) -> Fighter:
         at = battle.state.side(side)
@@ -68,7 +68,7 @@ def with_pp(battle: Battle, before: Battle) -> Battle:
 
 
 def games(first: Battle) -> tuple[dict[Position, Game], dict[Position, float]]:
-    """The games of all positions that a battle can come to, and what the positions are worth in which it is over."""
+    """The games of all positions that a battle can reach, and the values of the positions in which it is over."""
     found: dict[Position, Game] = {}
     ends: dict[Position, float] = {}
     left = {position(first): first}
@@ -125,12 +125,12 @@ def minus(line: list[float], times: float, pivot: list[float]) -> list[float]:
 
 
 def mean(chances: Chances, worth: dict[Position, float]) -> float:
-    """What positions are worth in the mean."""
+    """The mean value of positions."""
     return sum(chance * worth[it] for it, chance in chances.items())
 
 
 def values(found: dict[Position, Game], ends: dict[Position, float], tolerance: float) -> dict[Position, Play]:
-    """How each position is played, and so what it is worth. HP only fall, so positions with the fewest HP come first."""
+    """The best play of each position, and its value. HP only fall, so positions with the fewest HP come first."""
     worth = {**dict.fromkeys(found, 0.5), **ends}
     plays: dict[Position, Play] = {}
     change = 1.0
@@ -151,7 +151,7 @@ def by_hp(plays: dict[Position, Play]) -> dict[tuple[int, int], Play]:
 
 
 def groups(plays: dict[tuple[int, int], Play]) -> list[list[int]]:
-    """The HP in groups, from the highest down. It makes no difference which HP of a group a side has."""
+    """The HP in groups, from the highest down. All HP of a group are equivalent."""
     every = sorted({hp for pair in plays for hp in pair}, reverse=True)
 
     def seen(hp: int) -> list[str]:

@@ -1,4 +1,4 @@
-"""What to choose in an endgame of one against one, by all that can happen in the next turns.
+"""The best choice in an endgame of one against one, by all outcomes of the next turns.
 
     python3 examples/python/expectimax [--depth N] [--hp ONE TWO]
 
@@ -12,12 +12,12 @@ import sys
 from gen1 import Battle, Choice, Member, Outcome, Side
 
 ENDS = {Outcome.WIN_ONE: 1.0, Outcome.WIN_TWO: 0.0}
-# For each choice of side 1, and each of side 2, how good it is for side 1.
+# The value for side 1 of each choice of side 1 and each of side 2.
 Table = dict[Choice, dict[Choice, float]]
 
 
 def value(battle: Battle, depth: int) -> float:
-    """How good a battle is for side 1: 1 for a win, 0 for a loss, and its share of the HP where the search ends."""
+    """The value of a battle for side 1: 1 for a win, 0 for a loss, and its share of the HP where the search ends."""
     if battle.result.is_over:
         return ENDS.get(battle.result.outcome, 0.5)
     if depth == 0:
@@ -27,7 +27,7 @@ def value(battle: Battle, depth: int) -> float:
 
 
 def worst(row: dict[Choice, float]) -> float:
-    """What a choice of side 1 is worth, if the foe answers it in the best way."""
+    """The value of a choice of side 1 against the foe's best reply."""
     return min(row.values())
 
 
@@ -38,7 +38,7 @@ def table(battle: Battle, depth: int) -> Table:
 
 
 def mean(battle: Battle, one: Choice, two: Choice, depth: int) -> float:
-    """The mean value over all that an update can lead to."""
+    """The mean value over all outcomes of an update."""
     return sum(chance * value(after, depth - 1) for after, chance in battle.outcomes(one, two))
 
 
@@ -57,7 +57,7 @@ def main() -> int:
     """Prints the table, and the best choice."""
     parser = argparse.ArgumentParser(description=__doc__, formatter_class=argparse.RawDescriptionHelpFormatter)
     parser.add_argument(
-        "--depth", type=int, default=2, metavar="N", help="how many updates are looked ahead (default: %(default)s)"
+        "--depth", type=int, default=2, metavar="N", help="how many updates to look ahead (default: %(default)s)"
     )
     parser.add_argument(
         "--hp", type=int, nargs=2, default=(140, 165), metavar=("ONE", "TWO"), help="the HP of both (default: 140 165)"

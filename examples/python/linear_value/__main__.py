@@ -3,7 +3,7 @@
 
     python3 examples/python/linear_value --out curve
 
-It plays battles against itself, and after each step moves the value of what a side saw before toward the value of what it sees now
+It plays battles against itself, and after each step moves the value of a side's previous observation toward the value of its current one
 (TD(0)). From time to time it plays test battles against random choices. OUT becomes a folder with curve.csv, curve.png (curve.svg
 without matplotlib) and weights.csv. The same arguments give the same curve, on the same machine with the same numpy.
 """
@@ -25,7 +25,7 @@ except ImportError:
 try:
     from gen1 import Error
 except ImportError:
-    sys.exit("linear_value: there is no package gen1 (README.md says how to have it)")
+    sys.exit("linear_value: gen1 is not installed; see README.md")
 
 import curve
 
@@ -52,9 +52,13 @@ def parser():
         "--every", type=at_least(1), default=4, metavar="N", help="rounds between two tests (%(default)s)"
     )
     made.add_argument("--tested", type=at_least(2), default=400, metavar="N", help="battles of a test (%(default)s)")
-    made.add_argument("--rate", type=float, default=0.02, metavar="R", help="of learning (%(default)s)")
+    made.add_argument("--rate", type=float, default=0.02, metavar="R", help="the learning rate (%(default)s)")
     made.add_argument(
-        "--chance", type=float, default=0.1, metavar="P", help="of a random choice in self-play (%(default)s)"
+        "--chance",
+        type=float,
+        default=0.1,
+        metavar="P",
+        help="the chance of a random choice in self-play (%(default)s)",
     )
     made.add_argument(
         "--seed", type=at_least(0), default=1, metavar="N", help="another seed gives another curve (%(default)s)"

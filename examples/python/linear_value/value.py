@@ -1,4 +1,4 @@
-"""A linear value function for one side of a battle, from what that side knows: features, choices and learning."""
+"""A linear value function for one side of a battle, from that side's knowledge: features, choices and learning."""
 
 import numpy as np
 from gen1 import Battle, BattleArray, Choice, Member
@@ -44,7 +44,7 @@ def features(seen):
 
 
 def values(weights, seen):
-    """The values of battles for the side that sees them, (n): 1 for won, -1 for lost, between them while a battle goes on."""
+    """The values of battles for the side that sees them, (n): 1 for won, -1 for lost, and between them for a battle that is not over."""
     going_on = np.clip(features(seen) @ weights, -1, 1)
     over = seen[:, WON] + seen[:, LOST] > 0
     return np.where(over, seen[:, WON] - seen[:, LOST], going_on)
@@ -75,8 +75,8 @@ def random_choices(array, side, dice):
 def best_choices(weights, array, side, dice):
     """For each battle the choice of a side with the highest value, on average over some forks.
 
-    A fork is a copy of the battle with other numbers to draw, in which the foe chooses at random. Its value is computed from what the side
-    would then see. Among equal choices one is chosen at random.
+    A fork is a copy of the battle with other numbers to draw, in which the foe chooses at random. Its value is computed from the side's
+    observation afterwards. Among equal choices one is chosen at random.
     """
     offered = bits(array.masks())[side - 1]
     battle, choice = (np.repeat(it, FORKS) for it in offered.nonzero())
@@ -94,7 +94,7 @@ def best_choices(weights, array, side, dice):
 def learn(weights, count, dice, rate, chance):
     """Plays `count` battles of the value against itself, learns from each step by TD(0), and returns the number of steps.
 
-    The value of what a side sees is moved toward the value of what it sees one step later. With probability `chance` a choice is random.
+    The value of an observation is moved toward the value of the observation one step later. With probability `chance` a choice is random.
     """
     array, steps = battles(count, dice), 0
     seen = [array.observe(side) for side in (1, 2)]

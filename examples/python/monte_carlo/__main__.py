@@ -1,16 +1,16 @@
-"""A bot that searches without cheating: it guesses what it does not know, and plays the guesses out.
+"""A bot that searches without cheating: it guesses what it does not know, and plays battles from its guesses.
 
     python3 examples/python/monte_carlo [--battles N] [--guesses N] [--seed N]
 
 Three players are compared, with sample teams that are drawn for each battle:
 
-    fair        knows what a player knows (gen1.Player). For each guess of the foe's team it makes a battle that fits
-                (Battle.from_player), and plays each of its choices out on it, with random choices to the end.
-    cheating    does the same with copies of the battle itself, which hold what the foe has not shown.
+    fair        has a player's view (gen1.Player). For each guess of the foe's team it makes a battle that fits
+                (Battle.from_player), and plays it from each of its choices, with random choices to the end.
+    cheating    plays copies of the battle itself, which include what the foe has not shown.
     random      takes any choice.
 
-The table has the battles that the player of the row won against the player of the column; a tie counts half. Half of the battles are
-played from the other side.
+The table shows how many battles the player of the row won against the player of the column; a tie counts as half. The players swap sides
+for half of the battles.
 """
 
 import argparse
@@ -26,7 +26,7 @@ Bot = Callable[[Player, random.Random, int], Choice]
 
 
 def guess(player: Player, dice: random.Random) -> Team:
-    """A team that the foe may have: what it has shown, filled up from the sample sets."""
+    """A team that the foe may have: the members and moves that it has shown, completed from the sample sets."""
     seen = player.foe.members
     team = [member_like(it, dice) for it in seen]
     names = {it.species for it in team}
@@ -88,7 +88,7 @@ def at_random(player: Player, dice: random.Random, guesses: int) -> Choice:
 
 
 def play(names: tuple[str, str], dice: random.Random, guesses: int) -> Outcome:
-    """One battle between two bots. Each gets its own player's view; only the cheating one gets the battle, too."""
+    """One battle between two bots. Each gets its own player's view; only the cheating bot also gets the battle."""
     teams = list(gen1.sample_teams().values())
     sides = dice.choice(teams), dice.choice(teams)
     battle = Battle(*sides, dice.randbytes(10))
@@ -111,7 +111,7 @@ def chosen(bot: Bot, player: Player, dice: random.Random, guesses: int) -> Choic
 
 
 def wins(one: str, two: str, battles: int, dice: random.Random, guesses: int) -> float:
-    """How many battles the first bot wins. Every other battle is played from the other side."""
+    """How many battles the first bot wins. The bots swap sides in every other battle."""
     total = 0.0
     for at in range(battles):
         pair = (one, two) if at % 2 == 0 else (two, one)

@@ -1,4 +1,4 @@
-"""A bot against random choices: it tries each of its choices on copies with other numbers to draw, and plays these out.
+"""A bot against random choices: it tries each of its choices on copies with other numbers to draw, and plays these to their end.
 
     python3 examples/python/notebooks/bot.py
 
@@ -22,7 +22,7 @@ team = [
 def ends_well(battle, choice):
     """Whether side 1 wins a copy of the battle in which it makes this choice, and then both sides choose at random: 0 or 1.
 
-    A copy draws the same numbers as the battle, which a player does not know. So the copy is reseeded.
+    A copy draws the same numbers as the battle, which a player does not know, so the copy is reseeded.
     """
     copy = battle.copy()
     copy.reseed(dice.randbytes(10))

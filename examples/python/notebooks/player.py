@@ -1,4 +1,4 @@
-"""A bot that plays on what a player knows: it takes the move with the highest mean damage, against random choices.
+"""A bot that plays on a player's knowledge: it takes the move with the highest mean damage, against random choices.
 
     python3 examples/python/notebooks/player.py
 
@@ -30,7 +30,7 @@ def mean_damage(user, foe, move):
 
 
 def bot(player):
-    """The move with the highest mean damage, or any choice. The foe's stats are hidden, so it takes them to be the usual ones."""
+    """The move with the highest mean damage, or any choice. The foe's stats are hidden, so it assumes the usual ones."""
     moves = [it for it in player.choices if it.is_move and it.slot]
     if not moves:
         return dice.choice(player.choices)

@@ -4,7 +4,7 @@
     python3 examples/python/policy_gradient
 
 The policy is linear: each action has a weight for each feature, and the softmax over the offered actions gives their chances. It plays
-many battles at once (`gen1.VectorEnv`) and makes those actions likelier that went better than a linear estimate of the value had it (an
+many battles at once (`gen1.VectorEnv`), and makes actions likelier that did better than a linear estimate of the value predicted (an
 actor and a critic, with generalized advantage estimation). The same arguments give the same numbers, on the same machine with the same
 numpy.
 """
@@ -25,7 +25,7 @@ except ImportError:
 try:
     from gen1 import Encoding, Error, Member, VectorEnv
 except ImportError:
-    sys.exit("policy_gradient: there is no package gen1 (README.md says how to have it)")
+    sys.exit("policy_gradient: gen1 is not installed; see README.md")
 
 # Both sides have this team. Another team needs its own training.
 TEAM = (
@@ -37,7 +37,7 @@ PLACES = range(1, len(TEAM) + 1)
 ACTIONS = 12
 # How many steps are played between two changes of the weights.
 HORIZON = 32
-# The discount of a reward for each step, and of an advantage for each further step that it looks ahead.
+# The discount of a reward per step, and of an advantage per further step ahead.
 DISCOUNT, AHEAD = 0.99, 0.95
 # The weight of the entropy at first, and the rate of learning; both fall to 0.
 ENTROPY, RATE = 0.005, 0.06
@@ -63,7 +63,7 @@ FLAGS = [NAMES.index(it) for it in ("own recharge", "foe recharging", "own refle
 
 
 def features(rows):
-    """What the policy looks at, (n, count): who meets whom, with the HP and status of both; all HP, and some conditions."""
+    """The features of the policy, (n, count): the active members with the HP and status of both; all HP, and some conditions."""
     own = rows[:, OWN_OUT]
     foe = (rows[:, FOE_OUT, None] * (rows[:, FOE_SPECIES, None] == SPECIES)).sum(1)
     pair = (own[:, :, None] * foe[:, None, :]).reshape(len(rows), -1)
@@ -75,7 +75,7 @@ def features(rows):
 
 
 def chances(weights, seen, masks):
-    """The chance of each action, (n, 12): 0 for one that is not offered. A battle that is over has equal ones, which nobody looks at."""
+    """The chance of each action, (n, 12): 0 for one that is not offered. Those of a battle that is over are equal, and ignored."""
     worth = np.where(masks, seen @ weights, -1e9)
     worth = np.exp(worth - worth.max(1, keepdims=True))
     return worth / worth.sum(1, keepdims=True)
@@ -100,7 +100,7 @@ class Adam:
 
 
 class Learner:
-    """A policy and a value of what a player knows, which learn from the battles of a vector environment."""
+    """A policy and a value function of a player's knowledge, which learn from the battles of a vector environment."""
 
     def __init__(self, battles, seed):
         self.env, self.dice = VectorEnv(battles, TEAM, TEAM, "random", limit=300), np.random.default_rng(seed)
@@ -111,7 +111,7 @@ class Learner:
         self.steps = Adam(self.policy.shape), Adam(self.value.shape)
 
     def play(self):
-        """Plays `HORIZON` steps; yields of each what was seen, chosen, its chances, whether it counts, the reward, and whether it ended."""
+        """Plays `HORIZON` steps; yields for each the observation, the actions, their chances, which count, the rewards, and the ends."""
         for _ in range(HORIZON):
             seen, masks = self.seen, self.masks
             chance = chances(self.policy, seen, masks)
@@ -122,7 +122,7 @@ class Learner:
             yield seen, actions, chance, masks.any(1), rewards, ends
 
     def learn(self, left):
-        """Plays, and moves the weights of the policy and of the value. `left`, 1 to 0, is the share of the rounds that are left."""
+        """Plays, and updates the weights of the policy and of the value. `left`, 1 to 0, is the share of the rounds left."""
         played = list(self.play())
         values = [it[0] @ self.value for it in played] + [self.seen @ self.value]
         gain, policy, value = np.zeros(len(self.seen)), np.zeros_like(self.policy), np.zeros_like(self.value)

@@ -5,9 +5,9 @@
     python3 examples/python/selfplay --players greedy playouts --battles 10000 --workers 4 --out results
     python3 examples/python/selfplay --battles 10000 --dask tcp://HOST:8786 --out results
 
-OUT becomes a folder with table.csv, table.json and logs.npz (results.py describes it). The battles are divided into jobs. A job that is
-lost with its worker is played again with the same result, so the files are the same, byte for byte, for any number of workers. Progress
-is printed to standard error.
+OUT becomes a folder with table.csv, table.json and logs.npz (results.py describes it). The battles are divided into jobs. A job whose
+worker is lost is played again with the same result, so the files are the same, byte for byte, for any number of workers. Progress is
+printed to standard error.
 """
 
 import argparse
@@ -50,13 +50,13 @@ def parser():
     made.add_argument(
         "--workers", type=at_least(1), default=1, metavar="N", help="processes of this machine (%(default)s)"
     )
-    made.add_argument("--dask", metavar="ADDRESS", help="the scheduler of Dask workers, in the place of processes")
+    made.add_argument("--dask", metavar="ADDRESS", help="the scheduler of Dask workers, in place of processes")
     made.add_argument("--out", type=Path, metavar="OUT", help="the folder for the files; none is written without it")
     made.add_argument(
         "--format",
         choices=("npz", "parquet"),
         default="npz",
-        help="of the data set (%(default)s); parquet takes pyarrow",
+        help="the format of the data set (%(default)s); parquet needs pyarrow",
     )
     return made
 
@@ -102,7 +102,7 @@ def main():
         words.error("--players: name two or more, none of them twice")
     for module, named in (("distributed", asked.dask), ("pyarrow", asked.format == "parquet")):
         if named and not find_spec(module):
-            words.error(f"there is no {module} for this Python")
+            words.error(f"this Python has no {module}")
     pairs = list(combinations(asked.players, 2))
     begun = time.monotonic()
     try:

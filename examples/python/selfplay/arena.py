@@ -1,4 +1,4 @@
-"""The work of a worker: players, and jobs of battles between two of them, whose results are the same wherever they are played.
+"""The work of a worker: players, and jobs of battles between two of them. The results do not depend on the machine.
 
 It is one file that needs only gen1 and numpy, so that it can be sent to a worker on another machine (with the same numpy).
 """
@@ -60,7 +60,7 @@ def average(battle, side, move):
 def playout_player(battle, side, team, dice):
     """The choice with the most wins minus losses in random battles.
 
-    These are copies with their own numbers to draw, all played at once. So the player knows both teams, but not what the battle will draw.
+    These are copies with their own numbers to draw, all played at once. The player knows both teams, but not what the battle will draw.
     """
     offered = battle.choices(side)
     if len(offered) == 1:
@@ -111,7 +111,7 @@ def drawn(job, number, what, count):
 
 
 def play_job(job):
-    """Plays a job: the records of its battles, which are the same each time and on each machine."""
+    """Plays a job, and returns the records of its battles, which are the same each time and on each machine."""
     return [play_battle(job, number) for number in range(job.first, job.first + job.count)]
 
 

@@ -66,7 +66,7 @@ def as_csv(rows):
 
 
 def as_json(rows, **about):
-    """The rows as JSON, with the arguments and versions that they were made with."""
+    """The rows as JSON, with the arguments and versions with which they were made."""
     return json.dumps({**about, "rows": [asdict(it) for it in rows]}, indent=1) + "\n"
 
 

@@ -1,4 +1,4 @@
-"""Where jobs are played: in this process, in processes of this machine, or by Dask's workers. The results are the same."""
+"""Plays jobs in this process, in processes of this machine, or by Dask's workers. The results are the same."""
 
 import sys
 import time
@@ -37,7 +37,7 @@ def by_processes(jobs, count):
                 print(f"a worker was lost; {len(left)} jobs are played again", file=sys.stderr, flush=True)
         tries = 0 if len(left) < before else tries + 1
         if tries == TRIES:
-            raise Lost(f"{TRIES} times in a row a worker was lost before any job was done")
+            raise Lost(f"a worker was lost {TRIES} times in a row before any job was done")
 
 
 def by_dask(jobs, address):

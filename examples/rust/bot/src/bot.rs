@@ -3,17 +3,17 @@ use crate::guesses;
 use crate::random::Random;
 use gen1::{Battle, Choice, Offered, Outcome, Player, Side};
 
-/// What a bot may look at.
+/// The information that a bot may use.
 #[derive(Clone, Copy)]
 pub enum Sight<'a> {
-    /// What its side may know. It guesses the rest anew for each playout.
+    /// The knowledge of its side. It guesses the rest again for each playout.
     Fair(&'a Player),
     /// The whole battle, which no player sees.
     Cheating(&'a Battle),
 }
 
 impl Sight<'_> {
-    /// A battle to play out, with numbers of its own: a fork draws the same numbers as the battle, so the bot would know its luck.
+    /// A battle to play to its end, with its own numbers: a fork would draw the same numbers as the battle, so the bot would foresee its luck.
     fn fork(self, random: &mut Random) -> Battle {
         match self {
             Sight::Fair(player) => guesses::drawn(player, random),
@@ -149,7 +149,7 @@ mod tests {
         };
         let first = told(&battle);
         assert_eq!(battle, before);
-        // The same battle with other numbers to draw is the same to the bot.
+        // The bot can't distinguish the battle from a copy with other numbers to draw.
         let mut other = battle.clone();
         other.reseed([200; 10]);
         assert_eq!(first, told(&other));

@@ -18,15 +18,15 @@ use std::time::Instant;
 
 /// Plays battles of a bot against another player, and prints how many it won
 ///
-/// For each offered choice the bot plays battles to their end that begin with it, with random choices, and makes the choice that won
-/// most. They fit what the bot may know: it guesses the foe's members that have not appeared, and all that is hidden. With --cheat it
+/// For each offered choice the bot plays battles that begin with it to their end, with random choices, and makes the choice that won
+/// most. The battles fit the bot's knowledge: it guesses the foe's members that have not appeared, and everything hidden. With --cheat it
 /// plays forks of the battle itself instead. Both sides have the same team, and the bot is side 1 in every other battle. The same
 /// arguments give the same battles, for any number of threads.
 #[derive(Parser)]
 #[command(
     name = "bot",
     version,
-    after_help = "Status: 0 all was played, 1 standard output cannot be written, 2 the words are wrong."
+    after_help = "Status: 0 all was played, 1 standard output cannot be written, 2 bad arguments."
 )]
 struct Words {
     /// The number of battles
@@ -38,7 +38,7 @@ struct Words {
     /// The bot looks at the whole battle: it knows the foe's team and all hidden counts, but not the numbers to be drawn
     #[arg(long)]
     cheat: bool,
-    /// How many playouts the other player makes, which cheats; with 0 it chooses at random
+    /// How many playouts the other player makes for each choice, cheating; with 0 it chooses at random
     #[arg(long, default_value_t = 0, value_parser = clap::value_parser!(u32).range(0..=100_000))]
     foe: u32,
     /// The number of members of each team
@@ -63,7 +63,7 @@ enum End {
     Tied,
 }
 
-/// The place of a bot at a battle: what its side is told, and what it knows by that.
+/// A bot's seat at a battle: the teller of its side, and its player.
 struct Seat {
     teller: Teller,
     player: Player,
@@ -95,13 +95,13 @@ impl Words {
         let mut random = Random::new(self.seed, number.into());
         let team = teams::drawn(self.members.into(), &mut random);
         // The sleep clause and the freeze clause.
-        let rules = Rules::new(3).expect("3 stands for both clauses");
+        let rules = Rules::new(3).expect("3 is both clauses");
         let mut battle =
             Battle::with_limit(&team, &team, random.seed(), rules, TurnLimit::default());
         let mut seat = Seat::new(me, &team);
         let mut update = battle
             .update(Choice::Pass, Choice::Pass)
-            .expect("a battle begins so");
+            .expect("a battle begins with two passes");
         seat.see(&battle, &update);
         each(me, &[], &update);
         while !battle.is_over() {
@@ -205,7 +205,7 @@ impl Words {
         )
     }
 
-    /// The lines of the first battle, with what the bot tried before each update.
+    /// The lines of the first battle, with the bot's tries before each update.
     fn shown(&self) -> String {
         let mut text = String::new();
         self.played(0, |me, tried, update| {

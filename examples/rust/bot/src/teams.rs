@@ -42,7 +42,7 @@ pub fn drawn(members: usize, random: &mut Random) -> Team {
     beginning_with(Vec::new(), members, random)
 }
 
-/// A team of one to six different members, of which the first are of these species.
+/// A team of one to six different members; the first have these species.
 ///
 /// # Panics
 ///

@@ -1,20 +1,20 @@
-//! Comparing a battle with what a line says.
+//! Compares a battle with the results in a line.
 use crate::sheet::{Expected, Sheet, Update};
 use gen1::{
     Battle, BattleResult, EventList, Line, LogBuf, Outcome, Refusal, Request, Side, events_of,
     write_log,
 };
 
-/// The first difference from what a line says.
+/// The first difference from a line.
 #[derive(Debug, PartialEq)]
 pub struct Difference {
     /// The number of the pair from 0, with its choices; `None` if the battle does not begin.
     pub pair: Option<(usize, [u8; 2])>,
-    /// What differs: `result`, `log`, ..
+    /// The value that differs: `result`, `log`, ..
     pub what: String,
-    /// What the line says.
+    /// The value in the line.
     pub expected: String,
-    /// What the engine returns.
+    /// The value that the engine returned.
     pub came: String,
 }
 
@@ -31,7 +31,7 @@ struct Came {
 ///
 /// # Errors
 ///
-/// What was expected of the battle's own text.
+/// The expected form, if the battle in the line is invalid.
 pub fn check(sheet: &Sheet, expected: &Expected) -> Result<Result<usize, Difference>, String> {
     Ok(match sheet.battle()? {
         Ok(battle) => played(battle, sheet, expected),
@@ -59,7 +59,7 @@ fn played(mut battle: Battle, sheet: &Sheet, expected: &Expected) -> Result<usiz
             compare(at, update, &came, &battle)?;
         }
         if let Some(why) = came.refused {
-            // The program `run` ends at a refusal; a battle with `updates` goes on after one.
+            // The program `run` ends at a refusal; a battle with `updates` continues after one.
             told = format!("error: pair {number} refused {}\n", why.number());
             if expected.updates.is_none() {
                 break;
@@ -74,14 +74,14 @@ fn played(mut battle: Battle, sheet: &Sheet, expected: &Expected) -> Result<usiz
         .choices
         .last()
         .map(|&pair| (sheet.choices.len() - 1, pair));
-    same(last, "lines behind it", lines.unwrap_or(""), "")?;
-    same(last, "log behind it", &hex(log.unwrap_or(&[])), "")?;
+    same(last, "lines after it", lines.unwrap_or(""), "")?;
+    same(last, "log after it", &hex(log.unwrap_or(&[])), "")?;
     if let Some(said) = expected
         .told
         .as_ref()
         .filter(|_| expected.updates.is_none())
     {
-        same(last, "what is told", said, &told)?;
+        same(last, "standard error", said, &told)?;
     }
     Ok(sheet.choices.len())
 }
@@ -106,7 +106,7 @@ fn update(battle: &mut Battle, pair: [u8; 2]) -> Came {
 /// A pair's number and choices.
 type At = Option<(usize, [u8; 2])>;
 
-/// Compares everything that a line says of one pair.
+/// Compares all results of one pair in a line.
 fn compare(at: At, said: &Update, came: &Came, battle: &Battle) -> Result<(), Difference> {
     let answer =
         |refused: Option<u8>| refused.map_or("taken".into(), |number| format!("refused {number}"));
@@ -133,7 +133,7 @@ fn compare(at: At, said: &Update, came: &Came, battle: &Battle) -> Result<(), Di
             format!("{:?}", codes(came.result)),
         ),
         (
-            "what is offered behind it",
+            "choices after it",
             said.offered.as_ref().map(|it| format!("{it:?}")),
             format!("{offered:?}"),
         ),
@@ -215,7 +215,7 @@ fn same_log(at: At, said: &[u8], came: &[u8]) -> Result<(), Difference> {
     let lines = |log| {
         let line = |event: Result<_, _>| {
             event.map_or_else(
-                |why| format!("no log: {why}"),
+                |why| format!("not a log: {why}"),
                 |event| Line::of(&event).to_string(),
             )
         };

@@ -1,4 +1,4 @@
-//! A referee: it plays the battles of a file, and names the first pair that differs from what the file says.
+//! A referee: it plays the battles of a file, and names the first pair whose result differs from the file.
 mod check;
 mod sheet;
 
@@ -11,7 +11,7 @@ use std::path::{Path, PathBuf};
 use std::process::ExitCode;
 use std::time::{Duration, Instant};
 
-/// Plays the battles of a file, and names the first pair that differs from what the file says
+/// Plays the battles of a file, and names the first pair whose result differs from the file
 ///
 /// FILE has a battle in each line, as JSON. It is the object of the program's run with `lines` (as run prints them) or `log`
 /// (hexadecimal digits); or a recorded run (`args`, `input`, `stdout`, `stderr`); or a battle in `object` with `updates`, each of which
@@ -21,7 +21,7 @@ use std::time::{Duration, Instant};
 #[command(
     name = "referee",
     version,
-    after_help = "Status: 0 all is as FILE says, 1 a pair is not, 2 FILE cannot be read or is no file of battles, or the words are wrong."
+    after_help = "Status: 0 replay matches FILE, 1 a pair differs, 2 FILE cannot be read or is not a file of battles, or bad arguments."
 )]
 struct Words {
     /// The file; - is standard input
@@ -29,7 +29,7 @@ struct Words {
     /// The log bytes of the one battle in FILE
     #[arg(long, value_name = "FILE")]
     log: Option<PathBuf>,
-    /// Goes on after a difference, and counts the battles that differ
+    /// Continues after a difference, and counts the battles that differ
     #[arg(long)]
     all: bool,
     /// Prints the progress to standard error once a second; by default only if that is a terminal
@@ -103,7 +103,7 @@ impl Referee {
             self.read += count as u64;
             if count as u64 == LINE_MOST {
                 return Err(format!(
-                    "{at}: a line of less than {LINE_MOST} bytes was expected"
+                    "{at}: expected a line of less than {LINE_MOST} bytes"
                 ));
             }
             if !text.trim().is_empty() {
@@ -171,7 +171,7 @@ fn told(it: &Difference) -> String {
         }
     };
     format!(
-        "{pair}: {}\n  expected: {}\n  came:     {}",
+        "{pair}: {}\n  expected: {}\n  found:    {}",
         it.what,
         text(&it.expected),
         text(&it.came)
@@ -233,13 +233,13 @@ fn main() -> ExitCode {
             wrong: 0,
         }) => {
             put(&format!(
-                "{battles} battles, {pairs} pairs: all is as {name} says\n"
+                "{battles} battles, {pairs} pairs: all match {name}\n"
             ));
             ExitCode::SUCCESS
         }
         Ok(Count { battles, wrong, .. }) => {
             put(&format!(
-                "{wrong} of the {battles} battles that were played are not as {name} says\n"
+                "{wrong} of the {battles} battles that were played differ from {name}\n"
             ));
             ExitCode::from(1)
         }

@@ -1,4 +1,4 @@
-//! A line of a file of battles: a battle, and what it says of its pairs.
+//! A line of a file of battles: a battle, and the results of its pairs.
 use gen1::{Battle, MemberSpec, Rules, Team, TeamRefusal, TurnLimit};
 use serde::Deserialize;
 use serde::de::{Deserializer, Error};
@@ -28,17 +28,17 @@ impl Sheet {
     ///
     /// # Errors
     ///
-    /// For a text that is not a battle, what was expected. The refusal of a team is not an error here, but a result to compare.
+    /// For a text that is not a battle, the expected form. The refusal of a team is not an error here, but a result to compare.
     pub fn battle(&self) -> Result<Result<Battle, TeamFault>, String> {
-        let rules = Rules::new(self.rules).ok_or("rules: 0 to 3 were expected")?;
-        let limit = TurnLimit::new(self.limit).ok_or("limit: 1 to 9,999 were expected")?;
+        let rules = Rules::new(self.rules).ok_or("rules: expected 0 to 3")?;
+        let limit = TurnLimit::new(self.limit).ok_or("limit: expected 1 to 9,999")?;
         let team = |side, specs: &[_]| Team::new(specs).map_err(|why| (side, why));
         let teams = team(1, &self.one).and_then(|one| Ok((one, team(2, &self.two)?)));
         Ok(teams.map(|(one, two)| Battle::with_limit(&one, &two, self.seed, rules, limit)))
     }
 }
 
-/// What a line says, in the order in which it is compared. Missing keys are not compared.
+/// The results in a line, in the order in which they are compared. Missing keys are not compared.
 #[derive(Deserialize)]
 pub struct Line {
     /// The name of the battle.
@@ -49,7 +49,7 @@ pub struct Line {
     input: Option<String>,
     stdout: Option<String>,
     stderr: Option<String>,
-    /// The battle, if it has a key of its own.
+    /// The battle, if it is under a separate key.
     object: Option<Sheet>,
     /// The results of each pair.
     updates: Option<Vec<Update>>,
@@ -91,7 +91,7 @@ pub struct Hex(pub Vec<u8>);
 impl<'de> Deserialize<'de> for Hex {
     fn deserialize<D: Deserializer<'de>>(from: D) -> Result<Self, D::Error> {
         let text = String::deserialize(from)?;
-        let fault = || D::Error::custom("two hexadecimal digits for each byte were expected");
+        let fault = || D::Error::custom("expected two hexadecimal digits for each byte");
         if !text.len().is_multiple_of(2) || !text.bytes().all(|it| it.is_ascii_hexdigit()) {
             return Err(fault());
         }
@@ -104,7 +104,7 @@ impl<'de> Deserialize<'de> for Hex {
     }
 }
 
-/// What is expected of a battle.
+/// The expected results of a battle.
 pub struct Expected {
     /// The expected results, pair by pair.
     pub updates: Option<Vec<Update>>,
@@ -116,15 +116,15 @@ pub struct Expected {
     pub log: Option<Vec<u8>>,
 }
 
-/// The battle of a line, its name, and what is expected of it.
+/// The battle of a line, its name, and its expected results.
 ///
 /// # Errors
 ///
-/// What was expected of the line, if it is not a battle, or says nothing that can be checked.
+/// The expected form of the line, if it is not a battle, or has nothing that can be checked.
 pub fn read(text: &str) -> Result<(String, Sheet, Expected), String> {
     let line: Line = serde_json::from_str(text).map_err(|why| why.to_string())?;
     if line.args.as_ref().is_some_and(|args| *args != ["run"]) {
-        return Err("args: [\"run\"] was expected".into());
+        return Err("args: expected [\"run\"]".into());
     }
     let sheet = match (line.object, &line.input) {
         (Some(sheet), _) => sheet,
@@ -140,12 +140,12 @@ pub fn read(text: &str) -> Result<(String, Sheet, Expected), String> {
         log: line.log.map(|hex| hex.0),
     };
     if expected.updates.is_none() && expected.lines.is_none() && expected.log.is_none() {
-        return Err("updates, lines, log or stdout were expected".into());
+        return Err("expected updates, lines, log or stdout".into());
     }
     if let Some(updates) = &expected.updates {
         let pairs = |(update, pair): (&Update, &[u8; 2])| update.pair.is_none_or(|it| it == *pair);
         if updates.len() != sheet.choices.len() || !updates.iter().zip(&sheet.choices).all(pairs) {
-            return Err("updates: one for each pair of choices was expected".into());
+            return Err("updates: expected one for each pair of choices".into());
         }
     }
     Ok((line.name, sheet, expected))

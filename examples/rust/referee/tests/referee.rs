@@ -45,7 +45,7 @@ fn a_file_that_is_right() {
     let (status, printed, told) = referee("right", line.repeat(3).as_bytes(), &[]);
     assert_eq!(
         (status, printed.as_str(), told.as_str()),
-        (Some(0), "3 battles, 9 pairs: all is as FILE says\n", "")
+        (Some(0), "3 battles, 9 pairs: all match FILE\n", "")
     );
 }
 
@@ -60,14 +60,14 @@ fn the_first_pair_that_is_wrong_is_named() {
     let said = [
         "FILE: line 3 (Tauros): pair 1 [17, 17]: line\n",
         "  expected: |-damage|p1a: Tauros|262/353\n",
-        "  came:     |-damage|p1a: Tauros|263/353\n",
+        "  found:    |-damage|p1a: Tauros|263/353\n",
     ]
     .concat();
     assert_eq!(
         (status, printed),
         (
             Some(1),
-            format!("{said}1 of the 2 battles that were played are not as FILE says\n")
+            format!("{said}1 of the 2 battles that were played differ from FILE\n")
         )
     );
     let (status, printed, _) = referee("all", text.as_bytes(), &["--all"]);
@@ -75,7 +75,7 @@ fn the_first_pair_that_is_wrong_is_named() {
         (status, printed.lines().last()),
         (
             Some(1),
-            Some("2 of the 4 battles that were played are not as FILE says")
+            Some("2 of the 4 battles that were played differ from FILE")
         )
     );
 }
@@ -90,13 +90,13 @@ fn lines_that_are_missing_or_too_many_are_named() {
     assert!(
         status == Some(1)
             && printed
-                .contains("pair 2 [17, 17]: line\n  expected: nothing\n  came:     |win|p1\n"),
+                .contains("pair 2 [17, 17]: line\n  expected: nothing\n  found:    |win|p1\n"),
         "{printed}"
     );
     let (status, printed, _) = referee("more", line.replace(last, &last.repeat(2)).as_bytes(), &[]);
     assert!(
         status == Some(1)
-            && printed.contains("lines behind it\n  expected: |win|p1\n  came:     nothing\n"),
+            && printed.contains("lines after it\n  expected: |win|p1\n  found:    nothing\n"),
         "{printed}"
     );
 }
@@ -120,7 +120,7 @@ fn refusals_are_answers_like_others() {
         &[],
     );
     assert!(
-        status == Some(1) && printed.contains("pair 3 [17, 17]: what is told\n"),
+        status == Some(1) && printed.contains("pair 3 [17, 17]: standard error\n"),
         "{printed}"
     );
     let team = format!(
@@ -148,12 +148,12 @@ fn updates_are_compared_in_each_key() {
         (
             "[[17],[17]]",
             "[[17],[17,18]]",
-            "pair 1 [17, 17]: what is offered behind it",
+            "pair 1 [17, 17]: choices after it",
         ),
         (
             "1a01\"",
             "1a02\"",
-            "pair 2 [17, 17]: log, event 4\n  expected: |win|p2\n  came:     |win|p1\n",
+            "pair 2 [17, 17]: log, event 4\n  expected: |win|p2\n  found:    |win|p1\n",
         ),
         ("[1,0,0]", "[2,0,0]", "pair 2 [17, 17]: result"),
     ] {
@@ -179,7 +179,7 @@ fn a_log_file_is_compared_pair_by_pair() {
     let (status, printed, _) = referee("battle", object.as_bytes(), &words);
     assert_eq!(
         (status, printed.as_str()),
-        (Some(0), "1 battles, 3 pairs: all is as FILE says\n")
+        (Some(0), "1 battles, 3 pairs: all match FILE\n")
     );
     *bytes.last_mut().expect("a byte") = 2;
     fs::write(&log, &bytes).expect("it is written");
@@ -206,25 +206,22 @@ fn faults() -> Vec<(String, &'static str)> {
             "line 2: invalid length 2, expected an array of length 10",
         ),
         own("[]\n", "line 1: invalid"),
-        own(
-            "{\"args\":[\"calc\"]}",
-            "line 1: args: [\"run\"] was expected",
-        ),
+        own("{\"args\":[\"calc\"]}", "line 1: args: expected [\"run\"]"),
         (
             format!("{{{it}}}"),
-            "line 1: updates, lines, log or stdout were expected",
+            "line 1: expected updates, lines, log or stdout",
         ),
         (
             format!("{{\"object\":{{{it}}},\"updates\":[]}}"),
-            "line 1: updates: one for each pair",
+            "line 1: updates: expected one for each pair",
         ),
         (
             format!("{{{it},\"log\":\"1a0\"}}"),
-            "line 1: two hexadecimal digits",
+            "line 1: expected two hexadecimal digits",
         ),
         (
             format!("{{{it},\"rules\":4,\"lines\":\"\"}}"),
-            "line 1: rules: 0 to 3",
+            "line 1: rules: expected 0 to 3",
         ),
         (
             format!("{{{},\"lines\":\"\"}}", it.replace("Tauros", "Taurus")),

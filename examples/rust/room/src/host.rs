@@ -1,4 +1,4 @@
-//! The room: it asks both players for choices, sends each what it may know, and trusts neither of them.
+//! The room: it asks both players for choices, sends each only what it may know, and trusts neither of them.
 use crate::pipes::{Mailbox, Process, Said};
 use crate::protocol::{RUBBISH, TOO_MANY, ask_line, log_line};
 use crate::sheet::Sheet;
@@ -90,7 +90,7 @@ impl Host {
         let until = Instant::now() + self.terms.patience;
         self.spectator.end(until);
         for player in self.players {
-            // A player that is out has had its time. It may still be writing, but is no longer read.
+            // A player that is out gets no more time. It may still be writing, but is no longer read.
             let soon = Instant::now() + Duration::from_secs(1);
             player.process.end(if player.out.is_some() {
                 soon.min(until)
@@ -152,7 +152,7 @@ impl Host {
         }
     }
 
-    /// Whether a side has a choice of its own in this pair.
+    /// Whether a side has to choose in this pair.
     fn is_asked(&self, side: Side) -> bool {
         let result = self.room.battle().result();
         !result.outcome.is_over() && result.request(side) != Request::Pass
@@ -165,7 +165,7 @@ impl Host {
             if self.player(side).out.is_none() || !self.is_asked(side) {
                 continue;
             }
-            // There are no choices left where the player chose before it was out.
+            // There are no choices left if the player chose before it was out.
             let Some(&first) = self.room.choices(side).first() else {
                 continue;
             };

@@ -22,7 +22,7 @@ use std::time::Duration;
 #[command(
     name = "room",
     version,
-    after_help = "Status: 0 done, 1 FILE is no battle, 2 the words are wrong, 3 a process, a read or a write fails."
+    after_help = "Status: 0 done, 1 FILE is not a battle, 2 bad arguments, 3 a process, a read or a write failed."
 )]
 struct Words {
     #[command(subcommand)]
@@ -35,9 +35,9 @@ enum Role {
     Host(Opening),
     /// A player: reads the lines of the room, and writes its choices
     Player {
-        /// Its first choices, as bytes; after them it makes the first offered choice
+        /// Its first choices, as bytes; after these it makes the first offered choice
         choices: Vec<u8>,
-        /// After them it chooses at random, with this seed
+        /// After its first choices it chooses at random, with this seed
         #[arg(long)]
         seed: Option<u64>,
         /// Sends invalid lines and floods before each choice
@@ -46,7 +46,7 @@ enum Role {
     },
     /// The spectator: prints the lines of the log bytes that it reads
     Spectator {
-        /// After each line of a turn, prints the members that are out, and their state
+        /// After each line of a turn, prints the active members and their state
         #[arg(long)]
         board: bool,
     },
@@ -56,7 +56,7 @@ enum Role {
 struct Opening {
     /// A battle as the program's run takes it (docs/PROGRAM.md); its choices are ignored
     file: PathBuf,
-    /// The command of player 1: words separated by white space. If the first word is `room`, it means this program
+    /// The command of player 1: words separated by white space. A first word `room` means this program
     #[arg(long, default_value = "room player --seed 1")]
     one: String,
     /// The command of player 2

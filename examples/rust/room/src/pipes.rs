@@ -90,8 +90,8 @@ impl Mailbox {
 pub struct Process {
     child: Child,
     to: Option<Sender<Vec<u8>>>,
-    /// The thread that reads it. It keeps the room's end of the pipe open even when it has ended. So a process that still writes blocks
-    /// on a full pipe, and is not killed by a signal before it has read its last line.
+    /// The thread that reads it. It keeps the room's end of the pipe open even after it has ended, so that a process that still writes
+    /// blocks on a full pipe, and is not killed by a signal before it has read its last line.
     listener: Option<JoinHandle<ChildStdout>>,
 }
 

@@ -1,4 +1,4 @@
-//! A player: start here for your own. It reads the lines of the room and writes its choices (protocol.rs).
+//! A player, as a starting point for yours. It reads the lines of the room and writes its choices (protocol.rs).
 use crate::protocol::asked;
 use std::io::{self, BufRead, Write};
 
@@ -20,7 +20,7 @@ impl Player {
     pub fn run(self, from: impl BufRead, mut to: impl Write) -> io::Result<()> {
         let (mut given, mut state, mut flood) = (self.choices.iter().copied(), self.seed, FLOOD);
         for line in from.lines() {
-            // The lines `team` and `log` are for a player that thinks.
+            // A stronger player would use the lines `team` and `log`.
             let Some((number, offered)) = asked(&line?) else {
                 continue;
             };

@@ -23,13 +23,13 @@ impl Sheet {
     ///
     /// # Errors
     ///
-    /// What is wrong with the text, with its line and column, or with a team.
+    /// The error in the text, with its line and column, or in a team.
     pub fn of(text: &str) -> Result<(Sheet, Battle), String> {
         let sheet: Sheet = serde_json::from_str(text).map_err(|why| why.to_string())?;
         let one = team_of(1, &sheet.one)?;
         let two = team_of(2, &sheet.two)?;
-        let rules = Rules::new(sheet.rules).ok_or("rules: 0 to 3 were expected")?;
-        let limit = TurnLimit::new(sheet.limit).ok_or("limit: 1 to 9,999 were expected")?;
+        let rules = Rules::new(sheet.rules).ok_or("rules: expected 0 to 3")?;
+        let limit = TurnLimit::new(sheet.limit).ok_or("limit: expected 1 to 9,999")?;
         let battle = Battle::with_limit(&one, &two, sheet.seed, rules, limit);
         Ok((sheet, battle))
     }

@@ -31,20 +31,20 @@ pub fn print_log(mut from: impl Read, mut to: impl Write, with_board: bool) -> i
     }
 }
 
-/// What is known of a battle from its log alone.
+/// The knowledge of a battle from its log alone.
 struct Board {
     view: Spectator,
-    /// The member that is out on each side, with its maximum HP.
+    /// The active member of each side, with its maximum HP.
     out: [Option<(Species, u16)>; 2],
 }
 
 impl Board {
-    /// A `Spectator` needs both teams, which this process is not sent. So it starts with six placeholder members on each side; what it
-    /// shows of a member comes from the log, from the member's first switch on.
+    /// A `Spectator` needs both teams, which this process is not sent. It therefore starts with six placeholder members on each side. The
+    /// values that it shows of a member come from the log, from the member's first switch on.
     fn new() -> Board {
         let placeholder = member("Mew", &["Pound"]).expect("names of the tables");
         let team = Team::new(&std::array::from_fn::<_, 6, _>(|_| placeholder.clone()))
-            .expect("a lawful team");
+            .expect("a valid team");
         Board {
             view: Spectator::new(&team, &team),
             out: [None; 2],
@@ -58,7 +58,7 @@ impl Board {
         }
     }
 
-    /// The turn and the members that are out, on one line.
+    /// The turn and the active members, on one line.
     fn text(&self) -> String {
         let side = |side: Side| {
             let (species, max) = self.out[usize::from(side.number()) - 1]?;
