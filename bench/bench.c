@@ -25,14 +25,14 @@
  *     bench_program BATTLES SEED moves      only the updates in which both sides move: --toggle-collect=counted_update. Likewise
  *                                           mixed (one of them switches), switches (both do) and replacements
  *
- * A last word PERCENT, as in `bench_program BATTLES SEED log 85`, is how often a side moves where it may also switch. Without it
+ * A last argument PERCENT, as in `bench_program BATTLES SEED log 85`, is how often a side moves if it may also switch. Without it
  * each offered choice has the same chance. Mode sum prints a checksum of the battles and the logs of all updates.
  *
- * UNTESTED is the name of that call, if the header has it: an update without log by choices that the caller took from the offered
- * ones.
+ * UNTESTED is the name of the call that does not test choices, if the header has it: an update without a log, by choices that the
+ * caller took from the offered ones.
  *
- * The same seed gives the same battles on every machine. First they are played and their choices stored. Then the same updates are
- * timed: calls of gen1_update_silent or gen1_update, and a copy of 384 bytes for each battle.
+ * A seed gives the same battles on every machine. First they are played and their choices stored. Then the same updates are timed:
+ * calls of gen1_update_silent or gen1_update, and a copy of 384 bytes for each battle.
  */
 #define _POSIX_C_SOURCE 199309L
 #include <pthread.h>
@@ -46,7 +46,7 @@
 
 enum { ROUNDS = 7, BATCH = 1024, MOST_THREADS = 4, TEAM_COUNT = sizeof TEAMS / sizeof TEAMS[0] };
 
-/* The start of a battle, and where its pairs of choices begin and end. */
+/* The start of a battle, and the indexes at which its pairs of choices begin and end. */
 typedef struct {
     gen1_battle start;
     size_t first, end;
@@ -92,7 +92,7 @@ static gen1_battle new_battle(void) {
     return battle;
 }
 
-/* How often a side moves where it may also switch, in percent; 0 where each offered choice has the same chance. */
+/* How often a side moves if it may also switch, in percent; 0 if each offered choice has the same chance. */
 static uint32_t move_percent;
 
 static uint8_t chosen(const gen1_battle *battle, uint8_t side) {
@@ -138,7 +138,7 @@ static void keep_pair(uint8_t one, uint8_t two) {
     pair_count++;
 }
 
-/* Where the log of an update goes. */
+/* The log of an update. */
 static uint8_t log_bytes[GEN1_LOG_ROOM];
 
 /* Plays a new battle to its end, with or without log, and stores its start and its choices. Returns the number of draws. */
@@ -209,7 +209,7 @@ COUNTING static uint8_t chosen_of_mask(const gen1_battle *battle, uint8_t side) 
     return (uint8_t)GEN1_CHOICE_AT(bit);
 }
 
-/* The same playouts by masks. */
+/* Plays all battles by choices drawn from masks on the way, and stores nothing. */
 COUNTING __attribute__((noinline)) static uint64_t replay_masked(void) {
     uint64_t updates = 0;
     for (size_t number = 0; number < game_count; number++) {
@@ -303,7 +303,7 @@ static void *replay_share(void *given) {
     return NULL;
 }
 
-/* The same on several threads, each with battles of its own. */
+/* Plays all battles by the stored choices on several threads, each with its own battles. */
 static void replay_on_threads(size_t count) {
     pthread_t threads[MOST_THREADS];
     share shares[MOST_THREADS];
@@ -504,7 +504,7 @@ static uint64_t mixed_in(uint64_t sum, const uint8_t *bytes, size_t length) {
     return sum;
 }
 
-/* Prints a checksum (FNV-1a) of the battle and the log after each update. The other ways to update have to give the same battles. */
+/* Prints a checksum (FNV-1a) of the battle and the log after each update. The other ways to update must give the same battles. */
 static void print_sum(void) {
     uint64_t sum = 14695981039346656037u;
     size_t length;
@@ -528,7 +528,7 @@ static void print_sum(void) {
     printf("%zu updates, %016llx\n", pair_count, (unsigned long long)sum);
 }
 
-/* What callgrind counts, after the first play of the battles; prints the number of updates. */
+/* The work that callgrind counts, after the first play of the battles; prints the number of updates. */
 static void print_counted(const char *mode) {
     uint64_t updates = pair_count;
     if (strcmp(mode, "listed") == 0)

@@ -1,5 +1,5 @@
 /*
- * What each call costs in C. bench/calls runs it and says what the rows are.
+ * The cost of each call in C. bench/calls runs it, and names the rows.
  *
  *     program TEAM_ONE TEAM_TWO
  */
@@ -118,7 +118,7 @@ static void step_by_parts(void) {
     gen1_update_many(battles, BATCH, updates, BATCH);
 }
 
-/* The same in one call. */
+/* A step of a batch in one call. */
 static void step_in_one(void) {
     size_t over;
     gen1_step_random_many(battles, BATCH, NULL, 0, generators, BATCH, updates, BATCH, &over);

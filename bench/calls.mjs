@@ -1,4 +1,4 @@
-// What each call costs in JavaScript. bench/calls runs it and says what the rows are.
+// The cost of each call in JavaScript. bench/calls runs it, and names the rows.
 //
 //     node bench/calls.mjs MODULE TEAM_ONE TEAM_TWO
 //

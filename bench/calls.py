@@ -1,8 +1,8 @@
-"""What each call costs in Python. bench/calls runs it and says what the rows are.
+"""The cost of each call in Python. bench/calls runs it, and names the rows.
 
     python3 bench/calls.py TEAM_ONE TEAM_TWO
 
-With python/gen1/src on PYTHONPATH, and GEN1_LIBRARY as the C library.
+It needs python/gen1/src on PYTHONPATH, and the path of the C library in GEN1_LIBRARY.
 """
 import sys
 import time

@@ -1,7 +1,7 @@
 """The full teams of recorded battles, as bench/teams.h.
 
-A team of tests/battles/battles.jsonl.xz is taken where it has six members with four moves each, and only once. The numbers of species
-and moves are those of docs/TABLES.md.
+A team of tests/battles/battles.jsonl.xz is used if it has six members with four moves each, and only once. The numbers of species and
+moves are those of docs/TABLES.md.
 """
 
 import json

@@ -1,5 +1,4 @@
-//! The targets of the fuzzer: loading, the log reader, and teams from text. No string may crash them, or break a rule that callers
-//! are promised.
+//! The targets of the fuzzer: loading, the log reader, and teams from text. No string may crash them, or break a promise to callers.
 use gen1::text::{TextFault, members_in_packed, members_in_text, team_in_packed, team_in_text};
 use gen1::{Battle, Choice, Event, EventList, Line, LogReader, Side, Team, events_of};
 
@@ -50,7 +49,7 @@ fn load(bytes: &[u8]) {
             .collect::<Result<_, _>>()
             .expect("a log is read");
         assert_eq!(update.events(), told);
-        Battle::load(battle.bytes()).expect("a battle stays one");
+        Battle::load(battle.bytes()).expect("an updated battle loads");
     }
 }
 
@@ -107,7 +106,7 @@ fn fed(pieces: &[&[u8]]) -> Vec<Event> {
     events
 }
 
-/// A text is a team exactly if its members are one, and an error names one of its lines.
+/// A text is a team if and only if its members form one, and an error names one of its lines.
 fn team(bytes: &[u8]) {
     let members = members_in_text(bytes);
     let made = members

@@ -1,4 +1,4 @@
-"""Bad input: each gets a message, and the page goes on."""
+"""Bad input: each gets a message, and the page keeps working."""
 import json
 
 from checks.cases import cases

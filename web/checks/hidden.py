@@ -100,7 +100,7 @@ def exports(browser):
 
 
 def test_exports(browser, asked, lines):
-    """The files and the link hold the log that side 1 is told, and nothing besides."""
+    """The files and the link hold the log as it is reported to side 1, and nothing else."""
     (page, held, log, showdown), link = exports(browser)
     # Of the page, only the battle that it holds differs from the page that everybody has.
     battle = re.search(r'<script id="battle" type="application/json">(.*?)</script>', page.decode())[1]

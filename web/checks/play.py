@@ -120,7 +120,7 @@ def two_computers_play_to_the_end(browser):
 
 
 def choose_first(browser, side=1):
-    """Presses the first choice of a side, and waits for the next choices or the end; returns whether the battle goes on."""
+    """Presses the first choice of a side, and waits for the next choices or the end; returns whether the battle continues."""
     before = browser.run(UPDATES)
     browser.click(f"#play-choices-{side} [data-choice]")
     browser.wait(f"{UPDATES} > {before}")
@@ -128,7 +128,7 @@ def choose_first(browser, side=1):
 
 
 def told_to(side, lines):
-    """Lines as a side is told them: the foe's HP in 48ths (docs/MECHANICS.md, "What a side is told")."""
+    """Lines as they are reported to a side: the foe's HP in 48ths (docs/MECHANICS.md, "What a side is told")."""
 
     def pixels(found):
         hp, most = int(found[2]), int(found[3])
@@ -160,7 +160,7 @@ def play_covered(browser, asked, press):
 
 
 def a_covered_battle_is_played_at_both_sizes(browser):
-    """By clicks, by keys and by touch, without an event of scrolling; the lines are those of the engine as side 1 is told them."""
+    """By clicks, by keys and by touch, without an event of scrolling; the lines are those of the engine as reported to side 1."""
     case = battle(16, 24)
     asked = json.loads(case["input"])
     press = {

@@ -15,7 +15,7 @@ let due = 0;
 let shown = "";
 
 /**
- * Sets the part that is shown, which is the one that the address is of.
+ * Sets the part that is shown, to which the address belongs.
  * @param {string} tab
  */
 export function giveAddress(tab) {
@@ -40,7 +40,7 @@ function hash(tab, values) {
 export function setAddress(tab, values) {
   if (tab !== shown) return;
   const wanted = hash(tab, values);
-  // Browsers limit the number of changes per second. An address that a person opens meanwhile stays.
+  // Browsers limit the number of changes per second. An address that a person opens meanwhile is kept.
   window.clearTimeout(due);
   const before = location.hash;
   due = window.setTimeout(() => {

@@ -8,7 +8,7 @@ import {Problem} from "./dom.js";
  * @typedef {import("./engine.js").Standing} Standing
  */
 
-/** How many bytes a member has in an address, and a member with its state. */
+/** The size of a member in an address, in bytes, and that of a member with its state. */
 export const MEMBER = 24;
 export const STANDING = MEMBER + 10;
 

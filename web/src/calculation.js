@@ -1,4 +1,4 @@
-// The numbers of a move in words: per cent of HP, the uses that it takes to knock out, what the user gains and loses, and a line to copy.
+// The numbers of a move in words: per cent of HP, the uses to knock out, the user's gains and losses, and a line to copy.
 import {span} from "./words.js";
 
 /**
@@ -9,7 +9,7 @@ import {span} from "./words.js";
 
 /** A chance that a line shows as neither 0 nor 100 per cent. */
 const VISIBLE = 0.0005;
-/** How many uses a line looks at, and how many numbers of uses it names. */
+/** How many uses a line considers, and for how many numbers of uses it has chances. */
 const [USES, NAMED] = [9, 3];
 const SHORT = ["atk", "def", "spe", "spc", "acc", "eva"];
 /** @type {Record<number, string>} */
@@ -24,7 +24,7 @@ const AILING = {
 const SCREENS = ["Reflect", "Light Screen"];
 
 /**
- * A number with one decimal, rounded as the program gen1 does: of two that are equally near, to the even one.
+ * A number with one decimal, rounded as the program gen1 does: half to even.
  * @param {number} value
  */
 export function tenth(value) {
@@ -54,7 +54,7 @@ export function hitChance({hit, reason}) {
 }
 
 /**
- * Whether a move deals all HP of the foe.
+ * Whether a move takes all HP of the foe.
  * @param {CalculatedMove} odds
  */
 export function isOneHit({fixed}) {
@@ -62,7 +62,7 @@ export function isOneHit({fixed}) {
 }
 
 /**
- * The HP that uses have to take: those of the foe, or one more than its Substitute has.
+ * The HP that uses must take: those of the foe, or one more than its Substitute has.
  * @param {Calculated} foe
  */
 export function target({hp, substitute}) {
@@ -141,8 +141,8 @@ export function onAverage(odds, foe) {
 }
 
 /**
- * The chances that 1, 2, .. uses take all HP, one after the other. Those of one, two and three are the engine's. The last is that of a use that
- * does so for certain, or of the ninth.
+ * The chances that 1, 2, .. uses take all HP, one after the other. Those of one, two and three are the engine's. The last chance is 1, or that of
+ * the ninth use.
  * @param {CalculatedMove} odds
  * @param {number} hp
  */
@@ -171,7 +171,7 @@ export function* usesToKnockOut(odds, hp) {
 }
 
 /**
- * What the user of a move gains and loses, per cent of its maximum HP first; empty for nothing.
+ * The user's gains and losses by a move, per cent of its maximum HP first; empty for none.
  * @param {CalculatedMove} odds
  * @param {string} effect as docs/TABLES.md writes it
  * @param {Calculated} user

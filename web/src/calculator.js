@@ -82,7 +82,7 @@ export class Calculator {
     this.calculate();
   }
 
-  /** Puts both members back to full HP, without status, stages and conditions. */
+  /** Resets both members to full HP, without status, stages and conditions. */
   clear() {
     for (const form of this.forms)
       form.set({member: form.form.member(), stages: Array(6).fill(6), status: 0, conditions: 0, hp: 0});
@@ -90,7 +90,7 @@ export class Calculator {
   }
 
   /**
-   * Shows the numbers, or what is missing for them. An error waits, since a name may be only partly typed.
+   * Shows the numbers, or what is missing. An error is delayed, since a name may be only partly typed.
    * @param {number} [pause] the milliseconds before an error is shown
    */
   calculate(pause = 0) {
@@ -129,7 +129,7 @@ export class Calculator {
   }
 
   /**
-   * Shows what is wrong, without an alert.
+   * Shows an error, without an alert.
    * @param {string} text empty if nothing is wrong
    * @param {HTMLElement} [field] the wrong field
    */

@@ -7,8 +7,8 @@ import {percentage, span, STATUS_TAGS, STATUS_WORDS} from "./words.js";
 /**
  * @typedef {{ species: string, hp: number, maxHp: number, status: import("gen1").Status, moves: string[], pp: number[] }} Member
  * @typedef {{ offered: number[], members: Member[], place: number, going: string, odds: import("./engine.js").Odds[], foeHp: number,
- *   isGuess: boolean }} Offer the choices of a side with what they are about: its members, the place that is out, the move that it is in the
- *   middle of, the odds of its moves, the foe's maximum HP, and whether the foe's stats are guessed
+ *   isGuess: boolean }} Offer the choices of a side, with its members, the place of the active member, the move that it continues, the odds of
+ *   its moves, the foe's maximum HP, and whether the foe's stats are guessed
  * @typedef {{ chosen: number | null, keys: string, choose: (choice: number) => void }} Use
  */
 

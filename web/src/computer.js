@@ -8,11 +8,11 @@ import {guessed, playerOf} from "./guesses.js";
  * @typedef {import("gen1").ChoiceName} ChoiceName
  * @typedef {import("./engine.js").Engine} Engine
  * @typedef {{ side: 1 | 2, player: string, seed: number, offered: number[], rules: number, limit: number, sight: import("./guesses.js").Sight | null,
- *   battle: Uint8Array | null }} Asked a question: who plays ("random", "greedy", "playouts" or "cheating"), the bytes of the offered choices, and
- *   what the computer knows: what its side knows, or for cheating the battle itself
+ *   battle: Uint8Array | null }} Asked a question: the player ("random", "greedy", "playouts" or "cheating"), the bytes of the offered choices, and
+ *   the computer's knowledge: that of its side, or for cheating the battle itself
  */
 
-/** How many random battles begin with each offered choice: in one battle that is known, and in each guess of one that is not. */
+/** How many random battles begin with each offered choice: in a known battle, and in each guess of an unknown one. */
 const ROUNDS = 200;
 const GUESSES = 25;
 const ROUNDS_OF_GUESS = 8;
@@ -65,8 +65,8 @@ function scoreOf(battle, side, choice, other, random) {
 }
 
 /**
- * The score of each offered choice in random battles that begin with it. Each draws link numbers of its own, so the score reveals
- * nothing about the numbers of the battle. A choice that a guess does not offer counts as a tie.
+ * The score of each offered choice in random battles that begin with it. Each draws its own link numbers, so the score reveals nothing
+ * about the numbers of the battle. A choice that a guess does not offer counts as a tie.
  * @param {Battle} battle
  * @param {1 | 2} side
  * @param {number} rounds
@@ -90,7 +90,7 @@ export function scores(battle, side, rounds, seed) {
 }
 
 /**
- * Battles that fit what the computer's side knows, and draw numbers of their own.
+ * Battles that fit the knowledge of the computer's side, and draw their own numbers.
  * @param {Engine} engine
  * @param {Asked} asked
  * @param {Random} random

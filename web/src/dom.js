@@ -36,7 +36,7 @@ export function find(id, kind) {
   return found;
 }
 
-/** An error that a person can fix, with a sentence about it. */
+/** An error that a person can fix, with a sentence that describes it. */
 export class Problem extends Error {
   /**
    * @param {string} message
@@ -50,7 +50,7 @@ export class Problem extends Error {
 }
 
 /**
- * Does something, and attributes its problems to a field.
+ * Calls a function, and attributes its problems to a field.
  * @template T
  * @param {HTMLElement} field
  * @param {() => T} work
@@ -68,7 +68,7 @@ export function inField(field, work) {
 /**
  * Marks the wrong field, and unmarks all others.
  * @param {HTMLElement | undefined} field
- * @param {string} message the id of the element that says what is wrong
+ * @param {string} message the id of the element with the error
  */
 export function blame(field, message) {
   for (const blamed of document.querySelectorAll(`[aria-describedby="${message}"]`)) {
@@ -80,7 +80,7 @@ export function blame(field, message) {
 }
 
 /**
- * Shows what went wrong, as an alert; an empty text removes the last one.
+ * Shows an error as an alert; an empty text removes the last one.
  * @param {string} text
  */
 export function notice(text) {
@@ -111,7 +111,7 @@ function show(error) {
 }
 
 /**
- * Does something, and shows any error as a message; the page goes on.
+ * Calls a function, and shows any error as a message; the page keeps working.
  * @param {() => void | Promise<void>} work
  */
 export async function guarded(work) {
@@ -135,7 +135,7 @@ function isReached(element) {
 }
 
 /**
- * Does something that may remove or hide the focused element, and then moves the focus to a heading.
+ * Calls a function that may remove or hide the focused element, and then moves the focus to a heading.
  * @param {HTMLElement} heading
  * @param {() => void} work
  */

@@ -15,7 +15,7 @@ import {kindOf} from "./words.js";
  * @typedef {import("gen1").State & { sides: SideState[] }} State
  * @typedef {import("gen1").ShownState & { sides: import("gen1").ShownSide[] }} View
  * @typedef {{ slot: number, move: string, damage: number[] | null, critical: number[] | null, fixed: [number, number] | null, bound: number | null,
- *   hit: number | null, reason: string | null, hits: number[], charges: boolean }} Odds of how many bytes a critical hit or a hit is drawn,
+ *   hit: number | null, reason: string | null, hits: number[], charges: boolean }} Odds how many of 256 bytes give a critical hit or a hit,
  *   null if without a draw; why a use cannot hit; the chances of 0 to 5 hits; and whether the user charges first
  * @typedef {Odds & { knockOut: import("gen1").KnockOutInThree }} CalculatedMove
  * @typedef {{ hp: number, max: number, substitute: number, own: number[], stats: number[], moves: CalculatedMove[] }} Calculated
@@ -52,13 +52,13 @@ const STATUSES = {
 };
 const MIDDLE = 6;
 /**
- * What a member knows that was given no moves, since a battle needs one.
+ * The move of a member without moves, since a battle needs one.
  * @type {[string, number][]}
  */
 const NO_MOVES = [["Splash", 3]];
 
 /**
- * Refuses what is too long to be read at once.
+ * Refuses bytes that are too many to be read at once.
  * @param {ArrayLike<number>} bytes
  * @param {string} what they are, as a message names them
  */
@@ -89,7 +89,7 @@ function refused(side, place, reason) {
 }
 
 /**
- * Gives a side's only member its state. The stats follow from stages and status.
+ * Sets the state of a side's only member. The stats follow from stages and status.
  * @param {import("gen1").SideState} side
  * @param {Standing} it
  */
@@ -186,7 +186,7 @@ export class Engine {
   }
 
   /**
-   * The events of log bytes, in pieces that are quickly read.
+   * The events of log bytes, in pieces that are read quickly.
    * @param {Uint8Array} log
    * @returns {Generator<GameEvent[]>}
    */
@@ -194,7 +194,7 @@ export class Engine {
     testLength(log, "The log");
     for (let at = 0; at < log.length;) {
       const end = Math.min(log.length, at + PIECE);
-      // The last event of a piece may go on in the next one.
+      // The last event of a piece may continue in the next one.
       const whole = end === log.length ? end : at + this.wholeEvents(log.subarray(at, end));
       yield this.events(log.subarray(at, whole), at);
       at = whole;
@@ -202,7 +202,7 @@ export class Engine {
   }
 
   /**
-   * How many bytes the whole events of a log take that may have been cut.
+   * The total size in bytes of the complete events in a log that may have been cut.
    * @param {Uint8Array} log
    */
   wholeEvents(log) {
@@ -210,7 +210,7 @@ export class Engine {
       this.gen1.events(log);
       return log.length;
     } catch (error) {
-      // An event that cannot be read, far from the end, is the reader's to name.
+      // An invalid event far from the end is reported by the reader.
       return error instanceof LogError && error.at > 0 && log.length - error.at < MOST_EVENT ? error.at : log.length;
     }
   }
@@ -230,7 +230,7 @@ export class Engine {
   }
 
   /**
-   * The odds of the moves of a side's member that is out; none before one is.
+   * The odds of the moves of a side's active member; none before the first update.
    * @param {Uint8Array} battle
    * @param {1 | 2} side
    */
@@ -305,7 +305,7 @@ export class Engine {
   }
 
   /**
-   * What a spectator knows after more log bytes.
+   * A spectator's knowledge after more log bytes.
    * @param {import("gen1").Spectator} spectator
    * @param {Uint8Array} log
    * @returns {View}
@@ -317,7 +317,7 @@ export class Engine {
   }
 
   /**
-   * The maximum HP and the stats of a member, whatever its moves are.
+   * The maximum HP and the stats of a member with any moves.
    * @param {Member} member
    */
   stats(member) {

@@ -1,4 +1,4 @@
-// The field: both members that are out with their tokens, and what an event changes in it.
+// The field: both active members with their tokens, and the changes that an event makes.
 import {make} from "./dom.js";
 import {badge, STAGES} from "./sides.js";
 import {token} from "./tokens.js";
@@ -99,7 +99,7 @@ class Stand {
   }
 
   /**
-   * Counts the number of HP from what it was.
+   * Counts the number of HP from its old value.
    * @param {number} from @param {number} to @param {number} time in milliseconds
    */
   count(from, to, time) {
@@ -229,7 +229,7 @@ export class Field {
   }
 
   /**
-   * Shows what an event changes, and moves the token that it is about.
+   * Shows the changes of an event, and moves the token that it is about.
    * @param {GameEvent} event @param {number} time in milliseconds
    */
   apply(event, time) {
@@ -246,7 +246,7 @@ export class Field {
   }
 
   /**
-   * Changes what is shown of a side by an event, and returns how the token moves, and a text.
+   * Applies an event to the shown side, and returns how the token moves, and a text.
    * @param {GameEvent} event @param {Shown} shown
    * @returns {[string, string?]}
    */
@@ -327,7 +327,7 @@ export class Field {
 }
 
 /**
- * Gives a member the HP and the status of a line.
+ * Sets a member's HP and status from a line.
  * @param {ShownMember | undefined} member
  * @param {string} health as "120/353 par" or "0 fnt"
  */

@@ -1,4 +1,4 @@
-// Guesses of what a player may not know: the foe's team, and battles with such a team. A search in them does not cheat.
+// Guesses of what is hidden from a player: the foe's team, and battles with such a team. A search in them does not cheat.
 import {Battle} from "gen1";
 
 import {randomMoves, randomSpecies} from "./random.js";
@@ -8,9 +8,9 @@ import {randomMoves, randomSpecies} from "./random.js";
  * @typedef {import("./engine.js").Member} Member
  * @typedef {import("gen1").Player} Player
  * @typedef {(bound: number) => number} Draw a random whole number from 0, below a bound
- * @typedef {{ seed: number[], rules: number, limit: number }} Frame what a battle has besides its sides
- * @typedef {{ side: 1 | 2, team: Member[], foes: number, told: Uint8Array, guess: Uint8Array }} Sight what a side knows: its team, how many members
- *   the foe has, what it was told, and a battle that shows its own side as it is now
+ * @typedef {{ seed: number[], rules: number, limit: number }} Frame the parts of a battle other than its sides
+ * @typedef {{ side: 1 | 2, team: Member[], foes: number, told: Uint8Array, guess: Uint8Array }} Sight a side's knowledge: its team, how many members
+ *   the foe has, the log as reported to it, and a battle that shows its own side as it is now
  */
 
 const MAX = {
@@ -41,10 +41,10 @@ function guessedTeam({tables}, view, draw) {
 }
 
 /**
- * A battle that fits what a player knows, after its beginning and before its end.
+ * A battle that fits a player's knowledge, after its beginning and before its end.
  * @param {Engine} engine
  * @param {Player} player
- * @param {Draw} draw draws what is not known
+ * @param {Draw} draw draws the unknown values
  * @param {Frame} frame
  */
 export function guessed(engine, player, draw, {seed, rules, limit}) {
@@ -53,7 +53,7 @@ export function guessed(engine, player, draw, {seed, rules, limit}) {
 }
 
 /**
- * The player with what a side knows.
+ * The player with a side's knowledge.
  * @param {Engine} engine
  * @param {Sight} sight
  */

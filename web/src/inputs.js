@@ -43,10 +43,10 @@ function named(value, names, what) {
 /** White space, and the byte order mark with which some editors begin a text. */
 const BLANKS = [9, 10, 13, 32, 0xef, 0xbb, 0xbf];
 
-/** The letters with which a JSON text begins that is an object, a list or a string. */
+/** The first characters of a JSON text that is an object, a list or a string. */
 const STARTS = [0x7b, 0x5b, 0x22];
 
-/** The most bytes of a file: as hexadecimal digits in a page, the longest log takes twice its length and that of the page. */
+/** The most bytes of a file: a page with the longest log takes twice the length of the log, as hexadecimal digits, and that of the page. */
 const MOST_FILE = 4 * MOST;
 
 /** Reads and writes inputs. */

@@ -18,7 +18,7 @@ export class Log {
     new ResizeObserver(() => this.toEnd()).observe(list);
   }
 
-  /** @param {import("./words.js").Voice} voice who tells the lines */
+  /** @param {import("./words.js").Voice} voice the point of view of the lines */
   clear(voice) {
     this.voice = voice;
     this.search.value = "";
@@ -44,7 +44,7 @@ export class Log {
     });
   }
 
-  /** Shows only the lines with the text that is searched for, and the turns that they are of. */
+  /** Shows only the lines with the text that is searched for, and their turns. */
   find() {
     const wanted = this.search.value.trim().toLowerCase();
     let found = 0;

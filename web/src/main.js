@@ -112,7 +112,7 @@ function takesKeys(target, key) {
 
 /** @param {Replay} replay @param {(tab: string) => void} open */
 function listenDrops(replay, open) {
-  // Dropping anything but a file, such as text on a field, is left to the browser.
+  // The browser handles drops of anything but a file, such as text on a field.
   const hasFile = (/** @type {DragEvent} */ event) => Boolean(event.dataTransfer?.types.includes("Files"));
   document.addEventListener("dragover", (event) => hasFile(event) && event.preventDefault());
   document.addEventListener("drop", (event) => {

@@ -1,4 +1,4 @@
-// A battle that is played: its updates, and what each side is told and shown of them.
+// A battle that is played: its updates, and each of them as it is reported and shown to each side.
 import {byteOf} from "gen1";
 
 import {joined} from "./bytes.js";
@@ -10,8 +10,8 @@ import {guessed} from "./guesses.js";
  * @typedef {1 | 2} Side
  * @typedef {Side | 0 | "all"} Viewer a side, what both sides know, or everything
  * @typedef {{ pair: number[], battle: Uint8Array, log: Uint8Array, told: Uint8Array[], tellers: import("gen1").Teller[],
- *   players: import("gen1").Player[], views: import("gen1").PlayerView[], usual: import("gen1").Battle[] }} Step what stands after a pair of
- *   choices; each list has an item for each side, and the last two are filled when they are asked for
+ *   players: import("gen1").Player[], views: import("gen1").PlayerView[], usual: import("gen1").Battle[] }} Step the situation after a pair of
+ *   choices; each list has an item for each side, and the last two are filled on demand
  */
 
 /** @type {Side[]} */
@@ -74,7 +74,7 @@ export class Match {
   }
 
   /**
-   * What a side knows.
+   * A side's knowledge.
    * @param {Side} side
    */
   view(side) {
@@ -129,7 +129,7 @@ export class Match {
   }
 
   /**
-   * What a side knows, in a form that a worker can be sent.
+   * A side's knowledge, in a form that can be sent to a worker.
    * @param {Side} side
    * @returns {import("./guesses.js").Sight}
    */
@@ -139,7 +139,7 @@ export class Match {
   }
 
   /**
-   * A battle that fits what a side knows: the foe's members have the highest stats, and those that did not appear are any.
+   * A battle that fits a side's knowledge: the foe's members have the highest stats, and those that have not appeared are arbitrary.
    * @param {Side} side
    */
   usual(side) {
@@ -151,7 +151,7 @@ export class Match {
   }
 
   /**
-   * The events of an update, as a viewer is told them.
+   * The events of an update, as they are reported to a viewer.
    * @param {Step} step
    * @param {Viewer} viewer
    * @returns {GameEvent[]}
@@ -159,13 +159,13 @@ export class Match {
   events(step, viewer) {
     if (viewer === "all") return this.engine.events(step.log);
     if (viewer) return this.engine.events(step.told[viewer - 1]);
-    // Both sides know what is told of a side to the other.
+    // Both sides know what is reported about a side to the other side.
     const [one, two] = step.told.map((told) => this.engine.events(told));
     return one.map((event, at) => (event.side === 1 ? two[at] : event));
   }
 
   /**
-   * The log of all updates, as a viewer is told it.
+   * The log of all updates, as it is reported to a viewer.
    * @param {Viewer} viewer
    */
   log(viewer) {

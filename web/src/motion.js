@@ -43,13 +43,13 @@ export class Motion {
     return REDUCED.matches || document.hidden ? 0 : SPEEDS[this.speed.value] ?? 1;
   }
 
-  /** Shows the events that are left at once. */
+  /** Shows the remaining events at once. */
   skip() {
     this.isSkipped = true;
     this.wake();
   }
 
-  /** Ends the events that are being shown, without those that are left. */
+  /** Stops showing events, and drops the remaining ones. */
   stop() {
     this.count++;
     this.wake();

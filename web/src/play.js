@@ -1,4 +1,4 @@
-// Play: two persons at one screen, or against the computer. What is shown is what the person who plays may know.
+// Play: two persons at one screen, or against the computer. The page shows only what the person who plays may know.
 import {link, setAddress} from "./address.js";
 import {choiceButtons} from "./choices.js";
 import {find, guarded, keepingFocus, make, Problem} from "./dom.js";
@@ -232,7 +232,7 @@ export class Play {
     const asked = ++this.asked;
     const {game} = this;
     const pair = await Promise.all(SIDES.map((side) => this.choiceOf(side)));
-    // A choice that comes after the battle was left, an update undone, or a mind changed, is dropped.
+    // A choice is dropped if the battle was left, an update undone, or the choice changed meanwhile.
     if (asked !== this.asked) return;
     this.wait("");
     game.update(pair);
@@ -260,7 +260,7 @@ export class Play {
     find("play-wait", HTMLElement).textContent = text;
   }
 
-  /** Takes back what happened since a person last had a choice. */
+  /** Undoes the updates since a person last had a choice. */
   undo() {
     const {game} = this;
     if (!this.isOpen) return;
@@ -273,7 +273,7 @@ export class Play {
     this.next();
   }
 
-  /** Back to the teams. The battle is kept until another is left. */
+  /** Returns to the teams. The battle is kept until another one is left. */
   leave() {
     if (!this.match) return;
     this.drop();
@@ -286,7 +286,7 @@ export class Play {
     setAddress("play", {});
   }
 
-  /** Back to the battle that was left, or that the tab showed before it was loaded anew. */
+  /** Returns to the battle that was left, or that the tab showed before it was reloaded. */
   goBack() {
     if (this.left)
       this.open(this.left, this.isOpen);
@@ -298,13 +298,13 @@ export class Play {
     find("play-now", HTMLElement).focus();
   }
 
-  /** Which side is shown below. */
+  /** The side that is shown below. */
   get near() {
     return this.revealed || this.game.persons[0] || 1;
   }
 
   /**
-   * What is shown of a side.
+   * The shown values of a side.
    * @param {Side} side
    */
   shownOf(side) {
@@ -318,7 +318,7 @@ export class Play {
   }
 
   /**
-   * Where a side's active member is, if it cannot be reached, by the events of the last update.
+   * The location of a side's active member, if it is out of reach, by the events of the last update.
    * @param {Side} side
    * @returns {import("./field.js").Hidden}
    */
@@ -366,7 +366,7 @@ export class Play {
     find("play-terms", HTMLElement).replaceChildren(...texts.map((text) => make("p", {class: "quiet"}, text)));
   }
 
-  /** Shows what can be pressed anew, with its keys or without. */
+  /** Shows the buttons again, with or without their keys. */
   drawAgain() {
     if (this.match) this.drawChoices();
   }
@@ -391,12 +391,12 @@ export class Play {
       if (isShown || hadFocus) this.focus(place, hadFocus);
     }
     this.drawCover();
-    // The choices that come and go change the height of the log.
+    // The height of the log changes as choices appear and disappear.
     this.log.toEnd();
   }
 
   /**
-   * Keeps the focus in a place of choices. While there are none, the heading has it, and gives it back.
+   * Keeps the focus among the choices. While there are none, the heading has it, and returns it.
    * @param {HTMLElement} place @param {boolean} hadFocus
    */
   focus(place, hadFocus) {
@@ -481,7 +481,7 @@ export class Play {
   }
 
   /**
-   * The move that a side's active member is in the middle of; empty if there is none.
+   * The move that a side's active member continues; empty if there is none.
    * @param {Side} side
    */
   going(side) {
@@ -504,7 +504,7 @@ export class Play {
     return KEYS[side === 2 && this.isOpen && this.game.persons.length === 2 ? 1 : 0];
   }
 
-  /** What stands here, as an address holds it. */
+  /** The battle in the form of an address. */
   values() {
     const {who} = this.game;
     return {b: toAddress({input: this.game.input()}), p1: who[0], p2: who[1], hands: this.isOpen ? "open" : ""};

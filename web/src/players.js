@@ -4,7 +4,7 @@ import {find} from "./dom.js";
 
 /** @typedef {import("./computer.js").Asked} Asked */
 
-/** Asks a worker for choices; without one, or where it fails, the page's own engine answers. */
+/** Asks a worker for choices; without a worker, or if it fails, the page's own engine chooses. */
 export class Players {
   /** @param {import("./engine.js").Engine} engine @param {Uint8Array} module the bytes of the module */
   constructor(engine, module) {

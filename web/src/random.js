@@ -23,7 +23,7 @@ export function randomSpecies(tables, draw = below) {
   return names[draw(names.length)];
 }
 
-/** Random moves that are drawn for their type or their power are this share of all. */
+/** The share of random moves that are drawn for their type or their power. */
 const FITTING = 3;
 
 /**

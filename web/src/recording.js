@@ -14,7 +14,7 @@ import {Problem} from "./dom.js";
 
 const ENDS = ["turn", "win", "tie", "fault"];
 /**
- * A log doesn't have the teams, so these take their places until a member comes out.
+ * A log doesn't have the teams, so these members are placeholders until a member comes out.
  * @type {Member[]}
  */
 const PLACEHOLDERS = Array(6).fill({species: 1, level: 100, dvs: [0, 0, 0, 0], exp: [0, 0, 0, 0, 0], moves: [[1, 0]]});
@@ -39,7 +39,7 @@ function updatesOf(events) {
 }
 
 /**
- * What a switch in a frame shows of a member.
+ * A member as a switch in a frame shows it.
  * @param {string} line
  * @param {number} since
  * @returns {Known}
@@ -58,7 +58,7 @@ export class Recording {
     this.recorded = recorded;
     /** @type {Frame[]} */
     this.frames = [];
-    /** What ended the recording before its end. */
+    /** The error that ended the recording early. */
     this.fault = "";
     /** @type {Map<string, Known>} the members that a switch has shown, by "side place" */
     this.told = new Map();
@@ -66,7 +66,7 @@ export class Recording {
     this.spectator = engine.spectator(one, two);
   }
 
-  /** Adds the frames, and yields after each piece of work the share that is done. */
+  /** Adds the frames, and yields the share that is done after each piece of work. */
   * steps() {
     if ("log" in this.recorded)
       yield* this.follow(this.recorded.log);

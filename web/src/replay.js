@@ -34,7 +34,7 @@ export class Replay {
     this.timer = 0;
     this.code = "";
     this.isHeld = false;
-    /** What a person wants to see; for a log there is only what a spectator knows. */
+    /** The view that a person wants; a log has only that of a spectator. */
     this.wanted = "all";
     this.see = find("replay-see", HTMLSelectElement);
     this.raw = find("replay-raw", HTMLSelectElement);
@@ -72,7 +72,7 @@ export class Replay {
     shareButtons(find("replay-share", HTMLElement), () => {
       if (!this.recording) throw new Problem("There is no battle yet.");
       const log = this.recording.wholeLog();
-      // What is shared in the spectator's view holds no seed, and no more of the teams than the log.
+      // A battle shared in the spectator's view contains no seed, and no more of the teams than the log.
       const recorded = this.see.value === "all" ? this.recording.recorded : {log};
       const values = this.see.value === "all" ? this.values() : {...this.values(), b: toAddress(recorded), see: ""};
       const updates = this.recording.frames.slice(1).map((frame) => frame.events);
@@ -94,7 +94,7 @@ export class Replay {
   }
 
   /**
-   * Shows a battle. If it cannot be shown, the previous one stays.
+   * Shows a battle. If it cannot be shown, the previous one is kept.
    * @param {import("./inputs.js").Recorded} recorded
    * @param {{ at: number, code?: string, isHeld?: boolean }} how the update that is shown first, the battle's text in an address,
    *   and whether the page's file holds the battle
@@ -185,7 +185,7 @@ export class Replay {
   }
 
   /**
-   * What is shown of a side.
+   * The shown values of a side.
    * @param {number} side
    */
   shown(side) {
@@ -230,7 +230,7 @@ export class Replay {
     this.toAddress();
   }
 
-  /** All lines so far, while they are looked at. */
+  /** All lines so far, while they are shown. */
   drawWhole() {
     const details = find("replay-whole", HTMLDetailsElement);
     if (!details.open || !this.recording) return;
@@ -248,7 +248,7 @@ export class Replay {
     }
   }
 
-  /** What stands here, as an address holds it. */
+  /** The battle and the position in the form of an address. */
   values() {
     return {
       b: this.isHeld || !isShort(this.code) ? "" : this.code,

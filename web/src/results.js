@@ -40,7 +40,7 @@ function waysText(ways, of) {
 }
 
 /**
- * The foe's HP as a bar: what is left, and what the least and the most damage take of it.
+ * The foe's HP as a bar: the HP left, and the parts that the least and the most damage take.
  * @param {number[]} range
  * @param {Calculated} foe
  */

@@ -14,7 +14,7 @@ export function sampleTeams() {
 }
 
 /**
- * The first member of a species, with moves, in a team of the person's own or in a sample team.
+ * The first member of a species, with moves, in one of the person's teams or in a sample team.
  * @param {import("./engine.js").Engine} engine
  * @param {string} species
  */

@@ -26,7 +26,7 @@ export function areKnown(engine, members) {
 }
 
 /**
- * The teams that were kept; none if the browser refuses storage, or if something else is in their place.
+ * The teams that were kept; none if the browser refuses storage, or if the stored value is not a list of teams.
  * @param {import("./engine.js").Engine} engine
  * @returns {Team[]}
  */

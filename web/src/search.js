@@ -2,8 +2,8 @@
 import {make} from "./dom.js";
 
 /**
- * @typedef {{ name: string, words: readonly string[], shown: () => Node[] }} Option a name, further words by which it is found, and how the list shows
- *   it beside its name
+ * @typedef {{ name: string, words: readonly string[], shown: () => Node[] }} Option a name, further words by which it is found, and the nodes that the
+ *   list shows next to its name
  */
 
 /** The most options that a list shows. */
@@ -90,7 +90,7 @@ export class Search {
       else
         this.mark((this.at + by + this.shown.length) % this.shown.length);
     } else if ((event.key === "Enter" || event.key === "Tab") && !this.list.hidden && this.at >= 0) {
-      // Tab picks too, and goes on to the next field.
+      // Tab picks too, and moves to the next field.
       if (event.key === "Enter") event.preventDefault();
       this.pick(this.at);
     } else if (event.key === "Escape" && !this.list.hidden) {

@@ -5,14 +5,14 @@ import {below, randomSeed, randomTeam} from "./random.js";
 import {sampleTeams} from "./sample_teams.js";
 
 /**
- * The ten numbers of a seed; drawn if the field is empty.
+ * The ten numbers of a seed, which are random if the field is empty.
  * @param {HTMLInputElement} field
  */
 function seedOf(field) {
   if (!field.value.trim()) return randomSeed();
   const numbers = field.value.trim().split(/[\s,]+/).map(Number);
   if (numbers.length !== 10 || numbers.some((it) => !Number.isInteger(it) || it < 0 || it > 255))
-    throw new Problem("The seed must be ten whole numbers from 0 to 255, with spaces between them.", {field});
+    throw new Problem("The seed must be ten whole numbers from 0 to 255, separated by spaces.", {field});
   return numbers;
 }
 
@@ -26,7 +26,7 @@ function limitOf(field) {
 }
 
 /**
- * Members of a sample team that is drawn.
+ * Members of a random sample team.
  * @param {number} count
  */
 function surprise(count) {
@@ -79,7 +79,7 @@ export class Setup {
     return members;
   }
 
-  /** What the form asks for. */
+  /** The values of the form. */
   read() {
     const checked = (/** @type {string} */ id) => (find(id, HTMLInputElement).checked ? 1 : 0);
     const terms = {
@@ -93,7 +93,7 @@ export class Setup {
   }
 
   /**
-   * Does something, and attributes a refusal of a team to its field.
+   * Calls a function, and attributes a refusal of a team to its field.
    * @param {() => void} work
    */
   blamingTeams(work) {

@@ -6,7 +6,7 @@ import {showdownPage} from "./showdown.js";
 // The source of the page, copied before anything in it changes.
 const SOURCE = `<!doctype html>\n${document.documentElement.outerHTML}`;
 
-/** The JSON of the battle that the page was saved with; empty where there is none. */
+/** The JSON of the battle with which the page was saved; empty if there is none. */
 export function heldBattle() {
   const text = document.getElementById("battle")?.textContent?.trim() ?? "";
   return text === "null" ? "" : text;
@@ -23,7 +23,7 @@ export function pageWith(battle) {
 
 /**
  * @typedef {{ recorded: import("./inputs.js").Recorded, log: Uint8Array, updates: import("./engine.js").GameEvent[][],
- *   inputs: import("./inputs.js").Inputs, link: string }} Shown what is shared: a battle, or as a log what the viewer knows of it; its events by
+ *   inputs: import("./inputs.js").Inputs, link: string }} Shown the shared battle, or as a log the viewer's knowledge of it; its events by
  *   update; and the address of the position
  */
 

@@ -2,10 +2,10 @@
 
 /**
  * @typedef {import("./engine.js").GameEvent} GameEvent
- * @typedef {{ updates: GameEvent[][], recorded: import("./inputs.js").Recorded }} Told the events of each update, and what is known besides
+ * @typedef {{ updates: GameEvent[][], recorded: import("./inputs.js").Recorded }} Told the events of each update, and the recorded battle
  */
 
-// The page's own script must not contain a comment's mark.
+// The page's own script must not contain the mark of an HTML comment.
 const BEFORE = `<!DOCTYPE html>
 <meta charset="utf-8" />
 <!== version 1 ==>
@@ -24,7 +24,7 @@ document.write('<script src="https://play.pokemonshowdown.com/js/replay-embed.js
 </script>
 `;
 /**
- * Showdown names the Special by one of the two stats that it became, and has no short names of accuracy and evasion.
+ * Showdown names the Special by one of the two stats that it became, and has no short names for accuracy and evasion.
  * @type {Record<string, string>}
  */
 const STATS = {
@@ -65,7 +65,7 @@ function numbered(species) {
 }
 
 /**
- * The lines of an event, with the name of the member that is out in place of its species.
+ * The lines of an event, with the name of the active member in place of its species.
  * @param {GameEvent} event @param {string[][]} names @param {number[]} out the places of the members that are out
  */
 function linesOf({kind, line}, names, out) {

@@ -1,4 +1,4 @@
-// Showing a side: the member that is out, with an HP bar, status, stages and conditions, and all members of the team.
+// Shows a side: the active member, with an HP bar, status, stages and conditions, and all members of the team.
 import {make} from "./dom.js";
 import {token} from "./tokens.js";
 import {STATUS_TAGS, STATUS_WORDS} from "./words.js";
@@ -6,8 +6,8 @@ import {STATUS_TAGS, STATUS_WORDS} from "./words.js";
 /**
  * @typedef {import("./engine.js").Tables} Tables
  * @typedef {{ species: string, types: readonly string[], level: number, hp: number, max: number, status: string, sleep?: number,
- *   moves: [string, number][], isKnown: boolean, hasPixels?: boolean, used?: string[] }} ShownMember of a move its name and PP; whether HP are in
- *   48ths; and the moves that were seen
+ *   moves: [string, number][], isKnown: boolean, hasPixels?: boolean, used?: string[] }} ShownMember the name and PP of each move; whether HP are
+ *   in 48ths; and the moves that were seen
  * @typedef {{ active: number, members: ShownMember[], types: readonly string[], stages: number[], stats: number[] | null,
  *   own: number[] | null, conditions: string[] }} Shown
  */
@@ -39,7 +39,7 @@ export function conditionWords(active) {
 }
 
 /**
- * What is shown of a side if everything is known.
+ * The shown values of a side if everything is known.
  * @param {Tables} tables
  * @param {import("./engine.js").SideState} side
  * @returns {Shown}
@@ -92,7 +92,7 @@ const NAMES = {
 };
 
 /**
- * What a side is shown of itself.
+ * The shown values of a side to its own player.
  * @param {Tables} tables
  * @param {import("gen1").OwnSide} side
  * @returns {Shown}
@@ -115,7 +115,7 @@ export function own(tables, {members, active}) {
 }
 
 /**
- * What a side has shown of itself to its foe. HP are in 48ths.
+ * The shown values of a side to its foe. HP are in 48ths.
  * @param {Tables} tables
  * @param {import("gen1").PublicSide} side
  * @param {number} count of its members
@@ -159,7 +159,7 @@ export function seen(tables, {members, active}, count) {
 }
 
 /**
- * What is shown of a side to a spectator.
+ * The shown values of a side to a spectator.
  * @param {Tables} tables
  * @param {import("gen1").ShownSide} view
  * @param {({ species: string, level: number, max: number } | null)[]} known the members that the spectator knows of, by place
@@ -310,7 +310,7 @@ function behind(tables, member, place, isOut) {
  * @param {Shown} shown
  */
 export function showSide(place, number, engine, shown) {
-  // Open details stay open, and a focused summary stays focused, by the place of its member, as other members come and go.
+  // Open details stay open, and a focused summary stays focused, by the place of its member, while other members come and go.
   const before = new Map([...place.querySelectorAll("details")].map((it) => [it.dataset.of, it.open]));
   const focused =
       place.contains(document.activeElement) ? document.activeElement?.closest("details")?.dataset.of : undefined;

@@ -1,7 +1,7 @@
 // Long work in slices, between which the page stays responsive.
 import {find} from "./dom.js";
 
-/** How long a slice lasts, in milliseconds; and the first one, after which the bar is shown. */
+/** The length of a slice in milliseconds; and of the first slice, after which the bar is shown. */
 const [SLICE, FIRST] = [12, 40];
 
 /**
@@ -24,14 +24,14 @@ function showBar(share) {
   if (share !== null) find("progress-bar", HTMLProgressElement).value = share;
 }
 
-/** Work of one kind, of which only the last is of use. */
+/** Work of one kind, of which only the latest counts. */
 export class Slices {
   constructor() {
     this.count = 0;
   }
 
   /**
-   * Does work in slices, with a bar if it takes longer, and then what follows it; neither, if other work of the kind is begun.
+   * Does work in slices, with a bar if it takes long, and then calls a function. Both stop if other work of the kind begins.
    * @param {Generator<number>} steps yields the share that is done
    * @param {() => void} then
    * @returns {void | Promise<void>} nothing if all was done at once

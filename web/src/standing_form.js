@@ -39,7 +39,7 @@ function stageField(name) {
   return {field, element: make("span", {class: "stage"}, step(-1), field, step(1))};
 }
 
-/** A member, and how it stands. */
+/** A member and its state. */
 export class StandingForm {
   /**
    * @param {number} side
@@ -80,7 +80,7 @@ export class StandingForm {
       const button = event.target instanceof Element ? event.target.closest(".toggle") : null;
       if (!button) return;
       const isOn = button.getAttribute("aria-pressed") === "true";
-      // A member has one status at most.
+      // A member has at most one status.
       if (this.status.some((it) => it === button))
         this.status.forEach((it) => it.setAttribute("aria-pressed", "false"));
       button.setAttribute("aria-pressed", String(!isOn));
@@ -106,7 +106,7 @@ export class StandingForm {
             labelled(`Text of the member of side ${this.side}`, this.text), read));
   }
 
-  /** Takes the first member of the text. */
+  /** Reads the first member of the text. */
   read() {
     const members = this.engine.team(this.text.value, `The text of side ${this.side}'s member`, this.side);
     if (!members.length) throw new Problem(`The text of side ${this.side}'s member has no member.`);

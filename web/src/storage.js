@@ -1,7 +1,7 @@
-// What a browser keeps: settings for good, and a battle while its tab is open.
+// The browser's storage: settings are permanent, and a battle is kept while its tab is open.
 
 /**
- * What was kept under a name; null if nothing was, or if storage is forbidden.
+ * The value that was kept under a name; null if there is none, or if storage is forbidden.
  * @param {string} name
  * @param {boolean} [isForTab]
  */
@@ -27,6 +27,6 @@ export function keepForTab(name, value) {
   try {
     sessionStorage.setItem(name, value);
   } catch {
-    // The battle lasts until the page is loaded anew.
+    // The battle lasts until the page is reloaded.
   }
 }

@@ -3,11 +3,11 @@
 /** @typedef {import("./engine.js").Member} Member */
 
 /**
- * The stats of a text, with the place of the experience in a member: the Special is both of SpA and SpD.
+ * The stats of a text, with the place of the experience in a member: the Special is both SpA and SpD.
  * @type {[string, number][]}
  */
 const STATS = [["HP", 0], ["Atk", 1], ["Def", 2], ["SpA", 4], ["SpD", 4], ["Spe", 3]];
-/** The highest EV that is written. Higher ones give the same stats. */
+/** The highest EV that is written. Higher EVs give the same stats. */
 const HIGHEST = 252;
 /** The IV of a DV of 15. */
 const FULL = 31;

@@ -7,7 +7,7 @@ const BODIES = {
   speed: "M50 6Q64 28 90 36Q80 56 84 86Q64 80 50 92Q36 80 16 86Q20 56 10 36Q36 28 50 6Z",
   special: "M50 6C56 26 86 38 86 64C86 84 70 92 50 92C30 92 14 84 14 64C14 38 44 26 50 6Z",
 };
-/** @type {Record<string, string>} what is drawn behind a body of a type */
+/** @type {Record<string, string>} the background of a body, by type */
 const BEHIND = {
   Flying: "<path class=\"limb\" d=\"M18 58Q-8 40 4 22Q14 34 32 40ZM82 58Q108 40 96 22Q86 34 68 40Z\"/>",
   Bug: "<path class=\"wire\" d=\"M38 24Q30 4 20 4M62 24Q70 4 80 4\"/>",

@@ -112,7 +112,7 @@ const PLAIN = {
   you: 0,
   hasPixels: false
 };
-/** Who tells the line that is being put into words. */
+/** Point of view of the current sentence. */
 let voice = PLAIN;
 
 /** @param {string} who as "p1a: Tauros" */
