@@ -414,7 +414,9 @@ def test_logs_that_are_wrong(player):
         assert (fault.value.code, fault.value.at) == (LogFault.CUT, 10) and player == before and teller == Teller(1)
         with pytest.raises(BadArgument) as fault:
             call(bytes([17]) * 513)
-        assert str(fault.value) == "log must be the log of one update, at most 512 bytes, not 513" and teller == Teller(1)
+        assert str(fault.value) == "log must be the log of one update, at most 512 bytes, not 513" and teller == Teller(
+            1
+        )
     assert teller.tell(bytes([17]) * 512) == bytes([17]) * 512
     player.feed(good[:3])
     held = player.copy()

@@ -351,7 +351,9 @@ class Encoding:
         if not isinstance(out, np.ndarray) or out.dtype != self.dtype:
             raise BadType(f"out must be an array of {self.dtype}, not {shown(getattr(out, 'dtype', out))}")
         if out.shape != (count, self.width) or not out.flags.c_contiguous or not out.flags.writeable:
-            raise BadArgument(f"out must be ({count}, {self.width}), contiguous and writeable; its shape is {out.shape}")
+            raise BadArgument(
+                f"out must be ({count}, {self.width}), contiguous and writeable; its shape is {out.shape}"
+            )
         return out
 
     def row(self, player: Player) -> Rows:

@@ -28,7 +28,9 @@ class NumpyMissing(Error, ModuleNotFoundError):
     """A class that needs numpy was used, and numpy is not installed."""
 
     def __init__(self, what: str) -> None:
-        super().__init__(f"{what} needs numpy: install numpy, or gen1 with its extra arrays: gen1[arrays]", name="numpy")
+        super().__init__(
+            f"{what} needs numpy: install numpy, or gen1 with its extra arrays: gen1[arrays]", name="numpy"
+        )
 
 
 class ResetNeeded(Error, RuntimeError):

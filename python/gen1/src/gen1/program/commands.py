@@ -134,9 +134,7 @@ def parser() -> argparse.ArgumentParser:
     words = subcommands.add_parser("replay", help="write a page that replays a battle", description=replay.__doc__)
     said = "an object of `run`, or the bytes of a log; by default, or with -, standard input"
     words.add_argument("file", nargs="?", default="-", metavar="FILE", help=said)
-    words.add_argument(
-        "--page", metavar="HTML", help="a page that web/build made (default: the one in the package)"
-    )
+    words.add_argument("--page", metavar="HTML", help="a page that web/build made (default: the one in the package)")
     words.add_argument("--out", metavar="OUT", help="the file to write (default: standard output)")
     words.set_defaults(command=replay)
     said = "play a battle against the computer, which chooses at random or by damage"
