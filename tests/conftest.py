@@ -3,12 +3,14 @@
     pytest tests                         every test
     pytest tests/test_c.py -k header     the tests of a file whose names contain a word
 
-A test counts as one check, or as many as it passes to `compared`. A test that lacks a program is skipped by name.
-The last line is 'N passed, M failed, K skipped'. pytest is Debian's `pytest-3`, or `python3 -m pytest`.
+A test counts as one check, or as many as it passes to `compared` or makes by `checks`. A test that lacks a program is skipped
+by name. The last line is 'N passed, M failed, K skipped'. pytest is Debian's `pytest-3`, or `python3 -m pytest`.
 """
 
+import lzma
 import shutil
 import sys
+import tempfile
 from pathlib import Path
 
 import pytest
@@ -18,6 +20,8 @@ ROOT = Path(__file__).resolve().parent.parent
 SHOWN = 40
 sys.dont_write_bytecode = True
 sys.path.insert(0, str(ROOT / "tools"))
+
+from libraries import archive_of  # noqa: E402
 
 
 def pytest_addoption(parser):
@@ -34,12 +38,76 @@ def pytest_addoption(parser):
         "--mutants", default="tenth", metavar="PART", help="of the definitions: tenth, all, K/N, or those of a NAME"
     )
     group.addoption("--plain", action="store_true", help="test only what needs no kit")
+    group.addoption("--fuzz", type=int, metavar="SECONDS", default=60, help="how long the fuzzer runs (default: 60)")
+    group.addoption("--whole", action="store_true", help="self-play of the Python package plays all its battles")
 
 
 @pytest.fixture(scope="session")
 def battles(pytestconfig):
     """The folder of the recorded battles."""
     return pytestconfig.getoption("battles")
+
+
+@pytest.fixture(scope="session")
+def room():
+    """A folder that is removed after the last test."""
+    with tempfile.TemporaryDirectory(prefix="gen1-tests-") as folder:
+        yield Path(folder)
+
+
+@pytest.fixture(scope="session")
+def archive(pytestconfig, room):
+    """libgen1_c.a with gen1_build: the library of --library, else the proved one, else the one of the plain sources."""
+    return archive_of(pytestconfig, room / "library")
+
+
+@pytest.fixture(scope="session")
+def unpacked(battles, room):
+    """A folder with the recorded battles unpacked."""
+    packed = sorted(battles.glob("*.xz"))
+    if not packed:
+        return battles.resolve()
+    folder = room / "battles"
+    folder.mkdir()
+    for path in packed:
+        (folder / path.stem).write_bytes(lzma.decompress(path.read_bytes()))
+    return folder
+
+
+class Checks:
+    """Counts checks, and keeps what is wrong until the end of the test."""
+
+    def __init__(self):
+        self.number, self.faults = 0, []
+
+    def same(self, name, got, want):
+        """Compares two values."""
+        self.right(name, None if got == want else f"{str(got)[:300]}, not {str(want)[:300]}")
+
+    def right(self, name, fault):
+        """Counts a check with its fault, if it has one."""
+        self.number += 1
+        if fault:
+            self.faults.append(f"{name}: {str(fault).strip()[:2000]}")
+
+
+@pytest.fixture
+def checks():
+    """Many checks of one test: `checks.same(name, got, want)`. After the test has run, it fails if one of them has failed."""
+    return Checks()
+
+
+@pytest.hookimpl(trylast=True)
+def pytest_runtest_call(item):
+    """Counts the checks of a test that has `checks`. It fails if one has failed, and if there was none."""
+    made = getattr(item, "funcargs", {}).get("checks")
+    if not made:
+        return
+    bad = len(made.faults)
+    item.user_properties += [("compared", made.number - bad), ("faults", bad)]
+    if bad or not made.number:
+        more = [f"(and {bad - SHOWN} more)"] * (bad > SHOWN)
+        pytest.fail("\n".join(made.faults[:SHOWN] + more) or "nothing was checked", pytrace=False)
 
 
 @pytest.fixture

@@ -1,4 +1,4 @@
-"""Archives whose bytes do not depend on who makes them, and when."""
+"""Archives whose bytes do not depend on who makes them, and when; and the crate for cargo."""
 
 import datetime
 import gzip
@@ -8,7 +8,8 @@ import re
 import tarfile
 from functools import partial
 
-from repository import ROOT
+from c_library import ran
+from repository import ROOT, version
 
 # A block or span of code, in which nothing is a link, or a link: its words and its target.
 LINK = re.compile(r"^(```|~~~).*?^\1 *$|`[^`\n]*`|\[([^\]\n]*)\]\(([^)\s]+)\)", re.M | re.S)
@@ -77,3 +78,10 @@ def repack(path):
     with tarfile.open(path) as archive:
         entries = [(entry, archive.extractfile(entry).read() if entry.isreg() else None) for entry in archive]
     write_packed(entries, path)
+
+
+def packed_crate(target, verify=True):
+    """Packs the crate gen1 by cargo, which builds it from what was packed unless `verify` is false, and returns the file."""
+    words = [] if verify else ["--no-verify"]
+    ran("cargo", "package", "-q", "-p", "gen1", "--allow-dirty", "--offline", "--target-dir", target, *words)
+    return target / "package" / f"gen1-{version()}.crate"

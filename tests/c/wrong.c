@@ -1,5 +1,5 @@
 /*
- * Wrong libraries, by which tools/c_gate tries whether tests/c/hostile.c would find a fault: WRONG says which, and the linker's --wrap puts
+ * Wrong libraries, by which tests/test_c.py tries whether tests/c/hostile.c would find a fault: WRONG says which, and the linker's --wrap puts
  * these calls before those of the library.
  */
 #include "gen1.h"

@@ -16,7 +16,7 @@ from conftest import ROOT
 np = pytest.importorskip("numpy")
 SELFPLAY = ROOT / "examples" / "python" / "selfplay"
 pytestmark = pytest.mark.skipif(not SELFPLAY.is_dir(), reason="examples/python/selfplay is not here")
-# A tenth of what tools/python_gate --whole plays.
+# A tenth of what tests/test_python.py --whole plays.
 BATTLES = int(os.environ.get("GEN1_SELFPLAY_BATTLES", "20"))
 JOB = max(1, BATTLES // 20)
 FILES = ("table.csv", "table.json", "logs.npz")

@@ -1,4 +1,4 @@
-// Preloaded by tools/hostile: a system that refuses one request of a program, or moves one byte in each read and write.
+// Preloaded by tests/test_faults.py: a system that refuses one request of a program, or moves one byte in each read and write.
 //
 // HOSTILE_KIND is the kind of request that is counted: `memory`, `read`, `out` (a write to standard output) or `err` (one to
 // standard error). HOSTILE_AT is the number of the refused one, from 1, or 0 for none. HOSTILE_ZERO: a refused write takes no byte

@@ -1,39 +1,30 @@
-#!/usr/bin/env python3
-"""Runs battle_tool in a system that refuses its requests, one at a time.
+"""Faults of battle_tool: it runs in a system that refuses its requests, one at a time (--program).
 
-    tools/hostile PROGRAM
-
-PROGRAM is battle_tool. Each subcommand runs on a small recorded case (tests/battles) whose output is known; that of `log` by its lines,
-which `print` must write as `run` does. Then it runs again for each of its requests in turn, with that one refused:
+Each subcommand runs on a small recorded case (tests/battles) whose output is known; that of `log` by its lines, which `print` must
+write as `run` does. Then it runs again for each of its requests in turn, with that one refused:
 
 - each request for memory;
 - each read, by an error; each write, by an error and by taking no byte; each write to standard error;
 - with one byte moved in each read and write: none of them refused, and then each.
 
-A case that is refused also runs with --explain, with each write of both lines refused. The status and the line on standard error must be
-those of docs/PROGRAM.md ("Faults and statuses"), and standard output a prefix of the undisturbed output. Some memory is requested ahead of
-need: a list of arguments asks for room once for all, and then argument by argument. Refusing such a request may change nothing. Then
-come FILEs: one that exists, with another battle on standard input; a folder; one that may not be read; one that does not exist; an
-empty name; and a name that is not UTF-8.
-
-Each failure is printed. The last line is 'N passed, M failed', of runs.
-
-Exit status: 0 where all passed, 1 where one failed, 2 where there is no such program, or no C compiler.
+A case that is refused also runs with --explain, with each write of both lines refused. The status and the line on standard error must
+be those of docs/PROGRAM.md ("Faults and statuses"), and standard output a prefix of the undisturbed output. Some memory is requested
+ahead of need: a list of arguments asks for room once for all, and then argument by argument. Refusing such a request may change
+nothing. Then come FILEs: one that exists, with another battle on standard input; a folder; one that may not be read; one that does not
+exist; an empty name; and a name that is not UTF-8. Each run counts.
 """
 
-import argparse
 import os
 import shutil
 import subprocess
-import sys
 import tempfile
 from concurrent.futures import ThreadPoolExecutor
 from dataclasses import dataclass
 from pathlib import Path
 
-sys.dont_write_bytecode = True
+import pytest
 from battles import cases, recorded
-from repository import ROOT, processors, program
+from repository import ROOT, processors
 
 SECONDS = 60
 # Each subcommand with the file of its cases, and the least output of the case in bytes.
@@ -47,9 +38,11 @@ REFUSALS = {
     "a read of one byte": ("read", {"HOSTILE_BYTE": "1"}, "read", 3),
     "a write of one byte": ("out", {"HOSTILE_BYTE": "1"}, "write", 3),
 }
-# A run has fewer requests of a kind than this.
-MOST = 20_000
+# A run has fewer requests of a kind than this; so many runs are started at a time.
+MOST, BATCH = 20_000, 32
 NOBODY = 65534
+# The source of the preloaded library.
+SYSTEM = ROOT / "tests" / "c" / "refusing_system.c"
 
 
 @dataclass
@@ -78,9 +71,9 @@ def from_record(case):
     return Case(case["args"], given, case.get("status", 0), case["stdout"].encode(), case.get("stderr", "").encode())
 
 
-def smallest(names, least, fits):
+def smallest(battles, names, least, fits):
     """The smallest recorded case of these files that has this much output, and that fits."""
-    found = [from_record(it) for name in names for it in cases(recorded(f"{name}.jsonl"))]
+    found = [from_record(it) for name in names for it in cases(recorded(f"{name}.jsonl", battles))]
     found = [case for case in found if len(case.out) >= least and len(case.words) == 1 and fits(case)]
     return min(found, key=lambda case: len(case.given) + len(case.out))
 
@@ -126,12 +119,22 @@ def fault_of(ran, status, line, out, whole):
     return ""
 
 
+def each_refused(tool, case, settings, kind):
+    """Yields each run with one request of a kind refused, by its number, and last a run in which none was refused."""
+    with ThreadPoolExecutor(processors()) as pool:
+        for first in range(1, MOST, BATCH):
+            numbers = range(first, first + BATCH)
+            for at, ran in zip(numbers, pool.map(lambda at: tool.ran(case, settings, kind, at), numbers)):
+                yield at, ran
+                if not ran.refused:
+                    return
+
+
 def swept(tool, case, name):
     """Refuses each request of a kind; returns the number of runs, and why some are wrong."""
     kind, settings, word, status = REFUSALS[name]
     faults, line = [], f"error: {word}\n".encode()
-    for at in range(1, MOST):
-        ran = tool.ran(case, settings, kind, at)
+    for at, ran in each_refused(tool, case, settings, kind):
         if not ran.refused:
             fault = fault_of(ran, case.status, case.err, case.out, True) or (
                 "" if at > 1 else "there was no such request"
@@ -143,7 +146,7 @@ def swept(tool, case, name):
         if not fault and "HOSTILE_BYTE" in settings and kind == "out" and len(ran.out) != at - 1:
             fault = f"{len(ran.out)} bytes were written in {at - 1} writes"
         faults += [f"number {at}: {fault}"] * bool(fault)
-    return MOST, [f"{MOST} requests have no end"]
+    return MOST, [*faults, f"{MOST} requests have no end"]
 
 
 def logged(tool, case):
@@ -175,13 +178,12 @@ def explained(tool, case):
 def unwritten(tool, case):
     """`swept` for standard error: the status and standard output stay the same."""
     faults, line = [], case.err
-    for at in range(1, MOST):
-        ran = tool.ran(case, {"HOSTILE_BYTE": "1"}, "err", at)
+    for at, ran in each_refused(tool, case, {"HOSTILE_BYTE": "1"}, "err"):
         fault = fault_of(ran, case.status, line[: at - 1] if ran.refused else line, case.out, True)
         faults += [f"number {at}: {fault}"] * bool(fault)
         if not ran.refused:
             return at, faults
-    return MOST, [f"{MOST} requests have no end"]
+    return MOST, [*faults, f"{MOST} requests have no end"]
 
 
 def opened(tool, case, other, folder):
@@ -218,54 +220,59 @@ def as_nobody(tool, words, given):
     return Ran(ended.returncode, ended.stdout, ended.stderr, False)
 
 
-def tasks(tool, folder):
-    """What is tried: a name, and a function that returns the number of runs and why some failed."""
-    for name, (file, least) in COMMANDS.items():
-        case = smallest([file], least, lambda it: it.status == 0)
-        for kind in REFUSALS:
-            yield f"{name}, {kind} refused", lambda case=case, kind=kind: swept(tool, case, kind)
-        refused = smallest(["errors", file], 0, lambda it, name=name: it.words == [name] and it.status == 1 and it.err)
-        yield f"{name}, standard error refused", lambda case=refused: unwritten(tool, case)
-        yield f"{name}, standard error with --explain refused", lambda case=refused: explained(tool, case)
-        other = smallest([file], least + 1, lambda it, case=case: it.status == 0 and it.out != case.out)
-        place = folder / name
-        place.mkdir()
-        yield f"{name}, a FILE", lambda case=case, other=other, place=place: opened(tool, case, other, place)
-    case = smallest(["first_path"], 600, lambda it: it.status == 0)
-    for kind in REFUSALS:
-        yield f"log, {kind} refused", lambda case=case, kind=kind: swept_log(tool, case, kind)
+@pytest.fixture(scope="module")
+def folder():
+    """A folder that any user may read."""
+    with tempfile.TemporaryDirectory(prefix="faults-") as made:
+        Path(made).chmod(0o755)
+        yield Path(made)
 
 
-def built(folder):
-    """The library to preload; None where it cannot be built."""
-    library = folder / "hostile.so"
-    source = ROOT / "tools" / "hostile.c"
-    if not shutil.which("cc") or subprocess.run(["cc", "-shared", "-fPIC", "-O1", "-o", library, source]).returncode:
-        return None
-    return library
+@pytest.fixture(scope="module")
+def tool(pytestconfig, folder):
+    """A copy of the program, with the preloaded library."""
+    program = pytestconfig.getoption("program")
+    if not program:
+        pytest.skip("no --program names battle_tool")
+    if not shutil.which("cc"):
+        pytest.skip("there is no cc; `make setup` installs it")
+    library = folder / "refusing.so"
+    subprocess.run(["cc", "-shared", "-fPIC", "-O1", "-o", library, SYSTEM], check=True)
+    shutil.copy(program, folder / "program")
+    return Tool(folder / "program", library)
 
 
-def main():
-    parser = argparse.ArgumentParser(description=__doc__, formatter_class=argparse.RawDescriptionHelpFormatter)
-    parser.add_argument("program", type=program)
-    parser.add_argument("--jobs", type=int, default=processors(), metavar="N", help="how many run side by side")
-    given = parser.parse_args()
-    if given.jobs < 1:
-        parser.error("--jobs takes a number above 0")
-    with tempfile.TemporaryDirectory(prefix="hostile-") as room:
-        folder = Path(room)
-        folder.chmod(0o755)
-        shutil.copy(given.program, folder / "program")
-        (library := built(folder)) or parser.error("tools/hostile.c needs a C compiler, cc")
-        tried = list(tasks(Tool(folder / "program", library), folder))
-        with ThreadPoolExecutor(given.jobs) as pool:
-            found = list(pool.map(lambda it: it[1](), tried))
-    for (name, _), (runs, faults) in zip(tried, found):
-        print(f"{name}: {runs} runs" + "".join(f"\n  {fault}" for fault in faults[:5]))
-    bad = sum(len(faults) for _, faults in found)
-    print(f"{sum(runs for runs, _ in found) - bad} passed, {bad} failed")
-    return int(bad > 0)
+@pytest.mark.parametrize("kind", REFUSALS)
+@pytest.mark.parametrize("name", [*COMMANDS, "log"])
+def test_request_is_refused(name, kind, tool, battles, compared):
+    """Each request of a kind is refused in turn."""
+    file, least = COMMANDS["run" if name == "log" else name]
+    case = smallest(battles, [file], least, lambda it: it.status == 0)
+    compared(*(swept_log if name == "log" else swept)(tool, case, kind))
 
 
-if __name__ == "__main__":
-    sys.exit(main())
+def refused_case(battles, name):
+    """The smallest recorded case of a subcommand that ends with a line on standard error."""
+    files = ["errors", COMMANDS[name][0]]
+    return smallest(battles, files, 0, lambda it: it.words == [name] and it.status == 1 and it.err)
+
+
+@pytest.mark.parametrize("name", COMMANDS)
+def test_standard_error_is_refused(name, tool, battles, compared):
+    compared(*unwritten(tool, refused_case(battles, name)))
+
+
+@pytest.mark.parametrize("name", COMMANDS)
+def test_standard_error_with_explain_is_refused(name, tool, battles, compared):
+    compared(*explained(tool, refused_case(battles, name)))
+
+
+@pytest.mark.parametrize("name", COMMANDS)
+def test_file(name, tool, folder, battles, compared):
+    """A FILE, with another battle on standard input."""
+    file, least = COMMANDS[name]
+    case = smallest(battles, [file], least, lambda it: it.status == 0)
+    other = smallest(battles, [file], least + 1, lambda it: it.status == 0 and it.out != case.out)
+    place = folder / name
+    place.mkdir()
+    compared(*opened(tool, case, other, place))

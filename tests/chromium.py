@@ -1,27 +1,16 @@
-#!/usr/bin/env python3
 """Plays recorded battles with the JavaScript library in headless Chromium.
 
-    tools/wasm_in_chromium FOLDER BATTLES BUILD
-
-FOLDER has gen1.mjs with its modules and test/test.html, BATTLES the recorded cases (*.jsonl). BUILD, proved or plain, is the module that the
-page must choose. The page is served only on the loopback interface. The last line is 'N passed, M failed'.
-
-Exit status: 0 where nothing failed, 1 where something did, 2 where the arguments are wrong.
+The page is js/test/test.html, which is served only on the loopback interface.
 """
-import argparse
+
 import functools
 import json
 import queue
-import shutil
 import subprocess
-import sys
 import tempfile
 import threading
 from http.server import SimpleHTTPRequestHandler, ThreadingHTTPServer
 from pathlib import Path
-
-sys.dont_write_bytecode = True
-from repository import existing_folder
 
 SECONDS = 240
 
@@ -72,25 +61,3 @@ def played(folder, battles):
         finally:
             browser.kill()
             browser.wait()
-
-
-def main():
-    parser = argparse.ArgumentParser(description=__doc__, formatter_class=argparse.RawDescriptionHelpFormatter)
-    parser.add_argument("folder", metavar="FOLDER", type=existing_folder)
-    parser.add_argument("battles", metavar="BATTLES", type=existing_folder)
-    parser.add_argument("build", metavar="BUILD", choices=("proved", "plain"))
-    given = parser.parse_args()
-    if not shutil.which("chromium"):
-        sys.exit("tools/wasm_in_chromium: there is no chromium (tools/setup browser)")
-    end = played(given.folder, given.battles)
-    faults = end["faults"] + (
-        [f"the page chose {end['build']}, not {given.build}"] if end["build"] != given.build else []
-    )
-    for fault in faults[:10]:
-        print(fault)
-    print(f"{end['passed']} passed, {len(faults)} failed")
-    return int(bool(faults))
-
-
-if __name__ == "__main__":
-    sys.exit(main())

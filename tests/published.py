@@ -1,4 +1,4 @@
-"""The crate gen1 as it would be published: packed by cargo, and used by a new project elsewhere."""
+"""The crate gen1 as it would be published, used by a new project."""
 
 import re
 import shutil
@@ -8,13 +8,6 @@ from repository import ROOT, version
 
 # The first example of the crate's page.
 EXAMPLE = re.compile(r"(?ms)^//! ```\n(.*?)^//! ```$")
-
-
-def packed(target, verify=True):
-    """Packs the crate, which builds it from what was packed unless `verify` is false, and returns the file."""
-    words = [] if verify else ["--no-verify"]
-    ran("cargo", "package", "-q", "-p", "gen1", "--allow-dirty", "--offline", "--target-dir", target, *words)
-    return target / "package" / f"gen1-{version()}.crate"
 
 
 def fault_of(crate, room):

@@ -1,4 +1,4 @@
-"""The cases of tools/c_gate for each program of examples/c, and for those of tests/c that compare by themselves, with the expected output."""
+"""The cases of each program of examples/c, and of those of tests/c that compare by themselves, with the expected output."""
 
 import json
 import math
@@ -6,11 +6,10 @@ import re
 import subprocess
 import sys
 from dataclasses import dataclass
-from importlib.machinery import SourceFileLoader
-from importlib.util import module_from_spec, spec_from_loader
-from typing import Callable
+from pathlib import Path
+from typing import Callable, NamedTuple
 
-sys.dont_write_bytecode = True
+from battle_input import MOVES, SPECIES, TABLES, as_numbers
 from battles import cases, in_codes, recorded
 from c_library import ran
 from repository import ROOT
@@ -22,16 +21,11 @@ ROOM = ("-Iexamples/c/common", "examples/c/room/room.c", "examples/c/common/batt
 PLAYED = ("battles", "rules", "limit", "first_path")
 
 
-def tool(name):
-    """Another tool of this folder, as a module."""
-    loader = SourceFileLoader(name, str(ROOT / "tools" / name))
-    module = module_from_spec(spec_from_loader(name, loader))
-    loader.exec_module(module)
-    return module
+class Folders(NamedTuple):
+    """The recorded cases, and a folder to work in."""
 
-
-EXAMPLES_OF_LANGUAGES = tool("examples")
-as_numbers, SPECIES, MOVES = (getattr(EXAMPLES_OF_LANGUAGES, name) for name in ("as_numbers", "SPECIES", "MOVES"))
+    cases: Path
+    work: Path
 
 
 @dataclass
@@ -49,7 +43,7 @@ class Case:
 
 @dataclass
 class Example:
-    """An example: its name, its sources, and a function from the gate to its cases."""
+    """An example: its name, its sources, and a function from the folders to its cases."""
 
     name: str
     sources: tuple
@@ -84,10 +78,10 @@ NO_BYTES = (
 )
 
 
-def of_play(gate):
+def of_play(folders):
     """Every recorded battle; and after a first update words that are not a choice, which are refused."""
     for name in PLAYED:
-        for case in cases(recorded(f"{name}.jsonl", gate.cases)):
+        for case in cases(recorded(f"{name}.jsonl", folders.cases)):
             yield recorded_case(case, (), as_numbers(json.loads(case["input"])).encode())
     given, lines = TAUROS.read_bytes(), TAUROS_LINES.splitlines(keepends=True)
     begun, first = given[: given.index(b"17 17")], b"".join(lines[: lines.index(b"|turn|1\n") + 1])
@@ -98,30 +92,30 @@ def of_play(gate):
     yield Case("no species", (), given.replace(b"128", b"4294967424", 1), b"", b"error: input\n", 1)
 
 
-def of_comparison(_gate):
+def of_comparison(_folders):
     """A program that has no input, and compares by itself."""
     yield Case("status", (), b"", b"", b"")
 
 
-def of_leaks(_gate):
+def of_leaks(_folders):
     """It has no input, and compares by itself what players are shown (include/gen1.h, "players"), with 100,000 hidden bits changed."""
     counts = rb"\d+ changes of hidden bits, \d+ of shown bits, \d+ of a foe's bench, 0 wrong\n"
     yield Case("status", (), b"", re.compile(counts), b"")
 
 
-def of_text(_gate):
+def of_text(_folders):
     """GEN1_ERROR_TEXT_MOVE in the second line of a text, and in the fifth field of the second member of a packed line; and a battle."""
     faults = rb"line 2, member 0, field 0: code 73\nline 0, member 2, field 5: code 73\n"
     yield Case("status", (), b"", re.compile(faults + rb"outcome [123]\n"), b"")
 
 
-def of_known(_gate):
+def of_known(_folders):
     """What was shown: HP in 48ths, the members that appeared in their order, a move, and a screen (docs/MECHANICS.md, "Player's view")."""
     said = "turn 1\n1 Chansey (out), 48 of 48 HP\nturn 3\n1 Chansey, 48 of 48 HP\n2 Alakazam (out), 48 of 48 HP, Reflect 1, Reflect is up\n"
     yield Case("status", (), b"", said.encode(), b"")
 
 
-def of_many(_gate):
+def of_many(_folders):
     """It has no input, and compares by itself; all battles end. Body Slam misses with one byte of 256, and Tauros is critical with 55."""
     playouts, outcomes = (
         rb"\d+ wins of side 1, \d+ of side 2, \d+ ties\n",
@@ -131,21 +125,20 @@ def of_many(_gate):
     yield Case("status", (), b"", re.compile(playouts + outcomes + ways + steps + rb"100 battles have ended\n"), b"")
 
 
-def of_look(_gate):
+def of_look(_folders):
     """It has no input, and compares by itself."""
     yield Case("status", (), b"", re.compile(b"(.*\n)+outcome [12]\n(.*\n)+"), b"", 0)
 
 
-def of_replay(gate):
+def of_replay(folders):
     """Every recorded log, with its faults."""
-    for case in cases(recorded("print.jsonl", gate.cases)):
+    for case in cases(recorded("print.jsonl", folders.cases)):
         it = recorded_case(case, (), bytes.fromhex(case["hex"]))
         if it.status:
             it.stderr = re.compile(re.escape(it.stderr.strip()) + rb" at byte \d+\n")
         yield it
 
 
-TABLES = (ROOT / "docs" / "TABLES.md").read_text()
 # The row of each species by its name: number, name, types, and base HP, Attack, Defense, Speed and Special. So with the moves.
 SPECIES_ROWS, MOVE_ROWS = ({row[1]: row for row in table(TABLES, heading)} for heading in ("Species", "Moves"))
 
@@ -172,9 +165,9 @@ def speed_of(member):
 NOT_FOR_TEAMS = ("Metronome", "Mimic", "Mirror Move", "Transform", "Struggle")
 
 
-def of_damage(gate):
+def of_damage(folders):
     """Every recorded hit by a move that a member may know, as the attacker's only move; as numbers, and as text where text can say it."""
-    for case in cases(recorded("calc.jsonl", gate.cases)):
+    for case in cases(recorded("calc.jsonl", folders.cases)):
         asked = {} if "error: json" in case.get("stderr", "") else json.loads(case["input"])
         if not asked or asked["move"] in NOT_FOR_TEAMS:
             continue
@@ -200,19 +193,19 @@ def of_damage(gate):
         want = re.compile((re.escape(head) + row + re.escape(chances) + r"\n").encode())
         yield Case(case["name"], (), given, want, b"")
         if all(member["dvs"] == [15] * 4 and member["exp"] == [65535] * 5 for member in (one, two)):
-            yield Case(case["name"] + ", as text", team_files(gate, case["name"], one, two), b"", want, b"")
+            yield Case(case["name"] + ", as text", team_files(folders, case["name"], one, two), b"", want, b"")
     tauros = {"species": "Tauros", "level": 100, "moves": [["Body Slam", 3]]}
     none = dict(tauros, moves=[["Body Slam", 3], ["Budy Slam", 3]])
-    words = team_files(gate, "no move", tauros, none)
+    words = team_files(folders, "no move", tauros, none)
     # GEN1_ERROR_TEXT_MOVE, in the line after species, level and the other move.
     yield Case("no move", words, b"", b"", f"error: {words[1]}: line 4 member 0 code 73 rule 0\n".encode(), 1)
     for word in (b"4294967424", b"-128", b"Tauros", b"0" * 30 + b"128"):
         yield Case(f"the species {word}", (), TAUROS.read_bytes().replace(b"128", word, 1), b"", b"error: input\n", 1)
 
 
-def team_files(gate, name, *members):
+def team_files(folders, name, *members):
     """Files with a team of each member as text, which has DVs of 15 and the experience 65,535."""
-    folder = gate.work / "teams"
+    folder = folders.work / "teams"
     folder.mkdir(exist_ok=True)
     files = [folder / f"{name}, {which}.txt" for which in ("one", "two")]
     for file, member in zip(files, members):
@@ -278,7 +271,7 @@ def chances_of(one, two, move, has_damage):
     return f"; {hits_of(one, two, row)} of 256 hit" + (f", {critical} of 256 critical" if has_damage else "")
 
 
-def of_bot(_gate):
+def of_bot(_folders):
     """It wins at least 95 battles of 100."""
     yield Case(
         "100 battles", ("100", "1"), b"", re.compile(rb"bot (100|9[5-9]), random \d, ties \d\n"), b"", is_long=True
@@ -299,13 +292,13 @@ def refused(side, choices):
     )
 
 
-def of_room(gate):
+def of_room(folders):
     """Recorded battles to their end, between processes that choose as recorded; every second one has a rude player."""
-    folder, player = gate.work / "room", gate.work / "player"
+    folder, player = folders.work / "battles_of_rooms", folders.work / "player"
     folder.mkdir(exist_ok=True)
     ran("cc", "-O2", "-Wall", "-Wextra", "-Werror", "examples/c/room/player.c", "-o", player)
     rude = f"exec {sys.executable} {ROOT / 'tests' / 'c' / 'rude_player.py'}"
-    played = [case for name in PLAYED for case in cases(recorded(f"{name}.jsonl", gate.cases)) if is_whole(case)]
+    played = [case for name in PLAYED for case in cases(recorded(f"{name}.jsonl", folders.cases)) if is_whole(case)]
     for number, case in enumerate(played[:: len(played) // ROOMS + 1]):
         asked = json.loads(case["input"])
         file = folder / f"{number}.txt"
@@ -338,7 +331,7 @@ def of_room(gate):
         yield Case(f"{seconds!r} seconds", (TAUROS, f"exec {player}", f"exec {player}", seconds), b"", b"", usage, 2)
 
 
-def of_player(_gate):
+def of_player(_folders):
     """The choices of its arguments, then the first offered one; other lines are passed over."""
     yield Case(
         "asked thrice",
