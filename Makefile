@@ -25,7 +25,7 @@ fmt: ## formats the sources that people write
 	tools/fmt
 
 gen: ## writes every generated file from its sources
-	tools/gen
+	tools/gen && tools/api
 
 docs: ## builds the site of the documentation
 	tools/setup docs && tools/site

@@ -15,7 +15,7 @@
  *     on the same battle may do so only if all of them take it as const.
  *   - Errors. Any number may be passed as an argument. If a number is out of range, the function returns a code, one of
  *     GEN1_ERROR_.. below. If a function returns a code, it has changed nothing that its pointers point to. The only exceptions
- *     are `fault` of gen1_team_from_text and gen1_team_from_packed, which then describes the error in the text, and the two
+ *     are `fault` of gen1_team_from_text, gen1_team_from_packed and gen1_set_state, which then describes the error, and the two
  *     arrays of gen1_outcomes.
  *   - Pointers. The library cannot check pointers; the caller must. A pointer must not be NULL, and must point to as much memory
  *     as its type says, or as the size next to it says. NULL is allowed where that size is 0.
