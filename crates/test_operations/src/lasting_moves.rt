@@ -1,176 +1,152 @@
-//! Moves that last several turns (docs/MECHANICS.md, "Going on", "Charging"), with the offsets of docs/LAYOUT.md.
-//! Both sides have a Tauros out: 353 HP, a quarter of which is 88.
-use crate::battles::{
-    CURRENT, ENERGY, FLAGS, FOE, KEPT, LAST, TURNS, USER, assert_bytes, assert_same,
-    assert_same_for, assert_told, bytes_of, named, two_tauros, with,
-};
-use gen1_layout::Conditions;
-use gen1_machine::{DamageSource, Event, EventList, UsedMove, Volatile};
-use gen1_multiturn::{bide, charge, substitute, thrash, trap};
-use gen1_rolls::{LinkRandom, Rolls, Sweep};
-use std::test::Fail;
+//! Moves that last several turns, as they begin and as they go on (docs/MECHANICS.md, "Going on", "Charging"). The places of
+//! bytes are those of docs/LAYOUT.md: the user's condition bits begin at 185, and its turns are at 194, its energy at 195, its
+//! current move at 197 and its kept accuracy at 199. The last damage is at 3. Both sides have a Tauros out: 353 HP, a quarter of
+//! which is 88.
+use crate::script::{play, play_each};
 
-// Trapping (docs/MECHANICS.md, "Going on").
+// The first draw counts if its low bits are 0 or 1. Otherwise the next draw does. The foe's Recharge ends.
 #[test]
-fn a_trap_begins(rt: HostRuntime) -> Result<(), Fail> {
-    // The first draw counts if its low bits are 0 or 1. Otherwise the next draw does.
-    for (byte, turns, draws) in [(0, 1, 1), (1, 2, 1), (2, 4, 2), (3, 1, 2), (5, 2, 1)] {
-        let mut battle = two_tauros()?;
-        battle.put_flag(FOE, Conditions::RECHARGE, true);
-        let before = bytes_of(&two_tauros()?);
-        let mut sweep = Sweep::new(byte);
-        trap(&mut battle, USER, &mut sweep);
-        assert_bytes(&rt, &battle, with(before, &[(FLAGS, 4), (TURNS, turns)]));
-        assert_same(&rt, sweep.draw(), byte.wrapping_add(draws));
-    }
-    let mut battle = two_tauros()?;
-    let mut link = LinkRandom::new([3; 10]);
-    trap(&mut battle, USER, &mut link);
-    assert_same(&rt, (battle.trapping(USER), link.index()), (Some(4), 2));
-    Ok(())
+fn a_trap_begins(rt: HostRuntime) {
+    play_each(
+        &rt,
+        "byte | turns | draws
+         0    | 1     | 1
+         1    | 2     | 1
+         2    | 4     | 2
+         3    | 1     | 2
+         5    | 2     | 1",
+        "single; two.flag recharge; sweep $byte; trap; draws $draws; against single; bytes 185=4, 194=$turns",
+    );
+    play(&rt, "single; equal 3; trap; draws 2; is one.trapping 4");
 }
 
-// Thrash (docs/MECHANICS.md, "Going on").
+// A count of 0 stays 0, the foe's Recharge isn't changed, and nothing is drawn: in an action that goes on, and by the bytes
+// alone.
 #[test]
-fn thrashing_begins(rt: HostRuntime) -> Result<(), Fail> {
-    for (byte, turns) in [(0, 2), (1, 3), (254, 2)] {
-        let mut battle = two_tauros()?;
-        let before = bytes_of(&battle);
-        let mut events = EventList::new();
-        let mut sweep = Sweep::new(byte);
-        thrash(&mut battle, USER, &mut sweep, &mut events);
-        assert_bytes(
-            &rt,
-            &battle,
-            with(before, &[(FLAGS, 2), (TURNS, turns), (KEPT, 255)]),
-        );
-        assert_same(&rt, (events.len(), sweep.draw()), (0, byte.wrapping_add(1)));
-    }
-    let mut battle = two_tauros()?;
-    let mut link = LinkRandom::new([7; 10]);
-    thrash(&mut battle, USER, &mut link, &mut EventList::new());
-    assert_same(&rt, (battle.thrash(USER), link.index()), (Some(3), 1));
-    Ok(())
+fn a_trap_goes_on(rt: HostRuntime) {
+    play_each(
+        &rt,
+        "turns | left
+         4     | 3
+         1     | 0
+         0     | 0",
+        "single; two.flag recharge; one.trapping $turns; knowing going_on; sweep 7; trap_knowing; draws 0; bytes 185=4, 194=$left
+         single; two.flag recharge; one.trapping $turns; sweep 7; trap; draws 0; bytes 185=4, 194=$left",
+    );
 }
 
-// Bide, from its first action to its last (docs/MECHANICS.md, "Going on").
+// Wrap on a Gengar: by the type rows its damage is 0. If it hits, at 215 for the byte 216, it holds the foe without damage.
 #[test]
-fn bide_begins_stores_and_lets_go(rt: HostRuntime) -> Result<(), Fail> {
-    let mut battle = two_tauros()?;
-    let before = bytes_of(&battle);
-    let mut events = EventList::new();
-    let mut link = LinkRandom::new([4; 10]);
-    let begun = with(before, &[(FLAGS, 1), (TURNS, 2)]);
-    assert_same(&rt, bide(&mut battle, USER, &mut link, &mut events), None);
-    assert_bytes(&rt, &battle, begun);
-    assert_same(&rt, link.index(), 1);
-    // 300 is 44 + 1 * 256.
-    battle.put_last_damage(300);
-    let damage = with(before, &[(LAST, 44), (LAST + 1, 1)]);
-    let stored = [(FLAGS, 1), (TURNS, 1), (ENERGY, 44), (ENERGY + 1, 1)];
-    let stored = with(damage, &stored);
-    assert_same(&rt, bide(&mut battle, USER, &mut link, &mut events), None);
-    assert_bytes(&rt, &battle, stored);
-    // Twice 301 is 602, which is 90 + 2 * 256.
-    battle.put_last_damage(1);
-    let let_go = with(before, &[(LAST, 90), (LAST + 1, 2)]);
-    let energy = bide(&mut battle, USER, &mut link, &mut events);
-    assert_same(&rt, energy, Some(602));
-    assert_bytes(&rt, &battle, let_go);
-    assert_same(&rt, link.index(), 1);
-    let told = [
-        Event::Start(battle.who(USER), Volatile::Bide),
-        Event::Activate(battle.who(USER), Volatile::Bide),
-        Event::End(battle.who(USER), Volatile::Bide),
-    ];
-    assert_told(&rt, &events, &told);
-    Ok(())
+fn a_ghost_is_held_for_0(rt: HostRuntime) {
+    play_each(
+        &rt,
+        "byte | bytes
+         215  | 185=4, 194=2
+         216  | 185=0, 194=0",
+        "single; two.types Ghost Poison; sweep 1; trap; bytes 185=4, 194=2; type_steps 23 Wrap; gives 0
+         last 0; knowing missed; sweep $byte; hit_or_miss Wrap; bytes $bytes; land 0; told; becomes",
+    );
 }
 
-// Twice the energy of Bide, past 16 bits (docs/MECHANICS.md, "Going on").
+// Thrash draws two or three turns, and keeps its accuracy byte.
 #[test]
-fn an_energy_of_32768_lets_out_0(rt: HostRuntime) -> Result<(), Fail> {
-    let mut battle = two_tauros()?;
-    let before = bytes_of(&battle);
-    battle.put_bide(USER, 1, 32767);
-    battle.put_last_damage(1);
-    let mut sweep = Sweep::new(9);
-    let energy = bide(&mut battle, USER, &mut sweep, &mut EventList::new());
-    assert_same(&rt, (energy, sweep.draw()), (Some(0), 9));
-    assert_bytes(&rt, &battle, before);
-    Ok(())
+fn thrashing_begins(rt: HostRuntime) {
+    play_each(
+        &rt,
+        "byte | turns
+         0    | 2
+         1    | 3
+         254  | 2",
+        "single; sweep $byte; thrash; told; draws 1; bytes 185=2, 194=$turns, 199=255",
+    );
+    play(&rt, "single; equal 7; thrash; draws 1; is one.thrash 3");
 }
 
-// Dig, Fly and Solar Beam (docs/MECHANICS.md, "Charging").
 #[test]
-fn a_charge_hides_who_digs(rt: HostRuntime) -> Result<(), Fail> {
-    // Charging is bit 4, and Invulnerable bit 5.
-    for (name, flags) in [("Dig", 48), ("Fly", 48), ("Solar Beam", 16)] {
-        let id = named(name)?;
-        let mut battle = two_tauros()?;
-        battle.put_picked_move(USER, UsedMove::Slot(1));
-        let before = bytes_of(&battle);
-        let mut events = EventList::new();
-        // The first turn ends the action, and the picked move becomes the current one.
-        assert_same(&rt, charge(&mut battle, USER, id, &mut events), true);
-        let charging = with(before, &[(FLAGS, flags), (CURRENT, 1)]);
-        assert_same_for(&rt, &name, bytes_of(&battle), charging);
-        assert_same(&rt, charge(&mut battle, USER, id, &mut events), false);
-        assert_same_for(&rt, &name, bytes_of(&battle), with(before, &[(CURRENT, 1)]));
-        let told = [Event::Prepare(battle.who(USER), id)];
-        assert_told(&rt, &events, &told);
-    }
-    Ok(())
+fn thrashing_goes_on(rt: HostRuntime) {
+    play(
+        &rt,
+        "single; one.kept 255; one.thrash 3; knowing going_on; sweep 7
+         thrash_knowing Thrash; told; draws 0; bytes 185=2, 194=2
+         thrash_knowing Thrash; told; draws 0; bytes 185=2, 194=1",
+    );
 }
 
-// A move that is picked for this turn (docs/MECHANICS.md, "Charging").
+// Confused is bit 6, and its count is the low bits of one draw plus 2.
 #[test]
-fn what_is_picked_is_charged(rt: HostRuntime) -> Result<(), Fail> {
-    // The current move was another: Struggle, which is 5.
-    let mut battle = two_tauros()?;
-    battle.put_current_move(USER, UsedMove::Struggle);
-    battle.put_picked_move(USER, UsedMove::Slot(1));
-    let before = bytes_of(&battle);
-    let mut events = EventList::new();
-    // A move that doesn't charge changes nothing, and the action goes on.
-    let ended = charge(&mut battle, USER, named("Strength")?, &mut events);
-    assert_same(&rt, (ended, events.len()), (false, 0));
-    assert_bytes(&rt, &battle, before);
-    charge(&mut battle, USER, named("Skull Bash")?, &mut events);
-    assert_bytes(&rt, &battle, with(before, &[(FLAGS, 16), (CURRENT, 1)]));
-    Ok(())
+fn thrashing_ends_in_confusion(rt: HostRuntime) {
+    play_each(
+        &rt,
+        "byte | count
+         0    | 2
+         3    | 5
+         6    | 4",
+        "single; one.kept 255; one.thrash 1; knowing going_on; equal $byte; thrash_knowing Petal Dance; told start one confusion; draws 1; bytes 185=64, 190=$count, 194=0, 199=255",
+    );
 }
 
-// Substitute (docs/MECHANICS.md, "Early effects").
+// 1 draws three turns. Each use takes one, and the next draw after the last is the count of the confusion.
 #[test]
-fn a_substitute_costs_a_quarter(rt: HostRuntime) -> Result<(), Fail> {
-    // 353 is 97 + 256, and 265 is 9 + 256. The condition is bit 9, and 88 is its HP.
-    for (hp, low, high) in [(353, 9, 1), (89, 1, 0), (88, 0, 0)] {
-        let mut battle = two_tauros()?;
-        battle.put_hp(USER, hp);
-        let before = bytes_of(&battle);
-        let mut events = EventList::new();
-        substitute(&mut battle, USER, &mut events);
-        let after = with(before, &[(28, low), (29, high), (FLAGS + 1, 2), (189, 88)]);
-        assert_bytes(&rt, &battle, after);
-        let health = battle.health(USER).ok_or("no health")?;
-        let told = [
-            Event::Start(battle.who(USER), Volatile::Substitute),
-            Event::Damage(battle.who(USER), health, DamageSource::Direct),
-        ];
-        assert_told(&rt, &events, &told);
-        // A Substitute is up already.
-        events.clear();
-        substitute(&mut battle, USER, &mut events);
-        assert_bytes(&rt, &battle, after);
-        assert_told(&rt, &events, &[Event::Fail(battle.who(USER))]);
-    }
-    let mut battle = two_tauros()?;
-    battle.put_hp(USER, 87);
-    let before = bytes_of(&battle);
-    let mut events = EventList::new();
-    substitute(&mut battle, USER, &mut events);
-    assert_bytes(&rt, &battle, before);
-    assert_told(&rt, &events, &[Event::Fail(battle.who(USER))]);
-    Ok(())
+fn thrashing_that_is_on_goes_on(rt: HostRuntime) {
+    play(
+        &rt,
+        "single; sweep 1
+         thrash; told; draws 1; bytes 185=2, 194=3, 199=255
+         thrash; told; draws 0; bytes 185=2, 194=2, 199=255
+         thrash; told; draws 0; bytes 185=2, 194=1, 199=255
+         thrash; told start one confusion; draws 1; bytes 185=64, 190=4, 194=0, 199=255",
+    );
+}
+
+// Bide, from its first action to its last. 300 is 44 + 1 * 256, and twice 301 is 602, which is 90 + 2 * 256. Twice an energy of
+// 32,768 is past 16 bits.
+#[test]
+fn bide(rt: HostRuntime) {
+    play(
+        &rt,
+        "single; equal 4; bide; gives none; told start one Bide; draws 1; bytes 185=1, 194=2
+         last 300; bide; gives none; told activate one Bide; draws 0; bytes 3=44, 4=1, 185=1, 194=1, 195=44, 196=1
+         last 1; bide; gives 602; told end one Bide; draws 0; against single; bytes 3=90, 4=2
+         single; one.bide 1 32767; last 1; sweep 9; bide; gives 0; draws 0; against single; bytes",
+    );
+}
+
+// Charging is bit 4, and Invulnerable bit 5. The first turn ends the action, and the picked move becomes the current one.
+#[test]
+fn a_charge_hides_who_digs(rt: HostRuntime) {
+    play_each(
+        &rt,
+        "move       | flags
+         Dig        | 48
+         Fly        | 48
+         Solar Beam | 16",
+        "single; one.picked 1; charge $move; gives true; told prepare one $move; bytes 185=$flags, 197=1
+         charge $move; gives false; told; bytes 185=0, 197=1",
+    );
+}
+
+// The current move was Struggle, which is 5. A move that doesn't charge changes nothing, and the action goes on.
+#[test]
+fn what_is_picked_is_charged(rt: HostRuntime) {
+    play(
+        &rt,
+        "single; one.current struggle; one.picked 1; charge Strength; gives false; told; becomes
+         charge Skull Bash; bytes 185=16, 197=1",
+    );
+}
+
+// 353 is 97 + 256, and 265 is 9 + 256. The condition is bit 9, and 88 is its HP. A second one fails, and so does one that would
+// cost more HP than there are (docs/MECHANICS.md, "Early effects").
+#[test]
+fn a_substitute_costs_a_quarter(rt: HostRuntime) {
+    play_each(
+        &rt,
+        "hp  | left    | low | high
+         353 | 265/353 | 9   | 1
+         89  | 1/353   | 1   | 0
+         88  | 0/353   | 0   | 0",
+        "single; one.hp $hp; substitute; told start one Substitute, damage one $left; bytes 28=$low, 29=$high, 186=2, 189=88
+         substitute; told fail one; becomes",
+    );
+    play(&rt, "single; one.hp 87; substitute; told fail one; becomes");
 }

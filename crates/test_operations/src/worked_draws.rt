@@ -1,19 +1,17 @@
 //! The operations with a countdown, on numbers from worked calculations.
-use crate::battles::{USER, assert_same, named, two_tauros};
+use crate::battles::{USER, assert_same, named};
+use crate::script::{play, set_up};
 use crate::{
     Countdown, critical_at, critical_by, factor_at, factor_by, gate_at, gate_by, hit_test_at,
     hit_test_by, own_stream,
 };
 use gen1_hits::Hit;
-use gen1_layout::Packed;
-use gen1_machine::{CantReason, Event, EventList, Pick, UsedMove};
+use gen1_machine::{EventList, UsedMove};
 use gen1_rolls::Rolls;
 use gen1_stats::Status;
-use gen1_status::{Gate, gate};
+use gen1_status::Gate;
 use gen1_tables::MoveId;
 use std::test::Fail;
-
-mod effects;
 
 const STRENGTH: UsedMove = UsedMove::Slot(1);
 
@@ -33,7 +31,7 @@ fn a_countdown(rt: HostRuntime) {
 // The base Speed of Tauros is 110, and a draw is critical below 110 / 2: 6 is 48 rotated, 7 is 56, 198 is 54 and 230 is 55 (docs/MECHANICS.md, "Critical hits").
 #[test]
 fn critical_draws(rt: HostRuntime) -> Result<(), Fail> {
-    let battle = two_tauros()?;
+    let battle = set_up("single")?;
     for (number, critical) in [(6, true), (7, false), (198, true), (230, false)] {
         assert_same(
             &rt,
@@ -70,7 +68,7 @@ fn factors(rt: HostRuntime) {
 // Below the bound, at it, and at a stage of accuracy (docs/MECHANICS.md, "Hit test").
 #[test]
 fn hit_tests(rt: HostRuntime) -> Result<(), Fail> {
-    let mut battle = two_tauros()?;
+    let mut battle = set_up("single")?;
     assert_same(
         &rt,
         hit_test_at(&mut battle, USER, strength()?, 255, 254),
@@ -109,7 +107,7 @@ fn hit_tests(rt: HostRuntime) -> Result<(), Fail> {
 // A paralysis at its bound (docs/MECHANICS.md, "Gate").
 #[test]
 fn gates(rt: HostRuntime) -> Result<(), Fail> {
-    let mut battle = two_tauros()?;
+    let mut battle = set_up("single")?;
     let mut random = Countdown::new(0);
     let mut quiet = EventList::new();
     let answer = gate_by(&mut battle, USER, STRENGTH, &mut random, &mut quiet);
@@ -132,27 +130,48 @@ fn gates(rt: HostRuntime) -> Result<(), Fail> {
 // A member that is asleep and confused, and was held as the turn began: no turn of either passes, and nothing is
 // drawn, although no foe holds it any more (docs/MECHANICS.md, "Gate").
 #[test]
-fn held(rt: HostRuntime) -> Result<(), Fail> {
-    let mut battle = two_tauros()?;
-    let asleep = Status::Asleep {
-        turns: 3,
-        marked: false,
-    };
-    battle.put_status(USER, asleep);
-    battle.put_confused(USER, Some(2));
-    let mut events = EventList::new();
-    let mut random = Countdown::new(255);
-    let answer = gate(&mut battle, USER, Pick::Held, &mut random, &mut events);
-    assert_same(&rt, (answer, random), (Gate::Stop, Countdown::new(255)));
-    assert_same(
+fn held(rt: HostRuntime) {
+    play(
         &rt,
-        events.as_slice(),
-        [Event::Cant(battle.who(USER), CantReason::PartiallyTrapped)].as_slice(),
+        "single; one.status slp 3; one.confused 2; countdown 255; gate held; gives stop; draws 0; told cant one trapped; becomes",
     );
-    assert_same(
+}
+
+// The accuracy byte of Thunder Wave is 255, so 254 is the first draw that hits (docs/MECHANICS.md, "Early effects").
+#[test]
+fn an_early_effect(rt: HostRuntime) {
+    play(
         &rt,
-        (battle.status(USER), battle.confused(USER)),
-        (asleep, Some(2)),
+        "single; countdown 254; early Thunder Wave; draws 1; told status two par; is two.status par",
     );
-    Ok(())
+}
+
+// Sleep Powder hits below 191. After 153 comes 152, whose low bits are 0, and then 151, whose low bits are 7
+// (docs/MECHANICS.md, "Late effects").
+#[test]
+fn a_late_effect(rt: HostRuntime) {
+    play(
+        &rt,
+        "single; countdown 153; late Sleep Powder; draws 3; told status two slp; is two.status slp 7",
+    );
+}
+
+// Ice Beam freezes below 26 (docs/MECHANICS.md, "Side effects").
+#[test]
+fn a_side_effect(rt: HostRuntime) {
+    play(
+        &rt,
+        "single; countdown 26; side Ice Beam; draws 1; told; becomes
+         side Ice Beam; draws 1; told status two frz; becomes two.status frz",
+    );
+}
+
+// Disable hits below 140. The foe has its one move in slot 1, which 136 names after 138 and 137. 135 makes the count 8
+// (docs/MECHANICS.md, "Side effects").
+#[test]
+fn a_slot_that_is_drawn(rt: HostRuntime) {
+    play(
+        &rt,
+        "single; countdown 139; side Disable; draws 5; told start two Disable; is two.disabled 1 8",
+    );
 }

@@ -7,294 +7,16 @@
 //!
 //! - `hits`: hits, their damage and their chances
 //! - `status`: picks, the gate, statuses and stages
-//! - `action`: what is known of an action, and its hit test
-//! - `example`: the example of crates/gen1_hits/CALLING.md
 //! - `early_effects`: effects before any damage
 //! - `late_effects`: stages and sleep
 //! - `side_effects`: effects in addition to damage
 //! - `lasting_moves`: moves that last, as they begin
-//! - `going_on`: trapping and thrashing, as they go on
-//! - `counter`: Counter
-//! - `rage`: Rage
-//! - `fixed_damage`: fixed damage
-//! - `one_hit_moves`: one-hit moves
-//! - `many_hits`: moves that hit several times
-//! - `first_hit`: the reports before the first hit
-//! - `hit_effects`: what follows a hit
-//! - `miss`: what follows a miss
 //! - `battles`: the battles at the start of most tests, and what tests compare
-//! - `facing`: two members that face each other
-//! - `draws`: a move played with the draws of a sweep, or with those of link numbers
-//! - `setting`: a move that hits
+//! - `script`: tests as text, played by functions that are proved once
 //! - `countdown`: the third generator
 //! - `any`: operations that draw, with any generator
 //! - `at_countdown`: operations that draw, with a countdown
 //! - `worked_draws`: worked draws of a countdown, also of effects of moves
-
-#[cfg(test)]
-mod action {
-    //! What is known of an action, and its hit test, with the numbers of [docs/MECHANICS.md, "Hit test"](https://hibsuloy.example/gen1/blob/main/docs/MECHANICS.md#hit-test) and "Action", and
-    //! the type rows of [docs/TABLES.md](https://hibsuloy.example/gen1/blob/main/docs/TABLES.md). Both sides have a Tauros out.
-    use crate::battles::{FOE, USER, assert_same, assert_told, named};
-    use crate::facing;
-    use gen1::generated::hits::{Known, hit_or_miss, must_hit, note_miss};
-    use gen1::generated::layout::{Conditions, Packed};
-    use gen1::generated::machine::{Event, EventList};
-    use gen1::generated::rolls::{LinkRandom, Rolls, Sweep};
-    use gen1::generated::tables::Element::{
-        self, Bug, Dragon, Electric, Fighting, Fire, Flying, Ghost, Grass, Ground, Ice, Normal, Poison,
-        Psychic, Rock, Water,
-    };
-    use gen1::generated::tables::MoveId;
-    use gen1_tests::testing::Abort;
-    use gen1_tests::testing::Fail;
-
-    // With a last damage of 75.
-    fn two_tauros() -> Result<Packed, Fail> {
-        let mut battle = facing::two_tauros()?;
-        battle.put_last_damage(75);
-        Ok(battle)
-    }
-
-    // Whether a test of the user has missed, and the byte that it tested, with each generator when it draws this byte.
-    // Also returns both generators after it.
-    fn tested(battle: &mut Packed, id: MoveId, before: Known, byte: u8) -> ([Known; 2], Sweep, u8) {
-        let mut sweep = Sweep::new(byte);
-        let mut link = LinkRandom::new([byte; 10]);
-        let knowns = [
-            after_test(battle, id, before, &mut sweep),
-            after_test(battle, id, before, &mut link),
-        ];
-        (knowns, sweep, link.index())
-    }
-
-    fn after_test<R: Rolls>(battle: &mut Packed, id: MoveId, before: Known, random: &mut R) -> Known {
-        let mut known = before;
-        hit_or_miss(battle, USER, id, &mut known, random);
-        known
-    }
-
-    // What is known of a new action after this byte was tested.
-    fn knows(missed: bool, byte: u8) -> Known {
-        Known {
-            missed,
-            accuracy_tested: Some(byte),
-            ..Known::new()
-        }
-    }
-
-    #[test]
-    fn an_action_begins() -> Result<(), Fail> { let rt = gen1_tests::testing::HostRuntime;
-        let last = Known {
-            side: USER,
-            going_on: true,
-            letting_go: true,
-            missed: true,
-            critical: true,
-            through_types: true,
-            broke: true,
-            hits_made: 2,
-            hits_planned: Some(5),
-            accuracy_tested: Some(255),
-            skips: true,
-        };
-        let next = last.begun(FOE);
-        assert_same(&rt, (next.side, next.skips), (FOE, true));
-        assert_same(
-            &rt,
-            [
-                next.going_on,
-                next.letting_go,
-                next.missed,
-                next.critical,
-                next.through_types,
-                next.broke,
-            ],
-            [false; 6],
-        );
-        assert_same(
-            &rt,
-            (next.hits_made, next.hits_planned, next.accuracy_tested),
-            (0, None, None),
-        );
-        assert_same(&rt, Known::new().begun(FOE).skips, false);
-        Ok(())
-    }
-
-    // A test of the user with each generator when it draws this byte: what is known afterwards, and the number of draws.
-    fn tests(
-        rt: &impl Abort,
-        battle: &mut Packed,
-        id: MoveId,
-        before: Known,
-        byte: u8,
-        after: Known,
-        draws: u8,
-    ) {
-        let (knowns, sweep, drawn) = tested(battle, id, before, byte);
-        assert_same(rt, knowns, [after; 2]);
-        assert_same(
-            rt,
-            (sweep, drawn),
-            (Sweep::new(byte.wrapping_add(draws)), draws),
-        );
-    }
-
-    // The last damage, and the user's trapping.
-    fn has(rt: &impl Abort, battle: &Packed, last_damage: u16, trapping: Option<u8>) {
-        assert_same(
-            rt,
-            (battle.last_damage(), battle.trapping(USER)),
-            (last_damage, trapping),
-        );
-    }
-
-    // 85 percent is the byte 216.
-    #[test]
-    fn a_new_action_tests_the_moves_accuracy() -> Result<(), Fail> { let rt = gen1_tests::testing::HostRuntime;
-        let mut battle = two_tauros()?;
-        battle.put_trapping(USER, 3);
-        battle.put_kept_accuracy(USER, 63);
-        let toxic = named("Toxic")?;
-        let new = Known::new();
-        tests(&rt, &mut battle, toxic, new, 215, knows(false, 216), 1);
-        has(&rt, &battle, 75, Some(3));
-        tests(&rt, &mut battle, toxic, new, 216, knows(true, 216), 1);
-        has(&rt, &battle, 0, None);
-        Ok(())
-    }
-
-    // Guillotine's 76 becomes 19 at accuracy -6, which is stored as 0.
-    #[test]
-    fn a_new_action_tests_at_its_stage() -> Result<(), Fail> { let rt = gen1_tests::testing::HostRuntime;
-        let mut battle = two_tauros()?;
-        battle.put_kept_accuracy(USER, 63);
-        battle.put_accuracy(USER, 0);
-        let guillotine = named("Guillotine")?;
-        let new = Known::new();
-        tests(&rt, &mut battle, guillotine, new, 18, knows(false, 19), 1);
-        tests(&rt, &mut battle, guillotine, new, 19, knows(true, 19), 1);
-        Ok(())
-    }
-
-    #[test]
-    fn what_goes_on_tests_the_kept_accuracy() -> Result<(), Fail> { let rt = gen1_tests::testing::HostRuntime;
-        let mut battle = two_tauros()?;
-        battle.put_kept_accuracy(USER, 63);
-        let going_on = Known {
-            going_on: true,
-            ..Known::new()
-        };
-        let toxic = named("Toxic")?;
-        for (byte, missed) in [(62, false), (63, true)] {
-            let after = Known {
-                going_on: true,
-                ..knows(missed, 63)
-            };
-            tests(&rt, &mut battle, toxic, going_on, byte, after, 1);
-        }
-        Ok(())
-    }
-
-    // Swift is settled without a draw.
-    #[test]
-    fn what_has_missed_still_has() -> Result<(), Fail> { let rt = gen1_tests::testing::HostRuntime;
-        let mut battle = two_tauros()?;
-        let no_damage = Known {
-            missed: true,
-            ..Known::new()
-        };
-        let swift = named("Swift")?;
-        tests(&rt, &mut battle, swift, no_damage, 255, knows(true, 255), 0);
-        has(&rt, &battle, 75, None);
-        Ok(())
-    }
-
-    // A test of the user that must hit: whether it ended the action, and its events.
-    fn must_test(
-        rt: &impl Abort,
-        battle: &mut Packed,
-        id: MoveId,
-        byte: u8,
-        ends: bool,
-        told: &[Event],
-    ) {
-        let mut events = EventList::new();
-        let mut known = Known::new();
-        let mut random = Sweep::new(byte);
-        let stopped = must_hit(battle, USER, id, &mut known, &mut random, &mut events);
-        assert_same(rt, stopped, ends);
-        assert_told(rt, &events, told);
-    }
-
-    #[test]
-    fn a_miss_ends_the_action() -> Result<(), Fail> { let rt = gen1_tests::testing::HostRuntime;
-        let mut battle = two_tauros()?;
-        let id = named("Thunder Wave")?;
-        let misses = [Event::Miss(battle.who(USER))];
-        let immune = [Event::Immune(battle.who(FOE))];
-        must_test(&rt, &mut battle, id, 254, false, &[]);
-        must_test(&rt, &mut battle, id, 255, true, &misses);
-        battle.put_types(FOE, Rock, Ground);
-        must_test(&rt, &mut battle, id, 255, true, &immune);
-        battle.put_types(FOE, Normal, Normal);
-        battle.put_flag(FOE, Conditions::INVULNERABLE, true);
-        must_test(&rt, &mut battle, id, 0, true, &misses);
-        Ok(())
-    }
-
-    // A move of each type.
-    const MOVES: [(Element, &str); 15] = [
-        (Normal, "Strength"),
-        (Fighting, "Submission"),
-        (Flying, "Fly"),
-        (Poison, "Toxic"),
-        (Ground, "Earthquake"),
-        (Rock, "Rock Slide"),
-        (Bug, "Twineedle"),
-        (Ghost, "Lick"),
-        (Fire, "Ember"),
-        (Water, "Surf"),
-        (Grass, "Razor Leaf"),
-        (Electric, "Thunderbolt"),
-        (Psychic, "Psychic"),
-        (Ice, "Blizzard"),
-        (Dragon, "Dragon Rage"),
-    ];
-
-    // The type rows of 0.
-    const IMMUNE: [(Element, Element); 6] = [
-        (Normal, Ghost),
-        (Fighting, Ghost),
-        (Ground, Flying),
-        (Ghost, Normal),
-        (Ghost, Psychic),
-        (Electric, Ground),
-    ];
-
-    #[test]
-    fn types_without_effect() -> Result<(), Fail> { let rt = gen1_tests::testing::HostRuntime;
-        let mut battle = two_tauros()?;
-        for (kind, name) in MOVES {
-            let id = named(name)?;
-            for (foe, _) in MOVES {
-                let immune = IMMUNE.contains(&(kind, foe));
-                for (first, second) in [(foe, foe), (foe, Dragon), (Dragon, foe)] {
-                    battle.put_types(FOE, first, second);
-                    let mut events = EventList::new();
-                    note_miss(&battle, USER, id, &mut events);
-                    let told = if immune {
-                        Event::Immune(battle.who(FOE))
-                    } else {
-                        Event::Miss(battle.who(USER))
-                    };
-                    assert_told(&rt, &events, &[told]);
-                }
-            }
-        }
-        Ok(())
-    }
-}
 
 mod any {
     //! The operations that draw, with any generator: what a generic caller knows from their contracts alone.
@@ -389,13 +111,9 @@ mod at_countdown {
 
 #[cfg(test)]
 mod battles {
-    //! The battles at the start of the tests, their bytes, and offsets of [docs/LAYOUT.md](https://hibsuloy.example/gen1/blob/main/docs/LAYOUT.md). Members have full DVs and experience. Those that
-    //! are out have type Normal.
-    use arrayvec::ArrayVec;
+    //! The two sides, and what tests compare.
     use gen1::generated::layout::Packed;
-    use gen1::generated::machine::{Event, EventList, Rules, Side};
-    use gen1::generated::stats::{MemberSpec, Team};
-    use gen1::generated::tables::Element::Normal;
+    use gen1::generated::machine::{Event, EventList, Side};
     use gen1::generated::tables::{MoveId, Species};
     use core::fmt::Debug;
     use gen1_tests::testing::Abort;
@@ -405,22 +123,6 @@ mod battles {
 
     pub(crate) const FOE: Side = Side::Two;
 
-    // The offsets of the user's condition bits, turns, energy, current move and kept accuracy, and of the last damage and
-    // the outcome.
-    pub(crate) const FLAGS: usize = 185;
-
-    pub(crate) const TURNS: usize = 194;
-
-    pub(crate) const ENERGY: usize = 195;
-
-    pub(crate) const CURRENT: usize = 197;
-
-    pub(crate) const KEPT: usize = 199;
-
-    pub(crate) const LAST: usize = 3;
-
-    pub(crate) const OUTCOME: usize = 16;
-
     pub(crate) fn named(name: &str) -> Result<MoveId, Fail> {
         Ok(MoveId::from_name(name).ok_or("no such move")?)
     }
@@ -429,108 +131,10 @@ mod battles {
         Ok(Species::from_name(name).ok_or("no such species")?)
     }
 
-    // The specification of a member of this level that knows these moves.
-    pub(crate) fn member(name: &str, level: u8, names: &[&str]) -> Result<MemberSpec, Fail> {
-        let mut moves = ArrayVec::new();
-        for name in names {
-            moves
-                .try_push((named(name)?, 0))
-                .ok()
-                .ok_or("too many moves")?;
-        }
-        Ok(MemberSpec {
-            species: species(name)?,
-            level,
-            dvs: [15; 4],
-            exp: [65535; 5],
-            moves,
-        })
-    }
-
-    // A Tauros of this level that knows these moves.
-    pub(crate) fn knowing(level: u8, names: &[&str]) -> Result<MemberSpec, Fail> {
-        member("Tauros", level, names)
-    }
-
-    // The first member of each side is out, with this Attack, Defense, Speed and Special.
-    fn facing(
-        user: &[MemberSpec],
-        foe: &[MemberSpec],
-        stats: [u16; 4],
-        rules: u8,
-    ) -> Result<Packed, Fail> {
-        let rules = Rules::new(rules).ok_or("no such rules")?;
-        let mut battle = Packed::with_rules(&Team::new(user)?, &Team::new(foe)?, [0; 10], rules);
-        for side in [USER, FOE] {
-            battle.put_sent_out(side, 1, Normal, Normal, stats);
-        }
-        Ok(battle)
-    }
-
-    // Each side has two members of this species at level 100. The first knows these moves, and the second Strength.
-    fn alike(species: &str, names: &[&str], stats: [u16; 4], rules: u8) -> Result<Packed, Fail> {
-        let team = [
-            member(species, 100, names)?,
-            member(species, 100, &["Strength"])?,
-        ];
-        facing(&team, &team, stats, rules)
-    }
-
-    pub(crate) const TAUROS: [u16; 4] = [298, 288, 318, 238];
-
-    // They have HP 353, Attack 298, Defense 288, Speed 318 and Special 238.
-    pub(crate) fn tauros() -> Result<Packed, Fail> {
-        tauros_under(0)
-    }
-
-    pub(crate) fn tauros_under(rules: u8) -> Result<Packed, Fail> {
-        alike("Tauros", &["Strength"], TAUROS, rules)
-    }
-
-    pub(crate) fn tauros_with(more: &str) -> Result<Packed, Fail> {
-        alike("Tauros", &["Strength", more], TAUROS, 0)
-    }
-
-    // They have HP 703.
-    pub(crate) fn chansey() -> Result<Packed, Fail> {
-        alike("Chansey", &["Strength"], [108, 108, 198, 308], 0)
-    }
-
-    // They have Speed 378.
-    pub(crate) fn electrode() -> Result<Packed, Fail> {
-        alike("Electrode", &["Strength"], [198, 238, 378, 258], 0)
-    }
-
-    // Both sides have the first of their Tauros out.
-    pub(crate) fn battle_of(user: &[MemberSpec], foe: &[MemberSpec]) -> Result<Packed, Fail> {
-        facing(user, foe, TAUROS, 0)
-    }
-
-    // One Tauros on each side.
-    pub(crate) fn two_tauros() -> Result<Packed, Fail> {
-        let team = [knowing(100, &["Strength"])?];
-        battle_of(&team, &team)
-    }
-
-    // A Tauros of level 100 comes out.
-    pub(crate) fn send_out(battle: &mut Packed, side: Side, place: u8) {
-        battle.put_sent_out(side, place, Normal, Normal, TAUROS);
-    }
-
     pub(crate) fn bytes_of(battle: &Packed) -> [u8; 384] {
         let mut bytes = [0; 384];
         for (place, byte) in bytes.iter_mut().zip(battle.as_bytes()) {
             *place = *byte;
-        }
-        bytes
-    }
-
-    // These bytes with some of them replaced.
-    pub(crate) fn with(mut bytes: [u8; 384], changes: &[(usize, u8)]) -> [u8; 384] {
-        for change in changes {
-            if let Some(place) = bytes.get_mut(change.0) {
-                *place = change.1;
-            }
         }
         bytes
     }
@@ -553,11 +157,6 @@ mod battles {
     // Asserts that these are the events.
     pub(crate) fn assert_told(rt: &impl Abort, events: &EventList, told: &[Event]) {
         assert_eq!(events.as_slice(), told);
-    }
-
-    // Asserts that these are the battle's bytes.
-    pub(crate) fn assert_bytes(rt: &impl Abort, battle: &Packed, expected: [u8; 384]) {
-        assert_eq!(bytes_of(battle), expected);
     }
 }
 
@@ -597,640 +196,176 @@ mod countdown {
 }
 
 #[cfg(test)]
-mod counter {
-    //! Counter ([docs/MECHANICS.md, "Counter"](https://hibsuloy.example/gen1/blob/main/docs/MECHANICS.md#counter)). A Tauros has base Speed 110, so a draw, rotated left by 3 bits, is
-    //! critical below 55 ("Critical hits").
-    use crate::battles::{
-        FOE, LAST, USER, assert_bytes, assert_same, assert_same_for, battle_of, bytes_of, knowing,
-        named, send_out, with,
-    };
-    use gen1::generated::hits::Known;
-    use gen1::generated::layout::Packed;
-    use gen1::generated::machine::UsedMove::{self, Nothing, Slot, Struggle};
-    use gen1::generated::multiturn::{counter, counter_knowing};
-    use gen1::generated::rolls::{LinkRandom, Rolls, Sweep};
-    use gen1_tests::testing::Fail;
-
-    // Normal of power 80, Ice, Fighting of power 1, and Counter itself.
-    const FIRST: [&str; 4] = ["Strength", "Ice Beam", "Seismic Toss", "Counter"];
-
-    // Fighting of power 80, Normal without power, Ghost without power, and Ground.
-    const SECOND: [&str; 4] = ["Submission", "Growl", "Night Shade", "Dig"];
-
-    // The foe's first member is out and has picked a move, and a damage of 100 was dealt last.
-    fn picked(names: &[&str], used: UsedMove) -> Result<Packed, Fail> {
-        let user = knowing(100, &["Counter"])?;
-        let foe = [knowing(100, names)?, knowing(100, &["Strength"])?];
-        let mut battle = battle_of(&[user], &foe)?;
-        battle.put_picked_move(FOE, used);
-        battle.put_last_damage(100);
-        Ok(battle)
-    }
-
-    // What is known after a Counter and all its draws.
-    fn countered<R: Rolls>(battle: &mut Packed, random: &mut R) -> Result<Known, Fail> {
-        let mut known = Known::new().begun(USER);
-        counter_knowing(battle, USER, named("Counter")?, &mut known, random);
-        Ok(known)
-    }
-
-    #[test]
-    fn normal_and_fighting_moves_are_countered() -> Result<(), Fail> { let rt = gen1_tests::testing::HostRuntime;
-        for (used, damage) in [
-            (Slot(1), Some(200)),
-            (Slot(2), None),
-            (Slot(3), Some(200)),
-            (Slot(4), None),
-            (Struggle, Some(200)),
-            (Nothing, None),
-        ] {
-            assert_same_for(&rt, &used, counter(&picked(&FIRST, used)?, USER), damage);
-        }
-        for (used, damage) in [
-            (Slot(1), Some(200)),
-            (Slot(2), None),
-            (Slot(3), None),
-            (Slot(4), None),
-        ] {
-            assert_same_for(&rt, &used, counter(&picked(&SECOND, used)?, USER), damage);
-        }
-        Ok(())
-    }
-
-    #[test]
-    fn a_foe_that_has_left_is_not_countered() -> Result<(), Fail> { let rt = gen1_tests::testing::HostRuntime;
-        let mut battle = picked(&FIRST, Slot(1))?;
-        send_out(&mut battle, FOE, 2);
-        assert_same(&rt, counter(&battle, USER), None);
-        // The newcomer's own move counts.
-        battle.put_picked_move(FOE, Slot(1));
-        assert_same(&rt, counter(&battle, USER), Some(200));
-        Ok(())
-    }
-
-    #[test]
-    fn two_counters_both_miss() -> Result<(), Fail> { let rt = gen1_tests::testing::HostRuntime;
-        let counters = knowing(100, &["Counter"])?;
-        let mut battle = battle_of(&[counters], &[knowing(100, &["Counter"])?])?;
-        for side in [USER, FOE] {
-            battle.put_picked_move(side, Slot(1));
-        }
-        battle.put_last_damage(100);
-        assert_same(
-            &rt,
-            (counter(&battle, USER), counter(&battle, FOE)),
-            (None, None),
-        );
-        Ok(())
-    }
-
-    #[test]
-    fn damage_is_doubled_up_to_65535() -> Result<(), Fail> { let rt = gen1_tests::testing::HostRuntime;
-        let mut battle = picked(&FIRST, Slot(1))?;
-        for (last, damage) in [
-            (0, None),
-            (1, Some(2)),
-            (32767, Some(65534)),
-            (32768, Some(65535)),
-            (65535, Some(65535)),
-        ] {
-            battle.put_last_damage(last);
-            assert_same(&rt, counter(&battle, USER), damage);
-        }
-        Ok(())
-    }
-
-    #[test]
-    fn a_counter_that_hits() -> Result<(), Fail> { let rt = gen1_tests::testing::HostRuntime;
-        // The draw 0 is critical. 8 is 64 after rotation, and isn't critical. The second draw is below 255.
-        for (byte, critical) in [(0, true), (8, false)] {
-            let mut battle = picked(&FIRST, Slot(1))?;
-            let before = bytes_of(&battle);
-            let mut sweep = Sweep::new(byte);
-            let known = countered(&mut battle, &mut sweep)?;
-            assert_same(&rt, (known.critical, known.missed), (critical, false));
-            assert_same(&rt, known.accuracy_tested, Some(255));
-            assert_bytes(&rt, &battle, with(before, &[(LAST, 200)]));
-            assert_same(&rt, sweep.draw(), byte + 2);
-        }
-        let mut battle = picked(&FIRST, Slot(1))?;
-        let mut link = LinkRandom::new([254; 10]);
-        let known = countered(&mut battle, &mut link)?;
-        assert_same(
-            &rt,
-            (known.missed, battle.last_damage(), link.index()),
-            (false, 200, 2),
-        );
-        Ok(())
-    }
-
-    #[test]
-    fn a_counter_that_misses() -> Result<(), Fail> { let rt = gen1_tests::testing::HostRuntime;
-        // At the draw 255 it misses by its hit test, and the last damage is 0.
-        let mut battle = picked(&FIRST, Slot(1))?;
-        let before = bytes_of(&battle);
-        let mut sweep = Sweep::new(254);
-        let known = countered(&mut battle, &mut sweep)?;
-        assert_same(
-            &rt,
-            (known.missed, known.accuracy_tested),
-            (true, Some(255)),
-        );
-        assert_bytes(&rt, &battle, with(before, &[(LAST, 0)]));
-        assert_same(&rt, sweep.draw(), 0);
-        // If it misses by the foe's move, the last damage is kept, and the critical draw is the only one.
-        let mut battle = picked(&FIRST, Slot(2))?;
-        let before = bytes_of(&battle);
-        let mut link = LinkRandom::new([0; 10]);
-        let known = countered(&mut battle, &mut link)?;
-        assert_same(&rt, (known.missed, known.critical), (true, true));
-        assert_same(&rt, known.accuracy_tested, None);
-        assert_same(&rt, (bytes_of(&battle), link.index()), (before, 1));
-        Ok(())
-    }
-}
-
-#[cfg(test)]
-mod draws {
-    //! A move played with the draws of a sweep, or with those of link numbers.
-    use gen1::generated::layout::Packed;
-    use gen1::generated::machine::EventList;
-    use gen1::generated::rolls::{LinkRandom, Rolls, Sweep};
-    use gen1_tests::testing::Fail;
-
-    // With the draws of a sweep, and with those of link numbers.
-    pub(crate) const BOTH: [bool; 2] = [false, true];
-
-    /// The operation that the tests of a file call.
-    pub(crate) trait Operation {
-        /// Plays a move of the user.
-        fn apply<R: Rolls>(battle: &mut Packed, name: &str, random: &mut R) -> Result<EventList, Fail>;
-
-        /// Link numbers whose first is this byte.
-        fn link_numbers(byte: u8) -> [u8; 10];
-    }
-
-    /// Plays a move with draws that begin with this byte, of a sweep or of link numbers. Also returns the number of
-    /// draws, up to 8 for link numbers.
-    pub(crate) fn apply_from<O: Operation>(
-        battle: &mut Packed,
-        (name, byte, link): (&str, u8, bool),
-    ) -> Result<(EventList, u8), Fail> {
-        if link {
-            let mut random = LinkRandom::new(O::link_numbers(byte));
-            let events = O::apply(battle, name, &mut random)?;
-            return Ok((events, random.index()));
-        }
-        let mut random = Sweep::new(byte);
-        let events = O::apply(battle, name, &mut random)?;
-        Ok((events, random.draw().wrapping_sub(byte)))
-    }
-}
-
-#[cfg(test)]
-mod early_effects {
-    //! Each early effect once, with its events and its bytes ([docs/MECHANICS.md, "Early effects"](https://hibsuloy.example/gen1/blob/main/docs/MECHANICS.md#early-effects); [docs/LAYOUT.md](https://hibsuloy.example/gen1/blob/main/docs/LAYOUT.md)). By
-    //! [docs/LAYOUT.md](https://hibsuloy.example/gen1/blob/main/docs/LAYOUT.md), the user's member begins at byte 24 and its active block at 168. Those of the foe begin at 204 and
-    //! 348.
-    use crate::battles::{FOE, USER, assert_same, bytes_of, chansey, named, tauros, with};
-    use crate::draws::{BOTH, Operation, apply_from};
-    use gen1::generated::effects::{group_one, is_early};
-    use gen1::generated::layout::Packed;
-    use gen1::generated::machine::{Event, EventList};
-    use gen1::generated::rolls::Rolls;
-    use gen1_tests::testing::Abort;
-    use gen1_tests::testing::Fail;
-
-    mod foe {
-        //! Moves that act on the foe ([docs/MECHANICS.md, "Early effects"](https://hibsuloy.example/gen1/blob/main/docs/MECHANICS.md#early-effects)).
-        use super::{BOTH, FOE, USER, fails, plays, tauros};
-        use gen1::generated::layout::Packed;
-        use gen1::generated::machine::{Event, Kind, Volatile, Who};
-        use gen1::generated::tables::Element::{self, Grass, Ground, Normal, Poison, Rock};
-        use gen1_tests::testing::Fail;
-
-        // A foe of these types, with or without a Substitute of 88 HP.
-        fn against(first: Element, second: Element, substitute: bool) -> Result<Packed, Fail> {
-            let mut battle = tauros()?;
-            battle.put_types(FOE, first, second);
-            if substitute {
-                battle.put_substitute(FOE, Some(88));
-            }
-            Ok(battle)
-        }
-
-        // At 55, 85, 75 and 90 percent.
-        const MISSES: [(&str, u8); 4] = [
-            ("Supersonic", 140),
-            ("Toxic", 216),
-            ("Glare", 191),
-            ("Leech Seed", 229),
-        ];
-
-        #[test]
-        fn moves_that_miss() -> Result<(), Fail> { let rt = gen1_tests::testing::HostRuntime;
-            for link in BOTH {
-                for (name, byte) in MISSES {
-                    let mut battle = tauros()?;
-                    let misses = [Event::Miss(battle.who(USER))];
-                    plays(&rt, &mut battle, (name, byte, link), &misses, 1, &[])?;
-                }
-            }
-            Ok(())
-        }
-
-        // The foe's types, whether it has a Substitute, and the draws.
-        const SPARED: [(Element, Element, bool, &str, u8, u8); 5] = [
-            (Normal, Normal, true, "Supersonic", 6, 0),
-            (Normal, Normal, true, "Poison Powder", 0, 0),
-            (Grass, Poison, false, "Poison Gas", 0, 0),
-            (Rock, Ground, false, "Thunder Wave", 0, 0),
-            (Normal, Grass, false, "Leech Seed", 228, 1),
-        ];
-
-        #[test]
-        fn who_is_spared() -> Result<(), Fail> { let rt = gen1_tests::testing::HostRuntime;
-            for link in BOTH {
-                for (first, second, substitute, name, byte, draws) in SPARED {
-                    let mut battle = against(first, second, substitute)?;
-                    fails(&rt, &mut battle, (name, byte, link), draws)?;
-                }
-            }
-            Ok(())
-        }
-
-        // What a move does to the foe.
-        #[derive(Clone, Copy)]
-        enum Brought {
-            Status(Kind),
-            Volatile(Volatile),
-        }
-
-        fn told(foe: Who, brought: Brought) -> Event {
-            match brought {
-                Brought::Status(kind) => Event::Status(foe, kind),
-                Brought::Volatile(what) => Event::Start(foe, what),
-            }
-        }
-
-        type Changes = &'static [(usize, u8)];
-
-        // After 6 comes 7, whose low bits are 3, so that the count of the confusion is 5.
-        const CONFUSED: (Brought, Changes) = (
-            Brought::Volatile(Volatile::Confusion),
-            &[(365, 64), (370, 5)],
-        );
-
-        const POISONED: (Brought, Changes) = (Brought::Status(Kind::Poison), &[(218, 8)]);
-
-        const BADLY_POISONED: (Brought, Changes) = (Brought::Status(Kind::Poison), &[(218, 8), (366, 32)]);
-
-        // The Speed of 318 becomes 79.
-        const PARALYSED: (Brought, Changes) = (
-            Brought::Status(Kind::Paralysis),
-            &[(218, 64), (361, 79), (362, 0)],
-        );
-
-        // The 2 added to the seed's 16 is the Substitute.
-        const SEEDED: (Brought, Changes) = (Brought::Volatile(Volatile::LeechSeed), &[(366, 18)]);
-
-        // Whether the foe has a Substitute, the last draw that hits, the effect and its number of draws, and a move that
-        // fails then, with its number of draws.
-        const BRINGS: [(bool, &str, u8, (Brought, Changes), u8, &str, u8); 6] = [
-            (false, "Supersonic", 6, CONFUSED, 2, "Supersonic", 1),
-            (false, "Toxic", 215, BADLY_POISONED, 1, "Toxic", 0),
-            (false, "Poison Powder", 190, POISONED, 1, "Poison Gas", 0),
-            (true, "Thunder Wave", 254, PARALYSED, 1, "Stun Spore", 0),
-            (false, "Glare", 190, PARALYSED, 1, "Glare", 0),
-            (true, "Leech Seed", 228, SEEDED, 1, "Leech Seed", 1),
-        ];
-
-        #[test]
-        fn what_is_brought_once() -> Result<(), Fail> { let rt = gen1_tests::testing::HostRuntime;
-            for link in BOTH {
-                for (substitute, name, byte, (brought, changes), draws, again, next) in BRINGS {
-                    let mut battle = against(Normal, Normal, substitute)?;
-                    let told = [told(battle.who(FOE), brought)];
-                    plays(&rt, &mut battle, (name, byte, link), &told, draws, changes)?;
-                    fails(&rt, &mut battle, (again, 6, link), next)?;
-                }
-            }
-            Ok(())
-        }
-
-        // Thunder Wave has no effect on a Ground type, and Glare has.
-        #[test]
-        fn glare_on_rock_and_ground() -> Result<(), Fail> { let rt = gen1_tests::testing::HostRuntime;
-            for link in BOTH {
-                let mut battle = against(Rock, Ground, false)?;
-                let (paralysis, changes) = PARALYSED;
-                let told = [told(battle.who(FOE), paralysis)];
-                plays(&rt, &mut battle, ("Glare", 190, link), &told, 1, changes)?;
-            }
-            Ok(())
-        }
-    }
-
-    mod haze {
-        //! Haze, which acts on both sides ([docs/MECHANICS.md, "Early effects"](https://hibsuloy.example/gen1/blob/main/docs/MECHANICS.md#early-effects)).
-        use super::{BOTH, EarlyEffects, FOE, USER, apply_from, bytes_of, named, tauros, with};
-        use crate::battles::{assert_bytes, assert_same, assert_told};
-        use gen1::generated::effects::{group_one_knowing, is_early};
-        use gen1::generated::hits::Known;
-        use gen1::generated::layout::{Conditions, Packed};
-        use gen1::generated::machine::{DisabledSlot, Event, EventList, Kind};
-        use gen1::generated::rolls::Sweep;
-        use gen1::generated::stats::Status;
-        use gen1::generated::status::inflict;
-        use gen1_tests::testing::Fail;
-
-        // Both are burned, and their stages are changed. The user has Mist, Reflect and a Substitute. The foe was paralysed
-        // before, and is confused, seeded and badly poisoned, and has a disabled move. At the end the foe is frozen.
-        fn before_haze() -> Result<Packed, Fail> {
-            let mut battle = tauros()?;
-            let mut events = EventList::new();
-            inflict(&mut battle, USER, Kind::Burn, 0, &mut events);
-            battle.put_flag(USER, Conditions::MIST, true);
-            battle.put_flag(USER, Conditions::REFLECT, true);
-            battle.put_substitute(USER, Some(88));
-            inflict(&mut battle, FOE, Kind::Paralysis, 0, &mut events);
-            battle.put_confused(FOE, Some(3));
-            battle.put_flag(FOE, Conditions::SEEDED, true);
-            battle.put_bad_poison(FOE, Some(5));
-            battle.put_disabled(FOE, Some(DisabledSlot { slot: 1, turns: 4 }));
-            battle.put_special(FOE, 8, 476);
-            battle.put_evasion(FOE, 12);
-            battle.put_accuracy(USER, 1);
-            battle.put_status(FOE, Status::Frozen);
-            Ok(battle)
-        }
-
-        // The user's burn (16) and its Substitute with 88 HP stay.
-        #[test]
-        fn haze() -> Result<(), Fail> { let rt = gen1_tests::testing::HostRuntime;
-            for link in BOTH {
-                let mut battle = before_haze()?;
-                let (events, draws) = apply_from::<EarlyEffects>(&mut battle, ("Haze", 0, link))?;
-                let cure = Event::Cure(battle.who(FOE), Kind::Freeze);
-                assert_told(&rt, &events, &[Event::ClearAll, cure]);
-                assert_same(&rt, draws, 0);
-                let after = with(bytes_of(&tauros()?), &[(38, 16), (186, 2), (189, 88)]);
-                assert_bytes(&rt, &battle, after);
-            }
-            Ok(())
-        }
-
-        // Whether the foe is skipped after Haze, by its status before.
-        fn skips(status: Status) -> Result<bool, Fail> {
-            let mut battle = tauros()?;
-            battle.put_status(FOE, status);
-            let mut events = EventList::new();
-            let mut known = Known::new().begun(USER);
-            let id = named("Haze")?;
-            if !is_early(id.effect()) {
-                return Err(Fail::from("no early effect"));
-            }
-            let mut random = Sweep::new(0);
-            group_one_knowing(&mut battle, USER, id, &mut known, &mut random, &mut events);
-            Ok(known.skips)
-        }
-
-        #[test]
-        fn whom_haze_skips() -> Result<(), Fail> { let rt = gen1_tests::testing::HostRuntime;
-            let asleep = Status::Asleep {
-                turns: 1,
-                marked: false,
-            };
-            for (status, skipped) in [
-                (Status::Healthy, false),
-                (asleep, true),
-                (Status::Poisoned, false),
-                (Status::Burned, false),
-                (Status::Frozen, true),
-                (Status::Paralysed, false),
-            ] {
-                assert_same(&rt, skips(status)?, skipped);
-            }
-            Ok(())
-        }
-    }
-
-    mod user {
-        //! Moves that act on their user ([docs/MECHANICS.md, "Early effects"](https://hibsuloy.example/gen1/blob/main/docs/MECHANICS.md#early-effects)).
-        use super::{BOTH, FOE, USER, chansey, fails, plays, tauros};
-        use crate::battles::assert_same;
-        use gen1::generated::layout::{Conditions, Packed};
-        use gen1::generated::machine::{Event, EventList, Health, Kind, Volatile};
-        use gen1::generated::status::inflict;
-        use gen1::generated::tables::Element::{Ground, Normal, Rock};
-        use gen1::generated::tables::Stat;
-        use gen1_tests::testing::Fail;
-
-        #[test]
-        fn moves_that_fail() -> Result<(), Fail> { let rt = gen1_tests::testing::HostRuntime;
-            for link in BOTH {
-                for name in ["Whirlwind", "Roar", "Teleport"] {
-                    fails(&rt, &mut tauros()?, (name, 0, link), 0)?;
-                }
-            }
-            Ok(())
-        }
-
-        #[test]
-        fn splash() -> Result<(), Fail> { let rt = gen1_tests::testing::HostRuntime;
-            for link in BOTH {
-                let mut battle = tauros()?;
-                let told = [Event::Activate(battle.who(USER), Volatile::Splash)];
-                plays(&rt, &mut battle, ("Splash", 0, link), &told, 0, &[])?;
-            }
-            Ok(())
-        }
-
-        // The numbers of Rock and Ground are 5 and 4.
-        #[test]
-        fn conversion() -> Result<(), Fail> { let rt = gen1_tests::testing::HostRuntime;
-            for link in BOTH {
-                let mut battle = tauros()?;
-                battle.put_types(FOE, Rock, Ground);
-                let told = [Event::Start(battle.who(USER), Volatile::TypeChange)];
-                let changes = [(169, 5), (170, 4)];
-                plays(
-                    &rt,
-                    &mut battle,
-                    ("Conversion", 0, link),
-                    &told,
-                    0,
-                    &changes,
-                )?;
-                battle.put_types(FOE, Normal, Normal);
-                battle.put_flag(FOE, Conditions::INVULNERABLE, true);
-                fails(&rt, &mut battle, ("Conversion", 0, link), 0)?;
-            }
-            Ok(())
-        }
-
-        // With the place of its bit in the four bytes of conditions.
-        const STAY_UP: [(&str, Volatile, usize, u8); 4] = [
-            ("Mist", Volatile::Mist, 185, 128),
-            ("Focus Energy", Volatile::FocusEnergy, 186, 1),
-            ("Light Screen", Volatile::LightScreen, 186, 64),
-            ("Reflect", Volatile::Reflect, 186, 128),
-        ];
-
-        #[test]
-        fn what_stays_up() -> Result<(), Fail> { let rt = gen1_tests::testing::HostRuntime;
-            for link in BOTH {
-                for (name, what, at, byte) in STAY_UP {
-                    let mut battle = tauros()?;
-                    let told = [Event::Start(battle.who(USER), what)];
-                    plays(&rt, &mut battle, (name, 0, link), &told, 0, &[(at, byte)])?;
-                    fails(&rt, &mut battle, (name, 0, link), 0)?;
-                }
-            }
-            Ok(())
-        }
-
-        fn chansey_at(hp: u16) -> Result<Packed, Fail> {
-            let mut battle = chansey()?;
-            battle.put_hp(USER, hp);
-            Ok(battle)
-        }
-
-        // At full HP, and after a loss of 255 or 511 HP.
-        #[test]
-        fn recoveries_that_fail() -> Result<(), Fail> { let rt = gen1_tests::testing::HostRuntime;
-            for link in BOTH {
-                for name in ["Recover", "Soft-Boiled"] {
-                    for hp in [703, 448, 192] {
-                        fails(&rt, &mut chansey_at(hp)?, (name, 0, link), 0)?;
-                    }
-                }
-            }
-            Ok(())
-        }
-
-        // For a maximum of 703, whose bytes are 191 and 2, half is 351. The bytes of 451 are 195 and 1.
-        const RECOVERIES: [(u16, u16, u8, u8); 3] = [
-            (449, 703, 191, 2),
-            (447, 703, 191, 2),
-            (100, 451, 195, 1),
-        ];
-
-        #[test]
-        fn recover() -> Result<(), Fail> { let rt = gen1_tests::testing::HostRuntime;
-            for link in BOTH {
-                for name in ["Recover", "Soft-Boiled"] {
-                    for (hp, healed, low, high) in RECOVERIES {
-                        let mut battle = chansey_at(hp)?;
-                        let health = Health::new(healed, 703, None).ok_or("no such health")?;
-                        let told = [Event::Heal(battle.who(USER), health)];
-                        plays(
-                            &rt,
-                            &mut battle,
-                            (name, 0, link),
-                            &told,
-                            0,
-                            &[(28, low), (29, high)],
-                        )?;
-                    }
-                }
-            }
-            Ok(())
-        }
-
-        // It replaces a paralysis, whose quartered Speed stays.
-        #[test]
-        fn rest() -> Result<(), Fail> { let rt = gen1_tests::testing::HostRuntime;
-            for link in BOTH {
-                let mut battle = chansey()?;
-                fails(&rt, &mut battle, ("Rest", 0, link), 0)?;
-                let mut before = EventList::new();
-                inflict(&mut battle, USER, Kind::Paralysis, 0, &mut before);
-                battle.put_hp(USER, 100);
-                let health = Health::new(703, 703, Some(Kind::Sleep)).ok_or("no such health")?;
-                let asleep = Event::Status(battle.who(USER), Kind::Sleep);
-                let healed = Event::Heal(battle.who(USER), health);
-                let changes = [(28, 191), (29, 2), (38, 2)];
-                plays(
-                    &rt,
-                    &mut battle,
-                    ("Rest", 0, link),
-                    &[asleep, healed],
-                    0,
-                    &changes,
-                )?;
-                assert_same(&rt, battle.current_stat(USER, Stat::Speed), 49);
-            }
-            Ok(())
-        }
-    }
-
-
-    struct EarlyEffects;
-
-    impl Operation for EarlyEffects {
-        fn apply<R: Rolls>(battle: &mut Packed, name: &str, random: &mut R) -> Result<EventList, Fail> {
-            let id = named(name)?;
-            if !is_early(id.effect()) {
-                return Err("no early effect")?;
-            }
-            let mut events = EventList::new();
-            group_one(battle, USER, id, random, &mut events);
-            Ok(events)
-        }
-
-        // The first three rise by 1.
-        fn link_numbers(byte: u8) -> [u8; 10] {
-            let next = byte.wrapping_add(1);
-            let then = byte.wrapping_add(2);
-            [byte, next, then, 0, 0, 0, 0, 0, 0, 0]
-        }
-    }
-
-    // Plays a move, and compares its events, its number of draws, and the bytes that it changes. Other bytes must stay as
-    // they are.
-    fn plays(
-        rt: &impl Abort,
-        battle: &mut Packed,
-        played: (&str, u8, bool),
-        told: &[Event],
-        draws: u8,
-        changes: &[(usize, u8)],
-    ) -> Result<(), Fail> {
-        let after = with(bytes_of(battle), changes);
-        let (events, drawn) = apply_from::<EarlyEffects>(battle, played)?;
-        let (name, _, _) = played;
-        assert_same(rt, (name, events.as_slice()), (name, told));
-        assert_same(rt, (name, drawn), (name, draws));
-        assert_same(rt, (name, battle.as_bytes()), (name, after.as_slice()));
-        Ok(())
-    }
-
-    // A move that fails and changes nothing.
-    fn fails(
-        rt: &impl Abort,
-        battle: &mut Packed,
-        played: (&str, u8, bool),
-        draws: u8,
-    ) -> Result<(), Fail> {
-        let told = [Event::Fail(battle.who(USER))];
-        plays(rt, battle, played, &told, draws, &[])
-    }
-}
-
-#[cfg(test)]
-mod example {
-    //! The example of crates/gen1_hits/CALLING.md: a hit, from the teams to its damage.
-    use crate::battles::assert_same;
+mod damage {
+    //! Damage: its numbers, its formula, types and factors, with worked values, and where it lands ([docs/MECHANICS.md](https://hibsuloy.example/gen1/blob/main/docs/MECHANICS.md), "Damage
+    //! formula", "Types", "Factors", "Landing").
+    use crate::battles::{assert_same, named};
+    use crate::script::{play, set_up};
     use arrayvec::ArrayVec;
-    use gen1::generated::hits::{critical, damage, factor, hit_test, numbers, type_steps};
+    use gen1::generated::hits::{
+        Numbers, critical, damage, damage_list, factor, has_usual_damage, hit_test, is_factor, numbers,
+        type_steps,
+    };
     use gen1::generated::layout::Packed;
     use gen1::generated::machine::Side;
-    use gen1::generated::rolls::LinkRandom;
+    use gen1::generated::rolls::{LinkRandom, Sweep};
     use gen1::generated::stats::{MemberSpec, Team};
     use gen1::generated::tables::{Element, MoveId, Species};
     use gen1_tests::testing::Fail;
 
+    // All 39 factors (docs/MECHANICS.md, "Damage numbers", "Damage formula", "Factors").
+    #[test]
+    fn body_slam() -> Result<(), Fail> { let rt = gen1_tests::testing::HostRuntime;
+        let battle = set_up("duel Tauros Tauros")?;
+        let slam = named("Body Slam")?;
+        let plain = numbers(&battle, Side::One, slam, false);
+        let expected = Numbers {
+            level: 100,
+            power: 85,
+            attack: 74,
+            defense: 72,
+            kind: Element::Normal,
+            own: [Element::Normal; 2],
+            foe: [Element::Normal; 2],
+            halved: false,
+        };
+        assert_same(&rt, plain, expected);
+        assert_same(&rt, damage(&plain), Some(75));
+        assert_same(&rt, type_steps(75, &plain), 112);
+        let list = damage_list(&plain).ok_or("no damage")?;
+        let worked = [
+            95, 95, 96, 96, 97, 97, 97, 98, 98, 99, 99, 100, 100, 101, 101, 101, 102, 102, 103, 103,
+            104, 104, 104, 105, 105, 106, 106, 107, 107, 108, 108, 108, 109, 109, 110, 110, 111, 111,
+            112,
+        ];
+        assert_same(&rt, list, worked);
+        let critical = numbers(&battle, Side::Two, slam, true);
+        assert_same(&rt, critical.level, 200);
+        let list = damage_list(&critical).ok_or("no damage")?;
+        assert_same(&rt, (list[0], list[38]), (184, 217));
+        Ok(())
+    }
+
+    // 75, then 37, then 74 (docs/MECHANICS.md, "Types").
+    #[test]
+    fn ice_on_gyarados() { let rt = gen1_tests::testing::HostRuntime;
+        let ice = Numbers {
+            level: 100,
+            power: 95,
+            attack: 100,
+            defense: 100,
+            kind: Element::Ice,
+            own: [Element::Normal; 2],
+            foe: [Element::Water, Element::Flying],
+            halved: false,
+        };
+        assert_same(&rt, type_steps(75, &ice), 74);
+        let water = Numbers {
+            foe: [Element::Water; 2],
+            ..ice
+        };
+        assert_same(&rt, type_steps(75, &water), 37);
+    }
+
+    // A Defense of 512 with Reflect is 1024. Divided by 4 it is 256, whose low byte is 0. An explosion halves it first, and a
+    // critical hit takes 288 / 4 (docs/MECHANICS.md, "Damage formula").
+    #[test]
+    fn a_divisor_of_0() { let rt = gen1_tests::testing::HostRuntime;
+        play(
+            &rt,
+            "duel Tauros Tauros; two.defense 10 512; two.flag reflect; usual Strength; gives none; usual Explosion; gives 999; against_critical Strength; gives 72",
+        );
+    }
+
+    // 42 * 40 * 74 / 72 / 50 + 2 is 36. With the foe's Reflect the 72 is 144 (docs/MECHANICS.md, "Hit on itself").
+    #[test]
+    fn a_hit_on_itself() { let rt = gen1_tests::testing::HostRuntime;
+        play(
+            &rt,
+            "duel Tauros Tauros; own; gives 36
+         one.flag reflect; own; gives 36
+         two.flag reflect; own; gives 19",
+        );
+    }
+
+    // Rotated right by 1 bit, 179 is 217, 178 is 89, 177 is 216 and 255 is 255 (docs/MECHANICS.md, "Factors").
+    #[test]
+    fn bytes_that_are_factors() { let rt = gen1_tests::testing::HostRuntime;
+        for (byte, taken) in [(179, true), (178, false), (177, false), (255, true)] {
+            assert_same(&rt, (byte, is_factor(byte)), (byte, taken));
+        }
+    }
+
+    // Draws until 217 (docs/MECHANICS.md, "Factors").
+    #[test]
+    fn factors_are_drawn() { let rt = gen1_tests::testing::HostRuntime;
+        let mut sweep = Sweep::new(0);
+        assert_same(&rt, factor(255, &mut sweep), 217);
+        assert_same(&rt, sweep, Sweep::new(180));
+        let mut late = Sweep::new(254);
+        assert_same(&rt, factor(255, &mut late), 255);
+        assert_same(&rt, late, Sweep::new(0));
+        assert_same(&rt, (factor(0, &mut late), factor(1, &mut late)), (0, 1));
+        assert_same(&rt, late, Sweep::new(0));
+        let seed = [1, 255, 0, 0, 0, 0, 0, 0, 0, 0];
+        let mut random = LinkRandom::new(seed);
+        assert_same(&rt, factor(1, &mut random), 1);
+        assert_same(&rt, random.index(), 0);
+        assert_same(&rt, factor(999, &mut random), 999);
+        assert_same(&rt, random.index(), 2);
+    }
+
+    // Power alone isn't enough (docs/MECHANICS.md, "Fixed damage and one-hit moves", "Counter").
+    #[test]
+    fn moves_with_the_usual_damage() -> Result<(), Fail> { let rt = gen1_tests::testing::HostRuntime;
+        let usual = [
+            has_usual_damage(named("Body Slam")?),
+            has_usual_damage(named("Growl")?),
+            has_usual_damage(named("Counter")?),
+            has_usual_damage(named("Seismic Toss")?),
+            has_usual_damage(named("Super Fang")?),
+            has_usual_damage(named("Guillotine")?),
+        ];
+        assert_same(&rt, usual, [true, false, false, false, false, false]);
+        Ok(())
+    }
+
+    // HP of the foe, which has 353 (docs/MECHANICS.md, "Order of events").
+    #[test]
+    fn hp_is_lost_and_gained() { let rt = gen1_tests::testing::HostRuntime;
+        play(
+            &rt,
+            "duel Persian Tauros; gain 1; told; lose 0 recoil; told
+         lose 53 recoil; told damage two 300/353 by recoil; is two.hp 300
+         gain 54; told heal two 353/353; is two.hp 353
+         lose 65535 brn; told damage two 0/353 by brn; lose 1 brn; told",
+        );
+    }
+
+    // On HP the last damage becomes at most the HP that were there (docs/MECHANICS.md, "Landing").
+    #[test]
+    fn damage_lands_on_hp() { let rt = gen1_tests::testing::HostRuntime;
+        play(
+            &rt,
+            "duel Persian Tauros; last 9; land 0; gives hp; told; is last 9, two.hp 353
+         land 75; gives hp; told damage two 278/353; is last 75, two.hp 278
+         land_on_hp 279 confusion; told damage two 0/353 by confusion; is last 278, two.hp 0",
+        );
+    }
+
+    // A Substitute holds damage of its HP, and then has none (docs/MECHANICS.md, "Landing").
+    #[test]
+    fn damage_lands_on_a_substitute() { let rt = gen1_tests::testing::HostRuntime;
+        play(
+            &rt,
+            "duel Persian Tauros; last 9; two.substitute 88; land 88; gives kept; told activate two Substitute; is two.substitute 0
+         land 0; gives hp; told
+         two.substitute 88; land 89; gives broke; told end two Substitute; is two.substitute none
+         two.substitute 249; land_on_substitute 256 249; gives true; told end two Substitute; is last 9, two.hp 353",
+        );
+    }
+
+    // The example of crates/gen1_hits/CALLING.md: a hit, from the teams to its damage (docs/MECHANICS.md, "Damage formula").
     #[test]
     fn a_hit_of_body_slam() -> Result<(), Fail> { let rt = gen1_tests::testing::HostRuntime;
         let slam = MoveId::from_name("Body Slam").ok_or("no such move")?;
@@ -1265,3986 +400,3628 @@ mod example {
 }
 
 #[cfg(test)]
-mod facing {
-    //! Two members that face each other, for the tests of hits and statuses. Each knows Strength and Dig, and has type Normal.
-    use crate::battles::{FOE, TAUROS, USER, member};
-    use gen1::generated::layout::Packed;
-    use gen1::generated::stats::Team;
-    use gen1::generated::tables::Element::Normal;
-    use gen1_tests::testing::Fail;
+mod early_effects {
+    //! Each early effect once ([docs/MECHANICS.md, "Early effects"](https://hibsuloy.example/gen1/blob/main/docs/MECHANICS.md#early-effects)). The places of bytes are those of [docs/LAYOUT.md](https://hibsuloy.example/gen1/blob/main/docs/LAYOUT.md): the user's
+    //! member begins at byte 24 and its active block at 168, those of the foe at 204 and 348.
+    use crate::script::{play, play_each};
 
-    const KNOWN: [&str; 2] = ["Strength", "Dig"];
-
-    // At level 100 with full DVs and experience.
-    fn full_team(name: &str) -> Result<Team, Fail> {
-        Ok(Team::new(&[member(name, 100, &KNOWN)?])?)
+    #[test]
+    fn moves_that_fail() { let rt = gen1_tests::testing::HostRuntime;
+        play_each(
+            &rt,
+            "move
+         Whirlwind
+         Roar
+         Teleport",
+            "pair Tauros; from 0; early $move; told fail one; draws 0; becomes",
+        );
     }
 
-    // The members of these teams with this Attack, Defense, Speed and Special.
-    fn facing(one: &Team, own: [u16; 4], two: &Team, foes: [u16; 4]) -> Packed {
-        let mut battle = Packed::new(one, two, [0; 10]);
-        battle.put_sent_out(USER, 1, Normal, Normal, own);
-        battle.put_sent_out(FOE, 1, Normal, Normal, foes);
-        battle
+    #[test]
+    fn splash() { let rt = gen1_tests::testing::HostRuntime;
+        play(&rt, "pair Tauros; from 0; early Splash; told activate one Splash; draws 0; becomes");
     }
 
-    // At level 100 with full DVs and experience: HP 353, Attack 298, Defense 288, Speed 318, Special 238.
-    pub(crate) fn two_tauros() -> Result<Packed, Fail> {
-        let team = full_team("Tauros")?;
-        Ok(facing(&team, TAUROS, &team, TAUROS))
+    // The numbers of Rock and Ground are 5 and 4.
+    #[test]
+    fn conversion() { let rt = gen1_tests::testing::HostRuntime;
+        play(
+            &rt,
+            "pair Tauros; two.types Rock Ground; from 0; early Conversion; told start one typechange; draws 0; bytes 169=5, 170=4
+         two.types Normal Normal; two.flag invulnerable; from 0; early Conversion; told fail one; draws 0; becomes",
+        );
     }
 
-    // A Persian against a Tauros, both at level 100 with full DVs and experience.
-    pub(crate) fn persian_and_tauros() -> Result<Packed, Fail> {
-        let (persian, tauros) = (full_team("Persian")?, full_team("Tauros")?);
-        Ok(facing(&persian, [238, 218, 328, 228], &tauros, TAUROS))
+    // With the place of its bit in the four bytes of conditions. A second use fails.
+    #[test]
+    fn what_stays_up() { let rt = gen1_tests::testing::HostRuntime;
+        play_each(
+            &rt,
+            "move         | byte
+         Mist         | 185=128
+         Focus Energy | 186=1
+         Light Screen | 186=64
+         Reflect      | 186=128",
+            "pair Tauros; from 0; early $move; told start one $move; draws 0; bytes $byte
+         from 0; early $move; told fail one; draws 0; becomes",
+        );
     }
 
-    // At level 100 with full DVs and experience: Speed 378.
-    pub(crate) fn two_electrode() -> Result<Packed, Fail> {
-        let team = full_team("Electrode")?;
-        let stats = [198, 238, 378, 258];
-        Ok(facing(&team, stats, &team, stats))
+    // At full HP, and after a loss of 255 or 511 HP, a recovery fails. For a maximum of 703, whose bytes are 191 and 2, half is
+    // 351. The bytes of 451 are 195 and 1.
+    #[test]
+    fn recoveries() { let rt = gen1_tests::testing::HostRuntime;
+        play_each(
+            &rt,
+            "move        | hp  | told             | bytes
+         Recover     | 449 | heal one 703/703 | 28=191, 29=2
+         Recover     | 447 | heal one 703/703 | 28=191, 29=2
+         Recover     | 100 | heal one 451/703 | 28=195, 29=1
+         Recover     | 703 | fail one         |
+         Recover     | 448 | fail one         |
+         Recover     | 192 | fail one         |
+         Soft-Boiled | 449 | heal one 703/703 | 28=191, 29=2
+         Soft-Boiled | 447 | heal one 703/703 | 28=191, 29=2
+         Soft-Boiled | 100 | heal one 451/703 | 28=195, 29=1
+         Soft-Boiled | 703 | fail one         |
+         Soft-Boiled | 448 | fail one         |
+         Soft-Boiled | 192 | fail one         |",
+            "pair Chansey; one.hp $hp; from 0; early $move; told $told; draws 0; bytes $bytes",
+        );
     }
 
-    // At level 1 without DVs or experience: Attack 5.
-    pub(crate) fn two_magikarp() -> Result<Packed, Fail> {
-        let mut magikarp = member("Magikarp", 1, &KNOWN)?;
-        magikarp.dvs = [0; 4];
-        magikarp.exp = [0; 5];
-        let team = Team::new(&[magikarp])?;
-        let stats = [5, 6, 6, 5];
-        Ok(facing(&team, stats, &team, stats))
+    // It fails at full HP. It replaces a paralysis, whose quartered Speed stays.
+    #[test]
+    fn rest() { let rt = gen1_tests::testing::HostRuntime;
+        play(
+            &rt,
+            "pair Chansey; from 0; early Rest; told fail one; draws 0; becomes
+         inflict one par 0; one.hp 100; from 0; early Rest; told status one slp, heal one 703/703 slp; draws 0; bytes 28=191, 29=2, 38=2; is one.speed 6 49",
+        );
+    }
+
+    // At 55, 85, 75 and 90 percent.
+    #[test]
+    fn moves_that_miss() { let rt = gen1_tests::testing::HostRuntime;
+        play_each(
+            &rt,
+            "move       | byte
+         Supersonic | 140
+         Toxic      | 216
+         Glare      | 191
+         Leech Seed | 229",
+            "pair Tauros; from $byte; early $move; told miss one; draws 1; becomes",
+        );
+    }
+
+    // The foe's types, its Substitute, and the draws.
+    #[test]
+    fn who_is_spared() { let rt = gen1_tests::testing::HostRuntime;
+        play_each(
+            &rt,
+            "types         | substitute | move          | byte | draws
+         Normal Normal | 88         | Supersonic    | 6    | 0
+         Normal Normal | 88         | Poison Powder | 0    | 0
+         Grass Poison  | none       | Poison Gas    | 0    | 0
+         Rock Ground   | none       | Thunder Wave  | 0    | 0
+         Normal Grass  | none       | Leech Seed    | 228  | 1",
+            "pair Tauros; two.types $types; two.substitute $substitute; from $byte; early $move; told fail one; draws $draws; becomes",
+        );
+    }
+
+    // The last draw that hits, the effect and its number of draws, and a move that fails then, with its number of draws.
+    //
+    // After 6 comes 7, whose low bits are 3, so that the count of the confusion is 5. A Speed of 318 becomes 79. The 2 added to
+    // the seed's 16 is the Substitute. Thunder Wave has no effect on a Ground type, and Glare has.
+    #[test]
+    fn what_is_brought_once() { let rt = gen1_tests::testing::HostRuntime;
+        play_each(
+            &rt,
+            "substitute | move          | byte | told                 | draws | bytes                  | again      | next
+         none       | Supersonic    | 6    | start two confusion  | 2     | 365=64, 370=5          | Supersonic | 1
+         none       | Toxic         | 215  | status two psn       | 1     | 218=8, 366=32          | Toxic      | 0
+         none       | Poison Powder | 190  | status two psn       | 1     | 218=8                  | Poison Gas | 0
+         88         | Thunder Wave  | 254  | status two par       | 1     | 218=64, 361=79, 362=0  | Stun Spore | 0
+         none       | Glare         | 190  | status two par       | 1     | 218=64, 361=79, 362=0  | Glare      | 0
+         88         | Leech Seed    | 228  | start two Leech Seed | 1     | 366=18                 | Leech Seed | 1",
+            "pair Tauros; two.substitute $substitute; from $byte; early $move; told $told; draws $draws; bytes $bytes
+         from 6; early $again; told fail one; draws $next; becomes",
+        );
+        play(
+            &rt,
+            "pair Tauros; two.types Rock Ground; from 190; early Glare; told status two par; draws 1; bytes 218=64, 361=79, 362=0",
+        );
+    }
+
+    // Both are burned, and their stages are changed. The user has Mist, Reflect and a Substitute. The foe was paralysed before,
+    // and is confused, seeded and badly poisoned, and has a disabled move. At the end the foe is frozen. The user's burn (16) and
+    // its Substitute with 88 HP stay: all else is as in a new battle.
+    #[test]
+    fn haze() { let rt = gen1_tests::testing::HostRuntime;
+        play(
+            &rt,
+            "pair Tauros; inflict one brn 0; one.flag mist; one.flag reflect; one.substitute 88; inflict two par 0
+         two.confused 3; two.flag seeded; two.bad_poison 5; two.disabled 1 4; two.special 8 476; two.evasion 12; one.accuracy 1; two.status frz
+         from 0; early Haze; told clear, cure two frz; draws 0; against pair Tauros; bytes 38=16, 186=2, 189=88",
+        );
+    }
+
+    // Whether the foe is skipped after Haze, by its status before.
+    #[test]
+    fn whom_haze_skips() { let rt = gen1_tests::testing::HostRuntime;
+        play_each(
+            &rt,
+            "status | skips
+         none   |
+         slp 1  | skips
+         psn    |
+         brn    |
+         frz    | skips
+         par    |",
+            "pair Tauros; two.status $status; sweep 0; early_knowing Haze; knows $skips",
+        );
     }
 }
 
 #[cfg(test)]
-mod first_hit {
-    //! The reports before the first hit ([docs/MECHANICS.md, "Order of events"](https://hibsuloy.example/gen1/blob/main/docs/MECHANICS.md#order-of-events), "Types").
-    use crate::battles::{FOE, USER, assert_same, assert_same_for, named, two_tauros};
-    use gen1::generated::hits::Known;
-    use gen1::generated::layout::Packed;
+mod hit_tests {
+    //! What is known of an action, critical draws and hit tests ([docs/MECHANICS.md, "Critical hits"](https://hibsuloy.example/gen1/blob/main/docs/MECHANICS.md#critical-hits), "Hit test", "Action", "Kept
+    //! accuracy"). Each draw is that of a sweep and of link numbers.
+    use crate::battles::{FOE, USER, assert_same, assert_told, named, species};
+    use crate::script::{play, set_up};
+    use gen1::generated::hits::{Known, critical_bound, note_miss};
     use gen1::generated::machine::{Event, EventList};
-    use gen1::generated::multiturn::hits;
-    use gen1::generated::rolls::Sweep;
     use gen1::generated::tables::Element::{
-        self, Dragon, Flying, Ghost, Grass, Ground, Normal, Poison, Rock, Water,
+        self, Bug, Dragon, Electric, Fighting, Fire, Flying, Ghost, Grass, Ground, Ice, Normal, Poison,
+        Psychic, Rock, Water,
     };
-    use gen1_tests::testing::Abort;
     use gen1_tests::testing::Fail;
 
-    // The events of a hit of damage 0, which writes no others.
-    fn told(
-        battle: &mut Packed,
-        name: &str,
-        foe: (Element, Element),
-        through_types: bool,
-        critical: bool,
-    ) -> Result<EventList, Fail> {
-        let id = named(name)?;
-        battle.put_types(FOE, foe.0, foe.1);
-        let mut known = Known {
-            through_types,
-            critical,
-            ..Known::new().begun(USER)
-        };
-        let mut random = Sweep::new(0);
-        let mut events = EventList::new();
-        hits(battle, USER, id, &mut known, &mut random, &mut events);
-        Ok(events)
-    }
-
-    // That each move reports only this against a foe of these types, which it goes through.
-    fn report(
-        rt: &impl Abort,
-        rows: &[(&str, Element, Element)],
-        critical: bool,
-        expected: &[Event],
-    ) -> Result<(), Fail> {
-        for (name, first, second) in rows {
-            let mut battle = two_tauros()?;
-            let events = told(&mut battle, name, (*first, *second), true, critical)?;
-            assert_same_for(rt, name, events.as_slice(), expected);
-        }
-        Ok(())
-    }
-
     #[test]
-    fn more_rows_of_20_are_super_effective() -> Result<(), Fail> { let rt = gen1_tests::testing::HostRuntime;
-        let rows = [
-            ("Thunderbolt", Water, Flying),
-            ("Ice Beam", Dragon, Flying),
-            ("Low Kick", Normal, Normal),
-            ("Low Kick", Normal, Rock),
-            ("Leech Life", Poison, Normal),
-        ];
-        let foe = two_tauros()?.who(FOE);
-        report(&rt, &rows, false, &[Event::SuperEffective(foe)])
-    }
-
-    #[test]
-    fn more_rows_of_5_are_resisted() -> Result<(), Fail> { let rt = gen1_tests::testing::HostRuntime;
-        let rows = [
-            ("Sludge", Poison, Ground),
-            ("Solar Beam", Grass, Grass),
-            ("Strength", Rock, Normal),
-            ("Thunderbolt", Grass, Normal),
-            ("Leech Life", Ghost, Normal),
-        ];
-        let foe = two_tauros()?.who(FOE);
-        report(&rt, &rows, true, &[Event::Crit(foe), Event::Resisted(foe)])
-    }
-
-    #[test]
-    fn as_many_of_either_tell_nothing() -> Result<(), Fail> { let rt = gen1_tests::testing::HostRuntime;
-        let rows = [
-            ("Ice Beam", Water, Flying),
-            ("Solar Beam", Water, Flying),
-            ("Earthquake", Grass, Poison),
-            ("Strength", Normal, Normal),
-            ("Strength", Ghost, Poison),
-        ];
-        report(&rt, &rows, false, &[])
-    }
-
-    #[test]
-    fn what_went_through_no_types_tells_nothing() -> Result<(), Fail> { let rt = gen1_tests::testing::HostRuntime;
-        let mut battle = two_tauros()?;
-        let events = told(&mut battle, "Thunderbolt", (Water, Flying), false, true)?;
-        assert_same(&rt, events.len(), 0);
-        Ok(())
-    }
-}
-
-#[cfg(test)]
-mod fixed_damage {
-    //! Fixed damage, Super Fang and Psywave ([docs/MECHANICS.md, "Fixed damage and one-hit moves"](https://hibsuloy.example/gen1/blob/main/docs/MECHANICS.md#fixed-damage-and-one-hit-moves)).
-    use crate::battles::{
-        FOE, LAST, OUTCOME, USER, assert_bytes, assert_same, assert_same_for, battle_of, bytes_of,
-        knowing, named, two_tauros, with,
-    };
-    use gen1::generated::hits::Known;
-    use gen1::generated::layout::Packed;
-    use gen1::generated::machine::Outcome;
-    use gen1::generated::multiturn::{fixed, fixed_knowing};
-    use gen1::generated::rolls::{LinkRandom, Rolls, Sweep};
-    use gen1_tests::testing::Fail;
-
-    // The user has this level, and its foe level 100.
-    fn of_level(level: u8) -> Result<Packed, Fail> {
-        battle_of(
-            &[knowing(level, &["Psywave"])?],
-            &[knowing(100, &["Strength"])?],
-        )
-    }
-
-    // A use of a move, after a damage of 75: whether it ended by the fault, and what is known afterwards.
-    fn used<R: Rolls>(battle: &mut Packed, name: &str, random: &mut R) -> Result<(bool, Known), Fail> {
-        battle.put_last_damage(75);
-        let mut known = Known::new().begun(USER);
-        let ended = fixed_knowing(battle, USER, named(name)?, &mut known, random);
-        Ok((ended, known))
-    }
-
-    // Psywave's damage in a sweep from this byte on, and the next draw after it.
-    fn waved(level: u8, byte: u8) -> Result<(Option<u16>, u8), Fail> {
-        let mut sweep = Sweep::new(byte);
-        let damage = fixed(&of_level(level)?, USER, named("Psywave")?, &mut sweep);
-        Ok((damage, sweep.draw()))
-    }
-
-    // The same with these link numbers, and the index after it.
-    fn waved_by_link(level: u8, seed: [u8; 10]) -> Result<(Option<u16>, u8), Fail> {
-        let mut link = LinkRandom::new(seed);
-        let damage = fixed(&of_level(level)?, USER, named("Psywave")?, &mut link);
-        Ok((damage, link.index()))
-    }
-
-    #[test]
-    fn numbers_of_moves() -> Result<(), Fail> { let rt = gen1_tests::testing::HostRuntime;
-        for (name, level, damage) in [
-            ("Sonic Boom", 100, 20),
-            ("Dragon Rage", 100, 40),
-            ("Seismic Toss", 100, 100),
-            ("Seismic Toss", 37, 37),
-            ("Night Shade", 1, 1),
-        ] {
-            let battle = of_level(level)?;
-            let mut sweep = Sweep::new(7);
-            let id = named(name)?;
-            assert_same_for(
-                &rt,
-                &name,
-                fixed(&battle, USER, id, &mut sweep),
-                Some(damage),
-            );
-            assert_same(&rt, sweep.draw(), 7);
-        }
-        Ok(())
-    }
-
-    #[test]
-    fn super_fang_takes_half() -> Result<(), Fail> { let rt = gen1_tests::testing::HostRuntime;
-        let mut battle = two_tauros()?;
-        let id = named("Super Fang")?;
-        let mut link = LinkRandom::new([9; 10]);
-        for (hp, damage) in [(353, 176), (88, 44), (3, 1), (2, 1), (1, 1)] {
-            battle.put_hp(FOE, hp);
-            assert_same(&rt, fixed(&battle, USER, id, &mut link), Some(damage));
-        }
-        assert_same(&rt, link.index(), 0);
-        Ok(())
-    }
-
-    #[test]
-    fn psywave_draws_below_its_top() -> Result<(), Fail> { let rt = gen1_tests::testing::HostRuntime;
-        // At level 100 draws must be below 150, at level 2 below 3, and at level 3 below 4. From 150 on it takes 106 draws up to 255, and
-        // then 0 and 1.
-        for (level, byte, damage, next) in [
-            (100, 1, 1, 2),
-            (100, 149, 149, 150),
-            (100, 150, 1, 2),
-            (2, 0, 1, 2),
-            (2, 2, 2, 3),
-            (2, 3, 1, 2),
-            (3, 3, 3, 4),
-            (3, 4, 1, 2),
-        ] {
-            assert_same(&rt, waved(level, byte)?, (Some(damage), next));
-        }
-        Ok(())
-    }
-
-    #[test]
-    fn psywave_by_link_numbers() -> Result<(), Fail> { let rt = gen1_tests::testing::HostRuntime;
-        let third = [200, 3, 2, 1, 0, 0, 0, 0, 0, 0];
-        // Nine zeros are all 1 after they are renewed: the tenth draw.
-        for (level, seed, damage, index) in [
-            (2, third, 2, 3),
-            (100, third, 3, 2),
-            (100, [0; 10], 1, 1),
-        ] {
-            assert_same(&rt, waved_by_link(level, seed)?, (Some(damage), index));
-        }
-        Ok(())
-    }
-
-    #[test]
-    fn psywave_at_level_1_is_a_fault() -> Result<(), Fail> { let rt = gen1_tests::testing::HostRuntime;
-        assert_same(&rt, waved(1, 1)?, (None, 1));
-        assert_same(&rt, waved_by_link(1, [1; 10])?, (None, 0));
-        // If it hits: 80 percent is the byte 204, and the outcome byte of Fault 2 is 5.
-        let mut battle = of_level(1)?;
-        let before = bytes_of(&battle);
-        let mut sweep = Sweep::new(203);
-        let (ended, known) = used(&mut battle, "Psywave", &mut sweep)?;
-        assert_same(&rt, (ended, known.missed), (true, false));
-        assert_same(&rt, battle.outcome(), Outcome::Fault(2));
-        assert_bytes(&rt, &battle, with(before, &[(OUTCOME, 5), (LAST, 75)]));
-        assert_same(&rt, sweep.draw(), 204);
-        // If it misses, it only misses.
-        let mut battle = of_level(1)?;
-        let (ended, known) = used(&mut battle, "Psywave", &mut Sweep::new(204))?;
-        assert_same(&rt, (ended, known.missed), (false, true));
-        assert_bytes(&rt, &battle, before);
-        Ok(())
-    }
-
-    #[test]
-    fn a_hit_test_comes_first() -> Result<(), Fail> { let rt = gen1_tests::testing::HostRuntime;
-        // By the type rows Night Shade has no effect on a Normal foe, but they don't count.
-        for (name, byte, damage) in [
-            ("Night Shade", 254, 100),
-            ("Seismic Toss", 254, 100),
-            ("Sonic Boom", 228, 20),
-            ("Dragon Rage", 254, 40),
-            ("Super Fang", 228, 176),
-        ] {
-            let mut battle = two_tauros()?;
-            let before = bytes_of(&battle);
-            let mut sweep = Sweep::new(byte);
-            let (ended, known) = used(&mut battle, name, &mut sweep)?;
-            assert_same(&rt, (ended, known.missed), (false, false));
-            assert_same(&rt, known.accuracy_tested, Some(byte + 1));
-            assert_same_for(
-                &rt,
-                &name,
-                bytes_of(&battle),
-                with(before, &[(LAST, damage)]),
-            );
-            // The next draw misses.
-            let (ended, known) = used(&mut battle, name, &mut sweep)?;
-            assert_same(&rt, (ended, known.missed), (false, true));
-            assert_same_for(&rt, &name, bytes_of(&battle), before);
-            assert_same(&rt, sweep.draw(), byte.wrapping_add(2));
-        }
-        Ok(())
-    }
-
-    #[test]
-    fn psywave_draws_after_its_hit_test() -> Result<(), Fail> { let rt = gen1_tests::testing::HostRuntime;
-        let mut battle = of_level(2)?;
-        let mut sweep = Sweep::new(1);
-        let (ended, known) = used(&mut battle, "Psywave", &mut sweep)?;
-        assert_same(
-            &rt,
-            (ended, known.missed, known.critical),
-            (false, false, false),
-        );
-        assert_same(&rt, (battle.last_damage(), sweep.draw()), (2, 3));
-        let mut link = LinkRandom::new([203, 9, 1, 0, 0, 0, 0, 0, 0, 0]);
-        let (ended, known) = used(&mut battle, "Psywave", &mut link)?;
-        assert_same(&rt, (ended, known.accuracy_tested), (false, Some(204)));
-        assert_same(&rt, (battle.last_damage(), link.index()), (1, 3));
-        Ok(())
-    }
-}
-
-#[cfg(test)]
-mod going_on {
-    //! Trapping and thrashing that go on, and trapping a foe that the move has no effect on ([docs/MECHANICS.md](https://hibsuloy.example/gen1/blob/main/docs/MECHANICS.md), "Going
-    //! on").
-    use crate::battles::{
-        FLAGS, FOE, KEPT, TURNS, USER, assert_bytes, assert_same, bytes_of, named, two_tauros, with,
-    };
-    use gen1::generated::hits::{Known, hit_or_miss, land, numbers, type_steps};
-    use gen1::generated::layout::{Conditions, Packed};
-    use gen1::generated::machine::{Event, EventList, Volatile};
-    use gen1::generated::multiturn::{thrash, thrash_knowing, trap, trap_knowing};
-    use gen1::generated::rolls::{LinkRandom, Rolls, Sweep};
-    use gen1::generated::tables::{Effect, Element};
-    use gen1_tests::testing::Fail;
-
-    // An action of the user that goes on.
-    fn going_on() -> Known {
-        Known {
+    fn an_action_begins() -> Result<(), Fail> { let rt = gen1_tests::testing::HostRuntime;
+        let last = Known {
+            side: USER,
             going_on: true,
-            ..Known::new().begun(USER)
-        }
-    }
-
-    // The events of the user's next turn of a thrashing move.
-    fn thrashed_on<R: Rolls>(
-        battle: &mut Packed,
-        name: &str,
-        random: &mut R,
-    ) -> Result<EventList, Fail> {
-        let id = named(name)?;
-        let mut events = EventList::new();
-        match id.effect() {
-            Effect::Thrash => {
-                thrash_knowing(battle, USER, id, &going_on(), random, &mut events);
-                Ok(events)
-            }
-            _ => Err(Fail::from("no thrashing move")),
-        }
-    }
-
-    #[test]
-    fn a_trap_goes_on() -> Result<(), Fail> { let rt = gen1_tests::testing::HostRuntime;
-        // A count of 0 stays 0, and the foe's Recharge isn't changed.
-        for (turns, left) in [(4, 3), (1, 0), (0, 0)] {
-            let mut battle = two_tauros()?;
-            battle.put_flag(FOE, Conditions::RECHARGE, true);
-            let before = bytes_of(&battle);
-            battle.put_trapping(USER, turns);
-            let mut sweep = Sweep::new(7);
-            trap_knowing(&mut battle, USER, &going_on(), &mut sweep);
-            assert_bytes(&rt, &battle, with(before, &[(FLAGS, 4), (TURNS, left)]));
-            assert_same(&rt, sweep.draw(), 7);
-        }
-        Ok(())
-    }
-
-    #[test]
-    fn thrashing_goes_on() -> Result<(), Fail> { let rt = gen1_tests::testing::HostRuntime;
-        let mut battle = two_tauros()?;
-        battle.put_kept_accuracy(USER, 255);
-        let before = bytes_of(&battle);
-        battle.put_thrash(USER, 3);
-        let mut sweep = Sweep::new(7);
-        for left in [2, 1] {
-            let events = thrashed_on(&mut battle, "Thrash", &mut sweep)?;
-            assert_bytes(&rt, &battle, with(before, &[(FLAGS, 2), (TURNS, left)]));
-            assert_same(&rt, events.len(), 0);
-        }
-        assert_same(&rt, sweep.draw(), 7);
-        Ok(())
-    }
-
-    #[test]
-    fn thrashing_ends_in_confusion() -> Result<(), Fail> { let rt = gen1_tests::testing::HostRuntime;
-        // Confused is bit 6, and its count is the low bits of one draw plus 2.
-        for (byte, count) in [(0, 2), (3, 5), (6, 4)] {
-            let mut battle = two_tauros()?;
-            battle.put_kept_accuracy(USER, 255);
-            let before = bytes_of(&battle);
-            battle.put_thrash(USER, 1);
-            let mut link = LinkRandom::new([byte; 10]);
-            let events = thrashed_on(&mut battle, "Petal Dance", &mut link)?;
-            assert_bytes(
-                &rt,
-                &battle,
-                with(before, &[(FLAGS, 64), (FLAGS + 5, count), (KEPT, 255)]),
-            );
-            let told = [Event::Start(battle.who(USER), Volatile::Confusion)];
-            assert_same(&rt, (events.as_slice(), link.index()), (told.as_slice(), 1));
-        }
-        Ok(())
-    }
-
-    // By the bytes alone, a second use goes on, without a draw.
-    #[test]
-    fn a_trap_that_is_on_goes_on() -> Result<(), Fail> { let rt = gen1_tests::testing::HostRuntime;
-        for (turns, left) in [(4, 3), (1, 0), (0, 0)] {
-            let mut battle = two_tauros()?;
-            battle.put_flag(FOE, Conditions::RECHARGE, true);
-            let before = bytes_of(&battle);
-            battle.put_trapping(USER, turns);
-            let mut sweep = Sweep::new(7);
-            trap(&mut battle, USER, &mut sweep);
-            assert_bytes(&rt, &battle, with(before, &[(FLAGS, 4), (TURNS, left)]));
-            assert_same(&rt, sweep.draw(), 7);
-        }
-        Ok(())
-    }
-
-    // The events of a use of Thrash, by the bytes alone.
-    fn thrashed<R: Rolls>(battle: &mut Packed, random: &mut R) -> EventList {
-        let mut events = EventList::new();
-        thrash(battle, USER, random, &mut events);
-        events
-    }
-
-    // 1 draws three turns. Each use takes one, and the next draw after the last is the count of the confusion.
-    #[test]
-    fn thrashing_that_is_on_goes_on() -> Result<(), Fail> { let rt = gen1_tests::testing::HostRuntime;
-        let mut battle = two_tauros()?;
-        let before = bytes_of(&battle);
-        let mut sweep = Sweep::new(1);
-        for left in [3, 2, 1] {
-            let events = thrashed(&mut battle, &mut sweep);
-            let now = with(before, &[(FLAGS, 2), (TURNS, left), (KEPT, 255)]);
-            assert_bytes(&rt, &battle, now);
-            assert_same(&rt, events.len(), 0);
-        }
-        let events = thrashed(&mut battle, &mut sweep);
-        let ended = with(before, &[(FLAGS, 64), (FLAGS + 5, 4), (KEPT, 255)]);
-        assert_bytes(&rt, &battle, ended);
-        let told = [Event::Start(battle.who(USER), Volatile::Confusion)];
-        assert_same(&rt, (events.as_slice(), sweep.draw()), (told.as_slice(), 3));
-        Ok(())
-    }
-
-    // Wrap on a Gengar: if it hits, at 215 for the byte 216, it holds the foe without damage.
-    #[test]
-    fn a_ghost_is_held_for_0() -> Result<(), Fail> { let rt = gen1_tests::testing::HostRuntime;
-        for (byte, held, turns) in [(215, true, 2), (216, false, 0)] {
-            let mut battle = two_tauros()?;
-            battle.put_types(FOE, Element::Ghost, Element::Poison);
-            let before = bytes_of(&battle);
-            let id = named("Wrap")?;
-            trap(&mut battle, USER, &mut Sweep::new(1));
-            let of_types = numbers(&battle, USER, id, false);
-            let damage = type_steps(23, &of_types);
-            assert_same(&rt, damage, 0);
-            battle.put_last_damage(damage);
-            let mut known = Known::new().begun(USER);
-            known.missed = true;
-            hit_or_miss(&mut battle, USER, id, &mut known, &mut Sweep::new(byte));
-            assert_same(&rt, battle.is_on(USER, Conditions::TRAPPING), held);
-            let mut events = EventList::new();
-            land(&mut battle, USER, damage, &mut events);
-            let flags = if held { 4 } else { 0 };
-            assert_bytes(
-                &rt,
-                &battle,
-                with(before, &[(FLAGS, flags), (TURNS, turns)]),
-            );
-            assert_same(&rt, events.len(), 0);
-        }
-        Ok(())
-    }
-}
-
-#[cfg(test)]
-mod hit_effects {
-    //! What follows a hit ([docs/MECHANICS.md, "Recoil, drain and explosion"](https://hibsuloy.example/gen1/blob/main/docs/MECHANICS.md#recoil-drain-and-explosion), "Going on", "Landing").
-    use crate::battles::{FOE, USER, assert_same, assert_same_for, assert_told, two_tauros};
-    use crate::setting::{healed, hit, hurt};
-    use gen1::generated::layout::Conditions;
-    use gen1::generated::machine::{DamageSource, Event, Volatile};
-    use gen1::generated::rolls::{LinkRandom, Sweep};
-    use gen1::generated::stats::Status;
-    use gen1_tests::testing::Fail;
-
-    // Recoil (docs/MECHANICS.md, "Recoil, drain and explosion").
-    #[test]
-    fn recoil_is_a_quarter_of_what_landed() -> Result<(), Fail> { let rt = gen1_tests::testing::HostRuntime;
-        // The foe's HP, the damage, the foe's HP after it, and the user's.
-        for (before, damage, foe, user) in [
-            (353, 100, 253, 328),
-            (353, 3, 350, 352),
-            (50, 100, 0, 341),
-            (353, 4, 349, 352),
-        ] {
-            let mut battle = two_tauros()?;
-            battle.put_hp(FOE, before);
-            battle.put_substitute(USER, Some(88));
-            let (_, events) = hit(&mut battle, "Take Down", damage, &mut Sweep::new(0))?;
-            let told = [
-                hurt(&battle, FOE, foe, DamageSource::Direct)?,
-                hurt(&battle, USER, user, DamageSource::Recoil)?,
-            ];
-            assert_told(&rt, &events, &told);
-            // The user's own Substitute doesn't take it.
-            assert_same(
-                &rt,
-                (battle.hp(USER), battle.substitute(USER)),
-                (user, Some(88)),
-            );
-        }
-        Ok(())
-    }
-
-    // Recoil, on a substitute (docs/MECHANICS.md, "Recoil, drain and explosion").
-    #[test]
-    fn recoil_comes_unless_a_substitute_broke() -> Result<(), Fail> { let rt = gen1_tests::testing::HostRuntime;
-        // Damage of 88 leaves a Substitute of 88 HP at 0, and a quarter of it is 22. Damage of 89 breaks it.
-        for (damage, user) in [(88, 331), (89, 353), (256, 353)] {
-            let mut battle = two_tauros()?;
-            battle.put_substitute(FOE, Some(88));
-            let (known, _) = hit(&mut battle, "Submission", damage, &mut Sweep::new(0))?;
-            assert_same(&rt, (battle.hp(USER), battle.hp(FOE)), (user, 353));
-            assert_same(&rt, known.broke, damage > 88);
-        }
-        Ok(())
-    }
-
-    // Drain (docs/MECHANICS.md, "Recoil, drain and explosion").
-    #[test]
-    fn drain_heals_half_of_what_landed() -> Result<(), Fail> { let rt = gen1_tests::testing::HostRuntime;
-        // The foe's HP, the damage, the user's HP before and after, and the last damage then.
-        for (foe, damage, before, after, last) in [
-            (353, 100, 300, 350, 50),
-            (353, 1, 100, 101, 1),
-            (30, 100, 200, 215, 15),
-            (353, 100, 330, 353, 50),
-        ] {
-            for name in ["Mega Drain", "Dream Eater"] {
-                let mut battle = two_tauros()?;
-                battle.put_hp(FOE, foe);
-                battle.put_hp(USER, before);
-                let (_, events) = hit(&mut battle, name, damage, &mut Sweep::new(0))?;
-                let told = healed(&battle, USER, after)?;
-                assert_same_for(&rt, &name, events.last(), Some(&told));
-                assert_same(&rt, (battle.hp(USER), battle.last_damage()), (after, last));
-            }
-        }
-        Ok(())
-    }
-
-    // Drain, with nothing to heal (docs/MECHANICS.md, "Recoil, drain and explosion").
-    #[test]
-    fn a_full_user_drains_without_an_event() -> Result<(), Fail> { let rt = gen1_tests::testing::HostRuntime;
-        let mut battle = two_tauros()?;
-        let (_, events) = hit(&mut battle, "Absorb", 40, &mut Sweep::new(0))?;
-        let told = [hurt(&battle, FOE, 313, DamageSource::Direct)?];
-        assert_told(&rt, &events, &told);
-        assert_same(&rt, battle.last_damage(), 20);
-        Ok(())
-    }
-
-    // Drain, on a substitute (docs/MECHANICS.md, "Recoil, drain and explosion").
-    #[test]
-    fn a_broken_substitute_heals_nobody() -> Result<(), Fail> { let rt = gen1_tests::testing::HostRuntime;
-        let mut battle = two_tauros()?;
-        battle.put_hp(USER, 100);
-        battle.put_substitute(FOE, Some(20));
-        let (_, events) = hit(&mut battle, "Leech Life", 40, &mut Sweep::new(0))?;
-        let told = [Event::End(battle.who(FOE), Volatile::Substitute)];
-        assert_told(&rt, &events, &told);
-        assert_same(&rt, (battle.hp(USER), battle.last_damage()), (100, 40));
-        Ok(())
-    }
-
-    // Explosion (docs/MECHANICS.md, "Recoil, drain and explosion").
-    #[test]
-    fn an_exploding_user_falls() -> Result<(), Fail> { let rt = gen1_tests::testing::HostRuntime;
-        let mut battle = two_tauros()?;
-        battle.put_status(USER, Status::Poisoned);
-        battle.put_flag(USER, Conditions::SEEDED, true);
-        let mut link = LinkRandom::new([9; 10]);
-        let (_, events) = hit(&mut battle, "Explosion", 200, &mut link)?;
-        let told = [hurt(&battle, FOE, 153, DamageSource::Direct)?];
-        assert_told(&rt, &events, &told);
+            letting_go: true,
+            missed: true,
+            critical: true,
+            through_types: true,
+            broke: true,
+            hits_made: 2,
+            hits_planned: Some(5),
+            accuracy_tested: Some(255),
+            skips: true,
+        };
+        let next = last.begun(FOE);
+        assert_same(&rt, (next.side, next.skips), (FOE, true));
         assert_same(
             &rt,
-            (battle.hp(USER), battle.status(USER)),
-            (0, Status::Healthy),
+            [
+                next.going_on,
+                next.letting_go,
+                next.missed,
+                next.critical,
+                next.through_types,
+                next.broke,
+            ],
+            [false; 6],
         );
-        assert_same(&rt, battle.is_on(USER, Conditions::SEEDED), false);
-        assert_same(&rt, link.index(), 0);
+        assert_same(
+            &rt,
+            (next.hits_made, next.hits_planned, next.accuracy_tested),
+            (0, None, None),
+        );
+        assert_same(&rt, Known::new().begun(FOE).skips, false);
         Ok(())
     }
 
-    // Explosion, on a substitute (docs/MECHANICS.md, "Recoil, drain and explosion").
+    // 85 percent is the byte 216.
     #[test]
-    fn an_exploding_user_that_breaks_a_substitute_lives() -> Result<(), Fail> { let rt = gen1_tests::testing::HostRuntime;
-        // If the Substitute holds, the user falls.
-        for (damage, user) in [(88, 0), (89, 353)] {
-            let mut battle = two_tauros()?;
-            battle.put_substitute(FOE, Some(88));
-            hit(&mut battle, "Self-Destruct", damage, &mut Sweep::new(0))?;
-            assert_same(&rt, (battle.hp(USER), battle.hp(FOE)), (user, 353));
+    fn a_new_action_tests_the_moves_accuracy() { let rt = gen1_tests::testing::HostRuntime;
+        play(
+            &rt,
+            "duel Tauros Tauros; last 75; one.trapping 3; one.kept 63
+         knowing; from 215; hit_or_miss Toxic; knows tested 216; draws 1; is last 75, one.trapping 3
+         knowing; from 216; hit_or_miss Toxic; knows missed, tested 216; draws 1; is last 0, one.trapping none",
+        );
+    }
+
+    // Guillotine's 76 becomes 19 at accuracy -6, which is stored as 0.
+    #[test]
+    fn a_new_action_tests_at_its_stage() { let rt = gen1_tests::testing::HostRuntime;
+        play(
+            &rt,
+            "duel Tauros Tauros; last 75; one.kept 63; one.accuracy 0
+         knowing; from 18; hit_or_miss Guillotine; knows tested 19; draws 1
+         knowing; from 19; hit_or_miss Guillotine; knows missed, tested 19; draws 1",
+        );
+    }
+
+    #[test]
+    fn what_goes_on_tests_the_kept_accuracy() { let rt = gen1_tests::testing::HostRuntime;
+        play(
+            &rt,
+            "duel Tauros Tauros; last 75; one.kept 63
+         knowing going_on; from 62; hit_or_miss Toxic; knows tested 63; draws 1
+         knowing going_on; from 63; hit_or_miss Toxic; knows missed, tested 63; draws 1",
+        );
+    }
+
+    // Swift is settled without a draw.
+    #[test]
+    fn what_has_missed_still_has() { let rt = gen1_tests::testing::HostRuntime;
+        play(
+            &rt,
+            "duel Tauros Tauros; last 75; knowing missed; from 255; hit_or_miss Swift; knows tested 255; draws 0; is last 75, one.trapping none",
+        );
+    }
+
+    #[test]
+    fn a_miss_ends_the_action() { let rt = gen1_tests::testing::HostRuntime;
+        play(
+            &rt,
+            "duel Tauros Tauros; last 75
+         knowing; sweep 254; must_hit Thunder Wave; gives false; told
+         knowing; sweep 255; must_hit Thunder Wave; gives true; told miss one
+         two.types Rock Ground; knowing; sweep 255; must_hit Thunder Wave; gives true; told immune two
+         two.types Normal Normal; two.flag invulnerable; knowing; sweep 0; must_hit Thunder Wave; gives true; told miss one",
+        );
+    }
+
+    // A move of each type.
+    const MOVES: [(Element, &str); 15] = [
+        (Normal, "Strength"),
+        (Fighting, "Submission"),
+        (Flying, "Fly"),
+        (Poison, "Toxic"),
+        (Ground, "Earthquake"),
+        (Rock, "Rock Slide"),
+        (Bug, "Twineedle"),
+        (Ghost, "Lick"),
+        (Fire, "Ember"),
+        (Water, "Surf"),
+        (Grass, "Razor Leaf"),
+        (Electric, "Thunderbolt"),
+        (Psychic, "Psychic"),
+        (Ice, "Blizzard"),
+        (Dragon, "Dragon Rage"),
+    ];
+
+    // The type rows of 0.
+    const IMMUNE: [(Element, Element); 6] = [
+        (Normal, Ghost),
+        (Fighting, Ghost),
+        (Ground, Flying),
+        (Ghost, Normal),
+        (Ghost, Psychic),
+        (Electric, Ground),
+    ];
+
+    #[test]
+    fn types_without_effect() -> Result<(), Fail> { let rt = gen1_tests::testing::HostRuntime;
+        let mut battle = set_up("duel Tauros Tauros; last 75")?;
+        for (kind, name) in MOVES {
+            let id = named(name)?;
+            for (foe, _) in MOVES {
+                let immune = IMMUNE.contains(&(kind, foe));
+                for (first, second) in [(foe, foe), (foe, Dragon), (Dragon, foe)] {
+                    battle.put_types(FOE, first, second);
+                    let mut events = EventList::new();
+                    note_miss(&battle, USER, id, &mut events);
+                    let told = if immune {
+                        Event::Immune(battle.who(FOE))
+                    } else {
+                        Event::Miss(battle.who(USER))
+                    };
+                    assert_told(&rt, &events, &[told]);
+                }
+            }
         }
         Ok(())
     }
 
-    // Rage (docs/MECHANICS.md, "Going on").
+    // Bounds and draws. Rotated left by 3, the byte 7 is 56, 39 is 57, 254 is 247, 255 stays, 1 is 8, and 2 is 16.
     #[test]
-    fn rage_starts_where_it_lands() -> Result<(), Fail> { let rt = gen1_tests::testing::HostRuntime;
-        let mut battle = two_tauros()?;
-        let (_, first) = hit(&mut battle, "Rage", 20, &mut Sweep::new(0))?;
-        let told = [
-            hurt(&battle, FOE, 333, DamageSource::Direct)?,
-            Event::Start(battle.who(USER), Volatile::Rage),
-        ];
-        assert_told(&rt, &first, &told);
-        let (_, second) = hit(&mut battle, "Rage", 20, &mut Sweep::new(0))?;
-        let told = [hurt(&battle, FOE, 313, DamageSource::Direct)?];
-        assert_told(&rt, &second, &told);
-        assert_same(&rt, battle.is_on(USER, Conditions::RAGE), true);
+    fn critical_hits() -> Result<(), Fail> { let rt = gen1_tests::testing::HostRuntime;
+        let persian = species("Persian")?;
+        for (focused, name, bound) in [
+            (false, "Slash", 255),
+            (false, "Strength", 57),
+            (true, "Slash", 112),
+            (true, "Strength", 14),
+        ] {
+            assert_same(&rt, critical_bound(persian, focused, named(name)?), bound);
+        }
+        play(
+            &rt,
+            "duel Persian Tauros
+         from 7; critical Strength; gives true; draws 1
+         from 39; critical Strength; gives false; draws 1
+         from 254; critical Slash; gives true; draws 1
+         from 255; critical Slash; gives false; draws 1
+         one.flag focus
+         from 1; critical Strength; gives true; draws 1
+         from 2; critical Strength; gives false; draws 1",
+        );
         Ok(())
     }
 
-    // A one-hit move, on HP and on a substitute (docs/MECHANICS.md, "Fixed damage and one-hit moves").
+    // Accuracy bytes. That of Guillotine is 76.
     #[test]
-    fn a_one_hit_move_tells_what_it_is() -> Result<(), Fail> { let rt = gen1_tests::testing::HostRuntime;
-        let mut battle = two_tauros()?;
-        let (_, events) = hit(&mut battle, "Guillotine", 65535, &mut Sweep::new(0))?;
-        let told = [
-            hurt(&battle, FOE, 0, DamageSource::Direct)?,
-            Event::OneHitKnockOut,
-        ];
-        assert_told(&rt, &events, &told);
-        let mut battle = two_tauros()?;
-        battle.put_substitute(FOE, Some(88));
-        let (_, events) = hit(&mut battle, "Guillotine", 65535, &mut Sweep::new(0))?;
-        let told = [
-            Event::End(battle.who(FOE), Volatile::Substitute),
-            Event::OneHitKnockOut,
-        ];
-        assert_told(&rt, &events, &told);
-        Ok(())
+    fn accuracy_between_stages() { let rt = gen1_tests::testing::HostRuntime;
+        play(
+            &rt,
+            "duel Persian Tauros; scaled 76; gives 76
+         one.accuracy 0; scaled 76; gives 19
+         two.evasion 12; scaled 76; gives 4
+         one.accuracy 12; scaled 255; gives 255
+         one.accuracy 0; two.evasion 0; scaled 255; gives 252",
+        );
+    }
+
+    // Draws of 254 and 255.
+    #[test]
+    fn no_draw_is_sure_to_hit() { let rt = gen1_tests::testing::HostRuntime;
+        play(
+            &rt,
+            "duel Persian Tauros; last 75; one.trapping 3
+         from 254; hit_test Strength; gives hit 255; draws 1; is last 75, one.trapping 3
+         from 255; hit_test Strength; gives miss 255; draws 1; is last 0, one.trapping none",
+        );
+    }
+
+    // Without a draw a move misses a foe that is out of reach, a Dream Eater one that is awake, and Growl one in a mist. Swift hits.
+    #[test]
+    fn settled_without_a_draw() { let rt = gen1_tests::testing::HostRuntime;
+        play(
+            &rt,
+            "duel Persian Tauros; two.flag invulnerable; last 75
+         from 255; hit_test Swift; gives hit 255; draws 0; is last 75
+         from 0; hit_test Strength; gives miss 255; draws 0; is last 0
+         duel Persian Tauros; from 0; hit_test Dream Eater; gives miss 255; draws 0
+         two.status slp 3; from 0; hit_test Dream Eater; gives hit 255; draws 1
+         from 0; hit_test Growl; gives hit 255; draws 1
+         two.flag mist; from 0; hit_test Growl; gives miss 255; draws 0
+         from 0; hit_test Strength; gives hit 255; draws 1",
+        );
+    }
+
+    // The byte that is kept.
+    #[test]
+    fn what_is_kept() { let rt = gen1_tests::testing::HostRuntime;
+        play(
+            &rt,
+            "duel Persian Tauros; one.accuracy 0
+         from 62; hit_test Strength; gives hit 63; draws 1
+         from 63; hit_test Strength; gives miss 63; draws 1",
+        );
     }
 }
 
 #[cfg(test)]
 mod hits {
-    //! The worked numbers of [docs/MECHANICS.md](https://hibsuloy.example/gen1/blob/main/docs/MECHANICS.md), for a member against a Tauros.
-    mod damage {
-        //! Worked values ([docs/MECHANICS.md, "Damage formula"](https://hibsuloy.example/gen1/blob/main/docs/MECHANICS.md#damage-formula), "Types", "Factors").
-        use crate::battles::{assert_same, named};
-        use crate::facing::two_tauros;
-        use gen1::generated::hits::{
-            Numbers, damage, damage_list, factor, has_usual_damage, is_factor, numbers, own_numbers,
-            type_steps,
-        };
-        use gen1::generated::layout::Conditions;
-        use gen1::generated::machine::Side;
-        use gen1::generated::rolls::{LinkRandom, Sweep};
-        use gen1::generated::tables::Element;
-        use gen1_tests::testing::Fail;
+    //! All hits of a move that hits, with their damage, what follows them, and what follows a miss ([docs/MECHANICS.md, "Many hits"](https://hibsuloy.example/gen1/blob/main/docs/MECHANICS.md#many-hits),
+    //! "Recoil, drain and explosion", "Going on", "Order of events"). The damage is the last damage. Both sides have a Tauros out: 353
+    //! HP.
+    use crate::script::{play, play_each};
 
-        // All 39 factors (docs/MECHANICS.md, "Damage numbers", "Damage formula", "Factors").
-        #[test]
-        fn body_slam() -> Result<(), Fail> { let rt = gen1_tests::testing::HostRuntime;
-            let battle = two_tauros()?;
-            let slam = named("Body Slam")?;
-            let plain = numbers(&battle, Side::One, slam, false);
-            let expected = Numbers {
-                level: 100,
-                power: 85,
-                attack: 74,
-                defense: 72,
-                kind: Element::Normal,
-                own: [Element::Normal; 2],
-                foe: [Element::Normal; 2],
-                halved: false,
-            };
-            assert_same(&rt, plain, expected);
-            assert_same(&rt, damage(&plain), Some(75));
-            assert_same(&rt, type_steps(75, &plain), 112);
-            let list = damage_list(&plain).ok_or("no damage")?;
-            let worked = [
-                95, 95, 96, 96, 97, 97, 97, 98, 98, 99, 99, 100, 100, 101, 101, 101, 102, 102, 103, 103,
-                104, 104, 104, 105, 105, 106, 106, 107, 107, 108, 108, 108, 109, 109, 110, 110, 111, 111,
-                112,
-            ];
-            assert_same(&rt, list, worked);
-            let critical = numbers(&battle, Side::Two, slam, true);
-            assert_same(&rt, critical.level, 200);
-            let list = damage_list(&critical).ok_or("no damage")?;
-            assert_same(&rt, (list[0], list[38]), (184, 217));
-            Ok(())
-        }
-
-        // 75, then 37, then 74 (docs/MECHANICS.md, "Types").
-        #[test]
-        fn ice_on_gyarados() { let rt = gen1_tests::testing::HostRuntime;
-            let ice = Numbers {
-                level: 100,
-                power: 95,
-                attack: 100,
-                defense: 100,
-                kind: Element::Ice,
-                own: [Element::Normal; 2],
-                foe: [Element::Water, Element::Flying],
-                halved: false,
-            };
-            assert_same(&rt, type_steps(75, &ice), 74);
-            let water = Numbers {
-                foe: [Element::Water; 2],
-                ..ice
-            };
-            assert_same(&rt, type_steps(75, &water), 37);
-        }
-
-        #[test]
-        fn a_divisor_of_0() -> Result<(), Fail> { let rt = gen1_tests::testing::HostRuntime;
-            let mut battle = two_tauros()?;
-            battle.put_defense(Side::Two, 10, 512);
-            battle.put_flag(Side::Two, Conditions::REFLECT, true);
-            let strength = numbers(&battle, Side::One, named("Strength")?, false);
-            assert_same(&rt, damage(&strength), None);
-            assert_same(&rt, damage_list(&strength), None);
-            let explosion = numbers(&battle, Side::One, named("Explosion")?, false);
-            assert_same(&rt, damage(&explosion), Some(999));
-            let critical = numbers(&battle, Side::One, named("Strength")?, true);
-            assert_same(&rt, critical.defense, 72);
-            Ok(())
-        }
-
-        // 42 * 40 * 74 / 72 / 50 + 2 is 36. With the foe's Reflect the 72 is 144 (docs/MECHANICS.md, "Hit on itself").
-        #[test]
-        fn a_hit_on_itself() -> Result<(), Fail> { let rt = gen1_tests::testing::HostRuntime;
-            let mut battle = two_tauros()?;
-            assert_same(&rt, damage(&own_numbers(&battle, Side::One)), Some(36));
-            battle.put_flag(Side::One, Conditions::REFLECT, true);
-            assert_same(&rt, damage(&own_numbers(&battle, Side::One)), Some(36));
-            battle.put_flag(Side::Two, Conditions::REFLECT, true);
-            assert_same(&rt, damage(&own_numbers(&battle, Side::One)), Some(19));
-            Ok(())
-        }
-
-        // Rotated right by 1 bit, 179 is 217, 178 is 89, 177 is 216 and 255 is 255 (docs/MECHANICS.md, "Factors").
-        #[test]
-        fn bytes_that_are_factors() { let rt = gen1_tests::testing::HostRuntime;
-            for (byte, taken) in [(179, true), (178, false), (177, false), (255, true)] {
-                assert_same(&rt, (byte, is_factor(byte)), (byte, taken));
-            }
-        }
-
-        // Draws until 217 (docs/MECHANICS.md, "Factors").
-        #[test]
-        fn factors_are_drawn() { let rt = gen1_tests::testing::HostRuntime;
-            let mut sweep = Sweep::new(0);
-            assert_same(&rt, factor(255, &mut sweep), 217);
-            assert_same(&rt, sweep, Sweep::new(180));
-            let mut late = Sweep::new(254);
-            assert_same(&rt, factor(255, &mut late), 255);
-            assert_same(&rt, late, Sweep::new(0));
-            assert_same(&rt, (factor(0, &mut late), factor(1, &mut late)), (0, 1));
-            assert_same(&rt, late, Sweep::new(0));
-            let seed = [1, 255, 0, 0, 0, 0, 0, 0, 0, 0];
-            let mut random = LinkRandom::new(seed);
-            assert_same(&rt, factor(1, &mut random), 1);
-            assert_same(&rt, random.index(), 0);
-            assert_same(&rt, factor(999, &mut random), 999);
-            assert_same(&rt, random.index(), 2);
-        }
-
-        // Power alone isn't enough (docs/MECHANICS.md, "Fixed damage and one-hit moves", "Counter").
-        #[test]
-        fn moves_with_the_usual_damage() -> Result<(), Fail> { let rt = gen1_tests::testing::HostRuntime;
-            let usual = [
-                has_usual_damage(named("Body Slam")?),
-                has_usual_damage(named("Growl")?),
-                has_usual_damage(named("Counter")?),
-                has_usual_damage(named("Seismic Toss")?),
-                has_usual_damage(named("Super Fang")?),
-                has_usual_damage(named("Guillotine")?),
-            ];
-            assert_same(&rt, usual, [true, false, false, false, false, false]);
-            Ok(())
-        }
+    // Moves that hit twice draw nothing.
+    #[test]
+    fn moves_that_hit_twice() { let rt = gen1_tests::testing::HostRuntime;
+        play_each(
+            &rt,
+            "move
+         Double Kick
+         Bonemerang
+         Twineedle",
+            "single; last 50; sweep 2; hits $move; told damage two 303/353, damage two 253/353, count two 2; knows made 2, planned 2; draws 0",
+        );
     }
 
-    mod knock_outs {
-        //! Chances to knock out, drain and recoil, worked out on paper or by another program ([docs/MECHANICS.md, "Landing"](https://hibsuloy.example/gen1/blob/main/docs/MECHANICS.md#landing), "Many
-        //! hits", "Recoil, drain and explosion").
-        use crate::battles::{FOE, USER, assert_same, named};
-        use crate::facing::{persian_and_tauros, two_tauros};
-        use gen1::generated::layout::{Conditions, Packed};
-        use gen1::generated::odds::{Between, HpChange, drained, knock_out, knock_out_in_three, recoil};
-        use gen1_tests::testing::Fail;
-
-        fn ways(battle: &Packed, name: &str) -> Result<[u64; 4], Fail> {
-            let chances = knock_out(battle, USER, named(name)?);
-            Ok([
-                chances.once,
-                chances.once_of,
-                chances.twice,
-                chances.twice_of,
-            ])
-        }
-
-        // Body Slam of a Tauros deals 95 to 112 to another, and 184 to 217 if it is critical, as 55 of 256 draws are. 255 of 256
-        // draws hit. With 100 HP left, 28 of the 39 factors are enough: 255 * 8 * (55 * 39 + 201 * 28) ways. The other numbers
-        // are from a sum over all pairs of uses in fractions, in Python.
-        #[test]
-        fn body_slam() -> Result<(), Fail> { let rt = gen1_tests::testing::HostRuntime;
-            let mut battle = two_tauros()?;
-            let all = 20_447_232;
-            let numbers = [
-                (100, 15_856_920, 417_362_401_198_080),
-                (207, 1_346_400, 284_909_644_252_800),
-                (220, 0, 166_329_072_604_800),
-            ];
-            for (hp, once, twice) in numbers {
-                battle.put_hp(FOE, hp);
-                assert_same(
-                    &rt,
-                    ways(&battle, "Body Slam")?,
-                    [once, all, twice, all * all],
-                );
-            }
-            Ok(())
-        }
-
-        #[test]
-        fn fixed_damage() -> Result<(), Fail> { let rt = gen1_tests::testing::HostRuntime;
-            let mut battle = two_tauros()?;
-            battle.put_hp(FOE, 100);
-            let [hit, all] = [255, 256];
-            let twice = all * all - 1;
-            assert_same(
-                &rt,
-                ways(&battle, "Night Shade")?,
-                [hit, all, twice, all * all],
-            );
-            battle.put_hp(FOE, 101);
-            assert_same(
-                &rt,
-                ways(&battle, "Night Shade")?,
-                [0, all, hit * hit, all * all],
-            );
-            // 204 of 256 draws hit. Of the numbers 1 to 149, 49 are at least 101. Of their pairs, 100 * 99 / 2 and no more have
-            // a sum of 100 or less.
-            let chances = ways(&battle, "Psywave")?;
-            let both = 204 * 204 * (149 * 149 - 4950);
-            let one = 2 * 204 * 52 * 149 * 49;
-            assert_same(
-                &rt,
-                chances,
-                [204 * 49, 256 * 149, both + one, 256 * 149 * 256 * 149],
-            );
-            Ok(())
-        }
-
-        // Super Fang leaves at least 1 HP, and halves what is left: 4, 2, 1. At 2 HP the second use is enough. It hits with 229 of
-        // 256 draws.
-        #[test]
-        fn super_fang() -> Result<(), Fail> { let rt = gen1_tests::testing::HostRuntime;
-            let mut battle = two_tauros()?;
-            battle.put_hp(FOE, 4);
-            assert_same(&rt, ways(&battle, "Super Fang")?, [0, 256, 0, 65_536]);
-            battle.put_hp(FOE, 2);
-            assert_same(
-                &rt,
-                ways(&battle, "Super Fang")?,
-                [0, 256, 229 * 229, 65_536],
-            );
-            // It takes 2 of a substitute, which is half of the HP, and 4 by two uses.
-            battle.put_hp(FOE, 4);
-            battle.put_substitute(FOE, Some(3));
-            let chances = knock_out(&battle, USER, named("Super Fang")?);
-            assert_same(
-                &rt,
-                (chances.once, chances.twice, chances.breaks_substitute),
-                (0, 229 * 229, 1),
-            );
-            Ok(())
-        }
-
-        // A damage equal to its HP leaves a substitute at 0 HP.
-        #[test]
-        fn substitutes() -> Result<(), Fail> { let rt = gen1_tests::testing::HostRuntime;
-            let mut battle = two_tauros()?;
-            for (hp, once) in [(99, 255), (100, 0)] {
-                battle.put_substitute(FOE, Some(hp));
-                assert_same(&rt, ways(&battle, "Seismic Toss")?[0], once);
-            }
-            // 76 of 256 draws hit, and Persian is the faster.
-            let mut battle = persian_and_tauros()?;
-            assert_same(&rt, ways(&battle, "Fissure")?[0], 76);
-            battle.put_substitute(FOE, Some(88));
-            assert_same(&rt, ways(&battle, "Fissure")?[0], 76);
-            battle.put_flag(FOE, Conditions::INVULNERABLE, true);
-            assert_same(&rt, ways(&battle, "Fissure")?, [0, 256, 0, 65_536]);
-            Ok(())
-        }
-
-        // The ways of one use and of two, and the two words of those of three.
-        fn three_ways(battle: &Packed, name: &str, changes: [(u16, u16); 2]) -> Result<[u64; 4], Fail> {
-            let [first, second] = changes;
-            let between = Between {
-                after_first: HpChange {
-                    gained: first.0,
-                    lost: first.1,
-                },
-                after_second: HpChange {
-                    gained: second.0,
-                    lost: second.1,
-                },
-            };
-            let chances = knock_out_in_three(battle, USER, named(name)?, &between);
-            Ok([
-                chances.once,
-                chances.twice,
-                chances.thrice.low,
-                chances.thrice.high,
-            ])
-        }
-
-        // The numbers are from a recursion over the HP that are left after each use, in fractions, in Python.
-        #[test]
-        fn three_body_slams() -> Result<(), Fail> { let rt = gen1_tests::testing::HostRuntime;
-            let mut battle = two_tauros()?;
-            let numbers = [
-                (
-                    100,
-                    [(0, 0), (0, 0)],
-                    [
-                        15_856_920,
-                        417_362_401_198_080,
-                        7_839_502_249_578_463_232,
-                        463,
-                    ],
-                ),
-                (
-                    353,
-                    [(0, 0), (0, 0)],
-                    [0, 19_147_625_640_000, 10_613_756_104_167_898_624, 236],
-                ),
-                (
-                    353,
-                    [(0, 22), (0, 44)],
-                    [0, 19_147_625_640_000, 15_877_631_471_881_568_256, 459],
-                ),
-                (
-                    300,
-                    [(176, 0), (0, 22)],
-                    [0, 0, 7_792_572_289_109_492_736, 54],
-                ),
-            ];
-            for (hp, changes, ways) in numbers {
-                battle.put_hp(FOE, hp);
-                assert_same(&rt, three_ways(&battle, "Body Slam", changes)?, ways);
-            }
-            Ok(())
-        }
-
-        // Night Shade takes 100. With 22 HP lost after the first use, two hits of three take 222 HP. Without HP a foe gains none.
-        #[test]
-        fn three_fixed_damages() -> Result<(), Fail> { let rt = gen1_tests::testing::HostRuntime;
-            let mut battle = two_tauros()?;
-            let two_of_three = 255 * 255 * 255 + 3 * 255 * 255;
-            let numbers = [
-                (
-                    "Night Shade",
-                    222,
-                    [(0, 22), (0, 0)],
-                    [0, 255 * 255, two_of_three, 0],
-                ),
-                (
-                    "Night Shade",
-                    222,
-                    [(0, 11), (0, 11)],
-                    [0, 0, two_of_three, 0],
-                ),
-                ("Night Shade", 300, [(176, 0), (0, 23)], [0, 0, 0, 0]),
-                (
-                    "Night Shade",
-                    100,
-                    [(353, 0), (0, 0)],
-                    [255, 255 * 256, 255 * 65_536, 0],
-                ),
-                (
-                    "Psywave",
-                    101,
-                    [(0, 10), (0, 10)],
-                    [9_996, 943_754_592, 48_339_659_086_272, 0],
-                ),
-                ("Super Fang", 8, [(0, 1), (0, 2)], [0, 0, 14_840_803, 0]),
-                ("Super Fang", 3, [(100, 0), (0, 60)], [0, 0, 15_007_744, 0]),
-            ];
-            for (name, hp, changes, ways) in numbers {
-                battle.put_hp(FOE, hp);
-                assert_same(&rt, three_ways(&battle, name, changes)?, ways);
-            }
-            // A substitute loses nothing between the uses.
-            battle.put_substitute(FOE, Some(221));
-            let ways = three_ways(&battle, "Night Shade", [(0, 22), (0, 22)])?;
-            assert_same(&rt, ways, [0, 0, 255 * 255 * 255, 0]);
-            Ok(())
-        }
-
-        #[test]
-        fn drain_and_recoil() -> Result<(), Fail> { let rt = gen1_tests::testing::HostRuntime;
-            for (name, damage, gain, cost) in [
-                ("Mega Drain", 75, 37, 0),
-                ("Absorb", 1, 1, 0),
-                ("Dream Eater", 200, 100, 0),
-                ("Double-Edge", 75, 0, 18),
-                ("Take Down", 3, 0, 1),
-                ("Struggle", 75, 0, 37),
-                ("Strength", 75, 0, 0),
-            ] {
-                let id = named(name)?;
-                assert_same(
-                    &rt,
-                    (name, drained(id, damage), recoil(id, damage)),
-                    (name, gain, cost),
-                );
-            }
-            Ok(())
-        }
+    // The first draw counts if its low bits are 0 or 1. Otherwise the next draw does.
+    #[test]
+    fn two_to_five_hits_are_drawn() { let rt = gen1_tests::testing::HostRuntime;
+        play_each(
+            &rt,
+            "byte | hits | draws | hp  | told
+         0    | 2    | 1     | 333 | damage two 343/353, damage two 333/353, count two 2
+         5    | 3    | 1     | 323 | damage two 343/353, damage two 333/353, damage two 323/353, count two 3
+         2    | 5    | 2     | 303 | damage two 343/353, damage two 333/353, damage two 323/353, damage two 313/353, damage two 303/353, count two 5
+         3    | 2    | 2     | 333 | damage two 343/353, damage two 333/353, count two 2
+         254  | 5    | 2     | 303 | damage two 343/353, damage two 333/353, damage two 323/353, damage two 313/353, damage two 303/353, count two 5",
+            "single; last 10; sweep $byte; hits Fury Attack; told $told; knows made $hits, planned $hits; draws $draws; is two.hp $hp",
+        );
     }
 
-    mod landing {
-        //! HP, landings, critical draws and hit tests: side 1's Persian against side 2's Tauros, which has 353 HP.
-        use crate::battles::{FOE, USER, assert_same, assert_told, named, species};
-        use crate::facing::persian_and_tauros;
-        use gen1::generated::hits::{
-            Hit, Landed, critical, critical_bound, gain_hp, hit_test, land, land_on_hp, land_on_substitute,
-            lose_hp, scaled_accuracy,
-        };
-        use gen1::generated::layout::{Conditions, Packed};
-        use gen1::generated::machine::{DamageSource, Event, EventList, Health, Volatile};
-        use gen1::generated::rolls::{LinkRandom, Sweep};
-        use gen1::generated::stats::Status;
-        use gen1::generated::tables::MoveId;
-        use gen1_tests::testing::Abort;
-        use gen1_tests::testing::Fail;
-
-        fn tauros_at(hp: u16) -> Result<Health, Fail> {
-            Ok(Health::new(hp, 353, None).ok_or("no such health")?)
-        }
-
-        // HP (docs/MECHANICS.md, "Order of events").
-        #[test]
-        fn hp_is_lost_and_gained() -> Result<(), Fail> { let rt = gen1_tests::testing::HostRuntime;
-            let mut battle = persian_and_tauros()?;
-            let mut events = EventList::new();
-            let side = FOE;
-            let tauros = battle.who(side);
-            gain_hp(&mut battle, side, 1, &mut events);
-            lose_hp(&mut battle, side, DamageSource::Recoil, 0, &mut events);
-            assert_same(&rt, events.len(), 0);
-            lose_hp(&mut battle, side, DamageSource::Recoil, 53, &mut events);
-            assert_same(&rt, battle.hp(side), 300);
-            gain_hp(&mut battle, side, 54, &mut events);
-            assert_same(&rt, battle.hp(side), 353);
-            lose_hp(&mut battle, side, DamageSource::Burn, 65535, &mut events);
-            lose_hp(&mut battle, side, DamageSource::Burn, 1, &mut events);
-            assert_told(
-                &rt,
-                &events,
-                &[
-                    Event::Damage(tauros, tauros_at(300)?, DamageSource::Recoil),
-                    Event::Heal(tauros, tauros_at(353)?),
-                    Event::Damage(tauros, tauros_at(0)?, DamageSource::Burn),
-                ],
-            );
-            Ok(())
-        }
-
-        // This much damage of side 1: where it lands, and the events.
-        fn lands(rt: &impl Abort, battle: &mut Packed, damage: u16, landed: Landed, told: &[Event]) {
-            let mut events = EventList::new();
-            let answer = land(battle, USER, damage, &mut events);
-            assert_same(rt, answer, landed);
-            assert_told(rt, &events, told);
-        }
-
-        // The last damage, and the foe's HP.
-        fn has(rt: &impl Abort, battle: &Packed, last_damage: u16, hp: u16) {
-            assert_same(
-                rt,
-                (battle.last_damage(), battle.hp(FOE)),
-                (last_damage, hp),
-            );
-        }
-
-        // Landings (docs/MECHANICS.md, "Landing").
-        #[test]
-        fn damage_lands_on_hp() -> Result<(), Fail> { let rt = gen1_tests::testing::HostRuntime;
-            let mut battle = persian_and_tauros()?;
-            let tauros = battle.who(FOE);
-            battle.put_last_damage(9);
-            lands(&rt, &mut battle, 0, Landed::Hp, &[]);
-            has(&rt, &battle, 9, 353);
-            let hurt = [Event::Damage(tauros, tauros_at(278)?, DamageSource::Direct)];
-            lands(&rt, &mut battle, 75, Landed::Hp, &hurt);
-            has(&rt, &battle, 75, 278);
-            let mut events = EventList::new();
-            land_on_hp(&mut battle, FOE, DamageSource::Confusion, 279, &mut events);
-            has(&rt, &battle, 278, 0);
-            let fallen = [Event::Damage(tauros, tauros_at(0)?, DamageSource::Confusion)];
-            assert_told(&rt, &events, &fallen);
-            Ok(())
-        }
-
-        fn has_substitute(rt: &impl Abort, battle: &Packed, hp: Option<u8>) {
-            assert_same(rt, battle.substitute(FOE), hp);
-        }
-
-        // Landings (docs/MECHANICS.md, "Landing").
-        #[test]
-        fn damage_lands_on_a_substitute() -> Result<(), Fail> { let rt = gen1_tests::testing::HostRuntime;
-            let mut battle = persian_and_tauros()?;
-            let holds = [Event::Activate(battle.who(FOE), Volatile::Substitute)];
-            let breaks = [Event::End(battle.who(FOE), Volatile::Substitute)];
-            battle.put_last_damage(9);
-            battle.put_substitute(FOE, Some(88));
-            lands(&rt, &mut battle, 88, Landed::Kept, &holds);
-            has_substitute(&rt, &battle, Some(0));
-            lands(&rt, &mut battle, 0, Landed::Hp, &[]);
-            battle.put_substitute(FOE, Some(88));
-            lands(&rt, &mut battle, 89, Landed::Broke, &breaks);
-            has_substitute(&rt, &battle, None);
-            battle.put_substitute(FOE, Some(249));
-            let mut events = EventList::new();
-            let broke = land_on_substitute(&mut battle, FOE, 256, 249, &mut events);
-            assert_same(&rt, broke, true);
-            assert_told(&rt, &events, &breaks);
-            has(&rt, &battle, 9, 353);
-            Ok(())
-        }
-
-        // The critical draw of side 1 with each generator, when it draws this byte.
-        fn draws_critical(rt: &impl Abort, battle: &Packed, id: MoveId, byte: u8, is: bool) {
-            let mut sweep = Sweep::new(byte);
-            let mut link = LinkRandom::new([byte; 10]);
-            let by_sweep = critical(battle, USER, id, &mut sweep);
-            let by_link = critical(battle, USER, id, &mut link);
-            assert_same(rt, [by_sweep, by_link], [is; 2]);
-            assert_same(
-                rt,
-                (sweep, link.index()),
-                (Sweep::new(byte.wrapping_add(1)), 1),
-            );
-        }
-
-        // Bounds and draws (docs/MECHANICS.md, "Critical hits").
-        #[test]
-        fn critical_hits() -> Result<(), Fail> { let rt = gen1_tests::testing::HostRuntime;
-            let persian = species("Persian")?;
-            let slash = named("Slash")?;
-            let strength = named("Strength")?;
-            assert_same(&rt, critical_bound(persian, false, slash), 255);
-            assert_same(&rt, critical_bound(persian, false, strength), 57);
-            assert_same(&rt, critical_bound(persian, true, slash), 112);
-            assert_same(&rt, critical_bound(persian, true, strength), 14);
-            let mut battle = persian_and_tauros()?;
-            // Rotated left by 3, the byte 7 is 56, 39 is 57, 254 is 247, and 255 stays.
-            draws_critical(&rt, &battle, strength, 7, true);
-            draws_critical(&rt, &battle, strength, 39, false);
-            draws_critical(&rt, &battle, slash, 254, true);
-            draws_critical(&rt, &battle, slash, 255, false);
-            // 1 is 8, and 2 is 16.
-            battle.put_flag(USER, Conditions::FOCUS_ENERGY, true);
-            draws_critical(&rt, &battle, strength, 1, true);
-            draws_critical(&rt, &battle, strength, 2, false);
-            Ok(())
-        }
-
-        // Accuracy bytes (docs/MECHANICS.md, "Hit test").
-        #[test]
-        fn accuracy_between_stages() -> Result<(), Fail> { let rt = gen1_tests::testing::HostRuntime;
-            let mut battle = persian_and_tauros()?;
-            let guillotine = named("Guillotine")?.accuracy_byte();
-            assert_same(&rt, scaled_accuracy(&battle, USER, guillotine), 76);
-            battle.put_accuracy(USER, 0);
-            assert_same(&rt, scaled_accuracy(&battle, USER, guillotine), 19);
-            battle.put_evasion(FOE, 12);
-            assert_same(&rt, scaled_accuracy(&battle, USER, guillotine), 4);
-            battle.put_accuracy(USER, 12);
-            assert_same(&rt, scaled_accuracy(&battle, USER, 255), 255);
-            battle.put_accuracy(USER, 0);
-            battle.put_evasion(FOE, 0);
-            assert_same(&rt, scaled_accuracy(&battle, USER, 255), 252);
-            Ok(())
-        }
-
-        // The hit test of a move of side 1 with each generator, when it draws this byte next, and the number of draws.
-        fn hits(rt: &impl Abort, battle: &mut Packed, id: MoveId, byte: u8, hit: Hit, draws: u8) {
-            let base = id.accuracy_byte();
-            let mut sweep = Sweep::new(byte);
-            let mut link = LinkRandom::new([byte; 10]);
-            let by_sweep = hit_test(battle, USER, id, base, &mut sweep);
-            let by_link = hit_test(battle, USER, id, base, &mut link);
-            assert_same(rt, [by_sweep, by_link], [hit; 2]);
-            assert_same(
-                rt,
-                (sweep, link.index()),
-                (Sweep::new(byte.wrapping_add(draws)), draws),
-            );
-        }
-
-        fn has_last_damage(rt: &impl Abort, battle: &Packed, damage: u16) {
-            assert_same(rt, battle.last_damage(), damage);
-        }
-
-        const HIT: Hit = Hit {
-            hit: true,
-            kept: 255,
-        };
-
-        const MISSED: Hit = Hit {
-            hit: false,
-            kept: 255,
-        };
-
-        // Draws of 254 and 255 (docs/MECHANICS.md, "Hit test").
-        #[test]
-        fn no_draw_is_sure_to_hit() -> Result<(), Fail> { let rt = gen1_tests::testing::HostRuntime;
-            let mut battle = persian_and_tauros()?;
-            let strength = named("Strength")?;
-            battle.put_last_damage(75);
-            battle.put_trapping(USER, 3);
-            hits(&rt, &mut battle, strength, 254, HIT, 1);
-            has_last_damage(&rt, &battle, 75);
-            assert_same(&rt, battle.trapping(USER), Some(3));
-            hits(&rt, &mut battle, strength, 255, MISSED, 1);
-            has_last_damage(&rt, &battle, 0);
-            assert_same(&rt, battle.trapping(USER), None);
-            Ok(())
-        }
-
-        // Without a draw (docs/MECHANICS.md, "Hit test").
-        #[test]
-        fn a_foe_out_of_reach() -> Result<(), Fail> { let rt = gen1_tests::testing::HostRuntime;
-            let mut battle = persian_and_tauros()?;
-            battle.put_flag(FOE, Conditions::INVULNERABLE, true);
-            battle.put_last_damage(75);
-            hits(&rt, &mut battle, named("Swift")?, 255, HIT, 0);
-            has_last_damage(&rt, &battle, 75);
-            hits(&rt, &mut battle, named("Strength")?, 0, MISSED, 0);
-            has_last_damage(&rt, &battle, 0);
-            Ok(())
-        }
-
-        // Without a draw (docs/MECHANICS.md, "Hit test").
-        #[test]
-        fn dreams_and_mist() -> Result<(), Fail> { let rt = gen1_tests::testing::HostRuntime;
-            let mut battle = persian_and_tauros()?;
-            let dream_eater = named("Dream Eater")?;
-            let growl = named("Growl")?;
-            hits(&rt, &mut battle, dream_eater, 0, MISSED, 0);
-            battle.put_status(
-                FOE,
-                Status::Asleep {
-                    turns: 3,
-                    marked: false,
-                },
-            );
-            hits(&rt, &mut battle, dream_eater, 0, HIT, 1);
-            hits(&rt, &mut battle, growl, 0, HIT, 1);
-            battle.put_flag(FOE, Conditions::MIST, true);
-            hits(&rt, &mut battle, growl, 0, MISSED, 0);
-            hits(&rt, &mut battle, named("Strength")?, 0, HIT, 1);
-            Ok(())
-        }
-
-        // The byte that is kept (docs/MECHANICS.md, "Kept accuracy").
-        #[test]
-        fn what_is_kept() -> Result<(), Fail> { let rt = gen1_tests::testing::HostRuntime;
-            let mut battle = persian_and_tauros()?;
-            battle.put_accuracy(USER, 0);
-            let kept = |hit| Hit { hit, kept: 63 };
-            let strength = named("Strength")?;
-            hits(&rt, &mut battle, strength, 62, kept(true), 1);
-            hits(&rt, &mut battle, strength, 63, kept(false), 1);
-            Ok(())
-        }
+    // Both 2 and 6 have 2 in their low bits.
+    #[test]
+    fn four_hits_take_two_draws() { let rt = gen1_tests::testing::HostRuntime;
+        play(
+            &rt,
+            "single; last 7; link 2 6; hits Barrage; told damage two 346/353, damage two 339/353, damage two 332/353, damage two 325/353, count two 4; knows made 4, planned 4; draws 2; is two.hp 325, last 7",
+        );
     }
 
-    mod odds {
-        //! The odds of a use of a move, worked out on paper ([docs/MECHANICS.md, "Critical hits"](https://hibsuloy.example/gen1/blob/main/docs/MECHANICS.md#critical-hits), "Hit test", "Early effects", "Late
-        //! effects", "Side effects").
-        use crate::battles::{FOE, USER, assert_same, named};
-        use crate::facing::{persian_and_tauros, two_tauros};
-        use gen1::generated::layout::{Conditions, Packed};
-        use gen1::generated::machine::{DisabledSlot, Side, UsedMove};
-        use gen1::generated::odds::{Odds, Reason, odds_of, takes_hit_test};
-        use gen1::generated::stats::Status;
-        use gen1::generated::tables::Element;
-        use gen1_tests::testing::Abort;
-        use gen1_tests::testing::Fail;
+    // Five hits of 10 are drawn. A Substitute of 25 HP takes two, and breaks at the third. Of 25 HP, the third hit takes 5. The count
+    // is drawn where the first hit fells.
+    #[test]
+    fn what_ends_the_hits() { let rt = gen1_tests::testing::HostRuntime;
+        play(
+            &rt,
+            "single; two.substitute 25; last 10; sweep 2; hits Pin Missile; told activate two Substitute, activate two Substitute, end two Substitute, count two 3; knows broke, made 3, planned 5; is two.hp 353, two.substitute none
+         single; two.hp 25; last 10; sweep 2; hits Comet Punch; told damage two 15/353, damage two 5/353, damage two 0/353, count two 3; knows made 3, planned 5; is last 5
+         single; two.hp 10; last 10; sweep 0; hits Spike Cannon; told damage two 0/353, count two 1; knows made 1, planned 2; draws 1",
+        );
+    }
 
-        fn odds(battle: &Packed, side: Side, name: &str) -> Result<Odds, Fail> {
-            Ok(odds_of(battle, side, named(name)?))
-        }
+    #[test]
+    fn a_first_hit_that_breaks_plans_none() { let rt = gen1_tests::testing::HostRuntime;
+        play_each(
+            &rt,
+            "move
+         Fury Swipes
+         Double Kick",
+            "single; two.substitute 9; last 10; sweep 2; hits $move; told end two Substitute; knows broke, made 1; draws 0",
+        );
+    }
 
-        fn assert_hits(
-            rt: &impl Abort,
-            battle: &Packed,
-            side: Side,
-            name: &str,
-            draws: u16,
-        ) -> Result<(), Fail> {
-            let odds = odds(battle, side, name)?;
-            assert_same(rt, (name, odds.hit_draws, odds.reason), (name, draws, 0));
-            Ok(())
-        }
+    // More rows of 20 than of 5 are super effective, and more rows of 5 are resisted. As many of either report nothing. A hit of
+    // damage 0 writes no other events (docs/MECHANICS.md, "Order of events", "Types").
+    #[test]
+    fn the_reports_before_the_first_hit() { let rt = gen1_tests::testing::HostRuntime;
+        play_each(
+            &rt,
+            "move        | types         | known                   | told
+         Thunderbolt | Water Flying  | through_types           | super two
+         Ice Beam    | Dragon Flying | through_types           | super two
+         Low Kick    | Normal Normal | through_types           | super two
+         Low Kick    | Normal Rock   | through_types           | super two
+         Leech Life  | Poison Normal | through_types           | super two
+         Sludge      | Poison Ground | through_types, critical | crit two, resisted two
+         Solar Beam  | Grass Grass   | through_types, critical | crit two, resisted two
+         Strength    | Rock Normal   | through_types, critical | crit two, resisted two
+         Thunderbolt | Grass Normal  | through_types, critical | crit two, resisted two
+         Leech Life  | Ghost Normal  | through_types, critical | crit two, resisted two
+         Ice Beam    | Water Flying  | through_types           |
+         Solar Beam  | Water Flying  | through_types           |
+         Earthquake  | Grass Poison  | through_types           |
+         Strength    | Normal Normal | through_types           |
+         Strength    | Ghost Poison  | through_types           |
+         Thunderbolt | Water Flying  | critical                |",
+            "single; two.types $types; knowing $known; sweep 0; hits $move; told $told",
+        );
+    }
 
-        fn assert_fails(
-            rt: &impl Abort,
-            battle: &Packed,
-            side: Side,
-            name: &str,
-            why: Reason,
-        ) -> Result<(), Fail> {
-            let odds = odds(battle, side, name)?;
-            assert_same(
-                rt,
-                (name, odds.hit_draws, odds.reason),
-                (name, 0, why.number()),
-            );
-            Ok(())
-        }
+    // Recoil is a quarter of what landed. The user's own Substitute doesn't take it.
+    #[test]
+    fn recoil() { let rt = gen1_tests::testing::HostRuntime;
+        play_each(
+            &rt,
+            "hp  | damage | user | told
+         353 | 100    | 328  | damage two 253/353, damage one 328/353 by recoil
+         353 | 3      | 352  | damage two 350/353, damage one 352/353 by recoil
+         50  | 100    | 341  | damage two 0/353, damage one 341/353 by recoil
+         353 | 4      | 352  | damage two 349/353, damage one 352/353 by recoil",
+            "single; two.hp $hp; one.substitute 88; last $damage; sweep 0; hits Take Down; told $told; is one.hp $user, one.substitute 88",
+        );
+    }
 
-        // Persian's base Speed is 115, so 57 of 256 draws are critical, and 255 with Slash. With Focus Energy they are 14 and
-        // 112.
-        #[test]
-        fn chances_of_persian() -> Result<(), Fail> { let rt = gen1_tests::testing::HostRuntime;
-            let mut battle = persian_and_tauros()?;
-            for (focused, few, many) in [(false, 57, 255), (true, 14, 112)] {
-                battle.put_flag(USER, Conditions::FOCUS_ENERGY, focused);
-                assert_same(&rt, odds(&battle, USER, "Strength")?.critical_draws, few);
-                assert_same(&rt, odds(&battle, USER, "Slash")?.critical_draws, many);
-            }
-            Ok(())
-        }
+    // Damage of 88 leaves a Substitute of 88 HP at 0, and a quarter of it is 22. Damage of 89 breaks it, and then there is none.
+    #[test]
+    fn recoil_comes_unless_a_substitute_broke() { let rt = gen1_tests::testing::HostRuntime;
+        play_each(
+            &rt,
+            "damage | user | knows
+         88     | 331  | made 1
+         89     | 353  | broke, made 1
+         256    | 353  | broke, made 1",
+            "single; two.substitute 88; last $damage; sweep 0; hits Submission; knows $knows; is one.hp $user, two.hp 353",
+        );
+    }
 
-        // 100, 70, 60, 55 and 30 percent in 255ths. Swift hits without a draw.
-        #[test]
-        fn accuracies() -> Result<(), Fail> { let rt = gen1_tests::testing::HostRuntime;
-            let battle = persian_and_tauros()?;
-            let accuracies = [
-                ("Strength", 255),
-                ("Thunder", 178),
-                ("Hypnosis", 153),
-                ("Sing", 140),
-                ("Fissure", 76),
-                ("Swift", 256),
-                ("Rage", 255),
-                ("Swords Dance", 256),
-                ("Splash", 256),
-                ("Bide", 256),
-                ("Haze", 256),
-            ];
-            for (name, draws) in accuracies {
-                assert_hits(&rt, &battle, USER, name, draws)?;
-            }
-            Ok(())
-        }
+    // Half of what landed is healed, at least 1, and becomes the last damage. A full user drains without an event.
+    #[test]
+    fn drain() { let rt = gen1_tests::testing::HostRuntime;
+        play_each(
+            &rt,
+            "foe | damage | user | after | last | told
+         353 | 100    | 300  | 350   | 50   | damage two 253/353, heal one 350/353
+         353 | 1      | 100  | 101   | 1    | damage two 352/353, heal one 101/353
+         30  | 100    | 200  | 215   | 15   | damage two 0/353, heal one 215/353
+         353 | 100    | 330  | 353   | 50   | damage two 253/353, heal one 353/353",
+            "single; two.hp $foe; one.hp $user; last $damage; sweep 0; hits Mega Drain; told $told; is one.hp $after, last $last
+         single; two.hp $foe; one.hp $user; last $damage; sweep 0; hits Dream Eater; told $told; is one.hp $after, last $last",
+        );
+        play(
+            &rt,
+            "single; last 40; sweep 0; hits Absorb; told damage two 313/353; is last 20
+         single; one.hp 100; two.substitute 20; last 40; sweep 0; hits Leech Life; told end two Substitute; is one.hp 100, last 40",
+        );
+    }
 
-        // Persian's Speed is 328, and that of Tauros 318.
-        #[test]
-        fn one_hit_moves() -> Result<(), Fail> { let rt = gen1_tests::testing::HostRuntime;
-            let mut battle = persian_and_tauros()?;
-            assert_hits(&rt, &battle, USER, "Fissure", 76)?;
-            let fissure = odds(&battle, USER, "Fissure")?;
-            assert_same(&rt, (fissure.least, fissure.most), (65535, 65535));
-            assert_fails(&rt, &battle, FOE, "Fissure", Reason::Slower)?;
-            battle.put_types(FOE, Element::Ghost, Element::Poison);
-            assert_fails(&rt, &battle, USER, "Guillotine", Reason::Immune)
-        }
+    // The user falls, and loses its status and its seed. It lives if it breaks a Substitute, and falls if that holds.
+    #[test]
+    fn an_exploding_user() { let rt = gen1_tests::testing::HostRuntime;
+        play(
+            &rt,
+            "single; one.status psn; one.flag seeded; last 200; equal 9; hits Explosion; told damage two 153/353; draws 0; is one.hp 0, one.status none, one.flag seeded off
+         single; two.substitute 88; last 88; sweep 0; hits Self-Destruct; is one.hp 0, two.hp 353
+         single; two.substitute 88; last 89; sweep 0; hits Self-Destruct; is one.hp 353, two.hp 353",
+        );
+    }
 
-        #[test]
-        fn the_foes_types() -> Result<(), Fail> { let rt = gen1_tests::testing::HostRuntime;
-            let mut battle = two_tauros()?;
-            battle.put_types(FOE, Element::Rock, Element::Ground);
-            assert_fails(&rt, &battle, USER, "Thunderbolt", Reason::Immune)?;
-            assert_fails(&rt, &battle, USER, "Thunder Wave", Reason::OwnType)?;
-            assert_hits(&rt, &battle, USER, "Stun Spore", 191)?;
-            battle.put_types(FOE, Element::Grass, Element::Poison);
-            assert_fails(&rt, &battle, USER, "Leech Seed", Reason::OwnType)?;
-            assert_fails(&rt, &battle, USER, "Toxic", Reason::OwnType)?;
-            battle.put_types(FOE, Element::Ghost, Element::Ghost);
-            // Swift is of type Normal. Fixed damage knows no types.
-            assert_fails(&rt, &battle, USER, "Swift", Reason::Immune)?;
-            assert_hits(&rt, &battle, USER, "Seismic Toss", 255)
-        }
+    // A one-hit move, on HP and on a Substitute (docs/MECHANICS.md, "Fixed damage and one-hit moves").
+    #[test]
+    fn a_one_hit_move_tells_what_it_is() { let rt = gen1_tests::testing::HostRuntime;
+        play(
+            &rt,
+            "single; last 65535; sweep 0; hits Guillotine; told damage two 0/353, ohko
+         single; two.substitute 88; last 65535; sweep 0; hits Guillotine; told end two Substitute, ohko",
+        );
+    }
 
-        #[test]
-        fn the_foes_status() -> Result<(), Fail> { let rt = gen1_tests::testing::HostRuntime;
-            let mut battle = two_tauros()?;
-            assert_fails(&rt, &battle, USER, "Dream Eater", Reason::Awake)?;
-            let asleep = Status::Asleep {
-                turns: 3,
-                marked: false,
-            };
-            battle.put_status(FOE, asleep);
-            assert_hits(&rt, &battle, USER, "Dream Eater", 255)?;
-            for name in ["Spore", "Toxic", "Thunder Wave"] {
-                assert_fails(&rt, &battle, USER, name, Reason::HasStatus)?;
-            }
-            // A foe that has to recharge falls asleep in any case.
-            battle.put_flag(FOE, Conditions::RECHARGE, true);
-            assert_hits(&rt, &battle, USER, "Sing", 256)
-        }
+    // Rage starts where it first lands (docs/MECHANICS.md, "Going on").
+    #[test]
+    fn rage_starts_where_it_lands() { let rt = gen1_tests::testing::HostRuntime;
+        play(
+            &rt,
+            "single; last 20; sweep 0; hits Rage; told damage two 333/353, start one Rage
+         last 20; knowing; hits Rage; told damage two 313/353; is one.flag rage",
+        );
+    }
 
-        #[test]
-        fn the_foes_conditions() -> Result<(), Fail> { let rt = gen1_tests::testing::HostRuntime;
-            let mut battle = two_tauros()?;
-            battle.put_flag(FOE, Conditions::MIST, true);
-            assert_fails(&rt, &battle, USER, "Growl", Reason::Mist)?;
-            battle.put_flag(FOE, Conditions::MIST, false);
-            battle.put_flag(FOE, Conditions::SEEDED, true);
-            assert_fails(&rt, &battle, USER, "Leech Seed", Reason::Seeded)?;
-            battle.put_confused(FOE, Some(2));
-            assert_fails(&rt, &battle, USER, "Confuse Ray", Reason::Confused)?;
-            battle.put_disabled(FOE, Some(DisabledSlot { slot: 1, turns: 3 }));
-            assert_fails(&rt, &battle, USER, "Disable", Reason::Disabled)?;
-            battle.put_flag(FOE, Conditions::INVULNERABLE, true);
-            for name in ["Strength", "Sing", "Disable", "Growl", "Conversion"] {
-                assert_fails(&rt, &battle, USER, name, Reason::Invulnerable)?;
-            }
-            assert_hits(&rt, &battle, USER, "Swift", 256)
-        }
+    // The foe's Rage builds at each hit, also behind a Substitute that holds or breaks, at damage of 0, and after the user exploded. A
+    // Tauros has an Attack of 298, which is 447 at one stage up and 596 at two (docs/MECHANICS.md, "Going on").
+    #[test]
+    fn rage_builds_at_each_hit() { let rt = gen1_tests::testing::HostRuntime;
+        play(
+            &rt,
+            "single; two.flag rage; last 10; sweep 0; hits Strength; told damage two 343/353, boost two attack 1; is two.attack 7 447
+         single; two.flag rage; last 10; sweep 0; hits Double Kick; told damage two 343/353, boost two attack 1, damage two 333/353, boost two attack 1, count two 2; is two.attack 8 596
+         single; two.flag rage; two.substitute 88; last 0; equal 1; hits Strength; is two.attack 7 447, one.attack 6 298
+         single; two.flag rage; two.substitute 88; last 10; equal 1; hits Strength; is two.attack 7 447, one.attack 6 298
+         single; two.flag rage; two.substitute 88; last 100; equal 1; hits Strength; is two.attack 7 447, one.attack 6 298
+         single; two.flag rage; last 100; sweep 0; hits Explosion; is one.hp 0, two.attack 7 447",
+        );
+    }
 
-        #[test]
-        fn behind_a_substitute() -> Result<(), Fail> { let rt = gen1_tests::testing::HostRuntime;
-            let mut battle = two_tauros()?;
-            battle.put_substitute(FOE, Some(88));
-            for name in ["Toxic", "Supersonic", "Growl"] {
-                assert_fails(&rt, &battle, USER, name, Reason::Substitute)?;
-            }
-            for name in ["Strength", "Thunder Wave", "Spore"] {
-                assert_hits(&rt, &battle, USER, name, 255)?;
-            }
-            assert_fails(&rt, &battle, FOE, "Substitute", Reason::AlreadyUp)
-        }
+    // By a call of its own. It builds no further than +6, and a member without Rage or without HP builds none. The foe of the raging
+    // member takes its penalty once more: 298 becomes 149 (docs/MECHANICS.md, "Going on").
+    #[test]
+    fn rage_builds() { let rt = gen1_tests::testing::HostRuntime;
+        play(
+            &rt,
+            "single; two.flag rage; rage; told boost two attack 1; is two.attack 7 447
+         single; two.flag rage; two.attack 12 999; rage; told; becomes
+         single; rage; told; becomes
+         single; two.flag rage; two.hp 0; rage; told; becomes
+         single; two.flag rage; one.status brn; rage; is one.attack 6 149",
+        );
+    }
 
-        #[test]
-        fn what_concerns_the_user_alone() -> Result<(), Fail> { let rt = gen1_tests::testing::HostRuntime;
-            let mut battle = two_tauros()?;
-            assert_fails(&rt, &battle, USER, "Recover", Reason::Health)?;
-            battle.put_hp(USER, 98);
-            // 353 - 98 is 255.
-            assert_fails(&rt, &battle, USER, "Rest", Reason::Health)?;
-            battle.put_hp(USER, 87);
-            assert_hits(&rt, &battle, USER, "Rest", 256)?;
-            // A quarter of 353 is 88.
-            assert_fails(&rt, &battle, USER, "Substitute", Reason::Health)?;
-            battle.put_hp(USER, 88);
-            assert_hits(&rt, &battle, USER, "Substitute", 256)?;
-            battle.put_flag(USER, Conditions::REFLECT, true);
-            assert_fails(&rt, &battle, USER, "Reflect", Reason::AlreadyUp)?;
-            assert_hits(&rt, &battle, USER, "Light Screen", 256)?;
-            battle.put_evasion(USER, 12);
-            assert_fails(&rt, &battle, USER, "Double Team", Reason::Stage)?;
-            battle.put_accuracy(FOE, 0);
-            assert_fails(&rt, &battle, USER, "Sand Attack", Reason::Stage)?;
-            assert_fails(&rt, &battle, USER, "Roar", Reason::AlwaysFails)?;
-            battle.put_hp(FOE, 0);
-            assert_fails(&rt, &battle, USER, "Swift", Reason::Fallen)
-        }
+    // The foe's Rage doesn't build at a miss (docs/MECHANICS.md, "Action").
+    #[test]
+    fn a_miss() { let rt = gen1_tests::testing::HostRuntime;
+        play_each(
+            &rt,
+            "move
+         Strength
+         Double Kick
+         Rage
+         Take Down
+         Absorb",
+            "single; two.flag rage; missed_move $move; told miss one; becomes",
+        );
+    }
 
-        // Rage with Strength in slot 1 as the current move, whose accuracy byte has become 10. Dig would be a new use.
-        #[test]
-        fn a_kept_accuracy() -> Result<(), Fail> { let rt = gen1_tests::testing::HostRuntime;
-            let mut battle = two_tauros()?;
-            battle.put_flag(USER, Conditions::RAGE, true);
-            battle.put_current_move(USER, UsedMove::Slot(1));
-            battle.put_kept_accuracy(USER, 10);
-            assert_hits(&rt, &battle, USER, "Strength", 10)?;
-            assert_hits(&rt, &battle, USER, "Dig", 255)
-        }
+    // A crash goes past the user's Substitute: 353 is 97 + 1 * 256. A user with 1 HP falls (docs/MECHANICS.md, "Action").
+    #[test]
+    fn a_crash() { let rt = gen1_tests::testing::HostRuntime;
+        play(
+            &rt,
+            "single; one.substitute 88; missed_move Jump Kick; told miss one, damage one 352/353; bytes 3=1, 28=96
+         single; one.substitute 88; missed_move High Jump Kick; told miss one, damage one 352/353; bytes 3=1, 28=96
+         single; one.hp 1; two.types Ghost Normal; missed_move Jump Kick; told immune two, damage one 0/353; is one.hp 0, two.hp 353",
+        );
+    }
 
-        #[test]
-        fn damage_by_rules_of_their_own() -> Result<(), Fail> { let rt = gen1_tests::testing::HostRuntime;
-            let mut battle = two_tauros()?;
-            battle.put_last_damage(75);
-            battle.put_picked_move(FOE, UsedMove::Slot(1));
-            let damages = [
-                ("Sonic Boom", 20, 20),
-                ("Dragon Rage", 40, 40),
-                ("Night Shade", 100, 100),
-                ("Seismic Toss", 100, 100),
-                // Half of 353.
-                ("Super Fang", 176, 176),
-                // One and a half times 100.
-                ("Psywave", 1, 149),
-                ("Counter", 150, 150),
-                ("Strength", 0, 0),
-                ("Growl", 0, 0),
-            ];
-            for (name, least, most) in damages {
-                let odds = odds(&battle, USER, name)?;
-                assert_same(&rt, (name, odds.least, odds.most), (name, least, most));
-                let code = if name == "Strength" { 0 } else { 48 };
-                assert_same(&rt, (name, odds.usual.code), (name, code));
-            }
-            // Dig is of type Ground.
-            battle.put_picked_move(FOE, UsedMove::Slot(2));
-            assert_fails(&rt, &battle, USER, "Counter", Reason::NothingToCounter)?;
-            battle.put_picked_move(FOE, UsedMove::Struggle);
-            assert_hits(&rt, &battle, USER, "Counter", 255)?;
-            battle.put_last_damage(0);
-            assert_fails(&rt, &battle, USER, "Counter", Reason::NothingToCounter)
-        }
-
-        #[test]
-        fn numbers_of_hits() -> Result<(), Fail> { let rt = gen1_tests::testing::HostRuntime;
-            let battle = two_tauros()?;
-            let several = [0, 0, 3, 3, 1, 1];
-            let hits = [
-                ("Fury Attack", several),
-                ("Pin Missile", several),
-                ("Double Kick", [0, 0, 8, 0, 0, 0]),
-                ("Twineedle", [0, 0, 8, 0, 0, 0]),
-                ("Strength", [0, 8, 0, 0, 0, 0]),
-            ];
-            for (name, expected) in hits {
-                let odds = odds(&battle, USER, name)?;
-                assert_same(&rt, (name, odds.hits), (name, expected));
-            }
-            assert_same(&rt, odds(&battle, USER, "Dig")?.charges_first, 1);
-            assert_same(&rt, odds(&battle, USER, "Strength")?.charges_first, 0);
-            Ok(())
-        }
-
-        fn all_take(rt: &impl Abort, names: &[&str], expected: bool) -> Result<(), Fail> {
-            for name in names {
-                assert_same(rt, (*name, takes_hit_test(named(name)?)), (*name, expected));
-            }
-            Ok(())
-        }
-
-        #[test]
-        fn moves_that_take_the_hit_test() -> Result<(), Fail> { let rt = gen1_tests::testing::HostRuntime;
-            let without = [
-                "Whirlwind",
-                "Roar",
-                "Teleport",
-                "Conversion",
-                "Mist",
-                "Focus Energy",
-                "Light Screen",
-                "Reflect",
-                "Haze",
-                "Recover",
-                "Soft-Boiled",
-                "Rest",
-                "Substitute",
-                "Splash",
-                "Swords Dance",
-                "Agility",
-                "Amnesia",
-                "Double Team",
-                "Bide",
-            ];
-            all_take(&rt, &without, false)?;
-            let with = [
-                "Strength",
-                "Swift",
-                "Thunder Wave",
-                "Toxic",
-                "Leech Seed",
-                "Confuse Ray",
-                "Spore",
-                "Growl",
-                "Disable",
-                "Seismic Toss",
-                "Super Fang",
-                "Counter",
-                "Fissure",
-                "Explosion",
-                "Dig",
-                "Hyper Beam",
-            ];
-            all_take(&rt, &with, true)
-        }
+    // (docs/MECHANICS.md, "Action", "Recoil, drain and explosion")
+    #[test]
+    fn an_explosion_that_misses_fells_its_user() { let rt = gen1_tests::testing::HostRuntime;
+        play_each(
+            &rt,
+            "move
+         Self-Destruct
+         Explosion",
+            "single; one.status par; one.flag seeded; one.substitute 88; missed_move $move; told miss one; is one.hp 0, one.status none, one.flag seeded off, one.substitute 88",
+        );
     }
 }
 
 #[cfg(test)]
 mod lasting_moves {
-    //! Moves that last several turns ([docs/MECHANICS.md, "Going on"](https://hibsuloy.example/gen1/blob/main/docs/MECHANICS.md#going-on), "Charging"), with the offsets of [docs/LAYOUT.md](https://hibsuloy.example/gen1/blob/main/docs/LAYOUT.md).
-    //! Both sides have a Tauros out: 353 HP, a quarter of which is 88.
-    use crate::battles::{
-        CURRENT, ENERGY, FLAGS, FOE, KEPT, LAST, TURNS, USER, assert_bytes, assert_same,
-        assert_same_for, assert_told, bytes_of, named, two_tauros, with,
-    };
-    use gen1::generated::layout::Conditions;
-    use gen1::generated::machine::{DamageSource, Event, EventList, UsedMove, Volatile};
-    use gen1::generated::multiturn::{bide, charge, substitute, thrash, trap};
-    use gen1::generated::rolls::{LinkRandom, Rolls, Sweep};
-    use gen1_tests::testing::Fail;
+    //! Moves that last several turns, as they begin and as they go on ([docs/MECHANICS.md, "Going on"](https://hibsuloy.example/gen1/blob/main/docs/MECHANICS.md#going-on), "Charging"). The places of
+    //! bytes are those of [docs/LAYOUT.md](https://hibsuloy.example/gen1/blob/main/docs/LAYOUT.md): the user's condition bits begin at 185, and its turns are at 194, its energy at 195, its
+    //! current move at 197 and its kept accuracy at 199. The last damage is at 3. Both sides have a Tauros out: 353 HP, a quarter of
+    //! which is 88.
+    use crate::script::{play, play_each};
 
-    // Trapping (docs/MECHANICS.md, "Going on").
+    // The first draw counts if its low bits are 0 or 1. Otherwise the next draw does. The foe's Recharge ends.
     #[test]
-    fn a_trap_begins() -> Result<(), Fail> { let rt = gen1_tests::testing::HostRuntime;
-        // The first draw counts if its low bits are 0 or 1. Otherwise the next draw does.
-        for (byte, turns, draws) in [(0, 1, 1), (1, 2, 1), (2, 4, 2), (3, 1, 2), (5, 2, 1)] {
-            let mut battle = two_tauros()?;
-            battle.put_flag(FOE, Conditions::RECHARGE, true);
-            let before = bytes_of(&two_tauros()?);
-            let mut sweep = Sweep::new(byte);
-            trap(&mut battle, USER, &mut sweep);
-            assert_bytes(&rt, &battle, with(before, &[(FLAGS, 4), (TURNS, turns)]));
-            assert_same(&rt, sweep.draw(), byte.wrapping_add(draws));
-        }
-        let mut battle = two_tauros()?;
-        let mut link = LinkRandom::new([3; 10]);
-        trap(&mut battle, USER, &mut link);
-        assert_same(&rt, (battle.trapping(USER), link.index()), (Some(4), 2));
-        Ok(())
+    fn a_trap_begins() { let rt = gen1_tests::testing::HostRuntime;
+        play_each(
+            &rt,
+            "byte | turns | draws
+         0    | 1     | 1
+         1    | 2     | 1
+         2    | 4     | 2
+         3    | 1     | 2
+         5    | 2     | 1",
+            "single; two.flag recharge; sweep $byte; trap; draws $draws; against single; bytes 185=4, 194=$turns",
+        );
+        play(&rt, "single; equal 3; trap; draws 2; is one.trapping 4");
     }
 
-    // Thrash (docs/MECHANICS.md, "Going on").
+    // A count of 0 stays 0, the foe's Recharge isn't changed, and nothing is drawn: in an action that goes on, and by the bytes
+    // alone.
     #[test]
-    fn thrashing_begins() -> Result<(), Fail> { let rt = gen1_tests::testing::HostRuntime;
-        for (byte, turns) in [(0, 2), (1, 3), (254, 2)] {
-            let mut battle = two_tauros()?;
-            let before = bytes_of(&battle);
-            let mut events = EventList::new();
-            let mut sweep = Sweep::new(byte);
-            thrash(&mut battle, USER, &mut sweep, &mut events);
-            assert_bytes(
-                &rt,
-                &battle,
-                with(before, &[(FLAGS, 2), (TURNS, turns), (KEPT, 255)]),
-            );
-            assert_same(&rt, (events.len(), sweep.draw()), (0, byte.wrapping_add(1)));
-        }
-        let mut battle = two_tauros()?;
-        let mut link = LinkRandom::new([7; 10]);
-        thrash(&mut battle, USER, &mut link, &mut EventList::new());
-        assert_same(&rt, (battle.thrash(USER), link.index()), (Some(3), 1));
-        Ok(())
+    fn a_trap_goes_on() { let rt = gen1_tests::testing::HostRuntime;
+        play_each(
+            &rt,
+            "turns | left
+         4     | 3
+         1     | 0
+         0     | 0",
+            "single; two.flag recharge; one.trapping $turns; knowing going_on; sweep 7; trap_knowing; draws 0; bytes 185=4, 194=$left
+         single; two.flag recharge; one.trapping $turns; sweep 7; trap; draws 0; bytes 185=4, 194=$left",
+        );
     }
 
-    // Bide, from its first action to its last (docs/MECHANICS.md, "Going on").
+    // Wrap on a Gengar: by the type rows its damage is 0. If it hits, at 215 for the byte 216, it holds the foe without damage.
     #[test]
-    fn bide_begins_stores_and_lets_go() -> Result<(), Fail> { let rt = gen1_tests::testing::HostRuntime;
-        let mut battle = two_tauros()?;
-        let before = bytes_of(&battle);
-        let mut events = EventList::new();
-        let mut link = LinkRandom::new([4; 10]);
-        let begun = with(before, &[(FLAGS, 1), (TURNS, 2)]);
-        assert_same(&rt, bide(&mut battle, USER, &mut link, &mut events), None);
-        assert_bytes(&rt, &battle, begun);
-        assert_same(&rt, link.index(), 1);
-        // 300 is 44 + 1 * 256.
-        battle.put_last_damage(300);
-        let damage = with(before, &[(LAST, 44), (LAST + 1, 1)]);
-        let stored = [(FLAGS, 1), (TURNS, 1), (ENERGY, 44), (ENERGY + 1, 1)];
-        let stored = with(damage, &stored);
-        assert_same(&rt, bide(&mut battle, USER, &mut link, &mut events), None);
-        assert_bytes(&rt, &battle, stored);
-        // Twice 301 is 602, which is 90 + 2 * 256.
-        battle.put_last_damage(1);
-        let let_go = with(before, &[(LAST, 90), (LAST + 1, 2)]);
-        let energy = bide(&mut battle, USER, &mut link, &mut events);
-        assert_same(&rt, energy, Some(602));
-        assert_bytes(&rt, &battle, let_go);
-        assert_same(&rt, link.index(), 1);
-        let told = [
-            Event::Start(battle.who(USER), Volatile::Bide),
-            Event::Activate(battle.who(USER), Volatile::Bide),
-            Event::End(battle.who(USER), Volatile::Bide),
-        ];
-        assert_told(&rt, &events, &told);
-        Ok(())
+    fn a_ghost_is_held_for_0() { let rt = gen1_tests::testing::HostRuntime;
+        play_each(
+            &rt,
+            "byte | bytes
+         215  | 185=4, 194=2
+         216  | 185=0, 194=0",
+            "single; two.types Ghost Poison; sweep 1; trap; bytes 185=4, 194=2; type_steps 23 Wrap; gives 0
+         last 0; knowing missed; sweep $byte; hit_or_miss Wrap; bytes $bytes; land 0; told; becomes",
+        );
     }
 
-    // Twice the energy of Bide, past 16 bits (docs/MECHANICS.md, "Going on").
+    // Thrash draws two or three turns, and keeps its accuracy byte.
     #[test]
-    fn an_energy_of_32768_lets_out_0() -> Result<(), Fail> { let rt = gen1_tests::testing::HostRuntime;
-        let mut battle = two_tauros()?;
-        let before = bytes_of(&battle);
-        battle.put_bide(USER, 1, 32767);
-        battle.put_last_damage(1);
-        let mut sweep = Sweep::new(9);
-        let energy = bide(&mut battle, USER, &mut sweep, &mut EventList::new());
-        assert_same(&rt, (energy, sweep.draw()), (Some(0), 9));
-        assert_bytes(&rt, &battle, before);
-        Ok(())
+    fn thrashing_begins() { let rt = gen1_tests::testing::HostRuntime;
+        play_each(
+            &rt,
+            "byte | turns
+         0    | 2
+         1    | 3
+         254  | 2",
+            "single; sweep $byte; thrash; told; draws 1; bytes 185=2, 194=$turns, 199=255",
+        );
+        play(&rt, "single; equal 7; thrash; draws 1; is one.thrash 3");
     }
 
-    // Dig, Fly and Solar Beam (docs/MECHANICS.md, "Charging").
     #[test]
-    fn a_charge_hides_who_digs() -> Result<(), Fail> { let rt = gen1_tests::testing::HostRuntime;
-        // Charging is bit 4, and Invulnerable bit 5.
-        for (name, flags) in [("Dig", 48), ("Fly", 48), ("Solar Beam", 16)] {
-            let id = named(name)?;
-            let mut battle = two_tauros()?;
-            battle.put_picked_move(USER, UsedMove::Slot(1));
-            let before = bytes_of(&battle);
-            let mut events = EventList::new();
-            // The first turn ends the action, and the picked move becomes the current one.
-            assert_same(&rt, charge(&mut battle, USER, id, &mut events), true);
-            let charging = with(before, &[(FLAGS, flags), (CURRENT, 1)]);
-            assert_same_for(&rt, &name, bytes_of(&battle), charging);
-            assert_same(&rt, charge(&mut battle, USER, id, &mut events), false);
-            assert_same_for(&rt, &name, bytes_of(&battle), with(before, &[(CURRENT, 1)]));
-            let told = [Event::Prepare(battle.who(USER), id)];
-            assert_told(&rt, &events, &told);
-        }
-        Ok(())
+    fn thrashing_goes_on() { let rt = gen1_tests::testing::HostRuntime;
+        play(
+            &rt,
+            "single; one.kept 255; one.thrash 3; knowing going_on; sweep 7
+         thrash_knowing Thrash; told; draws 0; bytes 185=2, 194=2
+         thrash_knowing Thrash; told; draws 0; bytes 185=2, 194=1",
+        );
     }
 
-    // A move that is picked for this turn (docs/MECHANICS.md, "Charging").
+    // Confused is bit 6, and its count is the low bits of one draw plus 2.
     #[test]
-    fn what_is_picked_is_charged() -> Result<(), Fail> { let rt = gen1_tests::testing::HostRuntime;
-        // The current move was another: Struggle, which is 5.
-        let mut battle = two_tauros()?;
-        battle.put_current_move(USER, UsedMove::Struggle);
-        battle.put_picked_move(USER, UsedMove::Slot(1));
-        let before = bytes_of(&battle);
-        let mut events = EventList::new();
-        // A move that doesn't charge changes nothing, and the action goes on.
-        let ended = charge(&mut battle, USER, named("Strength")?, &mut events);
-        assert_same(&rt, (ended, events.len()), (false, 0));
-        assert_bytes(&rt, &battle, before);
-        charge(&mut battle, USER, named("Skull Bash")?, &mut events);
-        assert_bytes(&rt, &battle, with(before, &[(FLAGS, 16), (CURRENT, 1)]));
-        Ok(())
+    fn thrashing_ends_in_confusion() { let rt = gen1_tests::testing::HostRuntime;
+        play_each(
+            &rt,
+            "byte | count
+         0    | 2
+         3    | 5
+         6    | 4",
+            "single; one.kept 255; one.thrash 1; knowing going_on; equal $byte; thrash_knowing Petal Dance; told start one confusion; draws 1; bytes 185=64, 190=$count, 194=0, 199=255",
+        );
     }
 
-    // Substitute (docs/MECHANICS.md, "Early effects").
+    // 1 draws three turns. Each use takes one, and the next draw after the last is the count of the confusion.
     #[test]
-    fn a_substitute_costs_a_quarter() -> Result<(), Fail> { let rt = gen1_tests::testing::HostRuntime;
-        // 353 is 97 + 256, and 265 is 9 + 256. The condition is bit 9, and 88 is its HP.
-        for (hp, low, high) in [(353, 9, 1), (89, 1, 0), (88, 0, 0)] {
-            let mut battle = two_tauros()?;
-            battle.put_hp(USER, hp);
-            let before = bytes_of(&battle);
-            let mut events = EventList::new();
-            substitute(&mut battle, USER, &mut events);
-            let after = with(before, &[(28, low), (29, high), (FLAGS + 1, 2), (189, 88)]);
-            assert_bytes(&rt, &battle, after);
-            let health = battle.health(USER).ok_or("no health")?;
-            let told = [
-                Event::Start(battle.who(USER), Volatile::Substitute),
-                Event::Damage(battle.who(USER), health, DamageSource::Direct),
-            ];
-            assert_told(&rt, &events, &told);
-            // A Substitute is up already.
-            events.clear();
-            substitute(&mut battle, USER, &mut events);
-            assert_bytes(&rt, &battle, after);
-            assert_told(&rt, &events, &[Event::Fail(battle.who(USER))]);
-        }
-        let mut battle = two_tauros()?;
-        battle.put_hp(USER, 87);
-        let before = bytes_of(&battle);
-        let mut events = EventList::new();
-        substitute(&mut battle, USER, &mut events);
-        assert_bytes(&rt, &battle, before);
-        assert_told(&rt, &events, &[Event::Fail(battle.who(USER))]);
-        Ok(())
+    fn thrashing_that_is_on_goes_on() { let rt = gen1_tests::testing::HostRuntime;
+        play(
+            &rt,
+            "single; sweep 1
+         thrash; told; draws 1; bytes 185=2, 194=3, 199=255
+         thrash; told; draws 0; bytes 185=2, 194=2, 199=255
+         thrash; told; draws 0; bytes 185=2, 194=1, 199=255
+         thrash; told start one confusion; draws 1; bytes 185=64, 190=4, 194=0, 199=255",
+        );
+    }
+
+    // Bide, from its first action to its last. 300 is 44 + 1 * 256, and twice 301 is 602, which is 90 + 2 * 256. Twice an energy of
+    // 32,768 is past 16 bits.
+    #[test]
+    fn bide() { let rt = gen1_tests::testing::HostRuntime;
+        play(
+            &rt,
+            "single; equal 4; bide; gives none; told start one Bide; draws 1; bytes 185=1, 194=2
+         last 300; bide; gives none; told activate one Bide; draws 0; bytes 3=44, 4=1, 185=1, 194=1, 195=44, 196=1
+         last 1; bide; gives 602; told end one Bide; draws 0; against single; bytes 3=90, 4=2
+         single; one.bide 1 32767; last 1; sweep 9; bide; gives 0; draws 0; against single; bytes",
+        );
+    }
+
+    // Charging is bit 4, and Invulnerable bit 5. The first turn ends the action, and the picked move becomes the current one.
+    #[test]
+    fn a_charge_hides_who_digs() { let rt = gen1_tests::testing::HostRuntime;
+        play_each(
+            &rt,
+            "move       | flags
+         Dig        | 48
+         Fly        | 48
+         Solar Beam | 16",
+            "single; one.picked 1; charge $move; gives true; told prepare one $move; bytes 185=$flags, 197=1
+         charge $move; gives false; told; bytes 185=0, 197=1",
+        );
+    }
+
+    // The current move was Struggle, which is 5. A move that doesn't charge changes nothing, and the action goes on.
+    #[test]
+    fn what_is_picked_is_charged() { let rt = gen1_tests::testing::HostRuntime;
+        play(
+            &rt,
+            "single; one.current struggle; one.picked 1; charge Strength; gives false; told; becomes
+         charge Skull Bash; bytes 185=16, 197=1",
+        );
+    }
+
+    // 353 is 97 + 256, and 265 is 9 + 256. The condition is bit 9, and 88 is its HP. A second one fails, and so does one that would
+    // cost more HP than there are (docs/MECHANICS.md, "Early effects").
+    #[test]
+    fn a_substitute_costs_a_quarter() { let rt = gen1_tests::testing::HostRuntime;
+        play_each(
+            &rt,
+            "hp  | left    | low | high
+         353 | 265/353 | 9   | 1
+         89  | 1/353   | 1   | 0
+         88  | 0/353   | 0   | 0",
+            "single; one.hp $hp; substitute; told start one Substitute, damage one $left; bytes 28=$low, 29=$high, 186=2, 189=88
+         substitute; told fail one; becomes",
+        );
+        play(&rt, "single; one.hp 87; substitute; told fail one; becomes");
     }
 }
 
 #[cfg(test)]
 mod late_effects {
-    //! Stages that rise and fall, and sleep, with the numbers of [docs/MECHANICS.md, "Late effects"](https://hibsuloy.example/gen1/blob/main/docs/MECHANICS.md#late-effects), "Stage shift", "Rules
-    //! (sleep clause, freeze clause)". The last damage was 75.
-    use crate::battles::{
-        self, FOE, USER, assert_bytes, assert_same, assert_told, bytes_of, electrode, named, send_out,
-    };
-    use crate::draws::{BOTH, Operation, apply_from};
-    use gen1::generated::effects::{group_two, is_late};
+    //! Stages that rise and fall, and sleep ([docs/MECHANICS.md, "Late effects"](https://hibsuloy.example/gen1/blob/main/docs/MECHANICS.md#late-effects), "Stage shift"). Both sides have two Tauros, and
+    //! the last damage was 75. Those that are out have Attack 298, Defense 288, Speed 318 and Special 238.
+    use crate::script::{play, play_each};
+
+    // The number of stages, and the stat after them: 150 or 200 percent of the user's. Evasion has none.
+    #[test]
+    fn stats_of_the_user_rise() { let rt = gen1_tests::testing::HostRuntime;
+        play_each(
+            &rt,
+            "move         | stat    | by | stage
+         Meditate     | attack  | 1  | 7 447
+         Swords Dance | attack  | 2  | 8 596
+         Harden       | defense | 1  | 7 432
+         Barrier      | defense | 2  | 8 576
+         Agility      | speed   | 2  | 8 636
+         Growth       | special | 1  | 7 357
+         Amnesia      | special | 2  | 8 476
+         Double Team  | evasion | 1  | 7",
+            "pair Tauros; last 75; from 7; late $move; told boost one $stat $by; draws 0; becomes one.$stat $stage",
+        );
+    }
+
+    // The accuracy bytes are 255, but 216 for Screech's 85 percent and 242 for String Shot's 95. The stats are 66 and 50
+    // percent of the foe's, rounded down. A draw one higher misses, and only the last damage changes.
+    #[test]
+    fn stats_of_the_foe_fall() { let rt = gen1_tests::testing::HostRuntime;
+        play_each(
+            &rt,
+            "move        | stat     | by | stage | hits | misses
+         Growl       | attack   | 1  | 5 196 | 254  | 255
+         Tail Whip   | defense  | 1  | 5 190 | 254  | 255
+         Screech     | defense  | 2  | 4 144 | 215  | 216
+         String Shot | speed    | 1  | 5 209 | 241  | 242
+         Sand Attack | accuracy | 1  | 5     | 254  | 255",
+            "pair Tauros; last 75; from $hits; late $move; told unboost two $stat $by; draws 1; becomes two.$stat $stage
+         pair Tauros; last 75; from $misses; late $move; told miss one; draws 1; becomes last 0",
+        );
+    }
+
+    // Without a draw.
+    #[test]
+    fn what_keeps_a_stat_from_falling() { let rt = gen1_tests::testing::HostRuntime;
+        play(
+            &rt,
+            "pair Tauros; last 75; two.substitute 10; from 0; late Growl; told fail one; draws 0; becomes
+         pair Tauros; last 75; two.flag mist; from 0; late Growl; told miss one; draws 0; becomes last 0
+         pair Tauros; last 75; two.flag invulnerable; from 0; late Growl; told miss one; draws 0; becomes last 0",
+        );
+    }
+
+    // At -6 nothing changes, after a draw. At +6 nothing changes, without a draw.
+    #[test]
+    fn shifts_that_fail() { let rt = gen1_tests::testing::HostRuntime;
+        play(
+            &rt,
+            "pair Tauros; last 75; two.accuracy 0; one.evasion 12; from 3; late Sand Attack; told fail one; draws 1; becomes
+         from 3; late Double Team; told fail one; draws 0; becomes",
+        );
+    }
+
+    // An Electrode's Speed of 378 is 756 at +2. At +4 it is 999, since 1,134 is above the limit. Then a rise by two stages is one
+    // stage and a failure, and after that none.
+    #[test]
+    fn a_speed_of_999() { let rt = gen1_tests::testing::HostRuntime;
+        play(
+            &rt,
+            "pair Electrode; last 75; sweep 0
+         late Agility; told boost one speed 2; draws 0; becomes one.speed 8 756
+         late Agility; told boost one speed 2; draws 0; becomes one.speed 10 999
+         late Agility; told boost one speed 1, fail one; draws 0; becomes one.speed 11 999
+         late Agility; told fail one; draws 0; becomes",
+        );
+    }
+
+    // The foe is burned, and its Attack of 298 is 149 now. At -1 it is 196, halved to 98, and the user's Swords Dance makes it 49.
+    #[test]
+    fn growl_and_swords_dance() { let rt = gen1_tests::testing::HostRuntime;
+        play(
+            &rt,
+            "pair Tauros; last 75; two.status brn; two.attack 6 149
+         from 0; late Growl; told unboost two attack 1; draws 1; becomes two.attack 5 98
+         from 0; late Swords Dance; told boost one attack 2; draws 0; becomes two.attack 5 49, one.attack 8 596",
+        );
+    }
+
+    // Draws of a sweep, and of ten equal link numbers: the count, and the number of draws. Sleep is marked under the sleep clause,
+    // rules 1 and 3 (docs/MECHANICS.md, "Late effects", "Rules (sleep clause, freeze clause)").
+    #[test]
+    fn counts_of_sleep() { let rt = gen1_tests::testing::HostRuntime;
+        play_each(
+            &rt,
+            "move     | drawn     | turns | draws
+         Spore    | sweep 254 | 7     | 2
+         Spore    | sweep 7   | 1     | 3
+         Spore    | equal 254 | 6     | 2
+         Sing     | sweep 139 | 4     | 2
+         Sing     | equal 139 | 3     | 2
+         Hypnosis | sweep 152 | 1     | 2",
+            "ruled 0 Tauros; last 75; $drawn; late $move; told status two slp; draws $draws; becomes two.status slp $turns
+         ruled 1 Tauros; last 75; $drawn; late $move; told status two slp; draws $draws; becomes two.status slp $turns marked
+         ruled 2 Tauros; last 75; $drawn; late $move; told status two slp; draws $draws; becomes two.status slp $turns
+         ruled 3 Tauros; last 75; $drawn; late $move; told status two slp; draws $draws; becomes two.status slp $turns marked",
+        );
+    }
+
+    // The accuracy bytes are 140 and 255. A Ghost is immune to the Normal type, which only a miss reports.
+    #[test]
+    fn sleep_moves_that_miss() { let rt = gen1_tests::testing::HostRuntime;
+        play(
+            &rt,
+            "pair Tauros; last 75; from 140; late Sing; told miss one; draws 1; becomes last 0
+         pair Tauros; last 75; from 255; late Spore; told miss one; draws 1; becomes last 0
+         pair Tauros; last 75; two.types Ghost Ghost; from 140; late Sing; told immune two",
+        );
+    }
+
+    // Any status makes it fail, without a draw.
+    #[test]
+    fn who_cannot_fall_asleep() { let rt = gen1_tests::testing::HostRuntime;
+        play_each(
+            &rt,
+            "status
+         slp 2
+         psn
+         brn
+         frz
+         par",
+            "pair Tauros; last 75; two.status $status; from 1; late Spore; told fail one; draws 0; becomes",
+        );
+    }
+
+    // A Substitute doesn't keep sleep away. A foe that has to recharge falls asleep without a test: the first draw, 253, gives
+    // the count, 5. Sleep replaces its paralysis, and the penalty stays.
+    #[test]
+    fn who_falls_asleep() { let rt = gen1_tests::testing::HostRuntime;
+        play(
+            &rt,
+            "pair Tauros; last 75; two.substitute 10; sweep 250; late Spore; told status two slp; draws 2; becomes two.status slp 3
+         pair Tauros; last 75; two.substitute 10; equal 250; late Spore; told status two slp; draws 2; becomes two.status slp 2
+         ruled 1 Tauros; last 75; two.status par; two.speed 6 79; two.flag recharge; from 253; late Sing; told status two slp; draws 1; becomes two.status slp 5 marked, two.flag recharge off; is two.speed 6 79",
+        );
+    }
+
+    // Link numbers of ten zeros: one draw for the hit test, eight zeros, and a 1. The foe's second member has the status, and the
+    // first is out, whose status is byte 218, and whose mark is byte 227 (docs/MECHANICS.md, "Late effects"; docs/LAYOUT.md, "Member").
+    #[test]
+    fn ten_draws() { let rt = gen1_tests::testing::HostRuntime;
+        play_each(
+            &rt,
+            "rules | status | marked | mark
+         0     | slp 3  |        | 0
+         0     | none   |        | 0
+         1     | slp 2  | marked | 1
+         1     | frz    | marked | 1
+         1     | none   | marked | 1",
+            "ruled $rules Tauros; last 75; two.out 2; two.status $status; two.out 1; equal 0; late Spore; told status two slp; ring 1 1 1 1 1 1 1 1 1 1 0; becomes two.status slp 1 $marked; bytes 218=1, 227=$mark",
+        );
+    }
+
+    // A living teammate has the mark, so the move fails: after the hit test, or without a draw if the foe has to recharge. A foe
+    // that has to recharge may have the mark itself. Then it is the one that sleeps, and it stays as it is (docs/MECHANICS.md,
+    // "Late effects", "Rules (sleep clause, freeze clause)").
+    #[test]
+    fn one_sleeper_at_a_time() { let rt = gen1_tests::testing::HostRuntime;
+        play(
+            &rt,
+            "ruled 1 Tauros; last 75; two.out 2; two.status slp 3 marked; two.out 1
+         from 0; late Spore; told fail one; draws 1; becomes
+         two.flag recharge; from 0; late Spore; told fail one; draws 0; becomes two.flag recharge off
+         ruled 1 Tauros; last 75; two.status slp 3 marked; two.flag recharge; sweep 1; late Spore; told fail one; draws 0; becomes two.flag recharge off",
+        );
+    }
+
+    // A teammate that fell has lost its mark, and the user's own marked sleeper doesn't count (docs/MECHANICS.md, "Late effects",
+    // "Rules (sleep clause, freeze clause)").
+    #[test]
+    fn whom_the_sleep_clause_does_not_count() { let rt = gen1_tests::testing::HostRuntime;
+        play_each(
+            &rt,
+            "drawn   | turns
+         sweep 1 | 2
+         equal 1 | 1",
+            "ruled 1 Tauros; last 75; two.out 2; two.status slp 3 marked; two.out 1; two.out 2; two.fallen; two.out 1; $drawn; late Spore; is two.status slp $turns marked
+         ruled 1 Tauros; last 75; one.status slp 3 marked; $drawn; late Spore; is two.status slp $turns marked",
+        );
+    }
+}
+
+#[cfg(test)]
+mod odds {
+    //! The odds of a use of a move, and its chances to knock out, worked out on paper or by another program ([docs/MECHANICS.md](https://hibsuloy.example/gen1/blob/main/docs/MECHANICS.md),
+    //! "Critical hits", "Hit test", "Early effects", "Late effects", "Side effects", "Landing", "Many hits", "Recoil, drain and
+    //! explosion").
+    use crate::battles::{FOE, USER, assert_same, named};
+    use crate::script::{play, play_each, set_up};
     use gen1::generated::layout::{Conditions, Packed};
-    use gen1::generated::machine::{Event, EventList, Kind, Side, StageCount};
-    use gen1::generated::rolls::{LinkRandom, Rolls, Sweep};
-    use gen1::generated::stats::Status;
-    use gen1::generated::tables::Element::Ghost;
-    use gen1::generated::tables::Stat;
+    use gen1::generated::odds::{
+        Between, HpChange, Odds, drained, knock_out, knock_out_in_three, odds_of, recoil, takes_hit_test,
+    };
     use gen1_tests::testing::Abort;
     use gen1_tests::testing::Fail;
 
-    mod sleep_moves {
-        //! Sleep, with and without the sleep clause ([docs/MECHANICS.md, "Late effects"](https://hibsuloy.example/gen1/blob/main/docs/MECHANICS.md#late-effects), "Rules (sleep clause, freeze
-        //! clause)").
-        use super::{
-            Abort, BOTH, Conditions, Event, FOE, Fail, Ghost, Kind, LateEffects, LinkRandom, Operation,
-            Packed, Stat, Status, Sweep, USER, apply_from, compare, fails, misses, plays, send_out, tauros,
-            tauros_under,
+    fn odds(battle: &Packed, name: &str) -> Result<Odds, Fail> {
+        Ok(odds_of(battle, USER, named(name)?))
+    }
+
+    // Persian's base Speed is 115, so 57 of 256 draws are critical, and 255 with Slash. With Focus Energy they are 14 and 112.
+    #[test]
+    fn chances_of_persian() -> Result<(), Fail> { let rt = gen1_tests::testing::HostRuntime;
+        for (begins, few, many) in [
+            ("duel Persian Tauros", 57, 255),
+            ("duel Persian Tauros; one.flag focus", 14, 112),
+        ] {
+            let battle = set_up(begins)?;
+            assert_same(&rt, odds(&battle, "Strength")?.critical_draws, few);
+            assert_same(&rt, odds(&battle, "Slash")?.critical_draws, many);
+        }
+        Ok(())
+    }
+
+    // 100, 70, 60, 55 and 30 percent in 255ths. Swift hits without a draw.
+    #[test]
+    fn accuracies() { let rt = gen1_tests::testing::HostRuntime;
+        play_each(
+            &rt,
+            "move         | draws
+         Strength     | 255
+         Thunder      | 178
+         Hypnosis     | 153
+         Sing         | 140
+         Fissure      | 76
+         Swift        | 256
+         Rage         | 255
+         Swords Dance | 256
+         Splash       | 256
+         Bide         | 256
+         Haze         | 256",
+            "duel Persian Tauros; odds one $move; gives $draws",
+        );
+    }
+
+    // Persian's Speed is 328, and that of Tauros 318.
+    #[test]
+    fn one_hit_moves() -> Result<(), Fail> { let rt = gen1_tests::testing::HostRuntime;
+        play(
+            &rt,
+            "duel Persian Tauros; odds one Fissure; gives 76; odds two Fissure; gives slower 0
+         two.types Ghost Poison; odds one Guillotine; gives immune 0",
+        );
+        let fissure = odds(&set_up("duel Persian Tauros")?, "Fissure")?;
+        assert_same(&rt, (fissure.least, fissure.most), (65535, 65535));
+        Ok(())
+    }
+
+    // Swift is of type Normal. Fixed damage knows no types.
+    #[test]
+    fn the_foes_types() { let rt = gen1_tests::testing::HostRuntime;
+        play_each(
+            &rt,
+            "types        | move         | gives
+         Rock Ground  | Thunderbolt  | immune 0
+         Rock Ground  | Thunder Wave | own_type 0
+         Rock Ground  | Stun Spore   | 191
+         Grass Poison | Leech Seed   | own_type 0
+         Grass Poison | Toxic        | own_type 0
+         Ghost Ghost  | Swift        | immune 0
+         Ghost Ghost  | Seismic Toss | 255",
+            "duel Tauros Tauros; two.types $types; odds one $move; gives $gives",
+        );
+    }
+
+    // A foe that has to recharge falls asleep in any case.
+    #[test]
+    fn the_foes_status() { let rt = gen1_tests::testing::HostRuntime;
+        play(
+            &rt,
+            "duel Tauros Tauros; odds one Dream Eater; gives awake 0
+         two.status slp 3; odds one Dream Eater; gives 255
+         odds one Spore; gives has_status 0; odds one Toxic; gives has_status 0; odds one Thunder Wave; gives has_status 0
+         two.flag recharge; odds one Sing; gives 256",
+        );
+    }
+
+    #[test]
+    fn the_foes_conditions() { let rt = gen1_tests::testing::HostRuntime;
+        play(
+            &rt,
+            "duel Tauros Tauros; two.flag mist; odds one Growl; gives mist 0
+         two.flag mist off; two.flag seeded; odds one Leech Seed; gives seeded 0
+         two.confused 2; odds one Confuse Ray; gives confused 0
+         two.disabled 1 3; odds one Disable; gives disabled 0
+         two.flag invulnerable; odds one Strength; gives invulnerable 0; odds one Sing; gives invulnerable 0
+         odds one Disable; gives invulnerable 0; odds one Growl; gives invulnerable 0; odds one Conversion; gives invulnerable 0
+         odds one Swift; gives 256",
+        );
+    }
+
+    #[test]
+    fn behind_a_substitute() { let rt = gen1_tests::testing::HostRuntime;
+        play_each(
+            &rt,
+            "side | move         | gives
+         one  | Toxic        | substitute 0
+         one  | Supersonic   | substitute 0
+         one  | Growl        | substitute 0
+         one  | Strength     | 255
+         one  | Thunder Wave | 255
+         one  | Spore        | 255
+         two  | Substitute   | already_up 0",
+            "duel Tauros Tauros; two.substitute 88; odds $side $move; gives $gives",
+        );
+    }
+
+    // 353 - 98 is 255. A quarter of 353 is 88.
+    #[test]
+    fn what_concerns_the_user_alone() { let rt = gen1_tests::testing::HostRuntime;
+        play(
+            &rt,
+            "duel Tauros Tauros; odds one Recover; gives health 0
+         one.hp 98; odds one Rest; gives health 0
+         one.hp 87; odds one Rest; gives 256; odds one Substitute; gives health 0
+         one.hp 88; odds one Substitute; gives 256
+         one.flag reflect; odds one Reflect; gives already_up 0; odds one Light Screen; gives 256
+         one.evasion 12; odds one Double Team; gives stage 0
+         two.accuracy 0; odds one Sand Attack; gives stage 0; odds one Roar; gives always_fails 0
+         two.hp 0; odds one Swift; gives fallen 0",
+        );
+    }
+
+    // Rage with Strength in slot 1 as the current move, whose accuracy byte has become 10. Dig would be a new use.
+    #[test]
+    fn a_kept_accuracy() { let rt = gen1_tests::testing::HostRuntime;
+        play(
+            &rt,
+            "duel Tauros Tauros; one.flag rage; one.current 1; one.kept 10; odds one Strength; gives 10; odds one Dig; gives 255",
+        );
+    }
+
+    // Dig is of type Ground.
+    #[test]
+    fn counters() { let rt = gen1_tests::testing::HostRuntime;
+        play(
+            &rt,
+            "duel Tauros Tauros; last 75; two.picked 2; odds one Counter; gives nothing_to_counter 0
+         two.picked struggle; odds one Counter; gives 255
+         last 0; odds one Counter; gives nothing_to_counter 0",
+        );
+    }
+
+    #[test]
+    fn damage_by_rules_of_their_own() -> Result<(), Fail> { let rt = gen1_tests::testing::HostRuntime;
+        let battle = set_up("duel Tauros Tauros; last 75; two.picked 1")?;
+        let damages = [
+            ("Sonic Boom", 20, 20),
+            ("Dragon Rage", 40, 40),
+            ("Night Shade", 100, 100),
+            ("Seismic Toss", 100, 100),
+            // Half of 353.
+            ("Super Fang", 176, 176),
+            // One and a half times 100.
+            ("Psywave", 1, 149),
+            ("Counter", 150, 150),
+            ("Strength", 0, 0),
+            ("Growl", 0, 0),
+        ];
+        for (name, least, most) in damages {
+            let odds = odds(&battle, name)?;
+            assert_same(&rt, (name, odds.least, odds.most), (name, least, most));
+            let code = if name == "Strength" { 0 } else { 48 };
+            assert_same(&rt, (name, odds.usual.code), (name, code));
+        }
+        Ok(())
+    }
+
+    #[test]
+    fn numbers_of_hits() -> Result<(), Fail> { let rt = gen1_tests::testing::HostRuntime;
+        let battle = set_up("duel Tauros Tauros")?;
+        let several = [0, 0, 3, 3, 1, 1];
+        let hits = [
+            ("Fury Attack", several),
+            ("Pin Missile", several),
+            ("Double Kick", [0, 0, 8, 0, 0, 0]),
+            ("Twineedle", [0, 0, 8, 0, 0, 0]),
+            ("Strength", [0, 8, 0, 0, 0, 0]),
+        ];
+        for (name, expected) in hits {
+            let odds = odds(&battle, name)?;
+            assert_same(&rt, (name, odds.hits), (name, expected));
+        }
+        assert_same(&rt, odds(&battle, "Dig")?.charges_first, 1);
+        assert_same(&rt, odds(&battle, "Strength")?.charges_first, 0);
+        Ok(())
+    }
+
+    fn all_take(rt: &impl Abort, names: &[&str], expected: bool) -> Result<(), Fail> {
+        for name in names {
+            assert_same(rt, (*name, takes_hit_test(named(name)?)), (*name, expected));
+        }
+        Ok(())
+    }
+
+    #[test]
+    fn moves_that_take_the_hit_test() -> Result<(), Fail> { let rt = gen1_tests::testing::HostRuntime;
+        let without = [
+            "Whirlwind",
+            "Roar",
+            "Teleport",
+            "Conversion",
+            "Mist",
+            "Focus Energy",
+            "Light Screen",
+            "Reflect",
+            "Haze",
+            "Recover",
+            "Soft-Boiled",
+            "Rest",
+            "Substitute",
+            "Splash",
+            "Swords Dance",
+            "Agility",
+            "Amnesia",
+            "Double Team",
+            "Bide",
+        ];
+        all_take(&rt, &without, false)?;
+        let with = [
+            "Strength",
+            "Swift",
+            "Thunder Wave",
+            "Toxic",
+            "Leech Seed",
+            "Confuse Ray",
+            "Spore",
+            "Growl",
+            "Disable",
+            "Seismic Toss",
+            "Super Fang",
+            "Counter",
+            "Fissure",
+            "Explosion",
+            "Dig",
+            "Hyper Beam",
+        ];
+        all_take(&rt, &with, true)
+    }
+
+    fn ways(battle: &Packed, name: &str) -> Result<[u64; 4], Fail> {
+        let chances = knock_out(battle, USER, named(name)?);
+        Ok([
+            chances.once,
+            chances.once_of,
+            chances.twice,
+            chances.twice_of,
+        ])
+    }
+
+    // Body Slam of a Tauros deals 95 to 112 to another, and 184 to 217 if it is critical, as 55 of 256 draws are. 255 of 256
+    // draws hit. With 100 HP left, 28 of the 39 factors are enough: 255 * 8 * (55 * 39 + 201 * 28) ways. The other numbers
+    // are from a sum over all pairs of uses in fractions, in Python.
+    #[test]
+    fn body_slam() -> Result<(), Fail> { let rt = gen1_tests::testing::HostRuntime;
+        let mut battle = set_up("duel Tauros Tauros")?;
+        let all = 20_447_232;
+        let numbers = [
+            (100, 15_856_920, 417_362_401_198_080),
+            (207, 1_346_400, 284_909_644_252_800),
+            (220, 0, 166_329_072_604_800),
+        ];
+        for (hp, once, twice) in numbers {
+            battle.put_hp(FOE, hp);
+            assert_same(
+                &rt,
+                ways(&battle, "Body Slam")?,
+                [once, all, twice, all * all],
+            );
+        }
+        Ok(())
+    }
+
+    #[test]
+    fn fixed_damage() -> Result<(), Fail> { let rt = gen1_tests::testing::HostRuntime;
+        let mut battle = set_up("duel Tauros Tauros")?;
+        battle.put_hp(FOE, 100);
+        let [hit, all] = [255, 256];
+        let twice = all * all - 1;
+        assert_same(
+            &rt,
+            ways(&battle, "Night Shade")?,
+            [hit, all, twice, all * all],
+        );
+        battle.put_hp(FOE, 101);
+        assert_same(
+            &rt,
+            ways(&battle, "Night Shade")?,
+            [0, all, hit * hit, all * all],
+        );
+        // 204 of 256 draws hit. Of the numbers 1 to 149, 49 are at least 101. Of their pairs, 100 * 99 / 2 and no more have
+        // a sum of 100 or less.
+        let chances = ways(&battle, "Psywave")?;
+        let both = 204 * 204 * (149 * 149 - 4950);
+        let one = 2 * 204 * 52 * 149 * 49;
+        assert_same(
+            &rt,
+            chances,
+            [204 * 49, 256 * 149, both + one, 256 * 149 * 256 * 149],
+        );
+        Ok(())
+    }
+
+    // Super Fang leaves at least 1 HP, and halves what is left: 4, 2, 1. At 2 HP the second use is enough. It hits with 229 of
+    // 256 draws.
+    #[test]
+    fn super_fang() -> Result<(), Fail> { let rt = gen1_tests::testing::HostRuntime;
+        let mut battle = set_up("duel Tauros Tauros")?;
+        battle.put_hp(FOE, 4);
+        assert_same(&rt, ways(&battle, "Super Fang")?, [0, 256, 0, 65_536]);
+        battle.put_hp(FOE, 2);
+        assert_same(
+            &rt,
+            ways(&battle, "Super Fang")?,
+            [0, 256, 229 * 229, 65_536],
+        );
+        // It takes 2 of a substitute, which is half of the HP, and 4 by two uses.
+        battle.put_hp(FOE, 4);
+        battle.put_substitute(FOE, Some(3));
+        let chances = knock_out(&battle, USER, named("Super Fang")?);
+        assert_same(
+            &rt,
+            (chances.once, chances.twice, chances.breaks_substitute),
+            (0, 229 * 229, 1),
+        );
+        Ok(())
+    }
+
+    // A damage equal to its HP leaves a substitute at 0 HP.
+    #[test]
+    fn substitutes() -> Result<(), Fail> { let rt = gen1_tests::testing::HostRuntime;
+        let mut battle = set_up("duel Tauros Tauros")?;
+        for (hp, once) in [(99, 255), (100, 0)] {
+            battle.put_substitute(FOE, Some(hp));
+            assert_same(&rt, ways(&battle, "Seismic Toss")?[0], once);
+        }
+        // 76 of 256 draws hit, and Persian is the faster.
+        let mut battle = set_up("duel Persian Tauros")?;
+        assert_same(&rt, ways(&battle, "Fissure")?[0], 76);
+        battle.put_substitute(FOE, Some(88));
+        assert_same(&rt, ways(&battle, "Fissure")?[0], 76);
+        battle.put_flag(FOE, Conditions::INVULNERABLE, true);
+        assert_same(&rt, ways(&battle, "Fissure")?, [0, 256, 0, 65_536]);
+        Ok(())
+    }
+
+    // The ways of one use and of two, and the two words of those of three.
+    fn three_ways(battle: &Packed, name: &str, changes: [(u16, u16); 2]) -> Result<[u64; 4], Fail> {
+        let [first, second] = changes;
+        let between = Between {
+            after_first: HpChange {
+                gained: first.0,
+                lost: first.1,
+            },
+            after_second: HpChange {
+                gained: second.0,
+                lost: second.1,
+            },
         };
-        use crate::battles::assert_same;
+        let chances = knock_out_in_three(battle, USER, named(name)?, &between);
+        Ok([
+            chances.once,
+            chances.twice,
+            chances.thrice.low,
+            chances.thrice.high,
+        ])
+    }
 
-        const fn asleep(turns: u8, marked: bool) -> Status {
-            Status::Asleep { turns, marked }
+    // The numbers are from a recursion over the HP that are left after each use, in fractions, in Python.
+    #[test]
+    fn three_body_slams() -> Result<(), Fail> { let rt = gen1_tests::testing::HostRuntime;
+        let mut battle = set_up("duel Tauros Tauros")?;
+        let numbers = [
+            (
+                100,
+                [(0, 0), (0, 0)],
+                [
+                    15_856_920,
+                    417_362_401_198_080,
+                    7_839_502_249_578_463_232,
+                    463,
+                ],
+            ),
+            (
+                353,
+                [(0, 0), (0, 0)],
+                [0, 19_147_625_640_000, 10_613_756_104_167_898_624, 236],
+            ),
+            (
+                353,
+                [(0, 22), (0, 44)],
+                [0, 19_147_625_640_000, 15_877_631_471_881_568_256, 459],
+            ),
+            (
+                300,
+                [(176, 0), (0, 22)],
+                [0, 0, 7_792_572_289_109_492_736, 54],
+            ),
+        ];
+        for (hp, changes, ways) in numbers {
+            battle.put_hp(FOE, hp);
+            assert_same(&rt, three_ways(&battle, "Body Slam", changes)?, ways);
+        }
+        Ok(())
+    }
+
+    // Night Shade takes 100. With 22 HP lost after the first use, two hits of three take 222 HP. Without HP a foe gains none.
+    #[test]
+    fn three_fixed_damages() -> Result<(), Fail> { let rt = gen1_tests::testing::HostRuntime;
+        let mut battle = set_up("duel Tauros Tauros")?;
+        let two_of_three = 255 * 255 * 255 + 3 * 255 * 255;
+        let numbers = [
+            (
+                "Night Shade",
+                222,
+                [(0, 22), (0, 0)],
+                [0, 255 * 255, two_of_three, 0],
+            ),
+            (
+                "Night Shade",
+                222,
+                [(0, 11), (0, 11)],
+                [0, 0, two_of_three, 0],
+            ),
+            ("Night Shade", 300, [(176, 0), (0, 23)], [0, 0, 0, 0]),
+            (
+                "Night Shade",
+                100,
+                [(353, 0), (0, 0)],
+                [255, 255 * 256, 255 * 65_536, 0],
+            ),
+            (
+                "Psywave",
+                101,
+                [(0, 10), (0, 10)],
+                [9_996, 943_754_592, 48_339_659_086_272, 0],
+            ),
+            ("Super Fang", 8, [(0, 1), (0, 2)], [0, 0, 14_840_803, 0]),
+            ("Super Fang", 3, [(100, 0), (0, 60)], [0, 0, 15_007_744, 0]),
+        ];
+        for (name, hp, changes, ways) in numbers {
+            battle.put_hp(FOE, hp);
+            assert_same(&rt, three_ways(&battle, name, changes)?, ways);
+        }
+        // A substitute loses nothing between the uses.
+        battle.put_substitute(FOE, Some(221));
+        let ways = three_ways(&battle, "Night Shade", [(0, 22), (0, 22)])?;
+        assert_same(&rt, ways, [0, 0, 255 * 255 * 255, 0]);
+        Ok(())
+    }
+
+    #[test]
+    fn drain_and_recoil() -> Result<(), Fail> { let rt = gen1_tests::testing::HostRuntime;
+        for (name, damage, gain, cost) in [
+            ("Mega Drain", 75, 37, 0),
+            ("Absorb", 1, 1, 0),
+            ("Dream Eater", 200, 100, 0),
+            ("Double-Edge", 75, 0, 18),
+            ("Take Down", 3, 0, 1),
+            ("Struggle", 75, 0, 37),
+            ("Strength", 75, 0, 0),
+        ] {
+            let id = named(name)?;
+            assert_same(
+                &rt,
+                (name, drained(id, damage), recoil(id, damage)),
+                (name, gain, cost),
+            );
+        }
+        Ok(())
+    }
+}
+
+#[cfg(test)]
+mod own_damage {
+    //! Moves whose damage has a rule of its own: Counter, fixed damage and one-hit moves ([docs/MECHANICS.md, "Counter"](https://hibsuloy.example/gen1/blob/main/docs/MECHANICS.md#counter), "Fixed damage
+    //! and one-hit moves"). The last damage is at byte 3, and the outcome at byte 16. A Tauros has base Speed 110, so a draw, rotated
+    //! left by 3 bits, is critical below 55 ("Critical hits").
+    use crate::script::{play, play_each};
+
+    // The foe's first member is out and has picked a move, and a damage of 100 was dealt last. Counted are Normal of power 80,
+    // Fighting of power 1 and of power 80, and Struggle. Not Ice, Ground, moves without power, and Counter itself.
+    #[test]
+    fn normal_and_fighting_moves_are_countered() { let rt = gen1_tests::testing::HostRuntime;
+        play_each(
+            &rt,
+            "moves                                     | used     | gives
+         Strength, Ice Beam, Seismic Toss, Counter | 1        | 200
+         Strength, Ice Beam, Seismic Toss, Counter | 2        | none
+         Strength, Ice Beam, Seismic Toss, Counter | 3        | 200
+         Strength, Ice Beam, Seismic Toss, Counter | 4        | none
+         Strength, Ice Beam, Seismic Toss, Counter | struggle | 200
+         Strength, Ice Beam, Seismic Toss, Counter | nothing  | none
+         Submission, Growl, Night Shade, Dig       | 1        | 200
+         Submission, Growl, Night Shade, Dig       | 2        | none
+         Submission, Growl, Night Shade, Dig       | 3        | none
+         Submission, Growl, Night Shade, Dig       | 4        | none",
+            "teams Tauros 100 Counter / Tauros 100 $moves + Tauros 100 Strength; two.picked $used; last 100; counter one; gives $gives",
+        );
+    }
+
+    // A newcomer's own move counts.
+    #[test]
+    fn a_foe_that_has_left_is_not_countered() { let rt = gen1_tests::testing::HostRuntime;
+        play(
+            &rt,
+            "teams Tauros 100 Counter / Tauros 100 Strength, Ice Beam, Seismic Toss, Counter + Tauros 100 Strength; two.picked 1; last 100; two.out 2; counter one; gives none
+         two.picked 1; counter one; gives 200",
+        );
+    }
+
+    #[test]
+    fn two_counters_both_miss() { let rt = gen1_tests::testing::HostRuntime;
+        play(
+            &rt,
+            "teams Tauros 100 Counter / Tauros 100 Counter; one.picked 1; two.picked 1; last 100; counter one; gives none; counter two; gives none",
+        );
+    }
+
+    #[test]
+    fn damage_is_doubled_up_to_65535() { let rt = gen1_tests::testing::HostRuntime;
+        play_each(
+            &rt,
+            "last  | gives
+         0     | none
+         1     | 2
+         32767 | 65534
+         32768 | 65535
+         65535 | 65535",
+            "teams Tauros 100 Counter / Tauros 100 Strength, Ice Beam, Seismic Toss, Counter + Tauros 100 Strength; two.picked 1; last $last; counter one; gives $gives",
+        );
+    }
+
+    // The draw 0 is critical. 8 is 64 after rotation, and isn't critical. The second draw is below 255. At 255 it misses by its hit
+    // test, and the last damage is 0. If it misses by the foe's move, the last damage is kept, and the critical draw is the only
+    // one.
+    #[test]
+    fn a_counter() { let rt = gen1_tests::testing::HostRuntime;
+        play_each(
+            &rt,
+            "drawn     | used | draws | knows                | last
+         sweep 0   | 1    | 2     | critical, tested 255 | 3=200
+         sweep 8   | 1    | 2     | tested 255           | 3=200
+         equal 254 | 1    | 2     | tested 255           | 3=200
+         sweep 254 | 1    | 2     | missed, tested 255   | 3=0
+         equal 0   | 2    | 1     | critical, missed     |",
+            "teams Tauros 100 Counter / Tauros 100 Strength, Ice Beam, Seismic Toss, Counter + Tauros 100 Strength; two.picked $used; last 100; $drawn; counter_knowing Counter; knows $knows; draws $draws; bytes $last",
+        );
+    }
+
+    #[test]
+    fn numbers_of_moves() { let rt = gen1_tests::testing::HostRuntime;
+        play_each(
+            &rt,
+            "move         | level | damage
+         Sonic Boom   | 100   | 20
+         Dragon Rage  | 100   | 40
+         Seismic Toss | 100   | 100
+         Seismic Toss | 37    | 37
+         Night Shade  | 1     | 1",
+            "teams Tauros $level Psywave / Tauros 100 Strength; sweep 7; fixed $move; gives $damage; draws 0",
+        );
+    }
+
+    #[test]
+    fn super_fang_takes_half() { let rt = gen1_tests::testing::HostRuntime;
+        play_each(
+            &rt,
+            "hp  | damage
+         353 | 176
+         88  | 44
+         3   | 1
+         2   | 1
+         1   | 1",
+            "single; two.hp $hp; equal 9; fixed Super Fang; gives $damage; draws 0",
+        );
+    }
+
+    // At level 100 draws must be below 150, at level 2 below 3, and at level 3 below 4. From 150 on it takes 106 draws up to 255, and
+    // then 0 and 1. Nine zeros are all 1 after they are renewed: the tenth draw, so that the index is 1. At level 1 it is a fault.
+    #[test]
+    fn psywave() { let rt = gen1_tests::testing::HostRuntime;
+        play_each(
+            &rt,
+            "level | drawn          | damage | draws
+         100   | sweep 1        | 1      | 1
+         100   | sweep 149      | 149    | 1
+         100   | sweep 150      | 1      | 108
+         2     | sweep 0        | 1      | 2
+         2     | sweep 2        | 2      | 1
+         2     | sweep 3        | 1      | 255
+         3     | sweep 3        | 3      | 1
+         3     | sweep 4        | 1      | 254
+         2     | link 200 3 2 1 | 2      | 3
+         100   | link 200 3 2 1 | 3      | 2
+         100   | equal 0        | 1      | 1
+         1     | sweep 1        | none   | 0
+         1     | equal 1        | none   | 0",
+            "teams Tauros $level Psywave / Tauros 100 Strength; $drawn; fixed Psywave; gives $damage; draws $draws",
+        );
+    }
+
+    // 80 percent is the byte 204, and the outcome byte of Fault 2 is 5. If it misses, it only misses.
+    #[test]
+    fn psywave_at_level_1_is_a_fault() { let rt = gen1_tests::testing::HostRuntime;
+        play(
+            &rt,
+            "teams Tauros 1 Psywave / Tauros 100 Strength; last 75; sweep 203; fixed_knowing Psywave; gives true; knows tested 204; draws 1; is fault 2; bytes 16=5, 3=75
+         teams Tauros 1 Psywave / Tauros 100 Strength; last 75; sweep 204; fixed_knowing Psywave; gives false; knows missed, tested 204; against teams Tauros 1 Psywave / Tauros 100 Strength; bytes",
+        );
+    }
+
+    // By the type rows Night Shade has no effect on a Normal foe, but they don't count. The next draw misses.
+    #[test]
+    fn a_hit_test_comes_first() { let rt = gen1_tests::testing::HostRuntime;
+        play_each(
+            &rt,
+            "move         | byte | tested | damage
+         Night Shade  | 254  | 255    | 100
+         Seismic Toss | 254  | 255    | 100
+         Sonic Boom   | 228  | 229    | 20
+         Dragon Rage  | 254  | 255    | 40
+         Super Fang   | 228  | 229    | 176",
+            "single; last 75; sweep $byte; fixed_knowing $move; gives false; knows tested $tested; draws 1; bytes 3=$damage
+         last 75; knowing; fixed_knowing $move; gives false; knows missed, tested $tested; draws 1; against single; bytes",
+        );
+    }
+
+    #[test]
+    fn psywave_draws_after_its_hit_test() { let rt = gen1_tests::testing::HostRuntime;
+        play(
+            &rt,
+            "teams Tauros 2 Psywave / Tauros 100 Strength; last 75; sweep 1; fixed_knowing Psywave; gives false; knows tested 204; draws 2; is last 2
+         last 75; knowing; link 203 9 1; fixed_knowing Psywave; gives false; knows tested 204; draws 3; is last 1",
+        );
+    }
+
+    // One-hit moves. Their accuracy byte is 76, and the bytes that give a factor are the odd ones from 179 on ("Factors"). The
+    // critical draw, the factor's, and the hit test at 75: four draws in all, since 74 gives no factor. A member that is paralysed has
+    // a quarter of its Speed of 318. A user as fast as the foe isn't slower.
+    #[test]
+    fn the_faster_one_knocks_out() { let rt = gen1_tests::testing::HostRuntime;
+        play_each(
+            &rt,
+            "move       | speed
+         Guillotine | 79
+         Fissure    | 79
+         Horn Drill | 318",
+            "single; two.speed 6 $speed; last 75; link 0 74 179 75; knock_out $move; knows critical, tested 76; draws 4; bytes 3=255, 4=255",
+        );
+    }
+
+    // From 253 on: the critical draw, 254, the factor 255, and the hit test at 0. From 177 on: the critical draw, 178, the factor 217,
+    // and a miss at 180. From 0 on it takes the draws up to 179.
+    #[test]
+    fn a_sweep_comes_to_a_factor() { let rt = gen1_tests::testing::HostRuntime;
+        play(
+            &rt,
+            "single; last 75; sweep 253; knock_out Guillotine; draws 4; is last 65535
+         single; last 75; sweep 177; knock_out Guillotine; knows missed, tested 76; draws 4; against single; bytes
+         single; last 75; sweep 0; knock_out Guillotine; draws 181",
+        );
+    }
+
+    #[test]
+    fn the_hit_test_is_at_76() { let rt = gen1_tests::testing::HostRuntime;
+        play(
+            &rt,
+            "single; last 75; link 0 255 75; knock_out Horn Drill; knows critical, tested 76; draws 3; bytes 3=255, 4=255
+         single; last 75; link 0 255 76; knock_out Horn Drill; knows critical, missed, tested 76; draws 3; bytes 3=0, 4=0",
+        );
+    }
+
+    // The slower one misses after the critical draw. No effect is a miss with its hit test.
+    #[test]
+    fn who_cannot_knock_out() { let rt = gen1_tests::testing::HostRuntime;
+        play(
+            &rt,
+            "single; one.speed 6 79; last 75; sweep 0; knock_out Guillotine; knows critical, missed; draws 1; bytes 3=0
+         single; two.types Ghost Poison; last 75; sweep 8; knock_out Guillotine; knows missed, tested 76; draws 2; bytes 3=0
+         single; two.types Normal Flying; last 75; sweep 8; knock_out Fissure; knows missed, tested 76; draws 2; bytes 3=0",
+        );
+    }
+
+    #[test]
+    fn its_damage_breaks_and_fells() { let rt = gen1_tests::testing::HostRuntime;
+        play(
+            &rt,
+            "single; two.substitute 249; last 75; sweep 253; knock_out Guillotine; land 65535; gives broke; is two.hp 353
+         land 65535; gives hp; is two.hp 0, last 353",
+        );
+    }
+}
+
+#[cfg(test)]
+mod script {
+    //! Tests as text: each line of a script is a case, of clauses with `;` between them that are done in their order.
+    //!
+    //! - `battles`: a clause that begins a battle, as `pair Tauros`
+    //! - `words`: the words of a clause, and the tables of names that stand for values
+    //! - `writes`: a clause that writes a field, as `two.hp 50`
+    //! - `scene`: the battle, and clauses on what an action knows and draws
+    //! - `calls`: a clause that calls an operation, as `hits 100 Take Down`
+    //! - `checks`: a clause that compares, as `told damage two 253/353`
+    //! - `events`: the events that `told` names
+    //!
+    //! A table has a row of names and rows of values, with `|` between them. A script is played once for each row of
+    //! values, and a word `$name` stands for the row's value.
+    mod battles {
+        //! Battles that begin with members out. All members that come out have type Normal.
+        use super::words::{Unread, Words};
+        use arrayvec::ArrayVec;
+        use gen1::generated::layout::Packed;
+        use gen1::generated::machine::{Rules, Side};
+        use gen1::generated::stats::{MemberSpec, Team};
+        use gen1::generated::tables::Element::Normal;
+        use gen1::generated::tables::{MoveId, Species};
+
+        // The DVs and the experience of the members of a species, and their Attack, Defense, Speed and Special at level 100, or
+        // of Magikarp at level 1.
+        #[derive(Clone, Copy)]
+        struct Breed {
+            dvs: u8,
+            exp: u16,
+            stats: [u16; 4],
         }
 
-        // A sleep move that succeeds: the foe then has this status, and the other bytes are as expected.
-        fn sleeps(
-            rt: &impl Abort,
+        const fn full(stats: [u16; 4]) -> Breed {
+            Breed {
+                dvs: 15,
+                exp: 65535,
+                stats,
+            }
+        }
+
+        fn breed_of(name: &str) -> Result<Breed, Unread> {
+            match name {
+                "Tauros" => Ok(full([298, 288, 318, 238])),
+                "Chansey" => Ok(full([108, 108, 198, 308])),
+                "Electrode" => Ok(full([198, 238, 378, 258])),
+                "Persian" => Ok(full([238, 218, 328, 228])),
+                "Magikarp" => Ok(Breed {
+                    dvs: 0,
+                    exp: 0,
+                    stats: [5, 6, 6, 5],
+                }),
+                _ => Err(Unread("no such member")),
+            }
+        }
+
+        // A member of a species that knows these moves, with commas between them.
+        fn member(name: &str, level: u8, moves: &str) -> Result<MemberSpec, Unread> {
+            let breed = breed_of(name)?;
+            let mut known = ArrayVec::new();
+            for id in moves.split(',') {
+                let id = MoveId::from_name(id.trim()).ok_or(Unread("no such move"))?;
+                known.try_push((id, 0)).ok().ok_or(Unread("too many moves"))?;
+            }
+            Ok(MemberSpec {
+                species: Species::from_name(name).ok_or(Unread("no such species"))?,
+                level,
+                dvs: [breed.dvs; 4],
+                exp: [breed.exp; 5],
+                moves: known,
+            })
+        }
+
+        // A member by words, as in `Tauros 100 Strength, Dig`.
+        fn member_of(mut words: Words<'_>) -> Result<MemberSpec, Unread> {
+            let name = words.word();
+            let level = words.byte()?;
+            member(name, level, words.all())
+        }
+
+        fn a_team(members: &[MemberSpec]) -> Result<Team, Unread> {
+            Team::new(members).ok().ok_or(Unread("no team"))
+        }
+
+        // A team by words, with `+` between its members.
+        fn team_of(text: &str, words: Words<'_>) -> Result<Team, Unread> {
+            let mut members: ArrayVec<MemberSpec, 6> = ArrayVec::new();
+            for part in text.split('+') {
+                let spec = member_of(words.of_item(part))?;
+                members.try_push(spec).ok().ok_or(Unread("too many members"))?;
+            }
+            a_team(members.as_slice())
+        }
+
+        /// The member of a side at a place comes out, with the stats of its species.
+        pub(crate) fn send_out(
             battle: &mut Packed,
-            played: (&str, u8, bool),
-            status: Status,
-            draws: u8,
-            want: &mut Packed,
-        ) -> Result<(), Fail> {
-            let told = [Event::Status(battle.who(FOE), Kind::Sleep)];
-            want.put_status(FOE, status);
-            plays(rt, battle, played, &told, draws, want)
+            side: Side,
+            place: u8,
+            name: &str,
+        ) -> Result<(), Unread> {
+            battle.put_sent_out(side, place, Normal, Normal, breed_of(name)?.stats);
+            Ok(())
         }
 
-        // The foe's second member has this status, and the first is out.
-        fn teammate_with(rules: u8, status: Status) -> Result<Packed, Fail> {
-            let mut battle = tauros_under(rules)?;
-            send_out(&mut battle, FOE, 2);
-            battle.put_status(FOE, status);
-            send_out(&mut battle, FOE, 1);
+        // The first members of two teams are out.
+        fn facing(one: &Team, two: &Team, rules: u8, names: [&str; 2]) -> Result<Packed, Unread> {
+            let rules = Rules::new(rules).ok_or(Unread("no such rules"))?;
+            let mut battle = Packed::with_rules(one, two, [0; 10], rules);
+            send_out(&mut battle, Side::One, 1, names[0])?;
+            send_out(&mut battle, Side::Two, 1, names[1])?;
             Ok(battle)
         }
 
-        // Draws that begin with each byte, of a sweep and of ten equal link numbers: the count, and the number of draws.
-        const COUNTS: [(&str, u8, bool, u8, u8); 6] = [
-            ("Spore", 254, false, 7, 2),
-            ("Spore", 7, false, 1, 3),
-            ("Spore", 254, true, 6, 2),
-            ("Sing", 139, false, 4, 2),
-            ("Sing", 139, true, 3, 2),
-            ("Hypnosis", 152, false, 1, 2),
-        ];
+        // Each side has two members. The second knows Strength, and the first Strength too if no moves are named.
+        fn pair(mut words: Words<'_>, rules: u8) -> Result<Packed, Unread> {
+            let name = words.word();
+            let moves = if words.is_empty() { "Strength" } else { words.all() };
+            let team = a_team(&[member(name, 100, moves)?, member(name, 100, "Strength")?])?;
+            facing(&team, &team, rules, [name, name])
+        }
 
-        #[test]
-        fn counts_of_sleep() -> Result<(), Fail> { let rt = gen1_tests::testing::HostRuntime;
-            for (name, byte, link, turns, draws) in COUNTS {
-                for rules in 0..4u8 {
-                    let mut battle = tauros_under(rules)?;
-                    let mut want = tauros_under(rules)?;
-                    let status = asleep(turns, rules % 2 == 1);
-                    sleeps(
-                        &rt,
-                        &mut battle,
-                        (name, byte, link),
-                        status,
-                        draws,
-                        &mut want,
-                    )?;
+        /// Each side has one Tauros that knows Strength.
+        pub(crate) fn single() -> Result<Packed, Unread> {
+            let team = a_team(&[member("Tauros", 100, "Strength")?])?;
+            facing(&team, &team, 0, ["Tauros", "Tauros"])
+        }
+
+        // Each side has one member, which knows Strength and Dig. Magikarp are at level 1.
+        fn duel(mut words: Words<'_>) -> Result<Packed, Unread> {
+            let (one, two) = (words.word(), words.word());
+            let level = if one == "Magikarp" { 1 } else { 100 };
+            let first = a_team(&[member(one, level, "Strength, Dig")?])?;
+            let second = a_team(&[member(two, level, "Strength, Dig")?])?;
+            facing(&first, &second, 0, [one, two])
+        }
+
+        // Two teams of Tauros by words, with `/` between them.
+        fn teams(words: Words<'_>) -> Result<Packed, Unread> {
+            let (one, two) = words.items().split_once('/').ok_or(Unread("no two teams"))?;
+            facing(
+                &team_of(one, words)?,
+                &team_of(two, words)?,
+                0,
+                ["Tauros", "Tauros"],
+            )
+        }
+
+        /// The battle that a clause begins, or `None` for any other clause.
+        pub(crate) fn begun(mut words: Words<'_>) -> Result<Option<Packed>, Unread> {
+            Ok(Some(match words.word() {
+                "pair" => pair(words, 0)?,
+                "ruled" => {
+                    let rules = words.byte()?;
+                    pair(words, rules)?
                 }
-            }
-            Ok(())
-        }
-
-        // The accuracy bytes are 140 and 255. A Ghost is immune to the Normal type, which only a miss reports.
-        #[test]
-        fn sleep_moves_that_miss() -> Result<(), Fail> { let rt = gen1_tests::testing::HostRuntime;
-            for link in BOTH {
-                for (name, byte) in [("Sing", 140), ("Spore", 255)] {
-                    misses(&rt, &mut tauros()?, (name, byte, link), 1, &mut tauros()?)?;
-                }
-                let mut battle = tauros()?;
-                battle.put_types(FOE, Ghost, Ghost);
-                let (events, _) = apply_from::<LateEffects>(&mut battle, ("Sing", 140, link))?;
-                let immune = [Event::Immune(battle.who(FOE))];
-                assert_same(&rt, events.as_slice(), immune.as_slice());
-            }
-            Ok(())
-        }
-
-        const STATUSES: [Status; 5] = [
-            Status::Asleep {
-                turns: 2,
-                marked: false,
-            },
-            Status::Poisoned,
-            Status::Burned,
-            Status::Frozen,
-            Status::Paralysed,
-        ];
-
-        // Any status makes it fail, without a draw.
-        #[test]
-        fn who_cannot_fall_asleep() -> Result<(), Fail> { let rt = gen1_tests::testing::HostRuntime;
-            for link in BOTH {
-                for status in STATUSES {
-                    let mut battle = tauros()?;
-                    battle.put_status(FOE, status);
-                    let mut want = tauros()?;
-                    want.put_status(FOE, status);
-                    fails(&rt, &mut battle, ("Spore", 1, link), 0, &want)?;
-                }
-            }
-            Ok(())
-        }
-
-        // A Substitute doesn't keep sleep away.
-        #[test]
-        fn sleep_past_a_substitute() -> Result<(), Fail> { let rt = gen1_tests::testing::HostRuntime;
-            for (link, turns) in [(false, 3), (true, 2)] {
-                let mut battle = tauros()?;
-                battle.put_substitute(FOE, Some(10));
-                let mut want = tauros()?;
-                want.put_substitute(FOE, Some(10));
-                let status = asleep(turns, false);
-                sleeps(&rt, &mut battle, ("Spore", 250, link), status, 2, &mut want)?;
-            }
-            Ok(())
-        }
-
-        // A foe that has to recharge falls asleep without a test: the first draw, 253, gives the count, 5. Sleep replaces its
-        // paralysis, and the penalty stays.
-        #[test]
-        fn who_must_recharge_falls_asleep() -> Result<(), Fail> { let rt = gen1_tests::testing::HostRuntime;
-            for link in BOTH {
-                let mut battle = tauros_under(1)?;
-                battle.put_status(FOE, Status::Paralysed);
-                battle.put_speed(FOE, 6, 79);
-                battle.put_flag(FOE, Conditions::RECHARGE, true);
-                let mut want = tauros_under(1)?;
-                want.put_speed(FOE, 6, 79);
-                let status = asleep(5, true);
-                sleeps(&rt, &mut battle, ("Sing", 253, link), status, 1, &mut want)?;
-                assert_same(&rt, battle.current_stat(FOE, Stat::Speed), 79);
-            }
-            Ok(())
-        }
-
-        // Link numbers of ten zeros: one draw for the hit test, eight zeros, and a 1.
-        #[test]
-        fn ten_draws() -> Result<(), Fail> { let rt = gen1_tests::testing::HostRuntime;
-            let after = LinkRandom::from_parts(1, [1, 1, 1, 1, 1, 1, 1, 1, 1, 0]).ok_or("no such numbers")?;
-            for (rules, teammate, marked) in [
-                (0, asleep(3, false), false),
-                (0, Status::Healthy, false),
-                (1, asleep(2, false), true),
-                (1, Status::Frozen, true),
-                (1, Status::Healthy, true),
-            ] {
-                let mut battle = teammate_with(rules, teammate)?;
-                let mut random = LinkRandom::new([0; 10]);
-                let events = LateEffects::apply(&mut battle, "Spore", &mut random)?;
-                let mut want = teammate_with(rules, teammate)?;
-                want.put_status(FOE, asleep(1, marked));
-                let told = [Event::Status(want.who(FOE), Kind::Sleep)];
-                compare(&rt, &battle, &events, &told, &want);
-                assert_same(&rt, random, after);
-                marks(&rt, &battle, marked);
-            }
-            Ok(())
-        }
-
-        // The foe's first member sleeps for one turn, with or without the mark.
-        fn marks(rt: &impl Abort, battle: &Packed, marked: bool) {
-            assert_same(rt, battle.member(FOE, 1)[14], 1);
-            assert_same(rt, battle.mark(FOE, 1), marked);
-        }
-
-        // A living teammate has the mark, so the move fails: after the hit test, or without a draw if the foe has to
-        // recharge.
-        #[test]
-        fn one_sleeper_at_a_time() -> Result<(), Fail> { let rt = gen1_tests::testing::HostRuntime;
-            for link in BOTH {
-                let mut battle = teammate_with(1, asleep(3, true))?;
-                let want = teammate_with(1, asleep(3, true))?;
-                fails(&rt, &mut battle, ("Spore", 0, link), 1, &want)?;
-                battle.put_flag(FOE, Conditions::RECHARGE, true);
-                fails(&rt, &mut battle, ("Spore", 0, link), 0, &want)?;
-            }
-            Ok(())
-        }
-
-        // A foe that has to recharge may have the mark itself. Then it is the one that sleeps, and it stays as it is.
-        #[test]
-        fn the_active_has_the_mark() -> Result<(), Fail> { let rt = gen1_tests::testing::HostRuntime;
-            let mut battle = tauros_under(1)?;
-            battle.put_status(FOE, asleep(3, true));
-            battle.put_flag(FOE, Conditions::RECHARGE, true);
-            let mut want = tauros_under(1)?;
-            want.put_status(FOE, asleep(3, true));
-            let told = [Event::Fail(battle.who(USER))];
-            let mut random = Sweep::new(1);
-            let events = LateEffects::apply(&mut battle, "Spore", &mut random)?;
-            compare(&rt, &battle, &events, &told, &want);
-            assert_same(&rt, random, Sweep::new(1));
-            Ok(())
-        }
-
-        // A teammate that fell has lost its mark.
-        #[test]
-        fn the_clause_counts_no_fallen() -> Result<(), Fail> { let rt = gen1_tests::testing::HostRuntime;
-            for (link, turns) in [(false, 2), (true, 1)] {
-                let mut battle = teammate_with(1, asleep(3, true))?;
-                send_out(&mut battle, FOE, 2);
-                battle.put_fallen(FOE);
-                send_out(&mut battle, FOE, 1);
-                apply_from::<LateEffects>(&mut battle, ("Spore", 1, link))?;
-                assert_same(&rt, battle.status(FOE), asleep(turns, true));
-            }
-            Ok(())
-        }
-
-        // The user's own marked sleeper doesn't count.
-        #[test]
-        fn the_clause_counts_no_sleeper_of_the_users() -> Result<(), Fail> { let rt = gen1_tests::testing::HostRuntime;
-            for (link, turns) in [(false, 2), (true, 1)] {
-                let mut battle = tauros_under(1)?;
-                battle.put_status(USER, asleep(3, true));
-                apply_from::<LateEffects>(&mut battle, ("Spore", 1, link))?;
-                assert_same(&rt, battle.status(FOE), asleep(turns, true));
-            }
-            Ok(())
+                "single" => single()?,
+                "duel" => duel(words)?,
+                "teams" => teams(words)?,
+                _ => return Ok(None),
+            }))
         }
     }
 
-    mod stat_moves {
-        //! Stages that rise and fall ([docs/MECHANICS.md, "Late effects"](https://hibsuloy.example/gen1/blob/main/docs/MECHANICS.md#late-effects), "Stage shift").
-        use super::{
-            Abort, BOTH, Conditions, Event, FOE, Fail, Packed, Side, Stat, Status, USER, count, electrode,
-            fails, misses, plays, tauros,
+    mod calls {
+        //! Clauses that call an operation. The user is side 1, unless the words name a side.
+        use super::scene::{Answer, Draws, NOTHING, Scene};
+        use super::words::{Clause, Unread, Words, among};
+        use crate::Countdown;
+        use crate::battles::{FOE, USER};
+        use gen1::generated::effects::{
+            group_one, group_one_knowing, group_two, is_early, is_late, side_effect, side_effect_knowing,
+        };
+        use gen1::generated::hits::{
+            Hit, Known, Landed, critical, damage, gain_hp, hit_or_miss, hit_test, land, land_on_hp,
+            land_on_substitute, lose_hp, must_hit, note_miss, numbers, own_numbers, scaled_accuracy, type_steps,
+        };
+        use gen1::generated::layout::Packed;
+        use gen1::generated::machine::{Choice, DamageSource, EventList, MoveSlot, Pick, Side, UsedMove};
+        use gen1::generated::multiturn::{
+            bide, charge, counter, counter_knowing, fixed, fixed_knowing, hits, knock_out, missed_move,
+            rage, substitute, thrash, thrash_knowing, trap, trap_knowing,
+        };
+        use gen1::generated::odds::{Reason, odds_of};
+        use gen1::generated::rolls::{LinkRandom, Rolls, Sweep};
+        use gen1::generated::status::{
+            Gate, gate, inflict, inflict_status, lower_stage, pick, raise_stage, residual, shift_stage, take_penalty, used_by,
+        };
+        use gen1::generated::tables::{Effect, MoveId};
+        use gen1_tests::testing::Abort;
+
+        const fn word(word: &'static str) -> Answer<'static> {
+            Answer { word, number: None }
+        }
+
+        const fn number(number: u16) -> Answer<'static> {
+            Answer {
+                word: "",
+                number: Some(number),
+            }
+        }
+
+        const fn truth(is_true: bool) -> Answer<'static> {
+            word(if is_true { "true" } else { "false" })
+        }
+
+        fn some(found: Option<u16>) -> Answer<'static> {
+            match found {
+                Some(found) => number(found),
+                None => word("none"),
+            }
+        }
+
+        fn landed(where_to: Landed) -> Answer<'static> {
+            word(match where_to {
+                Landed::Hp => "hp",
+                Landed::Kept => "kept",
+                Landed::Broke => "broke",
+            })
+        }
+
+        fn passed(answer: Gate) -> Answer<'static> {
+            word(match answer {
+                Gate::Go => "go",
+                Gate::Stop => "stop",
+                Gate::Fault => "fault",
+            })
+        }
+
+        fn tested(hit: Hit) -> Answer<'static> {
+            Answer {
+                word: if hit.hit { "hit" } else { "miss" },
+                number: Some(u16::from(hit.kept)),
+            }
+        }
+
+        fn used(used: UsedMove) -> Answer<'static> {
+            match used {
+                UsedMove::Nothing => word("nothing"),
+                UsedMove::Struggle => word("struggle"),
+                UsedMove::Slot(slot) => number(u16::from(slot)),
+            }
+        }
+
+        fn picked(pick: Pick) -> Answer<'static> {
+            match pick {
+                Pick::Use(what) => used(what),
+                Pick::Continue => word("continue"),
+                Pick::Idle => word("idle"),
+                Pick::Held => word("held"),
+            }
+        }
+
+        // The pick of a slot, or one that has a word.
+        fn pick_of(words: &mut Words<'_>) -> Result<Pick, Unread> {
+            let before = *words;
+            Ok(match words.word() {
+                "continue" => Pick::Continue,
+                "idle" => Pick::Idle,
+                "held" => Pick::Held,
+                _ => {
+                    *words = before;
+                    Pick::Use(words.used()?)
+                }
+            })
+        }
+
+        const SOURCES: [(&str, DamageSource); 6] = [
+            ("hit", DamageSource::Direct),
+            ("psn", DamageSource::Poison),
+            ("brn", DamageSource::Burn),
+            ("seed", DamageSource::LeechSeed),
+            ("recoil", DamageSource::Recoil),
+            ("confusion", DamageSource::Confusion),
+        ];
+
+        pub(crate) fn source_of(word: &str) -> Result<DamageSource, Unread> {
+            among(&SOURCES, word)
+        }
+
+        // How many of the 256 draws hit, or why none does.
+        fn odds(battle: &Packed, side: Side, id: MoveId) -> Answer<'static> {
+            let odds = odds_of(battle, side, id);
+            for (word, reason) in REASONS {
+                if odds.reason == reason.number() {
+                    return Answer {
+                        word,
+                        number: Some(odds.hit_draws),
+                    };
+                }
+            }
+            number(odds.hit_draws)
+        }
+
+        const REASONS: [(&str, Reason); 23] = [
+            ("fallen", Reason::Fallen),
+            ("left_out", Reason::LeftOut),
+            ("always_fails", Reason::AlwaysFails),
+            ("immune", Reason::Immune),
+            ("no_damage", Reason::NoDamage),
+            ("fault", Reason::Fault),
+            ("slower", Reason::Slower),
+            ("nothing_to_counter", Reason::NothingToCounter),
+            ("no_energy", Reason::NoEnergy),
+            ("awake", Reason::Awake),
+            ("invulnerable", Reason::Invulnerable),
+            ("mist", Reason::Mist),
+            ("substitute", Reason::Substitute),
+            ("has_status", Reason::HasStatus),
+            ("own_type", Reason::OwnType),
+            ("confused", Reason::Confused),
+            ("seeded", Reason::Seeded),
+            ("disabled", Reason::Disabled),
+            ("no_pp", Reason::NoPp),
+            ("stage", Reason::Stage),
+            ("sleep_clause", Reason::SleepClause),
+            ("already_up", Reason::AlreadyUp),
+            ("health", Reason::Health),
+        ];
+
+        // Ten numbers that rise from a byte.
+        fn rising(byte: u8) -> [u8; 10] {
+            let mut numbers = [0; 10];
+            let mut next = byte;
+            for place in numbers.iter_mut() {
+                *place = next;
+                next = next.wrapping_add(1);
+            }
+            numbers
+        }
+
+        impl Scene {
+            /// Does a clause that calls an operation.
+            pub(crate) fn plays(
+                &mut self,
+                rt: &impl Abort,
+                clause: Clause<'_>,
+                words: Words<'_>,
+            ) -> Result<(), Unread> {
+                self.before = self.battle.clone();
+                self.knew = self.known;
+                match self.draws {
+                    Draws::Sweep(byte) => self.by_sweep(byte, words),
+                    Draws::Link(random) => self.by_link(random, words),
+                    Draws::Countdown(byte) => self.by_countdown(byte, words),
+                    Draws::Both(byte) => {
+                        let mut twin = self.twin()?;
+                        twin.by_sweep(byte, words)?;
+                        self.by_link(LinkRandom::new(rising(byte)), words)?;
+                        self.draws = Draws::Both(byte.wrapping_add(self.drawn));
+                        self.is_like(rt, clause, &twin);
+                        Ok(())
+                    }
+                }
+            }
+
+            fn by_sweep(&mut self, byte: u8, words: Words<'_>) -> Result<(), Unread> {
+                let mut random = Sweep::new(byte);
+                self.call(words, &mut random)?;
+                let next = random.draw();
+                self.drawn = next.wrapping_sub(byte);
+                self.draws = Draws::Sweep(next);
+                Ok(())
+            }
+
+            fn by_link(&mut self, numbers: LinkRandom, words: Words<'_>) -> Result<(), Unread> {
+                let mut random = numbers;
+                self.call(words, &mut random)?;
+                self.drawn = (9 + random.index() - numbers.index()) % 9;
+                self.draws = Draws::Link(random);
+                Ok(())
+            }
+
+            fn by_countdown(&mut self, byte: u8, words: Words<'_>) -> Result<(), Unread> {
+                let mut random = Countdown::new(byte);
+                self.call(words, &mut random)?;
+                let next = random.draw();
+                self.drawn = byte.wrapping_sub(next);
+                self.draws = Draws::Countdown(next);
+                Ok(())
+            }
+
+            // Calls an operation. Each of the groups returns nothing for an operation of another group.
+            fn call<R: Rolls>(&mut self, words: Words<'_>, random: &mut R) -> Result<(), Unread> {
+                self.events = EventList::new();
+                let mut found = self.hit_call(words, random)?;
+                if found.is_none() {
+                    found = self.effect_call(words, random)?;
+                }
+                if found.is_none() {
+                    found = self.turns_call(words, random)?;
+                }
+                if found.is_none() {
+                    found = self.damage_call(words, random)?;
+                }
+                if found.is_none() {
+                    found = self.landing_call(words)?;
+                }
+                if found.is_none() {
+                    found = self.status_call(words)?;
+                }
+                if found.is_none() {
+                    found = self.other_call(words)?;
+                }
+                self.answer = found.ok_or(Unread("no such clause"))?;
+                Ok(())
+            }
+
+            fn hit_call<R: Rolls>(
+                &mut self,
+                mut words: Words<'_>,
+                random: &mut R,
+            ) -> Result<Option<Answer<'static>>, Unread> {
+                let (battle, known) = (&mut self.battle, &mut self.known);
+                Ok(Some(match words.word() {
+                    "hit_or_miss" => {
+                        hit_or_miss(battle, USER, words.id()?, known, random);
+                        NOTHING
+                    }
+                    "must_hit" => {
+                        let mut events = EventList::new();
+                        let ends = must_hit(battle, USER, words.id()?, known, random, &mut events);
+                        self.events = events;
+                        truth(ends)
+                    }
+                    "critical" => truth(critical(battle, USER, words.id()?, random)),
+                    "hit_test" => {
+                        let id = words.id()?;
+                        tested(hit_test(battle, USER, id, id.accuracy_byte(), random))
+                    }
+                    "gate" => {
+                        let mut events = EventList::new();
+                        let pick = pick_of(&mut words)?;
+                        let answer = gate(battle, USER, pick, random, &mut events);
+                        self.events = events;
+                        passed(answer)
+                    }
+                    _ => return Ok(None),
+                }))
+            }
+
+            fn effect_call<R: Rolls>(
+                &mut self,
+                mut words: Words<'_>,
+                random: &mut R,
+            ) -> Result<Option<Answer<'static>>, Unread> {
+                let (battle, known) = (&mut self.battle, &mut self.known);
+                let mut events = EventList::new();
+                let mut answer = NOTHING;
+                match words.word() {
+                    "early" => {
+                        let id = early(words)?;
+                        group_one(battle, USER, id, random, &mut events);
+                    }
+                    "early_knowing" => {
+                        let id = early(words)?;
+                        group_one_knowing(battle, USER, id, known, random, &mut events);
+                    }
+                    "late" => {
+                        let id = words.id()?;
+                        if !is_late(id.effect()) {
+                            return Err(Unread("no late effect"));
+                        }
+                        group_two(battle, USER, id, random, &mut events);
+                    }
+                    "side" => side_effect(battle, USER, words.id()?, random, &mut events),
+                    "side_knowing" => {
+                        let id = words.id()?;
+                        answer = truth(side_effect_knowing(battle, USER, id, known, random, &mut events));
+                    }
+                    _ => return Ok(None),
+                }
+                self.events = events;
+                Ok(Some(answer))
+            }
+
+            fn turns_call<R: Rolls>(
+                &mut self,
+                mut words: Words<'_>,
+                random: &mut R,
+            ) -> Result<Option<Answer<'static>>, Unread> {
+                let battle = &mut self.battle;
+                let mut events = EventList::new();
+                let mut answer = NOTHING;
+                match words.word() {
+                    "trap" => trap(battle, USER, random),
+                    "trap_knowing" => trap_knowing(battle, USER, &self.known, random),
+                    "bide" => answer = some(bide(battle, USER, random, &mut events)),
+                    "thrash" => thrash(battle, USER, random, &mut events),
+                    "thrash_knowing" => {
+                        let id = words.id()?;
+                        match id.effect() {
+                            Effect::Thrash => {
+                                thrash_knowing(battle, USER, id, &self.known, random, &mut events);
+                            }
+                            _ => return Err(Unread("no thrashing move")),
+                        }
+                    }
+                    _ => return Ok(None),
+                }
+                self.events = events;
+                Ok(Some(answer))
+            }
+
+            fn damage_call<R: Rolls>(
+                &mut self,
+                mut words: Words<'_>,
+                random: &mut R,
+            ) -> Result<Option<Answer<'static>>, Unread> {
+                let (battle, known) = (&mut self.battle, &mut self.known);
+                Ok(Some(match words.word() {
+                    "fixed" => some(fixed(battle, USER, words.id()?, random)),
+                    "fixed_knowing" => truth(fixed_knowing(battle, USER, words.id()?, known, random)),
+                    "counter_knowing" => {
+                        counter_knowing(battle, USER, words.id()?, known, random);
+                        NOTHING
+                    }
+                    "knock_out" => {
+                        knock_out(battle, USER, words.id()?, known, random);
+                        NOTHING
+                    }
+                    "hits" => {
+                        let mut uncounted = Known {
+                            hits_made: 0,
+                            hits_planned: None,
+                            ..*known
+                        };
+                        let mut events = EventList::new();
+                        hits(battle, USER, words.id()?, &mut uncounted, random, &mut events);
+                        self.known = uncounted;
+                        self.events = events;
+                        NOTHING
+                    }
+                    _ => return Ok(None),
+                }))
+            }
+
+            fn landing_call(&mut self, mut words: Words<'_>) -> Result<Option<Answer<'static>>, Unread> {
+                let battle = &mut self.battle;
+                let mut events = EventList::new();
+                let mut answer = NOTHING;
+                match words.word() {
+                    "land" => answer = landed(land(battle, USER, words.number()?, &mut events)),
+                    "land_on_hp" => {
+                        let damage = words.number()?;
+                        land_on_hp(battle, FOE, source_of(words.word())?, damage, &mut events);
+                    }
+                    "land_on_substitute" => {
+                        let (damage, hp) = (words.number()?, words.byte()?);
+                        answer = truth(land_on_substitute(battle, FOE, damage, hp, &mut events));
+                    }
+                    "lose" => {
+                        let amount = words.number()?;
+                        lose_hp(battle, FOE, source_of(words.word())?, amount, &mut events);
+                    }
+                    "gain" => gain_hp(battle, FOE, words.number()?, &mut events),
+                    "note_miss" => note_miss(battle, USER, words.id()?, &mut events),
+                    "missed_move" => missed_move(battle, USER, words.id()?, &mut events),
+                    "rage" => rage(battle, USER, &mut events),
+                    _ => return Ok(None),
+                }
+                self.events = events;
+                Ok(Some(answer))
+            }
+
+            fn status_call(&mut self, mut words: Words<'_>) -> Result<Option<Answer<'static>>, Unread> {
+                let battle = &mut self.battle;
+                let mut events = EventList::new();
+                let mut answer = NOTHING;
+                match words.word() {
+                    "inflict" => {
+                        let (target, kind, count) = (words.side()?, words.kind()?, words.byte()?);
+                        inflict(battle, target, kind, count, &mut events);
+                    }
+                    "inflict_status" => {
+                        let (target, kind, status) = (words.side()?, words.kind()?, words.status()?);
+                        inflict_status(battle, target, status, kind, &mut events);
+                    }
+                    "penalty" => take_penalty(battle, words.side()?, words.status()?),
+                    "shift" => {
+                        let (target, stat, by) = (words.side()?, words.stat()?, words.shift()?);
+                        answer = truth(shift_stage(battle, USER, target, stat, by, &mut events));
+                    }
+                    "raise" => {
+                        let (target, stat, by) = (words.side()?, words.stat()?, words.byte()?);
+                        answer = truth(raise_stage(battle, USER, target, stat, by, &mut events));
+                    }
+                    "lower" => {
+                        let (target, stat, by) = (words.side()?, words.stat()?, words.byte()?);
+                        answer = truth(lower_stage(battle, USER, target, stat, by, &mut events));
+                    }
+                    "residual" => residual(battle, words.side()?, &mut events),
+                    _ => return Ok(None),
+                }
+                self.events = events;
+                Ok(Some(answer))
+            }
+
+            fn other_call(&mut self, mut words: Words<'_>) -> Result<Option<Answer<'static>>, Unread> {
+                let battle = &mut self.battle;
+                let mut events = EventList::new();
+                let answer = match words.word() {
+                    "pick" => {
+                        let side = words.side()?;
+                        let slot = MoveSlot::new(words.byte()?).ok_or(Unread("no such slot"))?;
+                        picked(pick(battle, side, Choice::Move(slot)))
+                    }
+                    "used_by" => used(used_by(battle, USER, pick_of(&mut words)?)),
+                    "counter" => some(counter(battle, words.side()?)),
+                    "charge" => truth(charge(battle, USER, words.id()?, &mut events)),
+                    "substitute" => {
+                        substitute(battle, USER, &mut events);
+                        NOTHING
+                    }
+                    "usual" => some(damage(&numbers(battle, USER, words.id()?, false))),
+                    "against_critical" => {
+                        number(u16::from(numbers(battle, USER, words.id()?, true).defense))
+                    },
+                    "own" => some(damage(&own_numbers(battle, USER))),
+                    "type_steps" => {
+                        let damage = words.number()?.min(999);
+                        number(type_steps(damage, &numbers(battle, USER, words.id()?, false)))
+                    }
+                    "scaled" => number(u16::from(scaled_accuracy(battle, USER, words.byte()?))),
+                    "odds" => {
+                        let side = words.side()?;
+                        odds(battle, side, words.id()?)
+                    }
+                    _ => return Ok(None),
+                };
+                self.events = events;
+                Ok(Some(answer))
+            }
+        }
+
+        // The move of an early effect.
+        fn early(mut words: Words<'_>) -> Result<MoveId, Unread> {
+            let id = words.id()?;
+            if !is_early(id.effect()) {
+                return Err(Unread("no early effect"));
+            }
+            Ok(id)
+        }
+    }
+
+    mod checks {
+        //! Clauses that compare what the last call did, or a field.
+        use super::events::events_of;
+        use super::scene::{Answer, Draws, Scene, learned, numbers};
+        use super::words::{Clause, Unread, Words, number_of};
+        use super::writes::write;
+        use crate::battles::{assert_same_for, bytes_of};
+        use gen1::generated::layout::Packed;
+        use gen1::generated::machine::EventList;
+        use gen1::generated::rolls::LinkRandom;
+        use gen1_tests::testing::Abort;
+
+        impl Scene {
+            /// Does a clause that compares: whether it is one.
+            pub(crate) fn checks(
+                &self,
+                rt: &impl Abort,
+                clause: Clause<'_>,
+                mut words: Words<'_>,
+            ) -> Result<bool, Unread> {
+                match words.word() {
+                    "told" => self.told(rt, clause, events_of(&self.battle, words)?),
+                    "gives" => self.gives(rt, clause, words)?,
+                    "draws" => assert_same_for(rt, &clause, self.drawn, words.byte()?),
+                    "becomes" => {
+                        let expected = written(self.before.clone(), words)?;
+                        same_bytes(rt, clause, &self.battle, &expected);
+                    }
+                    "bytes" => self.has_bytes(rt, clause, words)?,
+                    "is" => {
+                        let expected = written(self.battle.clone(), words)?;
+                        same_bytes(rt, clause, &self.battle, &expected);
+                    }
+                    "knows" => assert_same_for(rt, &clause, self.known, learned(self.knew, words)?),
+                    "ring" => self.has_ring(rt, clause, words)?,
+                    _ => return Ok(false),
+                }
+                Ok(true)
+            }
+
+            // Whether both generators did the same.
+            pub(crate) fn is_like(&self, rt: &impl Abort, clause: Clause<'_>, twin: &Scene) {
+                same_bytes(rt, clause, &self.battle, &twin.battle);
+                assert_eq!(self.events.as_slice(), twin.events.as_slice(), "{clause:?}");
+                assert_same_for(rt, &clause, self.known, twin.known);
+                assert_same_for(rt, &clause, self.answer, twin.answer);
+                assert_same_for(rt, &clause, self.drawn, twin.drawn);
+            }
+
+            fn told(&self, rt: &impl Abort, clause: Clause<'_>, expected: EventList) {
+                assert_eq!(self.events.as_slice(), expected.as_slice(), "{clause:?}");
+            }
+
+            // A word, a number, or both.
+            fn gives(&self, rt: &impl Abort, clause: Clause<'_>, mut words: Words<'_>) -> Result<(), Unread> {
+                let first = words.word();
+                let (word, number) = match first.parse::<u16>() {
+                    Ok(number) => ("", Some(number)),
+                    Err(_) => (first, number_after(words)?),
+                };
+                assert_same_for(rt, &clause, self.answer, Answer { word, number });
+                Ok(())
+            }
+
+            // The bytes of the battle before the last call, with other bytes at some places, as in `bytes 3=44, 4=1`.
+            fn has_bytes(&self, rt: &impl Abort, clause: Clause<'_>, words: Words<'_>) -> Result<(), Unread> {
+                let mut expected = bytes_of(&self.before);
+                for item in words.items().split(',') {
+                    if let Some((place, byte)) = item.split_once('=') {
+                        let place = usize::from(number_of(place.trim())?);
+                        let there = expected.get_mut(place).ok_or(Unread("no such place"))?;
+                        *there = words.of_item(byte).byte()?;
+                    } else if !item.is_empty() {
+                        return Err(Unread("no byte"));
+                    }
+                }
+                assert_same_for(rt, &clause, bytes_of(&self.battle), expected);
+                Ok(())
+            }
+
+            // Link numbers: their index, and the ten.
+            fn has_ring(&self, rt: &impl Abort, clause: Clause<'_>, mut words: Words<'_>) -> Result<(), Unread> {
+                let index = words.byte()?;
+                let expected = LinkRandom::from_parts(index, numbers(words)?).ok_or(Unread("no such numbers"))?;
+                match self.draws {
+                    Draws::Link(random) => assert_same_for(rt, &clause, random, expected),
+                    _ => return Err(Unread("no link numbers")),
+                }
+                Ok(())
+            }
+        }
+
+        fn number_after(mut words: Words<'_>) -> Result<Option<u16>, Unread> {
+            if words.is_empty() {
+                return Ok(None);
+            }
+            Ok(Some(words.number()?))
+        }
+
+        // A battle after writes, in items.
+        fn written(mut battle: Packed, words: Words<'_>) -> Result<Packed, Unread> {
+            for item in words.items().split(',') {
+                let of_item = words.of_item(item);
+                if !of_item.is_empty() && !write(&mut battle, of_item)? {
+                    return Err(Unread("no such field"));
+                }
+            }
+            Ok(battle)
+        }
+
+        fn same_bytes(rt: &impl Abort, clause: Clause<'_>, found: &Packed, expected: &Packed) {
+            assert_same_for(rt, &clause, bytes_of(found), bytes_of(expected));
+        }
+    }
+
+    mod events {
+        //! The events that a clause `told` names, in items as `damage two 253/353 psn by recoil`.
+        use super::calls::source_of;
+        use super::words::{Unread, Words, among, number_of};
+        use gen1::generated::layout::Packed;
+        use gen1::generated::machine::{
+            CantReason, DamageSource, Event, EventList, Health, HitCount, StageCount, Volatile, Who,
         };
 
-        // Writes a stage as its byte, where 6 is the middle, and the stat at it.
-        fn put(battle: &mut Packed, side: Side, stat: Stat, stage: u8, value: u16) {
-            match stat {
-                Stat::Attack => battle.put_attack(side, stage, value),
-                Stat::Defense => battle.put_defense(side, stage, value),
-                Stat::Speed => battle.put_speed(side, stage, value),
-                Stat::Special => battle.put_special(side, stage, value),
-                Stat::Accuracy => battle.put_accuracy(side, stage),
-                Stat::Evasion => battle.put_evasion(side, stage),
-            }
-        }
-
-        // The number of stages, and the stat after them: 150 or 200 percent of the user's. Evasion has none.
-        const RISES: [(&str, Stat, u8, u16); 8] = [
-            ("Meditate", Stat::Attack, 1, 447),
-            ("Swords Dance", Stat::Attack, 2, 596),
-            ("Harden", Stat::Defense, 1, 432),
-            ("Barrier", Stat::Defense, 2, 576),
-            ("Agility", Stat::Speed, 2, 636),
-            ("Growth", Stat::Special, 1, 357),
-            ("Amnesia", Stat::Special, 2, 476),
-            ("Double Team", Stat::Evasion, 1, 0),
+        const REASONS: [(&str, CantReason); 7] = [
+            ("slp", CantReason::Asleep),
+            ("frz", CantReason::Frozen),
+            ("trapped", CantReason::PartiallyTrapped),
+            ("flinch", CantReason::Flinched),
+            ("recharge", CantReason::Recharging),
+            ("Disable", CantReason::Disabled),
+            ("par", CantReason::Paralysed),
         ];
 
-        #[test]
-        fn stats_of_the_user_rise() -> Result<(), Fail> { let rt = gen1_tests::testing::HostRuntime;
-            for (name, stat, by, value) in RISES {
-                for link in BOTH {
-                    let mut want = tauros()?;
-                    put(&mut want, USER, stat, by.saturating_add(6), value);
-                    let told = [Event::Boost(want.who(USER), stat, count(by)?)];
-                    plays(&rt, &mut tauros()?, (name, 7, link), &told, 0, &want)?;
-                }
-            }
-            Ok(())
-        }
-
-        // The accuracy bytes are 255, but 216 for Screech's 85 percent and 242 for String Shot's 95. The stats are 66 and 50
-        // percent of the foe's, rounded down.
-        const FALLS: [(&str, Stat, u8, u16, u8); 5] = [
-            ("Growl", Stat::Attack, 1, 196, 255),
-            ("Tail Whip", Stat::Defense, 1, 190, 255),
-            ("Screech", Stat::Defense, 2, 144, 216),
-            ("String Shot", Stat::Speed, 1, 209, 242),
-            ("Sand Attack", Stat::Accuracy, 1, 0, 255),
+        const VOLATILES: [(&str, Volatile); 12] = [
+            ("confusion", Volatile::Confusion),
+            ("Bide", Volatile::Bide),
+            ("Substitute", Volatile::Substitute),
+            ("Leech Seed", Volatile::LeechSeed),
+            ("Mist", Volatile::Mist),
+            ("Focus Energy", Volatile::FocusEnergy),
+            ("Light Screen", Volatile::LightScreen),
+            ("Reflect", Volatile::Reflect),
+            ("Disable", Volatile::Disable),
+            ("typechange", Volatile::TypeChange),
+            ("Rage", Volatile::Rage),
+            ("Splash", Volatile::Splash),
         ];
 
-        #[test]
-        fn stats_of_the_foe_fall() -> Result<(), Fail> { let rt = gen1_tests::testing::HostRuntime;
-            for (name, stat, by, value, accuracy) in FALLS {
-                for link in BOTH {
-                    let mut want = tauros()?;
-                    put(&mut want, FOE, stat, 6u8.saturating_sub(by), value);
-                    let told = [Event::Unboost(want.who(FOE), stat, count(by)?)];
-                    let last = accuracy.wrapping_sub(1);
-                    plays(&rt, &mut tauros()?, (name, last, link), &told, 1, &want)?;
-                    // A draw one higher misses, and only the last damage changes.
-                    misses(
-                        &rt,
-                        &mut tauros()?,
-                        (name, accuracy, link),
-                        1,
-                        &mut tauros()?,
-                    )?;
-                }
-            }
-            Ok(())
-        }
-
-        // Without a draw.
-        #[test]
-        fn a_substitute_keeps_a_stat_from_falling() -> Result<(), Fail> { let rt = gen1_tests::testing::HostRuntime;
-            for link in BOTH {
-                let mut battle = tauros()?;
-                battle.put_substitute(FOE, Some(10));
-                let mut want = tauros()?;
-                want.put_substitute(FOE, Some(10));
-                fails(&rt, &mut battle, ("Growl", 0, link), 0, &want)?;
-            }
-            Ok(())
-        }
-
-        // Without a draw.
-        #[test]
-        fn mist_and_an_invulnerable_foe_are_missed() -> Result<(), Fail> { let rt = gen1_tests::testing::HostRuntime;
-            for link in BOTH {
-                for flag in [Conditions::MIST, Conditions::INVULNERABLE] {
-                    let mut battle = tauros()?;
-                    battle.put_flag(FOE, flag, true);
-                    let mut want = tauros()?;
-                    want.put_flag(FOE, flag, true);
-                    misses(&rt, &mut battle, ("Growl", 0, link), 0, &mut want)?;
-                }
-            }
-            Ok(())
-        }
-
-        // At -6 nothing changes, after a draw. At +6 nothing changes, without a draw.
-        #[test]
-        fn shifts_that_fail() -> Result<(), Fail> { let rt = gen1_tests::testing::HostRuntime;
-            for link in BOTH {
-                let mut battle = tauros()?;
-                battle.put_accuracy(FOE, 0);
-                battle.put_evasion(USER, 12);
-                let mut want = tauros()?;
-                want.put_accuracy(FOE, 0);
-                want.put_evasion(USER, 12);
-                fails(&rt, &mut battle, ("Sand Attack", 3, link), 1, &want)?;
-                fails(&rt, &mut battle, ("Double Team", 3, link), 0, &want)?;
-            }
-            Ok(())
-        }
-
-        // Agility without a draw, and the user's Speed and its stage afterwards, from a Speed of 378.
-        fn agility(
-            rt: &impl Abort,
-            battle: &mut Packed,
-            told: &[Event],
-            stage: u8,
-            value: u16,
-        ) -> Result<(), Fail> {
-            let mut want = electrode()?;
-            want.put_last_damage(75);
-            want.put_speed(USER, stage, value);
-            plays(rt, battle, ("Agility", 0, false), told, 0, &want)
-        }
-
-        // An Electrode's Speed of 378 is 756 at +2. At +4 it is 999, since 1,134 is above the limit. Then a rise by two
-        // stages is one stage and a failure, and after that none.
-        #[test]
-        fn a_speed_of_999() -> Result<(), Fail> { let rt = gen1_tests::testing::HostRuntime;
-            let mut battle = electrode()?;
-            battle.put_last_damage(75);
-            let user = battle.who(USER);
-            let two = Event::Boost(user, Stat::Speed, count(2)?);
-            let one = Event::Boost(user, Stat::Speed, count(1)?);
-            let fails = Event::Fail(user);
-            agility(&rt, &mut battle, &[two], 8, 756)?;
-            agility(&rt, &mut battle, &[two], 10, 999)?;
-            agility(&rt, &mut battle, &[one, fails], 11, 999)?;
-            agility(&rt, &mut battle, &[fails], 11, 999)
-        }
-
-        // The foe is burned, and its Attack of 298 is 149 now. At -1 it is 196, halved to 98, and the user's Swords Dance
-        // makes it 49.
-        #[test]
-        fn growl_and_swords_dance() -> Result<(), Fail> { let rt = gen1_tests::testing::HostRuntime;
-            for link in BOTH {
-                let mut battle = tauros()?;
-                battle.put_status(FOE, Status::Burned);
-                battle.put_attack(FOE, 6, 149);
-                let mut want = tauros()?;
-                want.put_status(FOE, Status::Burned);
-                want.put_attack(FOE, 5, 98);
-                let falls = [Event::Unboost(want.who(FOE), Stat::Attack, count(1)?)];
-                plays(&rt, &mut battle, ("Growl", 0, link), &falls, 1, &want)?;
-                want.put_attack(FOE, 5, 49);
-                want.put_attack(USER, 8, 596);
-                let rises = [Event::Boost(want.who(USER), Stat::Attack, count(2)?)];
-                plays(
-                    &rt,
-                    &mut battle,
-                    ("Swords Dance", 0, link),
-                    &rises,
-                    0,
-                    &want,
-                )?;
-            }
-            Ok(())
-        }
-    }
-
-
-    fn tauros_under(rules: u8) -> Result<Packed, Fail> {
-        let mut battle = battles::tauros_under(rules)?;
-        battle.put_last_damage(75);
-        Ok(battle)
-    }
-
-    fn tauros() -> Result<Packed, Fail> {
-        tauros_under(0)
-    }
-
-    struct LateEffects;
-
-    impl Operation for LateEffects {
-        fn apply<R: Rolls>(battle: &mut Packed, name: &str, random: &mut R) -> Result<EventList, Fail> {
-            let id = named(name)?;
-            if !is_late(id.effect()) {
-                return Err("another effect")?;
-            }
+        /// The events of a list of items, which may be empty.
+        pub(crate) fn events_of(battle: &Packed, words: Words<'_>) -> Result<EventList, Unread> {
             let mut events = EventList::new();
-            group_two(battle, USER, id, random, &mut events);
+            for item in words.items().split(',') {
+                let of_item = words.of_item(item);
+                if !of_item.is_empty() {
+                    let event = event_of(battle, of_item)?;
+                    events.try_push(event).ok().ok_or(Unread("too many events"))?;
+                }
+            }
             Ok(events)
         }
 
-        // All ten are the same.
-        fn link_numbers(byte: u8) -> [u8; 10] {
-            [byte; 10]
+        fn event_of(battle: &Packed, mut words: Words<'_>) -> Result<Event, Unread> {
+            let word = words.word();
+            match word {
+                "clear" => return Ok(Event::ClearAll),
+                "ohko" => return Ok(Event::OneHitKnockOut),
+                _ => {}
+            }
+            let who = battle.who(words.side()?);
+            Ok(match word {
+                "crit" => Event::Crit(who),
+                "super" => Event::SuperEffective(who),
+                "resisted" => Event::Resisted(who),
+                "immune" => Event::Immune(who),
+                "miss" => Event::Miss(who),
+                "fail" => Event::Fail(who),
+                "recharge" => Event::MustRecharge(who),
+                _ => with_more(who, word, words)?,
+            })
+        }
+
+        // The event of a member with one more field.
+        fn with_more(who: Who, word: &str, mut words: Words<'_>) -> Result<Event, Unread> {
+            Ok(match word {
+                "damage" => damage(who, words)?,
+                "heal" => Event::Heal(who, health(&mut words)?),
+                "status" => Event::Status(who, words.kind()?),
+                "cure" => Event::Cure(who, words.kind()?),
+                "boost" => Event::Boost(who, words.stat()?, stages(words.byte()?)?),
+                "unboost" => Event::Unboost(who, words.stat()?, stages(words.byte()?)?),
+                "start" => Event::Start(who, among(&VOLATILES, words.all())?),
+                "end" => Event::End(who, among(&VOLATILES, words.all())?),
+                "activate" => Event::Activate(who, among(&VOLATILES, words.all())?),
+                "prepare" => Event::Prepare(who, words.id()?),
+                "cant" => Event::Cant(who, among(&REASONS, words.word())?),
+                "count" => Event::HitCount(who, HitCount::new(words.byte()?).ok_or(Unread("no such count"))?),
+                _ => return Err(Unread("no such event")),
+            })
+        }
+
+        fn stages(count: u8) -> Result<StageCount, Unread> {
+            StageCount::new(count).ok_or(Unread("no such count"))
+        }
+
+        // HP of the maximum, and perhaps a status.
+        fn health(words: &mut Words<'_>) -> Result<Health, Unread> {
+            let (hp, max) = words.word().split_once('/').ok_or(Unread("no health"))?;
+            let (hp, max) = (number_of(hp)?, number_of(max)?);
+            let mut after = *words;
+            let kind = after.kind().ok();
+            if kind.is_some() {
+                *words = after;
+            }
+            Health::new(hp, max, kind).ok_or(Unread("no such health"))
+        }
+
+        // A health, and perhaps what the damage is by.
+        fn damage(who: Who, mut words: Words<'_>) -> Result<Event, Unread> {
+            let health = health(&mut words)?;
+            let source = match words.word() {
+                "by" => source_of(words.word())?,
+                _ => DamageSource::Direct,
+            };
+            Ok(Event::Damage(who, health, source))
         }
     }
 
-    // Plays a move, and compares its events, its number of draws, and the bytes.
-    fn plays(
-        rt: &impl Abort,
-        battle: &mut Packed,
-        played: (&str, u8, bool),
-        told: &[Event],
-        draws: u8,
-        want: &Packed,
-    ) -> Result<(), Fail> {
-        let (events, drawn) = apply_from::<LateEffects>(battle, played)?;
-        let (name, _, _) = played;
-        assert_same(rt, (name, drawn), (name, draws));
-        compare(rt, battle, &events, told, want);
-        Ok(())
-    }
+    mod scene {
+        //! The battle of a script, and clauses on what an action knows and draws.
+        use super::battles::{begun, single};
+        use super::words::{Unread, Words};
+        use super::writes::write;
+        use gen1::generated::hits::Known;
+        use gen1::generated::layout::Packed;
+        use gen1::generated::machine::EventList;
+        use gen1::generated::rolls::LinkRandom;
 
-    // The events and the bytes.
-    fn compare(rt: &impl Abort, battle: &Packed, events: &EventList, told: &[Event], want: &Packed) {
-        assert_told(rt, events, told);
-        assert_bytes(rt, battle, bytes_of(want));
-    }
-
-    // A move that misses. The last damage is then 0.
-    fn misses(
-        rt: &impl Abort,
-        battle: &mut Packed,
-        played: (&str, u8, bool),
-        draws: u8,
-        want: &mut Packed,
-    ) -> Result<(), Fail> {
-        let told = [Event::Miss(battle.who(USER))];
-        want.put_last_damage(0);
-        plays(rt, battle, played, &told, draws, want)
-    }
-
-    // A move that fails.
-    fn fails(
-        rt: &impl Abort,
-        battle: &mut Packed,
-        played: (&str, u8, bool),
-        draws: u8,
-        want: &Packed,
-    ) -> Result<(), Fail> {
-        let told = [Event::Fail(battle.who(USER))];
-        plays(rt, battle, played, &told, draws, want)
-    }
-
-    fn count(stages: u8) -> Result<StageCount, Fail> {
-        Ok(StageCount::new(stages).ok_or("no such count")?)
-    }
-}
-
-#[cfg(test)]
-mod many_hits {
-    //! Moves that hit several times ([docs/MECHANICS.md, "Many hits"](https://hibsuloy.example/gen1/blob/main/docs/MECHANICS.md#many-hits)).
-    use crate::battles::{FOE, assert_same, assert_same_for, assert_told, two_tauros};
-    use crate::setting::{hit, hit_count, hurt};
-    use gen1::generated::machine::{DamageSource, Event, Volatile};
-    use gen1::generated::rolls::{LinkRandom, Rolls, Sweep};
-    use gen1_tests::testing::Fail;
-
-    #[test]
-    fn moves_that_hit_twice_draw_nothing() -> Result<(), Fail> { let rt = gen1_tests::testing::HostRuntime;
-        for name in ["Double Kick", "Bonemerang", "Twineedle"] {
-            let mut battle = two_tauros()?;
-            let mut sweep = Sweep::new(2);
-            let (known, events) = hit(&mut battle, name, 50, &mut sweep)?;
-            let told = [
-                hurt(&battle, FOE, 303, DamageSource::Direct)?,
-                hurt(&battle, FOE, 253, DamageSource::Direct)?,
-                hit_count(&battle, FOE, 2)?,
-            ];
-            assert_same_for(&rt, &name, events.as_slice(), told.as_slice());
-            assert_same(&rt, (known.hits_made, sweep.draw()), (2, 2));
+        /// What calls draw.
+        #[derive(Clone, Copy)]
+        pub(crate) enum Draws {
+            /// The draws of a sweep from a byte.
+            Sweep(u8),
+            /// Link numbers.
+            Link(LinkRandom),
+            /// The draws of a sweep from a byte, and link numbers that rise from it: both must do the same. They are at most
+            /// eight.
+            Both(u8),
+            /// The draws of a countdown from a byte.
+            Countdown(u8),
         }
-        Ok(())
-    }
 
-    #[test]
-    fn two_to_five_hits_are_drawn() -> Result<(), Fail> { let rt = gen1_tests::testing::HostRuntime;
-        // The first draw counts if its low bits are 0 or 1. Otherwise the next draw does.
-        for (byte, hits, draws) in [(0, 2, 1), (5, 3, 1), (2, 5, 2), (3, 2, 2), (254, 5, 2)] {
-            let mut battle = two_tauros()?;
-            let mut sweep = Sweep::new(byte);
-            let (known, events) = hit(&mut battle, "Fury Attack", 10, &mut sweep)?;
-            assert_same(&rt, battle.hp(FOE), 353 - 10 * u16::from(hits));
-            assert_same(&rt, events.last(), Some(&hit_count(&battle, FOE, hits)?));
-            assert_same(&rt, events.len(), usize::from(hits) + 1);
-            assert_same(
-                &rt,
-                (known.hits_made, known.hits_planned),
-                (hits, Some(hits)),
-            );
-            assert_same(&rt, sweep.draw(), byte.wrapping_add(draws));
+        /// What a call returned: a word, a number, or both.
+        #[derive(Clone, Copy, PartialEq, Eq, Debug)]
+        pub(crate) struct Answer<'a> {
+            pub(crate) word: &'a str,
+            pub(crate) number: Option<u16>,
         }
-        Ok(())
+
+        /// What a call returns that returns nothing.
+        pub(crate) const NOTHING: Answer<'static> = Answer {
+            word: "",
+            number: None,
+        };
+
+        /// The battle of a script, what the last call did, and what the next one will draw.
+
+        pub(crate) struct Scene {
+            pub(crate) battle: Packed,
+            /// The battle before the last call.
+            pub(crate) before: Packed,
+            pub(crate) known: Known,
+            /// What was known before the last call.
+            pub(crate) knew: Known,
+            pub(crate) events: EventList,
+            pub(crate) answer: Answer<'static>,
+            pub(crate) draws: Draws,
+            /// How many bytes the last call drew, of link numbers modulo 9.
+            pub(crate) drawn: u8,
+        }
+
+        impl Scene {
+            /// A script that begins no battle has this one.
+            pub(crate) fn new() -> Result<Scene, Unread> {
+                Scene::of(single()?)
+            }
+
+            fn of(battle: Packed) -> Result<Scene, Unread> {
+                Ok(Scene {
+                    before: battle.clone(),
+                    battle,
+                    known: Known::new(),
+                    knew: Known::new(),
+                    events: EventList::new(),
+                    answer: NOTHING,
+                    draws: Draws::Sweep(0),
+                    drawn: 0,
+                })
+            }
+
+            /// The same before a call, for another generator.
+            pub(crate) fn twin(&self) -> Result<Scene, Unread> {
+                let mut twin = Scene::of(self.battle.clone())?;
+                twin.known = self.known;
+                Ok(twin)
+            }
+
+            /// Does a clause that sets something: whether it is one.
+            pub(crate) fn sets(&mut self, words: Words<'_>) -> Result<bool, Unread> {
+                if let Some(battle) = begun(words)? {
+                    *self = Scene::of(battle)?;
+                    return Ok(true);
+                }
+                Ok(self.sets_before(words)? || self.sets_draws(words)? || write(&mut self.battle, words)?)
+            }
+
+            // What the next checks compare with, in place of the battle before the call.
+            fn sets_before(&mut self, mut words: Words<'_>) -> Result<bool, Unread> {
+                if words.word() != "against" {
+                    return Ok(false);
+                }
+                self.before = begun(words)?.ok_or(Unread("no such battle"))?;
+                Ok(true)
+            }
+
+            fn sets_draws(&mut self, mut words: Words<'_>) -> Result<bool, Unread> {
+                match words.word() {
+                    "from" => self.draws = Draws::Both(words.byte()?),
+                    "sweep" => self.draws = Draws::Sweep(words.byte()?),
+                    "countdown" => self.draws = Draws::Countdown(words.byte()?),
+                    "link" => self.draws = Draws::Link(LinkRandom::new(numbers(words)?)),
+                    "equal" => self.draws = Draws::Link(LinkRandom::new([words.byte()?; 10])),
+                    "knowing" => self.known = learned(Known::new(), words)?,
+                    _ => return Ok(false),
+                }
+                Ok(true)
+            }
+        }
+
+        /// Up to ten numbers, and zeros after them.
+        pub(crate) fn numbers(mut words: Words<'_>) -> Result<[u8; 10], Unread> {
+            let mut numbers = [0; 10];
+            for place in numbers.iter_mut() {
+                if !words.is_empty() {
+                    *place = words.byte()?;
+                }
+            }
+            Ok(numbers)
+        }
+
+        /// What is known with some more of it, in items.
+        pub(crate) fn learned(before: Known, words: Words<'_>) -> Result<Known, Unread> {
+            let mut known = before;
+            for item in words.items().split(',') {
+                learn(&mut known, words.of_item(item))?;
+            }
+            Ok(known)
+        }
+
+        fn learn(known: &mut Known, mut words: Words<'_>) -> Result<(), Unread> {
+            match words.word() {
+                "" => {}
+                "going_on" => known.going_on = true,
+                "missed" => known.missed = true,
+                "critical" => known.critical = true,
+                "through_types" => known.through_types = true,
+                "broke" => known.broke = true,
+                "skips" => known.skips = true,
+                "made" => known.hits_made = words.byte()?,
+                "planned" => known.hits_planned = words.count()?,
+                "tested" => known.accuracy_tested = words.count()?,
+                _ => return Err(Unread("no such fact")),
+            }
+            Ok(())
+        }
     }
 
-    #[test]
-    fn four_hits_take_two_draws() -> Result<(), Fail> { let rt = gen1_tests::testing::HostRuntime;
-        // Both 2 and 6 have 2 in their low bits.
-        let mut battle = two_tauros()?;
-        let mut link = LinkRandom::new([2, 6, 0, 0, 0, 0, 0, 0, 0, 0]);
-        let (known, events) = hit(&mut battle, "Barrage", 7, &mut link)?;
-        assert_same(&rt, (battle.hp(FOE), battle.last_damage()), (325, 7));
-        assert_same(&rt, events.last(), Some(&hit_count(&battle, FOE, 4)?));
-        assert_same(&rt, (known.hits_made, link.index()), (4, 2));
-        Ok(())
-    }
+    mod words {
+        //! The words of a clause, and the values that names of a table stand for.
+        use gen1::generated::machine::{Kind, Side, UsedMove};
+        use gen1::generated::stats::Status;
+        use gen1::generated::tables::Element::{
+            self, Bug, Dragon, Electric, Fighting, Fire, Flying, Ghost, Grass, Ground, Ice, Normal, Poison,
+            Psychic, Rock, Water,
+        };
+        use gen1::generated::tables::{MoveId, Stat};
+        use gen1_tests::alloc::AllocError;
 
-    #[test]
-    fn a_broken_substitute_ends_the_hits() -> Result<(), Fail> { let rt = gen1_tests::testing::HostRuntime;
-        // Five hits of 10 are drawn, and a Substitute of 25 HP takes two.
-        let mut battle = two_tauros()?;
-        battle.put_substitute(FOE, Some(25));
-        let (known, events) = hit(&mut battle, "Pin Missile", 10, &mut Sweep::new(2))?;
-        let foe = battle.who(FOE);
-        let told = [
-            Event::Activate(foe, Volatile::Substitute),
-            Event::Activate(foe, Volatile::Substitute),
-            Event::End(foe, Volatile::Substitute),
-            hit_count(&battle, FOE, 3)?,
+        /// Why a clause can't be read.
+        #[derive(Clone, Copy, Debug)]
+        pub(crate) struct Unread(pub(crate) &'static str);
+
+        impl From<AllocError> for Unread {
+            fn from(_error: AllocError) -> Unread {
+                Unread("no memory")
+            }
+        }
+
+        /// A row of a table: its values, and the names that stand for them.
+        #[derive(Clone, Copy, Debug)]
+        pub(crate) struct Row<'a> {
+            names: &'a str,
+            values: &'a str,
+        }
+
+        impl<'a> Row<'a> {
+            pub(crate) fn new(names: &'a str, values: &'a str) -> Row<'a> {
+                Row { names, values }
+            }
+
+            // What a text stands for: itself, or the value of a name.
+            fn value(self, text: &'a str) -> &'a str {
+                match text.strip_prefix('$') {
+                    None => text,
+                    Some(name) => self.named(name),
+                }
+            }
+
+            fn named(self, wanted: &'a str) -> &'a str {
+                for (name, value) in self.names.split('|').zip(self.values.split('|')) {
+                    if name.trim() == wanted {
+                        return value.trim();
+                    }
+                }
+                "no such name"
+            }
+        }
+
+        /// A clause with its line and its row, as a failure names it.
+        #[derive(Clone, Copy, Debug)]
+        pub(crate) struct Clause<'a> {
+            line: &'a str,
+            words: Words<'a>,
+        }
+
+        impl<'a> Clause<'a> {
+            pub(crate) fn new(line: &'a str, words: Words<'a>) -> Clause<'a> {
+                Clause { line, words }
+            }
+        }
+
+        /// The words of a clause that are not read yet.
+        #[derive(Clone, Copy, Debug)]
+        pub(crate) struct Words<'a> {
+            text: &'a str,
+            row: Row<'a>,
+        }
+
+        impl<'a> Words<'a> {
+            pub(crate) fn new(text: &'a str, row: Row<'a>) -> Words<'a> {
+                Words { text, row }
+            }
+
+            pub(crate) fn is_empty(&self) -> bool {
+                self.items().is_empty()
+            }
+
+            /// The next word.
+            pub(crate) fn word(&mut self) -> &'a str {
+                let text = self.items();
+                let (word, rest) = match text.split_once(' ') {
+                    Some(parts) => parts,
+                    None => (text, ""),
+                };
+                self.text = rest.trim();
+                self.row.value(word)
+            }
+
+            /// All words that are left, as the name of a move has several.
+            pub(crate) fn all(&mut self) -> &'a str {
+                let all = self.items();
+                self.text = "";
+                all
+            }
+
+            /// The words as one text: items, with commas between them. A name alone may stand for all of it.
+            pub(crate) fn items(&self) -> &'a str {
+                if self.text.contains(' ') {
+                    return self.text;
+                }
+                self.row.value(self.text)
+            }
+
+            pub(crate) fn of_item(&self, item: &'a str) -> Words<'a> {
+                Words::new(self.row.value(item.trim()), self.row)
+            }
+
+            /// What a part of a word stands for.
+            pub(crate) fn value(&self, part: &'a str) -> &'a str {
+                self.row.value(part)
+            }
+
+            pub(crate) fn byte(&mut self) -> Result<u8, Unread> {
+                byte_of(self.word())
+            }
+
+            /// By how many stages a stat rises, or falls.
+            pub(crate) fn shift(&mut self) -> Result<i8, Unread> {
+                self.word().parse::<i8>().ok().ok_or(Unread("no number"))
+            }
+
+            pub(crate) fn number(&mut self) -> Result<u16, Unread> {
+                number_of(self.word())
+            }
+
+            /// A number, or `None` for the word `none`.
+            pub(crate) fn count(&mut self) -> Result<Option<u8>, Unread> {
+                match self.word() {
+                    "none" => Ok(None),
+                    number => Ok(Some(byte_of(number)?)),
+                }
+            }
+
+            pub(crate) fn side(&mut self) -> Result<Side, Unread> {
+                side_of(self.word())
+            }
+
+            /// The move that all words that are left name.
+            pub(crate) fn id(&mut self) -> Result<MoveId, Unread> {
+                Ok(MoveId::from_name(self.all()).ok_or(Unread("no such move"))?)
+            }
+
+            pub(crate) fn kind(&mut self) -> Result<Kind, Unread> {
+                among(&KINDS, self.word())
+            }
+
+            pub(crate) fn stat(&mut self) -> Result<Stat, Unread> {
+                among(&STATS, self.word())
+            }
+
+            pub(crate) fn element(&mut self) -> Result<Element, Unread> {
+                among(&ELEMENTS, self.word())
+            }
+
+            /// A slot, Struggle or nothing.
+            pub(crate) fn used(&mut self) -> Result<UsedMove, Unread> {
+                match self.word() {
+                    "nothing" => Ok(UsedMove::Nothing),
+                    "struggle" => Ok(UsedMove::Struggle),
+                    slot => Ok(UsedMove::Slot(byte_of(slot)?)),
+                }
+            }
+
+            /// A status, where sleep has its turns and perhaps the mark.
+            pub(crate) fn status(&mut self) -> Result<Status, Unread> {
+                match self.word() {
+                    "none" => Ok(Status::Healthy),
+                    "slp" => Ok(Status::Asleep {
+                        turns: self.byte()?,
+                        marked: self.word() == "marked",
+                    }),
+                    word => among(&STATUSES, word),
+                }
+            }
+        }
+
+        pub(crate) fn number_of(word: &str) -> Result<u16, Unread> {
+            word.parse::<u16>().ok().ok_or(Unread("no number"))
+        }
+
+        fn byte_of(word: &str) -> Result<u8, Unread> {
+            word.parse::<u8>().ok().ok_or(Unread("no byte"))
+        }
+
+        pub(crate) fn side_of(word: &str) -> Result<Side, Unread> {
+            match word {
+                "one" => Ok(Side::One),
+                "two" => Ok(Side::Two),
+                _ => Err(Unread("no such side")),
+            }
+        }
+
+        /// What a word stands for in a list of words.
+        pub(crate) fn among<T: Copy>(known: &[(&str, T)], word: &str) -> Result<T, Unread> {
+            for (name, value) in known {
+                if *name == word {
+                    return Ok(*value);
+                }
+            }
+            Err(Unread("no such word"))
+        }
+
+        const KINDS: [(&str, Kind); 5] = [
+            ("slp", Kind::Sleep),
+            ("psn", Kind::Poison),
+            ("brn", Kind::Burn),
+            ("frz", Kind::Freeze),
+            ("par", Kind::Paralysis),
         ];
-        assert_told(&rt, &events, &told);
-        assert_same(&rt, (battle.hp(FOE), battle.substitute(FOE)), (353, None));
-        assert_same(&rt, (known.broke, known.hits_planned), (true, Some(5)));
-        Ok(())
-    }
 
-    #[test]
-    fn a_first_hit_that_breaks_plans_none() -> Result<(), Fail> { let rt = gen1_tests::testing::HostRuntime;
-        for name in ["Fury Swipes", "Double Kick"] {
-            let mut battle = two_tauros()?;
-            battle.put_substitute(FOE, Some(9));
-            let mut sweep = Sweep::new(2);
-            let (known, events) = hit(&mut battle, name, 10, &mut sweep)?;
-            let told = [Event::End(battle.who(FOE), Volatile::Substitute)];
-            assert_told(&rt, &events, &told);
-            assert_same(&rt, (known.hits_made, known.hits_planned), (1, None));
-            assert_same(&rt, sweep.draw(), 2);
-        }
-        Ok(())
-    }
-
-    #[test]
-    fn a_fall_ends_the_hits() -> Result<(), Fail> { let rt = gen1_tests::testing::HostRuntime;
-        // Five hits of 10 are drawn. Of 25 HP, the third takes 5.
-        let mut battle = two_tauros()?;
-        battle.put_hp(FOE, 25);
-        let (known, events) = hit(&mut battle, "Comet Punch", 10, &mut Sweep::new(2))?;
-        let told = [
-            hurt(&battle, FOE, 15, DamageSource::Direct)?,
-            hurt(&battle, FOE, 5, DamageSource::Direct)?,
-            hurt(&battle, FOE, 0, DamageSource::Direct)?,
-            hit_count(&battle, FOE, 3)?,
+        const STATUSES: [(&str, Status); 4] = [
+            ("psn", Status::Poisoned),
+            ("brn", Status::Burned),
+            ("frz", Status::Frozen),
+            ("par", Status::Paralysed),
         ];
-        assert_told(&rt, &events, &told);
-        assert_same(&rt, (battle.last_damage(), known.hits_made), (5, 3));
-        Ok(())
-    }
 
-    #[test]
-    fn the_count_is_drawn_where_the_first_hit_fells() -> Result<(), Fail> { let rt = gen1_tests::testing::HostRuntime;
-        let mut battle = two_tauros()?;
-        battle.put_hp(FOE, 10);
-        let mut sweep = Sweep::new(0);
-        let (known, events) = hit(&mut battle, "Spike Cannon", 10, &mut sweep)?;
-        let told = [
-            hurt(&battle, FOE, 0, DamageSource::Direct)?,
-            hit_count(&battle, FOE, 1)?,
+        const STATS: [(&str, Stat); 6] = [
+            ("attack", Stat::Attack),
+            ("defense", Stat::Defense),
+            ("speed", Stat::Speed),
+            ("special", Stat::Special),
+            ("accuracy", Stat::Accuracy),
+            ("evasion", Stat::Evasion),
         ];
-        assert_told(&rt, &events, &told);
-        assert_same(&rt, (known.hits_planned, sweep.draw()), (Some(2), 1));
-        Ok(())
-    }
-}
 
-#[cfg(test)]
-mod miss {
-    //! What follows a miss ([docs/MECHANICS.md, "Action"](https://hibsuloy.example/gen1/blob/main/docs/MECHANICS.md#action), step 9).
-    use crate::battles::{
-        FOE, LAST, USER, assert_bytes, assert_same, assert_same_for, assert_told, bytes_of, named,
-        two_tauros, with,
-    };
-    use crate::setting::hurt;
-    use gen1::generated::layout::{Conditions, Packed};
-    use gen1::generated::machine::{DamageSource, Event, EventList};
-    use gen1::generated::multiturn::missed_move;
-    use gen1::generated::stats::Status;
-    use gen1::generated::tables::Element::{Ghost, Normal};
-    use gen1_tests::testing::Fail;
-
-    fn miss(battle: &mut Packed, name: &str) -> Result<EventList, Fail> {
-        let id = named(name)?;
-        let mut events = EventList::new();
-        missed_move(battle, USER, id, &mut events);
-        Ok(events)
-    }
-
-    #[test]
-    fn a_miss_is_told() -> Result<(), Fail> { let rt = gen1_tests::testing::HostRuntime;
-        for name in ["Strength", "Double Kick", "Rage", "Take Down", "Absorb"] {
-            let mut battle = two_tauros()?;
-            battle.put_flag(FOE, Conditions::RAGE, true);
-            let before = bytes_of(&battle);
-            let events = miss(&mut battle, name)?;
-            let told = [Event::Miss(battle.who(USER))];
-            assert_same_for(&rt, &name, events.as_slice(), told.as_slice());
-            // The foe's Rage doesn't build.
-            assert_same_for(&rt, &name, bytes_of(&battle), before);
-        }
-        Ok(())
-    }
-
-    #[test]
-    fn a_crash_goes_past_the_users_substitute() -> Result<(), Fail> { let rt = gen1_tests::testing::HostRuntime;
-        // 353 is 97 + 1 * 256.
-        for name in ["Jump Kick", "High Jump Kick"] {
-            let mut battle = two_tauros()?;
-            battle.put_substitute(USER, Some(88));
-            let before = bytes_of(&battle);
-            let events = miss(&mut battle, name)?;
-            let told = [
-                Event::Miss(battle.who(USER)),
-                hurt(&battle, USER, 352, DamageSource::Direct)?,
-            ];
-            assert_same_for(&rt, &name, events.as_slice(), told.as_slice());
-            assert_bytes(&rt, &battle, with(before, &[(LAST, 1), (28, 96)]));
-        }
-        Ok(())
-    }
-
-    #[test]
-    fn who_crashes_with_1_hp_falls() -> Result<(), Fail> { let rt = gen1_tests::testing::HostRuntime;
-        let mut battle = two_tauros()?;
-        battle.put_hp(USER, 1);
-        battle.put_types(FOE, Ghost, Normal);
-        let events = miss(&mut battle, "Jump Kick")?;
-        let told = [
-            Event::Immune(battle.who(FOE)),
-            hurt(&battle, USER, 0, DamageSource::Direct)?,
+        const ELEMENTS: [(&str, Element); 15] = [
+            ("Normal", Normal),
+            ("Fighting", Fighting),
+            ("Flying", Flying),
+            ("Poison", Poison),
+            ("Ground", Ground),
+            ("Rock", Rock),
+            ("Bug", Bug),
+            ("Ghost", Ghost),
+            ("Fire", Fire),
+            ("Water", Water),
+            ("Grass", Grass),
+            ("Electric", Electric),
+            ("Psychic", Psychic),
+            ("Ice", Ice),
+            ("Dragon", Dragon),
         ];
-        assert_told(&rt, &events, &told);
-        assert_same(&rt, (battle.hp(USER), battle.hp(FOE)), (0, 353));
-        Ok(())
     }
 
-    #[test]
-    fn an_explosion_that_misses_fells_its_user() -> Result<(), Fail> { let rt = gen1_tests::testing::HostRuntime;
-        for name in ["Self-Destruct", "Explosion"] {
-            let mut battle = two_tauros()?;
-            battle.put_status(USER, Status::Paralysed);
-            battle.put_flag(USER, Conditions::SEEDED, true);
-            battle.put_substitute(USER, Some(88));
-            let events = miss(&mut battle, name)?;
-            let told = [Event::Miss(battle.who(USER))];
-            assert_same_for(&rt, &name, events.as_slice(), told.as_slice());
-            assert_same(
-                &rt,
-                (battle.hp(USER), battle.status(USER)),
-                (0, Status::Healthy),
-            );
-            assert_same(&rt, battle.is_on(USER, Conditions::SEEDED), false);
-            assert_same(&rt, battle.substitute(USER), Some(88));
+    mod writes {
+        //! Clauses that write a field of a battle.
+        use super::battles::send_out;
+        use super::words::{Unread, Words, among, side_of};
+        use gen1::generated::layout::{Conditions, Packed};
+        use gen1::generated::machine::{DisabledSlot, Outcome, Side};
+
+        /// Writes a field that words name: whether they name one.
+        pub(crate) fn write(battle: &mut Packed, mut words: Words<'_>) -> Result<bool, Unread> {
+            let word = words.word();
+            let Some((side, field)) = word.split_once('.') else {
+                return of_the_battle(battle, word, words);
+            };
+            let (side, field) = (side_of(side)?, words.value(field));
+            Ok(of_the_member(battle, side, field, words)?
+                || of_the_block(battle, side, field, words)?
+                || of_a_stat(battle, side, field, words)?
+                || of_a_condition(battle, side, field, words)?
+                || of_what_goes_on(battle, side, field, words)?)
         }
-        Ok(())
-    }
-}
 
-#[cfg(test)]
-mod one_hit_moves {
-    //! One-hit moves ([docs/MECHANICS.md, "Fixed damage and one-hit moves"](https://hibsuloy.example/gen1/blob/main/docs/MECHANICS.md#fixed-damage-and-one-hit-moves)). Their accuracy byte is 76, and the bytes that
-    //! give a factor are the odd ones from 179 on ("Factors").
-    use crate::battles::{
-        FOE, LAST, USER, assert_bytes, assert_same, assert_same_for, bytes_of, named, two_tauros, with,
-    };
-    use gen1::generated::hits::{Known, Landed, land};
+        fn of_the_battle(battle: &mut Packed, word: &str, mut words: Words<'_>) -> Result<bool, Unread> {
+            match word {
+                "last" => battle.put_last_damage(words.number()?),
+                "fault" => battle.put_outcome(Outcome::Fault(words.byte()?)),
+                _ => return Ok(false),
+            }
+            Ok(true)
+        }
+
+        fn of_the_member(
+            battle: &mut Packed,
+            side: Side,
+            field: &str,
+            mut words: Words<'_>,
+        ) -> Result<bool, Unread> {
+            match field {
+                "hp" => battle.put_hp(side, words.number()?),
+                "status" => battle.put_status(side, words.status()?),
+                "fallen" => battle.put_fallen(side),
+                "pp" => put_pp(battle, side, words)?,
+                "out" => send_out(battle, side, words.byte()?, "Tauros")?,
+                _ => return Ok(false),
+            }
+            Ok(true)
+        }
+
+        // A slot, 1 to 4, and its PP.
+        fn put_pp(battle: &mut Packed, side: Side, mut words: Words<'_>) -> Result<(), Unread> {
+            let slot = words.byte()?;
+            if !(1..=4).contains(&slot) {
+                return Err(Unread("no such slot"));
+            }
+            battle.put_pp(side, slot, words.byte()?);
+            Ok(())
+        }
+
+        fn of_the_block(
+            battle: &mut Packed,
+            side: Side,
+            field: &str,
+            mut words: Words<'_>,
+        ) -> Result<bool, Unread> {
+            match field {
+                "types" => battle.put_types(side, words.element()?, words.element()?),
+                "current" => battle.put_current_move(side, words.used()?),
+                "picked" => battle.put_picked_move(side, words.used()?),
+                "kept" => battle.put_kept_accuracy(side, words.byte()?),
+                _ => return Ok(false),
+            }
+            Ok(true)
+        }
+
+        // A stage as its byte, where 6 is the middle, and the stat at it. Accuracy and evasion have none.
+        fn of_a_stat(
+            battle: &mut Packed,
+            side: Side,
+            field: &str,
+            mut words: Words<'_>,
+        ) -> Result<bool, Unread> {
+            match field {
+                "attack" => battle.put_attack(side, words.byte()?, words.number()?),
+                "defense" => battle.put_defense(side, words.byte()?, words.number()?),
+                "speed" => battle.put_speed(side, words.byte()?, words.number()?),
+                "special" => battle.put_special(side, words.byte()?, words.number()?),
+                "accuracy" => battle.put_accuracy(side, words.byte()?),
+                "evasion" => battle.put_evasion(side, words.byte()?),
+                _ => return Ok(false),
+            }
+            Ok(true)
+        }
+
+        fn of_a_condition(
+            battle: &mut Packed,
+            side: Side,
+            field: &str,
+            mut words: Words<'_>,
+        ) -> Result<bool, Unread> {
+            match field {
+                "flag" => {
+                    let which = among(&flags(), words.word())?;
+                    battle.put_flag(side, which, words.word() != "off");
+                }
+                "substitute" => battle.put_substitute(side, words.count()?),
+                "confused" => battle.put_confused(side, words.count()?),
+                "bad_poison" => battle.put_bad_poison(side, words.count()?),
+                "disabled" => battle.put_disabled(side, disabled(words)?),
+                _ => return Ok(false),
+            }
+            Ok(true)
+        }
+
+        // A slot and its turns, or `none`.
+        fn disabled(mut words: Words<'_>) -> Result<Option<DisabledSlot>, Unread> {
+            match words.count()? {
+                None => Ok(None),
+                Some(slot) => Ok(Some(DisabledSlot {
+                    slot,
+                    turns: words.byte()?,
+                })),
+            }
+        }
+
+        // The turns of a move that lasts, or `none`. Bide has its energy too.
+        fn of_what_goes_on(
+            battle: &mut Packed,
+            side: Side,
+            field: &str,
+            mut words: Words<'_>,
+        ) -> Result<bool, Unread> {
+            let (turns, energy) = match words.count() {
+                Ok(turns) => (turns, words.number().unwrap_or(0)),
+                Err(_) => return Ok(false),
+            };
+            match (field, turns) {
+                ("bide", Some(turns)) => battle.put_bide(side, turns, energy),
+                ("bide", None) => battle.end_bide(side),
+                ("thrash", Some(turns)) => battle.put_thrash(side, turns),
+                ("thrash", None) => battle.end_thrash(side),
+                ("trapping", Some(turns)) => battle.put_trapping(side, turns),
+                ("trapping", None) => battle.end_trapping(side),
+                _ => return Ok(false),
+            }
+            Ok(true)
+        }
+
+        fn flags() -> [(&'static str, Conditions); 10] {
+            [
+                ("flinch", Conditions::FLINCH),
+                ("charging", Conditions::CHARGING),
+                ("invulnerable", Conditions::INVULNERABLE),
+                ("mist", Conditions::MIST),
+                ("focus", Conditions::FOCUS_ENERGY),
+                ("recharge", Conditions::RECHARGE),
+                ("rage", Conditions::RAGE),
+                ("seeded", Conditions::SEEDED),
+                ("reflect", Conditions::REFLECT),
+                ("screen", Conditions::LIGHT_SCREEN),
+            ]
+        }
+    }
+
+
     use gen1::generated::layout::Packed;
-    use gen1::generated::machine::{EventList, Side};
-    use gen1::generated::multiturn::knock_out;
-    use gen1::generated::rolls::{LinkRandom, Rolls, Sweep};
-    use gen1::generated::tables::Element;
+    use scene::Scene;
+    use gen1_tests::testing::Abort;
     use gen1_tests::testing::Fail;
+    use words::{Clause, Row, Unread, Words};
 
-    // A use of a move, after a damage of 75.
-    fn used<R: Rolls>(battle: &mut Packed, name: &str, random: &mut R) -> Result<Known, Fail> {
-        battle.put_last_damage(75);
-        let mut known = Known::new().begun(USER);
-        knock_out(battle, USER, named(name)?, &mut known, random);
-        Ok(known)
+    /// Plays a script once.
+    pub(crate) fn play(rt: &impl Abort, script: &str) {
+        play_row(rt, script, Row::new("", ""));
     }
 
-    // One of the two is paralysed, so its Speed is a quarter of 318.
-    fn slowed(side: Side) -> Result<Packed, Fail> {
-        let mut battle = two_tauros()?;
-        battle.put_speed(side, 6, 79);
-        Ok(battle)
-    }
-
-    #[test]
-    fn the_faster_one_knocks_out() -> Result<(), Fail> { let rt = gen1_tests::testing::HostRuntime;
-        // The critical draw, the factor's, and the hit test at 75: four draws in all, since 74 gives no factor.
-        for (name, mut battle) in [
-            ("Guillotine", slowed(FOE)?),
-            ("Fissure", slowed(FOE)?),
-            // A user as fast as the foe isn't slower.
-            ("Horn Drill", two_tauros()?),
-        ] {
-            let before = bytes_of(&battle);
-            let mut link = LinkRandom::new([0, 74, 179, 75, 0, 0, 0, 0, 0, 0]);
-            let known = used(&mut battle, name, &mut link)?;
-            assert_same(&rt, (known.missed, known.critical), (false, true));
-            assert_same(&rt, known.accuracy_tested, Some(76));
-            assert_same_for(
-                &rt,
-                &name,
-                bytes_of(&battle),
-                with(before, &[(LAST, 255), (LAST + 1, 255)]),
-            );
-            assert_same(&rt, link.index(), 4);
+    /// Plays a script once for each row of a table.
+    pub(crate) fn play_each(rt: &impl Abort, table: &str, script: &str) {
+        if let Some((names, rows)) = table.split_once('\n') {
+            for values in rows.lines() {
+                play_row(rt, script, Row::new(names, values));
+            }
         }
-        Ok(())
     }
 
-    #[test]
-    fn a_sweep_comes_to_a_factor() -> Result<(), Fail> { let rt = gen1_tests::testing::HostRuntime;
-        // From 253 on: the critical draw, 254, the factor 255, and the hit test at 0.
-        let mut battle = two_tauros()?;
-        let mut sweep = Sweep::new(253);
-        let known = used(&mut battle, "Guillotine", &mut sweep)?;
-        assert_same(
-            &rt,
-            (known.missed, battle.last_damage(), sweep.draw()),
-            (false, 65535, 1),
-        );
-        // From 177 on: the critical draw, 178, the factor 217, and a miss at 180.
-        let mut battle = two_tauros()?;
-        let before = bytes_of(&battle);
-        let mut sweep = Sweep::new(177);
-        let known = used(&mut battle, "Guillotine", &mut sweep)?;
-        assert_same(&rt, (known.missed, known.accuracy_tested), (true, Some(76)));
-        assert_same(&rt, (bytes_of(&battle), sweep.draw()), (before, 181));
-        // From 0 on it takes the draws up to 179.
-        let mut sweep = Sweep::new(0);
-        used(&mut battle, "Guillotine", &mut sweep)?;
-        assert_same(&rt, sweep.draw(), 181);
-        Ok(())
-    }
-
-    #[test]
-    fn the_hit_test_is_at_76() -> Result<(), Fail> { let rt = gen1_tests::testing::HostRuntime;
-        for (byte, missed, low) in [(75, false, 255), (76, true, 0)] {
-            let mut battle = two_tauros()?;
-            let before = bytes_of(&battle);
-            let mut link = LinkRandom::new([0, 255, byte, 0, 0, 0, 0, 0, 0, 0]);
-            let known = used(&mut battle, "Horn Drill", &mut link)?;
-            assert_same(&rt, known.missed, missed);
-            assert_bytes(&rt, &battle, with(before, &[(LAST, low), (LAST + 1, low)]));
-            assert_same(&rt, link.index(), 3);
+    /// The battle that clauses set up.
+    pub(crate) fn set_up(clauses: &str) -> Result<Packed, Fail> {
+        let mut scene = Scene::new().ok().ok_or("no memory")?;
+        for part in clauses.split(';') {
+            let words = Words::new(part.trim(), Row::new("", ""));
+            if !scene.sets(words).ok().ok_or("no such battle")? {
+                return Err("no such field")?;
+            }
         }
-        Ok(())
+        Ok(scene.battle.clone())
     }
 
-    #[test]
-    fn the_slower_one_misses() -> Result<(), Fail> { let rt = gen1_tests::testing::HostRuntime;
-        let mut battle = slowed(USER)?;
-        let before = bytes_of(&battle);
-        let mut sweep = Sweep::new(0);
-        let known = used(&mut battle, "Guillotine", &mut sweep)?;
-        assert_same(&rt, (known.missed, known.accuracy_tested), (true, None));
-        assert_same(&rt, (bytes_of(&battle), sweep.draw()), (before, 1));
-        Ok(())
-    }
-
-    #[test]
-    fn no_effect_is_a_miss_with_its_hit_test() -> Result<(), Fail> { let rt = gen1_tests::testing::HostRuntime;
-        for (name, first, second) in [
-            ("Guillotine", Element::Ghost, Element::Poison),
-            ("Fissure", Element::Normal, Element::Flying),
-        ] {
-            let mut battle = two_tauros()?;
-            battle.put_types(FOE, first, second);
-            let before = bytes_of(&battle);
-            let mut sweep = Sweep::new(8);
-            let known = used(&mut battle, name, &mut sweep)?;
-            assert_same(&rt, (known.missed, known.accuracy_tested), (true, Some(76)));
-            assert_same_for(&rt, &name, (bytes_of(&battle), sweep.draw()), (before, 10));
+    fn play_row(rt: &impl Abort, script: &str, row: Row<'_>) {
+        match Scene::new() {
+            Ok(mut scene) => {
+                for line in script.lines() {
+                    play_line(rt, &mut scene, line.trim(), row);
+                }
+            }
+            Err(why) => assert!(false, "{why:?}"),
         }
-        Ok(())
     }
 
-    #[test]
-    fn its_damage_breaks_and_fells() -> Result<(), Fail> { let rt = gen1_tests::testing::HostRuntime;
-        let mut battle = two_tauros()?;
-        battle.put_substitute(FOE, Some(249));
-        used(&mut battle, "Guillotine", &mut Sweep::new(253))?;
-        let mut events = EventList::new();
-        let damage = battle.last_damage();
-        assert_same(
-            &rt,
-            land(&mut battle, USER, damage, &mut events),
-            Landed::Broke,
-        );
-        assert_same(&rt, battle.hp(FOE), 353);
-        assert_same(
-            &rt,
-            land(&mut battle, USER, damage, &mut events),
-            Landed::Hp,
-        );
-        assert_same(&rt, (battle.hp(FOE), battle.last_damage()), (0, 353));
-        Ok(())
-    }
-}
-
-#[cfg(test)]
-mod rage {
-    //! Rage that builds ([docs/MECHANICS.md, "Going on"](https://hibsuloy.example/gen1/blob/main/docs/MECHANICS.md#going-on)). Tauros has an Attack of 298, which is 447 at one stage up and
-    //! 596 at two.
-    use crate::battles::{FOE, USER, assert_bytes, assert_same, assert_same_for, bytes_of, two_tauros};
-    use crate::setting::hit;
-    use gen1::generated::layout::{Conditions, Packed};
-    use gen1::generated::machine::{Event, EventList};
-    use gen1::generated::multiturn::rage;
-    use gen1::generated::rolls::{LinkRandom, Sweep};
-    use gen1::generated::stats::Status;
-    use gen1::generated::tables::Stat;
-    use gen1_tests::testing::Fail;
-
-    fn raging() -> Result<Packed, Fail> {
-        let mut battle = two_tauros()?;
-        battle.put_flag(FOE, Conditions::RAGE, true);
-        Ok(battle)
-    }
-
-    #[test]
-    fn it_builds_at_each_hit() -> Result<(), Fail> { let rt = gen1_tests::testing::HostRuntime;
-        for (name, stage, attack, told) in [("Strength", 7, 447, 1), ("Double Kick", 8, 596, 2)] {
-            let mut battle = raging()?;
-            let (_, events) = hit(&mut battle, name, 10, &mut Sweep::new(0))?;
-            assert_same_for(&rt, &name, battle.stage(FOE, Stat::Attack), stage);
-            assert_same_for(&rt, &name, battle.current_stat(FOE, Stat::Attack), attack);
-            let builds = events
-                .iter()
-                .filter(|event| matches!(event, Event::Boost(..)))
-                .count();
-            assert_same_for(&rt, &name, builds, told);
+    fn play_line(rt: &impl Abort, scene: &mut Scene, line: &str, row: Row<'_>) {
+        for part in line.split(';') {
+            let words = Words::new(part.trim(), row);
+            let clause = Clause::new(line, words);
+            if let Err(why) = done(rt, scene, clause, words) {
+                assert!(false, "{why:?} in {clause:?}");
+            }
         }
-        Ok(())
     }
 
-    #[test]
-    fn it_builds_behind_a_substitute() -> Result<(), Fail> { let rt = gen1_tests::testing::HostRuntime;
-        // A Substitute that holds, one that breaks, and damage of 0.
-        for damage in [0, 10, 100] {
-            let mut battle = raging()?;
-            battle.put_substitute(FOE, Some(88));
-            let mut link = LinkRandom::new([1; 10]);
-            let _ = hit(&mut battle, "Strength", damage, &mut link)?;
-            assert_same(&rt, battle.stage(FOE, Stat::Attack), 7);
-            assert_same(&rt, battle.stage(USER, Stat::Attack), 6);
+    // Does a clause: a check, one that sets something, or a call.
+    fn done(
+        rt: &impl Abort,
+        scene: &mut Scene,
+        clause: Clause<'_>,
+        words: Words<'_>,
+    ) -> Result<(), Unread> {
+        if words.is_empty() || scene.checks(rt, clause, words)? || scene.sets(words)? {
+            return Ok(());
         }
-        Ok(())
-    }
-
-    #[test]
-    fn it_builds_after_the_user_exploded() -> Result<(), Fail> { let rt = gen1_tests::testing::HostRuntime;
-        let mut battle = raging()?;
-        let _ = hit(&mut battle, "Explosion", 100, &mut Sweep::new(0))?;
-        assert_same(
-            &rt,
-            (battle.hp(USER), battle.stage(FOE, Stat::Attack)),
-            (0, 7),
-        );
-        Ok(())
-    }
-
-    #[test]
-    fn it_builds_by_a_call_of_its_own() -> Result<(), Fail> { let rt = gen1_tests::testing::HostRuntime;
-        let mut battle = raging()?;
-        let mut events = EventList::new();
-        rage(&mut battle, USER, &mut events);
-        assert_same(&rt, battle.stage(FOE, Stat::Attack), 7);
-        assert_same(&rt, battle.current_stat(FOE, Stat::Attack), 447);
-        assert_same(&rt, events.len(), 1);
-        Ok(())
-    }
-
-    #[test]
-    fn it_builds_no_further_than_6() -> Result<(), Fail> { let rt = gen1_tests::testing::HostRuntime;
-        let mut battle = raging()?;
-        battle.put_attack(FOE, 12, 999);
-        let before = bytes_of(&battle);
-        let mut events = EventList::new();
-        rage(&mut battle, USER, &mut events);
-        assert_bytes(&rt, &battle, before);
-        assert_same(&rt, events.len(), 0);
-        Ok(())
-    }
-
-    #[test]
-    fn who_has_none_or_has_fallen_builds_none() -> Result<(), Fail> { let rt = gen1_tests::testing::HostRuntime;
-        for (rages, hp) in [(false, 353), (true, 0)] {
-            let mut battle = two_tauros()?;
-            battle.put_flag(FOE, Conditions::RAGE, rages);
-            battle.put_hp(FOE, hp);
-            let before = bytes_of(&battle);
-            let mut events = EventList::new();
-            rage(&mut battle, USER, &mut events);
-            assert_bytes(&rt, &battle, before);
-            assert_same(&rt, events.len(), 0);
-        }
-        Ok(())
-    }
-
-    #[test]
-    fn the_users_burn_counts_again() -> Result<(), Fail> { let rt = gen1_tests::testing::HostRuntime;
-        // The foe of the raging member takes its penalty once more: 298 becomes 149.
-        let mut battle = raging()?;
-        battle.put_status(USER, Status::Burned);
-        rage(&mut battle, USER, &mut EventList::new());
-        assert_same(&rt, battle.current_stat(USER, Stat::Attack), 149);
-        Ok(())
-    }
-}
-
-#[cfg(test)]
-mod setting {
-    //! A move that hits, for the tests, and its events. Both sides have a Tauros out: 353 HP.
-    use crate::battles::{USER, named};
-    use gen1::generated::hits::Known;
-    use gen1::generated::layout::Packed;
-    use gen1::generated::machine::{DamageSource, Event, EventList, Health, HitCount, Side};
-    use gen1::generated::multiturn::hits;
-    use gen1::generated::rolls::Rolls;
-    use gen1_tests::testing::Fail;
-
-    // All hits of a move of the user with this damage: what is known afterwards, and the events.
-    pub(crate) fn hit<R: Rolls>(
-        battle: &mut Packed,
-        name: &str,
-        damage: u16,
-        random: &mut R,
-    ) -> Result<(Known, EventList), Fail> {
-        let id = named(name)?;
-        battle.put_last_damage(damage);
-        let mut known = Known::new().begun(USER);
-        let mut events = EventList::new();
-        hits(battle, USER, id, &mut known, random, &mut events);
-        Ok((known, events))
-    }
-
-    fn of_353(hp: u16) -> Result<Health, Fail> {
-        Ok(Health::new(hp, 353, None).ok_or("no health")?)
-    }
-
-    // A Tauros with this many HP left.
-    pub(crate) fn hurt(
-        battle: &Packed,
-        side: Side,
-        hp: u16,
-        source: DamageSource,
-    ) -> Result<Event, Fail> {
-        Ok(Event::Damage(battle.who(side), of_353(hp)?, source))
-    }
-
-    pub(crate) fn healed(battle: &Packed, side: Side, hp: u16) -> Result<Event, Fail> {
-        Ok(Event::Heal(battle.who(side), of_353(hp)?))
-    }
-
-    pub(crate) fn hit_count(battle: &Packed, side: Side, hits: u8) -> Result<Event, Fail> {
-        let count = HitCount::new(hits).ok_or("no hit count")?;
-        Ok(Event::HitCount(battle.who(side), count))
+        scene.plays(rt, clause, words)
     }
 }
 
 #[cfg(test)]
 mod side_effects {
-    //! What a move may do in addition to its damage, with the numbers of [docs/MECHANICS.md, "Side effects"](https://hibsuloy.example/gen1/blob/main/docs/MECHANICS.md#side-effects).
-    use crate::battles::{
-        FOE, USER, assert_same, assert_told, bytes_of, named, send_out, tauros, tauros_under,
-        tauros_with,
-    };
-    use crate::draws::{BOTH, Operation, apply_from};
-    use gen1::generated::effects::side_effect;
-    use gen1::generated::layout::Packed;
-    use gen1::generated::machine::{Event, EventList};
-    use gen1::generated::rolls::Rolls;
-    use gen1_tests::testing::Abort;
-    use gen1_tests::testing::Fail;
+    //! What a move may do in addition to its damage ([docs/MECHANICS.md, "Side effects"](https://hibsuloy.example/gen1/blob/main/docs/MECHANICS.md#side-effects)). Both sides have two Tauros. Those
+    //! that are out have type Normal, Attack 298, Defense 288, Speed 318 and Special 238.
+    use crate::script::{play, play_each};
 
-    mod chances {
-        //! Flinching, confusion, stages that fall, recharging, and moves without a side effect ([docs/MECHANICS.md](https://hibsuloy.example/gen1/blob/main/docs/MECHANICS.md), "Side
-        //! effects").
-        use super::{Abort, BOTH, FOE, Packed, USER, does_nothing, plays, tauros};
-        use crate::battles::assert_same;
-        use gen1::generated::layout::Conditions;
-        use gen1::generated::machine::{Event, StageCount, Volatile};
-        use gen1::generated::stats::Status;
-        use gen1::generated::tables::Stat;
-        use gen1_tests::testing::Fail;
-
-        fn recharging_foe() -> Result<Packed, Fail> {
-            let mut battle = tauros()?;
-            battle.put_flag(FOE, Conditions::RECHARGE, true);
-            Ok(battle)
-        }
-
-        fn foe_with_a_substitute() -> Result<Packed, Fail> {
-            let mut battle = tauros()?;
-            battle.put_substitute(FOE, Some(60));
-            Ok(battle)
-        }
-
-        // A flinch has no event.
-        #[test]
-        fn flinching() -> Result<(), Fail> { let rt = gen1_tests::testing::HostRuntime;
-            for (name, last, next) in [("Bite", 25, 26), ("Stomp", 76, 77)] {
-                for link in BOTH {
-                    let mut battle = recharging_foe()?;
-                    plays(&rt, &mut battle, (name, last, link), &[], 1)?;
-                    assert_same(
-                        &rt,
-                        (
-                            battle.is_on(FOE, Conditions::FLINCH),
-                            battle.is_on(FOE, Conditions::RECHARGE),
-                        ),
-                        (true, false),
-                    );
-                }
-                does_nothing(&rt, &mut recharging_foe()?, name, next, 1)?;
-            }
-            Ok(())
-        }
-
-        // A Substitute doesn't keep confusion away. The second draw is 25 for the sweep, which gives 1 + 2 turns, and 24 for
-        // the link numbers, which gives 0 + 2.
-        #[test]
-        fn confusion() -> Result<(), Fail> { let rt = gen1_tests::testing::HostRuntime;
-            for name in ["Psybeam", "Confusion"] {
-                for (link, turns) in [(false, 3), (true, 2)] {
-                    let mut battle = foe_with_a_substitute()?;
-                    let told = [Event::Start(battle.who(FOE), Volatile::Confusion)];
-                    plays(&rt, &mut battle, (name, 24, link), &told, 2)?;
-                    assert_same(&rt, battle.confused(FOE), Some(turns));
-                }
-                does_nothing(&rt, &mut tauros()?, name, 25, 1)?;
-                let mut battle = tauros()?;
-                battle.put_confused(FOE, Some(1));
-                does_nothing(&rt, &mut battle, name, 24, 1)?;
-            }
-            Ok(())
-        }
-
-        // One stage down is 66 percent.
-        const DROPS: [(&str, Stat, u16); 4] = [
-            ("Aurora Beam", Stat::Attack, 196),
-            ("Acid", Stat::Defense, 190),
-            ("Bubble Beam", Stat::Speed, 209),
-            ("Psychic", Stat::Special, 157),
-        ];
-
-        // Mist doesn't prevent it.
-        #[test]
-        fn stages() -> Result<(), Fail> { let rt = gen1_tests::testing::HostRuntime;
-            let one = StageCount::new(1).ok_or("no such count")?;
-            for (name, stat, value) in DROPS {
-                for link in BOTH {
-                    let mut battle = tauros()?;
-                    battle.put_flag(FOE, Conditions::MIST, true);
-                    let told = [Event::Unboost(battle.who(FOE), stat, one)];
-                    plays(&rt, &mut battle, (name, 84, link), &told, 1)?;
-                    has_stage(&rt, &battle, stat, 5, value);
-                }
-                does_nothing(&rt, &mut tauros()?, name, 85, 1)?;
-            }
-            Ok(())
-        }
-
-        fn has_stage(rt: &impl Abort, battle: &Packed, stat: Stat, stage: u8, value: u16) {
-            assert_same(rt, battle.stage(FOE, stat), stage);
-            assert_same(rt, battle.current_stat(FOE, stat), value);
-        }
-
-        // At -6 the draw is taken, and no failure is reported.
-        #[test]
-        fn the_lowest_stage() -> Result<(), Fail> { let rt = gen1_tests::testing::HostRuntime;
-            let mut battle = tauros()?;
-            battle.put_defense(FOE, 0, 72);
-            does_nothing(&rt, &mut battle, "Acid", 84, 1)
-        }
-
-        #[test]
-        fn recharging() -> Result<(), Fail> { let rt = gen1_tests::testing::HostRuntime;
-            for link in BOTH {
-                let mut battle = foe_with_a_substitute()?;
-                let told = [Event::MustRecharge(battle.who(USER))];
-                plays(&rt, &mut battle, ("Hyper Beam", 0, link), &told, 0)?;
-                assert_same(
-                    &rt,
-                    (
-                        battle.is_on(USER, Conditions::RECHARGE),
-                        battle.is_on(FOE, Conditions::RECHARGE),
-                    ),
-                    (true, false),
-                );
-            }
-            Ok(())
-        }
-
-        // No draw is taken.
-        #[test]
-        fn a_substitute_keeps_harm_away() -> Result<(), Fail> { let rt = gen1_tests::testing::HostRuntime;
-            for name in [
-                "Poison Sting",
-                "Twineedle",
-                "Ember",
-                "Ice Beam",
-                "Thunderbolt",
-                "Bite",
-                "Acid",
-            ] {
-                does_nothing(&rt, &mut foe_with_a_substitute()?, name, 0, 0)?;
-            }
-            let mut battle = foe_with_a_substitute()?;
-            battle.put_status(FOE, Status::Frozen);
-            does_nothing(&rt, &mut battle, "Ember", 0, 0)
-        }
-
-        #[test]
-        fn without_a_side_effect() -> Result<(), Fail> { let rt = gen1_tests::testing::HostRuntime;
-            for name in ["Pay Day", "Strength", "Swift", "Submission", "Growl"] {
-                does_nothing(&rt, &mut tauros()?, name, 0, 0)?;
-            }
-            Ok(())
-        }
+    // Each with the highest draw at which the effect happens, and the next draw. A burn leaves an Attack of 298 / 2, and
+    // paralysis a Speed of 318 / 4. No draw is taken if the foe has a status.
+    #[test]
+    fn statuses() { let rt = gen1_tests::testing::HostRuntime;
+        play_each(
+            &rt,
+            "move         | last | next | kind | penalty
+         Poison Sting | 51   | 52   | psn  |
+         Smog         | 102  | 103  | psn  |
+         Twineedle    | 51   | 52   | psn  |
+         Ember        | 25   | 26   | brn  | two.attack 6 149
+         Fire Blast   | 76   | 77   | brn  | two.attack 6 149
+         Ice Beam     | 25   | 26   | frz  |
+         Thunderbolt  | 25   | 26   | par  | two.speed 6 79
+         Body Slam    | 76   | 77   | par  | two.speed 6 79",
+            "pair Tauros; two.types Rock Rock; from $last; side $move; told status two $kind; draws 1; becomes two.status $kind, $penalty
+         pair Tauros; two.types Rock Rock; from 0; side $move; becomes two.status $kind, $penalty
+         pair Tauros; two.types Rock Rock; from $next; side $move; told; draws 1; becomes
+         pair Tauros; two.types Rock Rock; two.status $kind; from 0; side $move; told; draws 0; becomes",
+        )
     }
 
-    mod disable {
-        //! Disable, with its draws ([docs/MECHANICS.md, "Side effects"](https://hibsuloy.example/gen1/blob/main/docs/MECHANICS.md#side-effects)). Its accuracy of 55 percent is the byte 140.
-        use super::{Abort, BOTH, FOE, Fail, USER, named, plays, tauros, tauros_with};
-        use crate::battles::{assert_same, assert_told};
-        use gen1::generated::effects::side_effect_knowing;
-        use gen1::generated::hits::Known;
-        use gen1::generated::layout::Packed;
-        use gen1::generated::machine::{DisabledSlot, Event, EventList, Volatile};
-        use gen1::generated::rolls::{LinkRandom, Rolls, Sweep};
-
-        // The result, the events, and what is known afterwards.
-        fn disable<R: Rolls>(
-            battle: &mut Packed,
-            random: &mut R,
-        ) -> Result<(bool, EventList, Known), Fail> {
-            let mut events = EventList::new();
-            let mut known = Known::new().begun(USER);
-            let id = named("Disable")?;
-            let stopped = side_effect_knowing(battle, USER, id, &mut known, random, &mut events);
-            Ok((stopped, events, known))
-        }
-
-        fn bars(rt: &impl Abort, battle: &Packed, disabled: Option<DisabledSlot>) {
-            assert_same(rt, battle.disabled(FOE), disabled);
-        }
-
-        const fn barred(slot: u8, turns: u8) -> Option<DisabledSlot> {
-            Some(DisabledSlot { slot, turns })
-        }
-
-        // Equal link numbers of 1: nine of 1, of 6 and of 31, and then 156s, which name slot 1 and a count of 5.
-        #[test]
-        fn ten_ones() -> Result<(), Fail> { let rt = gen1_tests::testing::HostRuntime;
-            let mut battle = tauros()?;
-            let mut random = LinkRandom::new([1; 10]);
-            let told = [Event::Start(battle.who(FOE), Volatile::Disable)];
-            let (stopped, events, known) = disable(&mut battle, &mut random)?;
-            assert_same(&rt, (stopped, known.missed), (false, false));
-            assert_same(
-                &rt,
-                (random.index(), random.numbers()),
-                (2, [156, 156, 156, 156, 156, 156, 156, 156, 156, 1]),
-            );
-            bars(&rt, &battle, barred(1, 5));
-            assert_told(&rt, &events, &told);
-            Ok(())
-        }
-
-        // A sweep from 1: the hit test, 2 and 3 without success, 4 for slot 1, and 5 for a count of 6. A Substitute doesn't
-        // prevent it.
-        #[test]
-        fn a_sweep() -> Result<(), Fail> { let rt = gen1_tests::testing::HostRuntime;
-            let mut battle = tauros()?;
-            battle.put_substitute(FOE, Some(60));
-            let told = [Event::Start(battle.who(FOE), Volatile::Disable)];
-            let mut random = Sweep::new(1);
-            let (stopped, events, known) = disable(&mut battle, &mut random)?;
-            assert_same(&rt, (stopped, known.accuracy_tested), (false, Some(140)));
-            assert_same(&rt, random, Sweep::new(6));
-            bars(&rt, &battle, barred(1, 6));
-            assert_told(&rt, &events, &told);
-            Ok(())
-        }
-
-        // With two moves, a sweep from 0 names slot 2 by 1. From 3 it names slot 1 by 4, or slot 2 by 5 if slot 1 has no PP.
-        #[test]
-        fn the_drawn_slot() -> Result<(), Fail> { let rt = gen1_tests::testing::HostRuntime;
-            for (from, pp, slot, turns) in [(0, 15, 2, 3), (3, 15, 1, 6), (3, 0, 2, 7)] {
-                let mut battle = tauros_with("Dig")?;
-                battle.put_pp(FOE, 1, pp);
-                let (stopped, _, _) = disable(&mut battle, &mut Sweep::new(from))?;
-                assert_same(&rt, stopped, false);
-                bars(&rt, &battle, barred(slot, turns));
-            }
-            Ok(())
-        }
-
-        #[test]
-        fn a_miss() -> Result<(), Fail> { let rt = gen1_tests::testing::HostRuntime;
-            for link in BOTH {
-                let mut battle = tauros()?;
-                let told = [Event::Miss(battle.who(USER))];
-                plays(&rt, &mut battle, ("Disable", 140, link), &told, 1)?;
-                bars(&rt, &battle, None);
-            }
-            let (stopped, _, known) = disable(&mut tauros()?, &mut Sweep::new(140))?;
-            assert_same(&rt, (stopped, known.missed), (true, true));
-            Ok(())
-        }
-
-        // At most one move is disabled.
-        #[test]
-        fn disabled_already() -> Result<(), Fail> { let rt = gen1_tests::testing::HostRuntime;
-            for link in BOTH {
-                let mut battle = tauros()?;
-                battle.put_disabled(FOE, barred(1, 2));
-                let told = [Event::Fail(battle.who(USER))];
-                plays(&rt, &mut battle, ("Disable", 139, link), &told, 1)?;
-                bars(&rt, &battle, barred(1, 2));
-            }
-            Ok(())
-        }
-
-        // Without any PP it fails at the first draw of slot 1, before the count: at 4 of a sweep from 1, and at the second of
-        // zeros.
-        #[test]
-        fn without_pp() -> Result<(), Fail> { let rt = gen1_tests::testing::HostRuntime;
-            for (from, link, draws) in [(1, false, 4), (0, true, 2)] {
-                let mut battle = tauros()?;
-                battle.put_pp(FOE, 1, 0);
-                let told = [Event::Fail(battle.who(USER))];
-                plays(&rt, &mut battle, ("Disable", from, link), &told, draws)?;
-                bars(&rt, &battle, None);
-            }
-            Ok(())
-        }
+    // No draw is taken if the foe has the type, nor by Body Slam, since Tauros are Normal.
+    #[test]
+    fn nothing_is_drawn_on_the_type() { let rt = gen1_tests::testing::HostRuntime;
+        play_each(
+            &rt,
+            "move         | type
+         Poison Sting | Poison
+         Twineedle    | Poison
+         Ember        | Fire
+         Ice Beam     | Ice
+         Thunderbolt  | Electric",
+            "pair Tauros; two.types $type Rock; from 0; side $move; told; draws 0; becomes
+         pair Tauros; two.types Rock $type; from 0; side $move; told; draws 0; becomes",
+        );
+        play(&rt, "pair Tauros; from 0; side Body Slam; told; draws 0; becomes")
     }
 
-    mod status_chance {
-        //! Poison, burns, freezes and paralysis, and the thaw ([docs/MECHANICS.md, "Side effects"](https://hibsuloy.example/gen1/blob/main/docs/MECHANICS.md#side-effects), "Rules (sleep clause, freeze
-        //! clause)").
-        use super::{
-            Abort, BOTH, FOE, SideEffects, apply_from, does_nothing, plays, send_out, tauros, tauros_under,
-        };
-        use crate::battles::assert_same;
-        use gen1::generated::layout::{Conditions, Packed};
-        use gen1::generated::machine::{Event, Kind};
-        use gen1::generated::stats::Status;
-        use gen1::generated::tables::Element::{self, Electric, Fire, Ice, Poison, Rock};
-        use gen1::generated::tables::Stat;
-        use gen1_tests::testing::Fail;
-
-        fn of_types(first: Element, second: Element) -> Result<Packed, Fail> {
-            let mut battle = tauros()?;
-            battle.put_types(FOE, first, second);
-            Ok(battle)
-        }
-
-        // A member that has none of the moves' types.
-        fn of_rock() -> Result<Packed, Fail> {
-            of_types(Rock, Rock)
-        }
-
-        fn has(rt: &impl Abort, battle: &Packed, status: Status) {
-            assert_same(rt, battle.status(FOE), status);
-        }
-
-        // Each with the highest draw at which the effect happens, and the next draw.
-        const CHANCES: [(&str, u8, u8, Status, Kind); 8] = [
-            ("Poison Sting", 51, 52, Status::Poisoned, Kind::Poison),
-            ("Smog", 102, 103, Status::Poisoned, Kind::Poison),
-            ("Twineedle", 51, 52, Status::Poisoned, Kind::Poison),
-            ("Ember", 25, 26, Status::Burned, Kind::Burn),
-            ("Fire Blast", 76, 77, Status::Burned, Kind::Burn),
-            ("Ice Beam", 25, 26, Status::Frozen, Kind::Freeze),
-            ("Thunderbolt", 25, 26, Status::Paralysed, Kind::Paralysis),
-            ("Body Slam", 76, 77, Status::Paralysed, Kind::Paralysis),
-        ];
-
-        #[test]
-        fn statuses() -> Result<(), Fail> { let rt = gen1_tests::testing::HostRuntime;
-            for (name, last, next, status, kind) in CHANCES {
-                for link in BOTH {
-                    let mut battle = of_rock()?;
-                    let told = [Event::Status(battle.who(FOE), kind)];
-                    plays(&rt, &mut battle, (name, last, link), &told, 1)?;
-                    has(&rt, &battle, status);
-                }
-                does_nothing(&rt, &mut of_rock()?, name, next, 1)?;
-            }
-            Ok(())
-        }
-
-        // The penalties of burns and paralysis: 298 / 2 and 318 / 4.
-        #[test]
-        fn penalties() -> Result<(), Fail> { let rt = gen1_tests::testing::HostRuntime;
-            for link in BOTH {
-                for (name, stat, value) in [
-                    ("Ember", Stat::Attack, 149),
-                    ("Thunderbolt", Stat::Speed, 79),
-                ] {
-                    let mut battle = of_rock()?;
-                    apply_from::<SideEffects>(&mut battle, (name, 0, link))?;
-                    assert_same(&rt, battle.current_stat(FOE, stat), value);
-                }
-            }
-            Ok(())
-        }
-
-        // No draw is taken if the foe has a status.
-        #[test]
-        fn nothing_is_drawn_on_a_status() -> Result<(), Fail> { let rt = gen1_tests::testing::HostRuntime;
-            for (name, _, _, status, _) in CHANCES {
-                let mut battle = of_rock()?;
-                battle.put_status(FOE, status);
-                does_nothing(&rt, &mut battle, name, 0, 0)?;
-            }
-            Ok(())
-        }
-
-        // No draw is taken if the foe has the type.
-        #[test]
-        fn nothing_is_drawn_on_the_type() -> Result<(), Fail> { let rt = gen1_tests::testing::HostRuntime;
-            for (name, kind) in [
-                ("Poison Sting", Poison),
-                ("Twineedle", Poison),
-                ("Ember", Fire),
-                ("Ice Beam", Ice),
-                ("Thunderbolt", Electric),
-            ] {
-                does_nothing(&rt, &mut of_types(kind, Rock)?, name, 0, 0)?;
-                does_nothing(&rt, &mut of_types(Rock, kind)?, name, 0, 0)?;
-            }
-            // Tauros are Normal.
-            does_nothing(&rt, &mut tauros()?, "Body Slam", 0, 0)
-        }
-
-        // A Fire move that can burn thaws a frozen foe, even one of type Fire.
-        #[test]
-        fn the_thaw() -> Result<(), Fail> { let rt = gen1_tests::testing::HostRuntime;
-            for link in BOTH {
-                for name in ["Ember", "Fire Blast"] {
-                    let mut battle = of_types(Fire, Ice)?;
-                    battle.put_status(FOE, Status::Frozen);
-                    let told = [Event::Cure(battle.who(FOE), Kind::Freeze)];
-                    plays(&rt, &mut battle, (name, 0, link), &told, 0)?;
-                    has(&rt, &battle, Status::Healthy);
-                }
-            }
-            let mut battle = of_rock()?;
-            battle.put_status(FOE, Status::Frozen);
-            does_nothing(&rt, &mut battle, "Thunderbolt", 0, 0)
-        }
-
-        // The foe's second member is frozen, and its first has to recharge.
-        fn one_frozen_under(rules: u8) -> Result<Packed, Fail> {
-            let mut battle = tauros_under(rules)?;
-            send_out(&mut battle, FOE, 2);
-            battle.put_status(FOE, Status::Frozen);
-            send_out(&mut battle, FOE, 1);
-            battle.put_flag(FOE, Conditions::RECHARGE, true);
-            Ok(battle)
-        }
-
-        #[test]
-        fn under_the_freeze_clause() -> Result<(), Fail> { let rt = gen1_tests::testing::HostRuntime;
-            for rules in [2, 3] {
-                does_nothing(&rt, &mut one_frozen_under(rules)?, "Ice Beam", 25, 1)?;
-            }
-            Ok(())
-        }
-
-        #[test]
-        fn without_the_freeze_clause() -> Result<(), Fail> { let rt = gen1_tests::testing::HostRuntime;
-            for rules in [0, 1] {
-                for link in BOTH {
-                    let mut battle = one_frozen_under(rules)?;
-                    let told = [Event::Status(battle.who(FOE), Kind::Freeze)];
-                    plays(&rt, &mut battle, ("Ice Beam", 25, link), &told, 1)?;
-                    has(&rt, &battle, Status::Frozen);
-                    assert_same(&rt, battle.is_on(FOE, Conditions::RECHARGE), false);
-                }
-            }
-            Ok(())
-        }
+    // A Fire move that can burn thaws a frozen foe, even one of type Fire.
+    #[test]
+    fn the_thaw() { let rt = gen1_tests::testing::HostRuntime;
+        play(
+            &rt,
+            "pair Tauros; two.types Fire Ice; two.status frz; from 0; side Ember; told cure two frz; draws 0; becomes two.status none
+         pair Tauros; two.types Fire Ice; two.status frz; from 0; side Fire Blast; told cure two frz; draws 0; becomes two.status none
+         pair Tauros; two.types Rock Rock; two.status frz; from 0; side Thunderbolt; told; draws 0; becomes",
+        )
     }
 
-
-    struct SideEffects;
-
-    impl Operation for SideEffects {
-        fn apply<R: Rolls>(battle: &mut Packed, name: &str, random: &mut R) -> Result<EventList, Fail> {
-            let id = named(name)?;
-            let mut events = EventList::new();
-            side_effect(battle, USER, id, random, &mut events);
-            Ok(events)
-        }
-
-        // All ten are the same.
-        fn link_numbers(byte: u8) -> [u8; 10] {
-            [byte; 10]
-        }
+    // The foe's second member is frozen, and its first has to recharge (docs/MECHANICS.md, "Side effects", "Rules (sleep
+    // clause, freeze clause)").
+    #[test]
+    fn the_freeze_clause() { let rt = gen1_tests::testing::HostRuntime;
+        play_each(
+            &rt,
+            "rules | events         | changes
+         0     | status two frz | two.status frz, two.flag recharge off
+         1     | status two frz | two.status frz, two.flag recharge off
+         2     |                |
+         3     |                |",
+            "ruled $rules Tauros; two.out 2; two.status frz; two.out 1; two.flag recharge; from 25; side Ice Beam; told $events; draws 1; becomes $changes",
+        )
     }
 
-    // Plays a move, and compares its events and its number of draws.
-    fn plays(
-        rt: &impl Abort,
-        battle: &mut Packed,
-        played: (&str, u8, bool),
-        told: &[Event],
-        draws: u8,
-    ) -> Result<(), Fail> {
-        let (events, drawn) = apply_from::<SideEffects>(battle, played)?;
-        let (name, _, _) = played;
-        assert_same(rt, (name, drawn), (name, draws));
-        assert_told(rt, &events, told);
-        Ok(())
+    // A flinch has no event, and the foe need not recharge.
+    #[test]
+    fn flinching() { let rt = gen1_tests::testing::HostRuntime;
+        play_each(
+            &rt,
+            "move  | last | next
+         Bite  | 25   | 26
+         Stomp | 76   | 77",
+            "pair Tauros; two.flag recharge; from $last; side $move; told; draws 1; becomes two.flag flinch, two.flag recharge off
+         pair Tauros; two.flag recharge; from $next; side $move; told; draws 1; becomes",
+        )
     }
 
-    // It changes no byte and writes no event, after this many draws.
-    fn does_nothing(
-        rt: &impl Abort,
-        battle: &mut Packed,
-        name: &str,
-        byte: u8,
-        draws: u8,
-    ) -> Result<(), Fail> {
-        let before = bytes_of(battle);
-        for link in BOTH {
-            plays(rt, battle, (name, byte, link), &[], draws)?;
-            assert_same(rt, (name, battle.as_bytes()), (name, before.as_slice()));
-        }
-        Ok(())
+    // A Substitute doesn't keep confusion away. The second draw is 25 for the sweep, which gives 1 + 2 turns, and 24 for
+    // the link numbers, which gives 0 + 2.
+    #[test]
+    fn confusion() { let rt = gen1_tests::testing::HostRuntime;
+        play_each(
+            &rt,
+            "move
+         Psybeam
+         Confusion",
+            "pair Tauros; two.substitute 60; sweep 24; side $move; told start two confusion; draws 2; becomes two.confused 3
+         pair Tauros; two.substitute 60; equal 24; side $move; told start two confusion; draws 2; becomes two.confused 2
+         pair Tauros; from 25; side $move; told; draws 1; becomes
+         pair Tauros; two.confused 1; from 24; side $move; told; draws 1; becomes",
+        )
+    }
+
+    // One stage down is 66 percent. Mist doesn't prevent it. At -6 the draw is taken, and no failure is reported.
+    #[test]
+    fn stages() { let rt = gen1_tests::testing::HostRuntime;
+        play_each(
+            &rt,
+            "move        | stat    | value
+         Aurora Beam | attack  | 196
+         Acid        | defense | 190
+         Bubble Beam | speed   | 209
+         Psychic     | special | 157",
+            "pair Tauros; two.flag mist; from 84; side $move; told unboost two $stat 1; draws 1; becomes two.$stat 5 $value
+         pair Tauros; from 85; side $move; told; draws 1; becomes",
+        );
+        play(&rt, "pair Tauros; two.defense 0 72; from 84; side Acid; told; draws 1; becomes")
+    }
+
+    #[test]
+    fn recharging() { let rt = gen1_tests::testing::HostRuntime;
+        play(
+            &rt,
+            "pair Tauros; two.substitute 60; from 0; side Hyper Beam; told recharge one; draws 0; becomes one.flag recharge",
+        )
+    }
+
+    // No draw is taken. A frozen foe isn't thawed either.
+    #[test]
+    fn a_substitute_keeps_harm_away() { let rt = gen1_tests::testing::HostRuntime;
+        play_each(
+            &rt,
+            "move
+         Poison Sting
+         Twineedle
+         Ember
+         Ice Beam
+         Thunderbolt
+         Bite
+         Acid",
+            "pair Tauros; two.substitute 60; from 0; side $move; told; draws 0; becomes",
+        );
+        play(
+            &rt,
+            "pair Tauros; two.substitute 60; two.status frz; from 0; side Ember; told; draws 0; becomes",
+        )
+    }
+
+    #[test]
+    fn without_a_side_effect() { let rt = gen1_tests::testing::HostRuntime;
+        play_each(
+            &rt,
+            "move
+         Pay Day
+         Strength
+         Swift
+         Submission
+         Growl",
+            "pair Tauros; from 0; side $move; told; draws 0; becomes",
+        )
+    }
+
+    // Disable hits below 140, which is 55 percent.
+    //
+    // - Equal link numbers of 1: nine of 1, of 6 and of 31, and then 156s, which name slot 1 and a count of 5.
+    // - A sweep from 1: the hit test, 2 and 3 without success, 4 for slot 1, and 5 for a count of 6. A Substitute doesn't
+    //   prevent it.
+    // - With two moves, a sweep from 0 names slot 2 by 1. From 3 it names slot 1 by 4, or slot 2 by 5 if slot 1 has no PP.
+    // - At most one move is disabled.
+    // - Without any PP it fails at the first draw of slot 1, before the count: at 4 of a sweep from 1, and at the second of
+    //   zeros.
+    #[test]
+    fn disable() { let rt = gen1_tests::testing::HostRuntime;
+        play(
+            &rt,
+            "pair Tauros; equal 1; side_knowing Disable; gives false; told start two Disable; ring 2 156 156 156 156 156 156 156 156 156 1; knows tested 140; becomes two.disabled 1 5
+         pair Tauros; two.substitute 60; sweep 1; side_knowing Disable; gives false; told start two Disable; draws 5; knows tested 140; becomes two.disabled 1 6
+         pair Tauros Strength, Dig; two.pp 1 15; sweep 0; side_knowing Disable; gives false; becomes two.disabled 2 3
+         pair Tauros Strength, Dig; two.pp 1 15; sweep 3; side_knowing Disable; gives false; becomes two.disabled 1 6
+         pair Tauros Strength, Dig; two.pp 1 0; sweep 3; side_knowing Disable; gives false; becomes two.disabled 2 7
+         pair Tauros; from 140; side Disable; told miss one; draws 1; becomes
+         pair Tauros; sweep 140; side_knowing Disable; gives true; knows missed, tested 140
+         pair Tauros; two.disabled 1 2; from 139; side Disable; told fail one; draws 1; becomes
+         pair Tauros; two.pp 1 0; sweep 1; side Disable; told fail one; draws 4; becomes
+         pair Tauros; two.pp 1 0; equal 0; side Disable; told fail one; draws 2; becomes",
+        )
     }
 }
 
 #[cfg(test)]
 mod status {
-    //! The worked numbers of [docs/MECHANICS.md](https://hibsuloy.example/gen1/blob/main/docs/MECHANICS.md), for two members of one species.
-    mod gate {
-        //! Picks and the gate, with the numbers of [docs/MECHANICS.md, "Picks"](https://hibsuloy.example/gen1/blob/main/docs/MECHANICS.md#picks), "Gate" and "Hit on itself".
-        use crate::battles::{FOE, USER, assert_same, assert_told};
-        use crate::facing::two_tauros;
-        use gen1::generated::layout::{Conditions, Packed};
-        use gen1::generated::machine::{
-            CantReason, Choice, DamageSource, DisabledSlot, Event, EventList, Health, Kind, MoveSlot,
-            Outcome, Pick, Side, UsedMove, Volatile,
-        };
-        use gen1::generated::rolls::{LinkRandom, Rolls, Sweep};
-        use gen1::generated::stats::Status;
-        use gen1::generated::status::{Gate, gate, pick, used_by};
-        use gen1_tests::testing::Abort;
-        use gen1_tests::testing::Fail;
+    //! Picks, the gate, statuses, stages and residual damage ([docs/MECHANICS.md, "Picks"](https://hibsuloy.example/gen1/blob/main/docs/MECHANICS.md#picks), "Gate", "Penalties", "Stage shift",
+    //! "Residual damage"). Each side has one member out, which knows Strength and Dig.
+    use crate::battles::assert_same;
+    use crate::script::{play, play_each};
+    use gen1::generated::status::Gate;
 
-        // The event that reports the user's confusion.
-        fn shows(battle: &Packed) -> Event {
-            Event::Activate(battle.who(USER), Volatile::Confusion)
-        }
-
-        fn cannot(battle: &Packed, reason: CantReason) -> Event {
-            Event::Cant(battle.who(USER), reason)
-        }
-
-        const STRENGTH: Pick = Pick::Use(UsedMove::Slot(1));
-
-        // The result of the gate for a user, and its events.
-        fn gates<R: Rolls>(
-            rt: &impl Abort,
-            battle: &mut Packed,
-            pick: Pick,
-            random: &mut R,
-            answer: Gate,
-            told: &[Event],
-        ) {
-            let mut events = EventList::new();
-            assert_same(rt, gate(battle, USER, pick, random, &mut events), answer);
-            assert_told(rt, &events, told);
-        }
-
-        // Whether the user has a condition.
-        fn is_on(rt: &impl Abort, battle: &Packed, which: Conditions, on: bool) {
-            assert_same(rt, battle.is_on(USER, which), on);
-        }
-
-        fn has(rt: &impl Abort, battle: &Packed, status: Status) {
-            assert_same(rt, battle.status(USER), status);
-        }
-
-        const fn asleep(turns: u8, marked: bool) -> Status {
-            Status::Asleep { turns, marked }
-        }
-
-        // What the choice of a slot from 0 to 4 becomes.
-        fn picks(rt: &impl Abort, battle: &Packed, side: Side, slot: u8, picked: Pick) -> Result<(), Fail> {
-            let slot = MoveSlot::new(slot).ok_or("no such slot")?;
-            assert_same(rt, pick(battle, side, Choice::Move(slot)), picked);
-            Ok(())
-        }
-
-        // What choices become (docs/MECHANICS.md, "Picks").
-        #[test]
-        fn picks_of_who_is_free_or_held() -> Result<(), Fail> { let rt = gen1_tests::testing::HostRuntime;
-            let mut battle = two_tauros()?;
-            let second = Pick::Use(UsedMove::Slot(2));
-            picks(&rt, &battle, USER, 0, Pick::Use(UsedMove::Struggle))?;
-            picks(&rt, &battle, USER, 2, second)?;
-            battle.put_trapping(FOE, 0);
-            picks(&rt, &battle, USER, 0, Pick::Held)?;
-            picks(&rt, &battle, USER, 2, second)?;
-            picks(&rt, &battle, FOE, 0, Pick::Continue)
-        }
-
-        // A pick names its move, or goes on with the current one (docs/MECHANICS.md, "Picks").
-        #[test]
-        fn what_a_pick_uses() -> Result<(), Fail> { let rt = gen1_tests::testing::HostRuntime;
-            let mut battle = two_tauros()?;
-            battle.put_current_move(USER, UsedMove::Slot(2));
-            assert_same(&rt, used_by(&battle, USER, STRENGTH), UsedMove::Slot(1));
-            for pick in [Pick::Continue, Pick::Idle, Pick::Held] {
-                assert_same(&rt, used_by(&battle, USER, pick), UsedMove::Slot(2));
-            }
-            Ok(())
-        }
-
-        // A member that the foe's trapping holds too (docs/MECHANICS.md, "Picks").
-        #[test]
-        fn picks_of_who_must_wait() -> Result<(), Fail> { let rt = gen1_tests::testing::HostRuntime;
-            for status in [asleep(3, false), Status::Frozen] {
-                let mut battle = two_tauros()?;
-                battle.put_trapping(FOE, 0);
-                battle.put_status(USER, status);
-                picks(&rt, &battle, USER, 0, Pick::Idle)?;
-            }
-            Ok(())
-        }
-
-        // Asleep, and held by the foe's trapping (docs/MECHANICS.md, "Picks").
-        #[test]
-        fn picks_of_who_goes_on() -> Result<(), Fail> { let rt = gen1_tests::testing::HostRuntime;
-            let mut battle = two_tauros()?;
-            battle.put_trapping(FOE, 0);
-            battle.put_status(USER, asleep(3, false));
-            for which in [Conditions::RECHARGE, Conditions::RAGE, Conditions::CHARGING] {
-                battle.put_flag(USER, which, true);
-                picks(&rt, &battle, USER, 0, Pick::Continue)?;
-                battle.put_flag(USER, which, false);
-            }
-            battle.put_thrash(USER, 2);
-            picks(&rt, &battle, USER, 0, Pick::Continue)?;
-            battle.end_thrash(USER);
-            battle.put_bide(USER, 2, 0);
-            picks(&rt, &battle, USER, 0, Pick::Continue)
-        }
-
-        // Draws of 62 and 63 (docs/MECHANICS.md, "Gate").
-        #[test]
-        fn digging_while_paralysed() -> Result<(), Fail> { let rt = gen1_tests::testing::HostRuntime;
-            let mut battle = two_tauros()?;
-            battle.put_status(USER, Status::Paralysed);
-            battle.put_current_move(USER, UsedMove::Slot(2));
-            battle.put_flag(USER, Conditions::CHARGING, true);
-            battle.put_flag(USER, Conditions::INVULNERABLE, true);
-            let mut random = LinkRandom::new([63, 62, 0, 0, 0, 0, 0, 0, 0, 0]);
-            gates(&rt, &mut battle, Pick::Continue, &mut random, Gate::Go, &[]);
-            assert_same(&rt, random.index(), 1);
-            is_on(&rt, &battle, Conditions::CHARGING, true);
-            let cannot = [cannot(&battle, CantReason::Paralysed)];
-            gates(
-                &rt,
-                &mut battle,
-                Pick::Continue,
-                &mut random,
-                Gate::Stop,
-                &cannot,
-            );
-            assert_same(&rt, random.index(), 2);
-            is_on(&rt, &battle, Conditions::CHARGING, false);
-            is_on(&rt, &battle, Conditions::INVULNERABLE, true);
-            Ok(())
-        }
-
-        // The count of sleep (docs/MECHANICS.md, "Gate").
-        #[test]
-        fn sleeping() -> Result<(), Fail> { let rt = gen1_tests::testing::HostRuntime;
-            let mut battle = two_tauros()?;
-            let mut random = Sweep::new(0);
-            battle.put_status(USER, asleep(2, true));
-            battle.put_flag(USER, Conditions::FLINCH, true);
-            let sleeps = [cannot(&battle, CantReason::Asleep)];
-            gates(&rt, &mut battle, STRENGTH, &mut random, Gate::Stop, &sleeps);
-            has(&rt, &battle, asleep(1, true));
-            is_on(&rt, &battle, Conditions::FLINCH, true);
-            let wakes = [Event::Cure(battle.who(USER), Kind::Sleep)];
-            gates(&rt, &mut battle, STRENGTH, &mut random, Gate::Stop, &wakes);
-            has(&rt, &battle, Status::Healthy);
-            assert_same(&rt, random, Sweep::new(0));
-            Ok(())
-        }
-
-        // Freeze, and the foe's trapping (docs/MECHANICS.md, "Gate").
-        #[test]
-        fn frozen_or_held() -> Result<(), Fail> { let rt = gen1_tests::testing::HostRuntime;
-            let mut battle = two_tauros()?;
-            let mut random = Sweep::new(0);
-            battle.put_trapping(FOE, 0);
-            battle.put_status(USER, Status::Frozen);
-            let freezes = [cannot(&battle, CantReason::Frozen)];
-            gates(
-                &rt,
-                &mut battle,
-                STRENGTH,
-                &mut random,
-                Gate::Stop,
-                &freezes,
-            );
-            battle.put_status(USER, Status::Healthy);
-            let held = [cannot(&battle, CantReason::PartiallyTrapped)];
-            gates(&rt, &mut battle, STRENGTH, &mut random, Gate::Stop, &held);
-            assert_same(&rt, battle.trapping(FOE), Some(0));
-            Ok(())
-        }
-
-        // Each of them passes after one turn (docs/MECHANICS.md, "Gate").
-        #[test]
-        fn flinching_and_recharging() -> Result<(), Fail> { let rt = gen1_tests::testing::HostRuntime;
-            let mut battle = two_tauros()?;
-            let mut random = Sweep::new(0);
-            battle.put_flag(USER, Conditions::FLINCH, true);
-            battle.put_flag(USER, Conditions::RECHARGE, true);
-            let flinches = [cannot(&battle, CantReason::Flinched)];
-            gates(
-                &rt,
-                &mut battle,
-                STRENGTH,
-                &mut random,
-                Gate::Stop,
-                &flinches,
-            );
-            assert_same(&rt, battle.conditions(USER), Conditions::RECHARGE);
-            let recharges = [cannot(&battle, CantReason::Recharging)];
-            gates(
-                &rt,
-                &mut battle,
-                STRENGTH,
-                &mut random,
-                Gate::Stop,
-                &recharges,
-            );
-            gates(&rt, &mut battle, STRENGTH, &mut random, Gate::Go, &[]);
-            Ok(())
-        }
-
-        #[test]
-        fn answers_that_stop() { let rt = gen1_tests::testing::HostRuntime;
-            assert_same(
-                &rt,
-                (Gate::Go.stops(), Gate::Stop.stops(), Gate::Fault.stops()),
-                (false, true, true),
-            );
-        }
-
-        fn bars(rt: &impl Abort, battle: &Packed, disabled: Option<DisabledSlot>) {
-            assert_same(rt, battle.disabled(USER), disabled);
-        }
-
-        // Its count, and its end (docs/MECHANICS.md, "Gate").
-        #[test]
-        fn a_disabled_move() -> Result<(), Fail> { let rt = gen1_tests::testing::HostRuntime;
-            let mut battle = two_tauros()?;
-            let mut random = Sweep::new(0);
-            let second = Pick::Use(UsedMove::Slot(2));
-            battle.put_disabled(USER, Some(DisabledSlot { slot: 2, turns: 3 }));
-            battle.put_current_move(USER, UsedMove::Slot(2));
-            battle.put_flag(USER, Conditions::CHARGING, true);
-            let disabled = [cannot(&battle, CantReason::Disabled)];
-            gates(
-                &rt,
-                &mut battle,
-                Pick::Continue,
-                &mut random,
-                Gate::Stop,
-                &disabled,
-            );
-            is_on(&rt, &battle, Conditions::CHARGING, false);
-            bars(&rt, &battle, Some(DisabledSlot { slot: 2, turns: 2 }));
-            gates(&rt, &mut battle, STRENGTH, &mut random, Gate::Go, &[]);
-            bars(&rt, &battle, Some(DisabledSlot { slot: 2, turns: 1 }));
-            let ends = [Event::End(battle.who(USER), Volatile::Disable)];
-            gates(&rt, &mut battle, second, &mut random, Gate::Go, &ends);
-            bars(&rt, &battle, None);
-            gates(&rt, &mut battle, Pick::Idle, &mut random, Gate::Stop, &[]);
-            Ok(())
-        }
-
-        fn is_confused(rt: &impl Abort, battle: &Packed, turns: Option<u8>) {
-            assert_same(rt, battle.confused(USER), turns);
-        }
-
-        // 42 * 40 * 74 / 72 / 50 + 2: a Tauros takes 36 from its own hit (docs/MECHANICS.md, "Hit on itself", "Gate").
-        #[test]
-        fn confused() -> Result<(), Fail> { let rt = gen1_tests::testing::HostRuntime;
-            let mut battle = two_tauros()?;
-            let mut random = LinkRandom::new([127, 128, 0, 0, 0, 0, 0, 0, 0, 0]);
-            battle.put_confused(USER, Some(3));
-            battle.put_flag(USER, Conditions::INVULNERABLE, true);
-            let acts = [shows(&battle)];
-            gates(&rt, &mut battle, STRENGTH, &mut random, Gate::Go, &acts);
-            is_confused(&rt, &battle, Some(2));
-            let health = Health::new(317, 353, None).ok_or("no such health")?;
-            let damage = Event::Damage(battle.who(USER), health, DamageSource::Confusion);
-            let hits_itself = [shows(&battle), damage];
-            gates(
-                &rt,
-                &mut battle,
-                STRENGTH,
-                &mut random,
-                Gate::Stop,
-                &hits_itself,
-            );
-            assert_same(&rt, (battle.hp(USER), battle.last_damage()), (317, 36));
-            assert_same(&rt, battle.conditions(USER), Conditions::CONFUSED);
-            let ends = [Event::End(battle.who(USER), Volatile::Confusion)];
-            gates(&rt, &mut battle, STRENGTH, &mut random, Gate::Go, &ends);
-            is_confused(&rt, &battle, None);
-            assert_same(&rt, random.index(), 2);
-            Ok(())
-        }
-
-        // The foe's substitute.
-        fn has_substitute(rt: &impl Abort, battle: &Packed, hp: Option<u8>) {
-            assert_same(rt, battle.substitute(FOE), hp);
-        }
-
-        // The user's own substitute, and the foe's (docs/MECHANICS.md, "Hit on itself").
-        #[test]
-        fn confused_behind_a_substitute() -> Result<(), Fail> { let rt = gen1_tests::testing::HostRuntime;
-            let mut battle = two_tauros()?;
-            let mut random = Sweep::new(128);
-            battle.put_confused(USER, Some(5));
-            battle.put_substitute(USER, Some(1));
-            let spares = [shows(&battle)];
-            gates(&rt, &mut battle, STRENGTH, &mut random, Gate::Stop, &spares);
-            assert_same(&rt, battle.last_damage(), 36);
-            battle.put_substitute(FOE, Some(36));
-            let holds = Event::Activate(battle.who(FOE), Volatile::Substitute);
-            let holds = [shows(&battle), holds];
-            gates(&rt, &mut battle, STRENGTH, &mut random, Gate::Stop, &holds);
-            has_substitute(&rt, &battle, Some(0));
-            let breaks = Event::End(battle.who(FOE), Volatile::Substitute);
-            let breaks = [shows(&battle), breaks];
-            gates(&rt, &mut battle, STRENGTH, &mut random, Gate::Stop, &breaks);
-            has_substitute(&rt, &battle, None);
-            assert_same(&rt, battle.substitute(USER), Some(1));
-            assert_same(&rt, (battle.hp(USER), battle.hp(FOE)), (353, 353));
-            Ok(())
-        }
-
-        // A Defense of 512 with Reflect is 1024. Divided by 4 it is 256, whose low byte is 0 (docs/MECHANICS.md, "Hit on
-        // itself").
-        #[test]
-        fn a_divisor_of_0() -> Result<(), Fail> { let rt = gen1_tests::testing::HostRuntime;
-            let mut battle = two_tauros()?;
-            let mut random = Sweep::new(255);
-            battle.put_confused(USER, Some(2));
-            battle.put_defense(USER, 6, 512);
-            battle.put_flag(FOE, Conditions::REFLECT, true);
-            battle.put_last_damage(7);
-            let shows = [shows(&battle)];
-            gates(&rt, &mut battle, STRENGTH, &mut random, Gate::Fault, &shows);
-            assert_same(
-                &rt,
-                (battle.outcome(), battle.last_damage()),
-                (Outcome::Fault(1), 7),
-            );
-            assert_same(&rt, battle.hp(USER), 353);
-            Ok(())
-        }
+    // What choices of a slot become, for a member that is free, and for one that the foe's trapping holds (docs/MECHANICS.md,
+    // "Picks").
+    #[test]
+    fn picks() { let rt = gen1_tests::testing::HostRuntime;
+        play(
+            &rt,
+            "duel Tauros Tauros; pick one 0; gives struggle; pick one 2; gives 2
+         two.trapping 0; pick one 0; gives held; pick one 2; gives 2; pick two 0; gives continue
+         duel Tauros Tauros; two.trapping 0; one.status slp 3; pick one 0; gives idle
+         duel Tauros Tauros; two.trapping 0; one.status frz; pick one 0; gives idle",
+        );
     }
 
-    mod statuses {
-        //! Statuses, stages, and the damage of poison, a burn and Leech Seed.
-        use crate::battles::{FOE, USER, assert_same, assert_told};
-        use crate::facing::{two_electrode, two_magikarp, two_tauros};
-        use gen1::generated::layout::{Conditions, Packed};
-        use gen1::generated::machine::{DamageSource, Event, EventList, Health, Kind, Side, StageCount, Who};
-        use gen1::generated::stats::Status;
-        use gen1::generated::status::{
-            inflict, inflict_status, lower_stage, raise_stage, residual, shift_stage, take_penalty,
-        };
-        use gen1::generated::tables::Stat;
-        use gen1_tests::testing::Abort;
-        use gen1_tests::testing::Fail;
+    // Asleep, and held by the foe's trapping (docs/MECHANICS.md, "Picks").
+    #[test]
+    fn picks_of_who_goes_on() { let rt = gen1_tests::testing::HostRuntime;
+        play_each(
+            &rt,
+            "field  | value
+         flag   | recharge
+         flag   | rage
+         flag   | charging
+         thrash | 2
+         bide   | 2 0",
+            "duel Tauros Tauros; two.trapping 0; one.status slp 3; one.$field $value; pick one 0; gives continue",
+        );
+    }
 
-        fn count(stages: u8) -> Result<StageCount, Fail> {
-            Ok(StageCount::new(stages).ok_or("no such count")?)
-        }
+    // A pick names its move, or goes on with the current one (docs/MECHANICS.md, "Picks").
+    #[test]
+    fn what_a_pick_uses() { let rt = gen1_tests::testing::HostRuntime;
+        play(
+            &rt,
+            "duel Tauros Tauros; one.current 2
+         used_by 1; gives 1; used_by continue; gives 2; used_by idle; gives 2; used_by held; gives 2",
+        );
+    }
 
-        fn has(rt: &impl Abort, battle: &Packed, side: Side, status: Status) {
-            assert_same(rt, battle.status(side), status);
-        }
+    // Draws of 62 and 63 (docs/MECHANICS.md, "Gate").
+    #[test]
+    fn digging_while_paralysed() { let rt = gen1_tests::testing::HostRuntime;
+        play(
+            &rt,
+            "duel Tauros Tauros; one.status par; one.current 2; one.flag charging; one.flag invulnerable; link 63 62
+         gate continue; gives go; told; draws 1; becomes
+         gate continue; gives stop; told cant one par; draws 1; becomes one.flag charging off",
+        );
+    }
 
-        fn has_stat(rt: &impl Abort, battle: &Packed, side: Side, stat: Stat, value: u16) {
-            assert_same(rt, battle.current_stat(side, stat), value);
-        }
+    // The count of sleep. No draw is taken, and the flinch stays (docs/MECHANICS.md, "Gate").
+    #[test]
+    fn sleeping() { let rt = gen1_tests::testing::HostRuntime;
+        play(
+            &rt,
+            "duel Tauros Tauros; one.status slp 2 marked; one.flag flinch; sweep 0
+         gate 1; gives stop; told cant one slp; draws 0; becomes one.status slp 1 marked
+         gate 1; gives stop; told cure one slp; draws 0; becomes one.status none",
+        );
+    }
 
-        fn has_stage(rt: &impl Abort, battle: &Packed, side: Side, stat: Stat, stage: u8) {
-            assert_same(rt, battle.stage(side, stat), stage);
-        }
+    // Freeze, and the foe's trapping (docs/MECHANICS.md, "Gate").
+    #[test]
+    fn frozen_or_held() { let rt = gen1_tests::testing::HostRuntime;
+        play(
+            &rt,
+            "duel Tauros Tauros; two.trapping 0; one.status frz; sweep 0
+         gate 1; gives stop; told cant one frz
+         one.status none; gate 1; gives stop; told cant one trapped; is two.trapping 0",
+        );
+    }
 
-        // Speed and Attack (docs/MECHANICS.md, "Penalties").
-        #[test]
-        fn penalties() -> Result<(), Fail> { let rt = gen1_tests::testing::HostRuntime;
-            let mut battle = two_tauros()?;
-            let mut events = EventList::new();
-            inflict(&mut battle, FOE, Kind::Paralysis, 0, &mut events);
-            has(&rt, &battle, FOE, Status::Paralysed);
-            has_stat(&rt, &battle, FOE, Stat::Speed, 79);
-            inflict(&mut battle, USER, Kind::Burn, 0, &mut events);
-            has(&rt, &battle, USER, Status::Burned);
-            has_stat(&rt, &battle, USER, Stat::Attack, 149);
-            let paralysed = Event::Status(battle.who(FOE), Kind::Paralysis);
-            let burned = Event::Status(battle.who(USER), Kind::Burn);
-            assert_told(&rt, &events, &[paralysed, burned]);
-            take_penalty(&mut battle, FOE, Status::Paralysed);
-            has_stat(&rt, &battle, FOE, Stat::Speed, 19);
-            Ok(())
-        }
+    // Each of them passes after one turn (docs/MECHANICS.md, "Gate").
+    #[test]
+    fn flinching_and_recharging() { let rt = gen1_tests::testing::HostRuntime;
+        play(
+            &rt,
+            "duel Tauros Tauros; one.flag flinch; one.flag recharge; sweep 0
+         gate 1; gives stop; told cant one flinch; becomes one.flag flinch off
+         gate 1; gives stop; told cant one recharge; becomes one.flag recharge off
+         gate 1; gives go; told; becomes",
+        );
+    }
 
-        // Unmarked, and marked (docs/MECHANICS.md, "Penalties", "Rules (sleep clause, freeze clause)").
-        #[test]
-        fn sleep() -> Result<(), Fail> { let rt = gen1_tests::testing::HostRuntime;
-            let mut battle = two_tauros()?;
-            let mut events = EventList::new();
-            let unmarked = Status::Asleep {
-                turns: 7,
-                marked: false,
-            };
-            let marked = Status::Asleep {
-                turns: 3,
-                marked: true,
-            };
-            inflict(&mut battle, FOE, Kind::Sleep, 7, &mut events);
-            has(&rt, &battle, FOE, unmarked);
-            inflict_status(&mut battle, FOE, marked, Kind::Sleep, &mut events);
-            has(&rt, &battle, FOE, marked);
-            has_stat(&rt, &battle, FOE, Stat::Speed, 318);
-            Ok(())
-        }
+    // Which results of the gate end an action (docs/MECHANICS.md, "Gate").
+    #[test]
+    fn answers_that_stop() { let rt = gen1_tests::testing::HostRuntime;
+        assert_same(
+            &rt,
+            (Gate::Go.stops(), Gate::Stop.stops(), Gate::Fault.stops()),
+            (false, true, true),
+        );
+    }
 
-        // A shift by the user's move: whether it succeeds, the stage and the stat afterwards, and the events.
-        fn shifts(
-            rt: &impl Abort,
-            battle: &mut Packed,
-            (target, stat, by): (Side, Stat, i8),
-            succeeds: bool,
-            (stage, value): (u8, u16),
-            told: &[Event],
-        ) {
-            let mut events = EventList::new();
-            let shifted = shift_stage(battle, USER, target, stat, by, &mut events);
-            assert_same(rt, shifted, succeeds);
-            has_stage(rt, battle, target, stat, stage);
-            has_stat(rt, battle, target, stat, value);
-            assert_told(rt, &events, told);
-        }
+    // Its count, and its end. Then the second move may be used again, and an idle member does nothing (docs/MECHANICS.md, "Gate").
+    #[test]
+    fn a_disabled_move() { let rt = gen1_tests::testing::HostRuntime;
+        play(
+            &rt,
+            "duel Tauros Tauros; one.disabled 2 3; one.current 2; one.flag charging; sweep 0
+         gate continue; gives stop; told cant one Disable; becomes one.flag charging off, one.disabled 2 2
+         gate 1; gives go; told; becomes one.disabled 2 1
+         gate 2; gives go; told end one Disable; becomes one.disabled none
+         gate idle; gives stop; told; becomes",
+        );
+    }
 
-        // The foe is burned, and its Attack of 298 is 149 now (docs/MECHANICS.md, "Stage shift", "Penalties").
-        #[test]
-        fn growl_and_swords_dance() -> Result<(), Fail> { let rt = gen1_tests::testing::HostRuntime;
-            let mut battle = two_tauros()?;
-            let mut events = EventList::new();
-            inflict(&mut battle, FOE, Kind::Burn, 0, &mut events);
-            assert_told(&rt, &events, &[Event::Status(battle.who(FOE), Kind::Burn)]);
-            let growl = (FOE, Stat::Attack, -1);
-            let falls = [Event::Unboost(battle.who(FOE), Stat::Attack, count(1)?)];
-            shifts(&rt, &mut battle, growl, true, (5, 98), &falls);
-            let dance = (USER, Stat::Attack, 2);
-            let rises = [Event::Boost(battle.who(USER), Stat::Attack, count(2)?)];
-            shifts(&rt, &mut battle, dance, true, (8, 596), &rises);
-            has_stat(&rt, &battle, FOE, Stat::Attack, 49);
-            Ok(())
-        }
+    // 42 * 40 * 74 / 72 / 50 + 2: a Tauros takes 36 from its own hit, and is no longer out of reach. The third turn ends the
+    // confusion without a draw (docs/MECHANICS.md, "Hit on itself", "Gate").
+    #[test]
+    fn confused() { let rt = gen1_tests::testing::HostRuntime;
+        play(
+            &rt,
+            "duel Tauros Tauros; one.confused 3; one.flag invulnerable; link 127 128
+         gate 1; gives go; told activate one confusion; draws 1; becomes one.confused 2
+         gate 1; gives stop; told activate one confusion, damage one 317/353 by confusion; draws 1; becomes one.confused 1, one.hp 317, last 36, one.flag invulnerable off
+         gate 1; gives go; told end one confusion; draws 0; becomes one.confused none",
+        );
+    }
 
-        // At -6 and at +6 (docs/MECHANICS.md, "Stage shift", "Stages").
-        #[test]
-        fn ends_of_the_stages() -> Result<(), Fail> { let rt = gen1_tests::testing::HostRuntime;
-            let mut battle = two_tauros()?;
-            let mut events = EventList::new();
-            battle.put_evasion(USER, 12);
-            battle.put_accuracy(FOE, 0);
-            let double_team = raise_stage(&mut battle, USER, USER, Stat::Evasion, 1, &mut events);
-            let sand = lower_stage(&mut battle, USER, FOE, Stat::Accuracy, 1, &mut events);
-            assert_same(&rt, (double_team, sand), (false, false));
-            assert_told(&rt, &events, &[]);
-            // From +5, a rise by 2 is one stage, to +6.
-            battle.put_evasion(USER, 11);
-            let double_team = raise_stage(&mut battle, USER, USER, Stat::Evasion, 2, &mut events);
-            assert_same(&rt, double_team, true);
-            has_stage(&rt, &battle, USER, Stat::Evasion, 12);
-            let rises = Event::Boost(battle.who(USER), Stat::Evasion, count(1)?);
-            assert_told(&rt, &events, &[rises]);
-            Ok(())
-        }
+    // The user's own substitute spares nothing, and the foe's takes the damage (docs/MECHANICS.md, "Hit on itself").
+    #[test]
+    fn confused_behind_a_substitute() { let rt = gen1_tests::testing::HostRuntime;
+        play(
+            &rt,
+            "duel Tauros Tauros; one.confused 5; one.substitute 1; sweep 128
+         gate 1; gives stop; told activate one confusion; is last 36
+         two.substitute 36
+         gate 1; gives stop; told activate one confusion, activate two Substitute; is two.substitute 0
+         gate 1; gives stop; told activate one confusion, end two Substitute; is two.substitute none; is one.substitute 1, one.hp 353, two.hp 353",
+        );
+    }
 
-        // An Electrode's Speed of 378 is 756 at +2. At +4 it is 999, since 1,134 is above the limit (docs/MECHANICS.md,
-        // "Stage shift", "Stages").
-        #[test]
-        fn a_stat_of_999() -> Result<(), Fail> { let rt = gen1_tests::testing::HostRuntime;
-            let mut battle = two_electrode()?;
-            let two = [Event::Boost(battle.who(USER), Stat::Speed, count(2)?)];
-            let one = [Event::Boost(battle.who(USER), Stat::Speed, count(1)?)];
-            let by_two = (USER, Stat::Speed, 2);
-            let by_one = (USER, Stat::Speed, 1);
-            shifts(&rt, &mut battle, by_two, true, (8, 756), &two);
-            shifts(&rt, &mut battle, by_two, true, (10, 999), &two);
-            shifts(&rt, &mut battle, by_two, false, (11, 999), &one);
-            shifts(&rt, &mut battle, by_one, false, (11, 999), &[]);
-            Ok(())
-        }
+    // A Defense of 512 with Reflect is 1024. Divided by 4 it is 256, whose low byte is 0 (docs/MECHANICS.md, "Hit on itself").
+    #[test]
+    fn a_divisor_of_0() { let rt = gen1_tests::testing::HostRuntime;
+        play(
+            &rt,
+            "duel Tauros Tauros; one.confused 2; one.defense 6 512; two.flag reflect; last 7; sweep 255
+         gate 1; gives fault; told activate one confusion; is fault 1, last 7, one.hp 353",
+        );
+    }
 
-        // A Magikarp's Attack at level 1 is 5. It is 2 at -2, and 1 at -4 (docs/MECHANICS.md, "Stage shift", "Stages").
-        #[test]
-        fn a_stat_of_1() -> Result<(), Fail> { let rt = gen1_tests::testing::HostRuntime;
-            let mut battle = two_magikarp()?;
-            let two = [Event::Unboost(battle.who(FOE), Stat::Attack, count(2)?)];
-            let one = [Event::Unboost(battle.who(FOE), Stat::Attack, count(1)?)];
-            let by_two = (FOE, Stat::Attack, -2);
-            shifts(&rt, &mut battle, by_two, true, (4, 2), &two);
-            shifts(&rt, &mut battle, by_two, true, (2, 1), &two);
-            shifts(&rt, &mut battle, by_two, false, (1, 1), &one);
-            Ok(())
-        }
+    // Speed and Attack. A second penalty is taken once more (docs/MECHANICS.md, "Penalties").
+    #[test]
+    fn penalties() { let rt = gen1_tests::testing::HostRuntime;
+        play(
+            &rt,
+            "duel Tauros Tauros; inflict two par 0; told status two par; becomes two.status par, two.speed 6 79
+         inflict one brn 0; told status one brn; becomes one.status brn, one.attack 6 149
+         penalty two par; becomes two.speed 6 19",
+        );
+    }
 
-        // A member that is badly poisoned, with counter 0, and seeded, with this many HP. The foe has 300 of 353.
-        fn badly_poisoned(hp: u16) -> Result<Packed, Fail> {
-            let mut battle = two_tauros()?;
-            battle.put_hp(USER, hp);
-            battle.put_status(USER, Status::Poisoned);
-            battle.put_bad_poison(USER, Some(0));
-            battle.put_flag(USER, Conditions::SEEDED, true);
-            battle.put_hp(FOE, 300);
-            Ok(battle)
-        }
+    // Unmarked, and marked (docs/MECHANICS.md, "Penalties", "Rules (sleep clause, freeze clause)").
+    #[test]
+    fn sleep() { let rt = gen1_tests::testing::HostRuntime;
+        play(
+            &rt,
+            "duel Tauros Tauros; inflict two slp 7; becomes two.status slp 7
+         inflict_status two slp slp 3 marked; becomes two.status slp 3 marked; is two.speed 6 318",
+        );
+    }
 
-        fn health(hp: u16, kind: Option<Kind>) -> Result<Health, Fail> {
-            Ok(Health::new(hp, 353, kind).ok_or("no such health")?)
-        }
+    // The foe is burned, and its Attack of 298 is 149 now (docs/MECHANICS.md, "Stage shift", "Penalties").
+    #[test]
+    fn growl_and_swords_dance() { let rt = gen1_tests::testing::HostRuntime;
+        play(
+            &rt,
+            "duel Tauros Tauros; inflict two brn 0; told status two brn
+         shift two attack -1; gives true; told unboost two attack 1; becomes two.attack 5 98
+         shift one attack 2; gives true; told boost one attack 2; becomes one.attack 8 596, two.attack 5 49",
+        );
+    }
 
-        // Damage of a poisoned member, which leaves this many HP.
-        fn hurt(who: Who, hp: u16, source: DamageSource) -> Result<Event, Fail> {
-            Ok(Event::Damage(who, health(hp, Some(Kind::Poison))?, source))
-        }
+    // At -6 and at +6. From +5, a rise by 2 is one stage, to +6 (docs/MECHANICS.md, "Stage shift", "Stages").
+    #[test]
+    fn ends_of_the_stages() { let rt = gen1_tests::testing::HostRuntime;
+        play(
+            &rt,
+            "duel Tauros Tauros; one.evasion 12; two.accuracy 0
+         raise one evasion 1; gives false; told; lower two accuracy 1; gives false; told
+         one.evasion 11; raise one evasion 2; gives true; told boost one evasion 1; becomes one.evasion 12",
+        );
+    }
 
-        fn hp_are(rt: &impl Abort, battle: &Packed, user: u16, foe: u16) {
-            assert_same(rt, (battle.hp(USER), battle.hp(FOE)), (user, foe));
-        }
+    // An Electrode's Speed of 378 is 756 at +2. At +4 it is 999, since 1,134 is above the limit. A Magikarp's Attack at level 1 is 5.
+    // It is 2 at -2, and 1 at -4 (docs/MECHANICS.md, "Stage shift", "Stages").
+    #[test]
+    fn ends_of_the_stats() { let rt = gen1_tests::testing::HostRuntime;
+        play(
+            &rt,
+            "duel Electrode Electrode; shift one speed 2; gives true; told boost one speed 2; becomes one.speed 8 756
+         shift one speed 2; gives true; told boost one speed 2; becomes one.speed 10 999
+         shift one speed 2; gives false; told boost one speed 1; becomes one.speed 11 999
+         shift one speed 1; gives false; told; becomes
+         duel Magikarp Magikarp; shift two attack -2; gives true; told unboost two attack 2; becomes two.attack 4 2
+         shift two attack -2; gives true; told unboost two attack 2; becomes two.attack 2 1
+         shift two attack -2; gives false; told unboost two attack 1; becomes two.attack 1 1",
+        );
+    }
 
-        // 22 and 44 of 353 (docs/MECHANICS.md, "Residual damage").
-        #[test]
-        fn bad_poison_and_a_seed() -> Result<(), Fail> { let rt = gen1_tests::testing::HostRuntime;
-            let mut battle = badly_poisoned(353)?;
-            let mut events = EventList::new();
-            let user = battle.who(USER);
-            let foe = battle.who(FOE);
-            residual(&mut battle, USER, &mut events);
-            hp_are(&rt, &battle, 287, 344);
-            assert_same(&rt, battle.bad_poison(USER), Some(2));
-            let told = [
-                hurt(user, 331, DamageSource::Poison)?,
-                hurt(user, 287, DamageSource::LeechSeed)?,
-                Event::Heal(foe, health(344, None)?),
-            ];
-            assert_told(&rt, &events, &told);
-            Ok(())
-        }
-
-        // With 20 HP it falls at once, and the seed still heals the full amount (docs/MECHANICS.md, "Residual damage").
-        #[test]
-        fn a_seed_on_the_fallen() -> Result<(), Fail> { let rt = gen1_tests::testing::HostRuntime;
-            let mut battle = badly_poisoned(20)?;
-            let mut events = EventList::new();
-            residual(&mut battle, USER, &mut events);
-            hp_are(&rt, &battle, 0, 344);
-            assert_same(&rt, events.len(), 2);
-            residual(&mut battle, USER, &mut events);
-            hp_are(&rt, &battle, 0, 344);
-            assert_same(&rt, events.len(), 2);
-            Ok(())
-        }
+    // A member that is badly poisoned, with counter 0, and seeded: 22 and 44 of 353. With 20 HP it falls at once, and the seed still
+    // heals the full amount, so that a foe with 300 has 344. Then nothing is left to lose (docs/MECHANICS.md, "Residual damage").
+    #[test]
+    fn bad_poison_and_a_seed() { let rt = gen1_tests::testing::HostRuntime;
+        play(
+            &rt,
+            "duel Tauros Tauros; one.status psn; one.bad_poison 0; one.flag seeded; two.hp 300; residual one
+         told damage one 331/353 psn by psn, damage one 287/353 psn by seed, heal two 344/353; becomes one.hp 287, two.hp 344, one.bad_poison 2
+         duel Tauros Tauros; one.hp 20; one.status psn; one.bad_poison 0; one.flag seeded; two.hp 300; residual one
+         told damage one 0/353 psn by psn, heal two 344/353; is one.hp 0, two.hp 344
+         residual one; told; is one.hp 0, two.hp 344",
+        );
     }
 }
 
 #[cfg(test)]
 mod worked_draws {
     //! The operations with a countdown, on numbers from worked calculations.
-    use crate::battles::{USER, assert_same, named, two_tauros};
+    use crate::battles::{USER, assert_same, named};
+    use crate::script::{play, set_up};
     use crate::{
         Countdown, critical_at, critical_by, factor_at, factor_by, gate_at, gate_by, hit_test_at,
         hit_test_by, own_stream,
     };
     use gen1::generated::hits::Hit;
-    use gen1::generated::layout::Packed;
-    use gen1::generated::machine::{CantReason, Event, EventList, Pick, UsedMove};
+    use gen1::generated::machine::{EventList, UsedMove};
     use gen1::generated::rolls::Rolls;
     use gen1::generated::stats::Status;
-    use gen1::generated::status::{Gate, gate};
+    use gen1::generated::status::Gate;
     use gen1::generated::tables::MoveId;
     use gen1_tests::testing::Fail;
-
-    mod effects {
-        //! Effects of moves with a countdown ([docs/MECHANICS.md, "Early effects"](https://hibsuloy.example/gen1/blob/main/docs/MECHANICS.md#early-effects), "Late effects", "Side effects").
-        use crate::Countdown;
-        use crate::battles::{FOE, USER, assert_same, named, two_tauros};
-        use gen1::generated::effects::{group_one, group_two, is_early, is_late, side_effect};
-        use gen1::generated::machine::{DisabledSlot, Event, EventList, Kind, Volatile};
-        use gen1::generated::stats::Status;
-        use gen1_tests::testing::Fail;
-
-        // The accuracy byte of Thunder Wave is 255, so 254 is the first draw that hits (docs/MECHANICS.md, "Early effects").
-        #[test]
-        fn an_early_effect() -> Result<(), Fail> { let rt = gen1_tests::testing::HostRuntime;
-            let mut battle = two_tauros()?;
-            let mut events = EventList::new();
-            let mut random = Countdown::new(254);
-            let id = named("Thunder Wave")?;
-            if is_early(id.effect()) {
-                group_one(&mut battle, USER, id, &mut random, &mut events);
-            }
-            assert_same(
-                &rt,
-                (battle.status(FOE), random),
-                (Status::Paralysed, Countdown::new(253)),
-            );
-            let told = [Event::Status(battle.who(FOE), Kind::Paralysis)];
-            assert_same(&rt, events.as_slice(), told.as_slice());
-            Ok(())
-        }
-
-        // Sleep Powder hits below 191. After 153 comes 152, whose low bits are 0, and then 151, whose low bits are 7
-        // (docs/MECHANICS.md, "Late effects").
-        #[test]
-        fn a_late_effect() -> Result<(), Fail> { let rt = gen1_tests::testing::HostRuntime;
-            let mut battle = two_tauros()?;
-            let mut events = EventList::new();
-            let mut random = Countdown::new(153);
-            let id = named("Sleep Powder")?;
-            if is_late(id.effect()) {
-                group_two(&mut battle, USER, id, &mut random, &mut events);
-            }
-            let asleep = Status::Asleep {
-                turns: 7,
-                marked: false,
-            };
-            assert_same(
-                &rt,
-                (battle.status(FOE), random),
-                (asleep, Countdown::new(150)),
-            );
-            let told = [Event::Status(battle.who(FOE), Kind::Sleep)];
-            assert_same(&rt, events.as_slice(), told.as_slice());
-            Ok(())
-        }
-
-        // Ice Beam freezes below 26 (docs/MECHANICS.md, "Side effects").
-        #[test]
-        fn a_side_effect() -> Result<(), Fail> { let rt = gen1_tests::testing::HostRuntime;
-            let mut battle = two_tauros()?;
-            let mut events = EventList::new();
-            let mut random = Countdown::new(26);
-            let id = named("Ice Beam")?;
-            side_effect(&mut battle, USER, id, &mut random, &mut events);
-            assert_same(
-                &rt,
-                (battle.status(FOE), random),
-                (Status::Healthy, Countdown::new(25)),
-            );
-            assert_same(&rt, events.as_slice().is_empty(), true);
-            side_effect(&mut battle, USER, id, &mut random, &mut events);
-            assert_same(
-                &rt,
-                (battle.status(FOE), random),
-                (Status::Frozen, Countdown::new(24)),
-            );
-            let told = [Event::Status(battle.who(FOE), Kind::Freeze)];
-            assert_same(&rt, events.as_slice(), told.as_slice());
-            Ok(())
-        }
-
-        // Disable hits below 140. The foe has its one move in slot 1, which 136 names after 138 and 137. 135 makes the count 8
-        // (docs/MECHANICS.md, "Side effects").
-        #[test]
-        fn a_slot_that_is_drawn() -> Result<(), Fail> { let rt = gen1_tests::testing::HostRuntime;
-            let mut battle = two_tauros()?;
-            let mut events = EventList::new();
-            let mut random = Countdown::new(139);
-            let id = named("Disable")?;
-            side_effect(&mut battle, USER, id, &mut random, &mut events);
-            let disabled = DisabledSlot { slot: 1, turns: 8 };
-            assert_same(
-                &rt,
-                (battle.disabled(FOE), random),
-                (Some(disabled), Countdown::new(134)),
-            );
-            let told = [Event::Start(battle.who(FOE), Volatile::Disable)];
-            assert_same(&rt, events.as_slice(), told.as_slice());
-            Ok(())
-        }
-    }
-
 
     const STRENGTH: UsedMove = UsedMove::Slot(1);
 
@@ -5264,7 +4041,7 @@ mod worked_draws {
     // The base Speed of Tauros is 110, and a draw is critical below 110 / 2: 6 is 48 rotated, 7 is 56, 198 is 54 and 230 is 55 (docs/MECHANICS.md, "Critical hits").
     #[test]
     fn critical_draws() -> Result<(), Fail> { let rt = gen1_tests::testing::HostRuntime;
-        let battle = two_tauros()?;
+        let battle = set_up("single")?;
         for (number, critical) in [(6, true), (7, false), (198, true), (230, false)] {
             assert_same(
                 &rt,
@@ -5301,7 +4078,7 @@ mod worked_draws {
     // Below the bound, at it, and at a stage of accuracy (docs/MECHANICS.md, "Hit test").
     #[test]
     fn hit_tests() -> Result<(), Fail> { let rt = gen1_tests::testing::HostRuntime;
-        let mut battle = two_tauros()?;
+        let mut battle = set_up("single")?;
         assert_same(
             &rt,
             hit_test_at(&mut battle, USER, strength()?, 255, 254),
@@ -5340,7 +4117,7 @@ mod worked_draws {
     // A paralysis at its bound (docs/MECHANICS.md, "Gate").
     #[test]
     fn gates() -> Result<(), Fail> { let rt = gen1_tests::testing::HostRuntime;
-        let mut battle = two_tauros()?;
+        let mut battle = set_up("single")?;
         let mut random = Countdown::new(0);
         let mut quiet = EventList::new();
         let answer = gate_by(&mut battle, USER, STRENGTH, &mut random, &mut quiet);
@@ -5363,29 +4140,50 @@ mod worked_draws {
     // A member that is asleep and confused, and was held as the turn began: no turn of either passes, and nothing is
     // drawn, although no foe holds it any more (docs/MECHANICS.md, "Gate").
     #[test]
-    fn held() -> Result<(), Fail> { let rt = gen1_tests::testing::HostRuntime;
-        let mut battle = two_tauros()?;
-        let asleep = Status::Asleep {
-            turns: 3,
-            marked: false,
-        };
-        battle.put_status(USER, asleep);
-        battle.put_confused(USER, Some(2));
-        let mut events = EventList::new();
-        let mut random = Countdown::new(255);
-        let answer = gate(&mut battle, USER, Pick::Held, &mut random, &mut events);
-        assert_same(&rt, (answer, random), (Gate::Stop, Countdown::new(255)));
-        assert_same(
+    fn held() { let rt = gen1_tests::testing::HostRuntime;
+        play(
             &rt,
-            events.as_slice(),
-            [Event::Cant(battle.who(USER), CantReason::PartiallyTrapped)].as_slice(),
+            "single; one.status slp 3; one.confused 2; countdown 255; gate held; gives stop; draws 0; told cant one trapped; becomes",
         );
-        assert_same(
+    }
+
+    // The accuracy byte of Thunder Wave is 255, so 254 is the first draw that hits (docs/MECHANICS.md, "Early effects").
+    #[test]
+    fn an_early_effect() { let rt = gen1_tests::testing::HostRuntime;
+        play(
             &rt,
-            (battle.status(USER), battle.confused(USER)),
-            (asleep, Some(2)),
+            "single; countdown 254; early Thunder Wave; draws 1; told status two par; is two.status par",
         );
-        Ok(())
+    }
+
+    // Sleep Powder hits below 191. After 153 comes 152, whose low bits are 0, and then 151, whose low bits are 7
+    // (docs/MECHANICS.md, "Late effects").
+    #[test]
+    fn a_late_effect() { let rt = gen1_tests::testing::HostRuntime;
+        play(
+            &rt,
+            "single; countdown 153; late Sleep Powder; draws 3; told status two slp; is two.status slp 7",
+        );
+    }
+
+    // Ice Beam freezes below 26 (docs/MECHANICS.md, "Side effects").
+    #[test]
+    fn a_side_effect() { let rt = gen1_tests::testing::HostRuntime;
+        play(
+            &rt,
+            "single; countdown 26; side Ice Beam; draws 1; told; becomes
+         side Ice Beam; draws 1; told status two frz; becomes two.status frz",
+        );
+    }
+
+    // Disable hits below 140. The foe has its one move in slot 1, which 136 names after 138 and 137. 135 makes the count 8
+    // (docs/MECHANICS.md, "Side effects").
+    #[test]
+    fn a_slot_that_is_drawn() { let rt = gen1_tests::testing::HostRuntime;
+        play(
+            &rt,
+            "single; countdown 139; side Disable; draws 5; told start two Disable; is two.disabled 1 8",
+        );
     }
 }
 

@@ -1,0 +1,85 @@
+//! Tests as text: each line of a script is a case, of clauses with `;` between them that are done in their order.
+//!
+//! - `battles`: a clause that begins a battle, as `pair Tauros`
+//! - `words`: the words of a clause, and the tables of names that stand for values
+//! - `writes`: a clause that writes a field, as `two.hp 50`
+//! - `scene`: the battle, and clauses on what an action knows and draws
+//! - `calls`: a clause that calls an operation, as `hits 100 Take Down`
+//! - `checks`: a clause that compares, as `told damage two 253/353`
+//! - `events`: the events that `told` names
+//!
+//! A table has a row of names and rows of values, with `|` between them. A script is played once for each row of
+//! values, and a word `$name` stands for the row's value.
+mod battles;
+mod calls;
+mod checks;
+mod events;
+mod scene;
+mod words;
+mod writes;
+
+use gen1_layout::Packed;
+use scene::Scene;
+use std::process::Abort;
+use std::test::Fail;
+use words::{Clause, Row, Unread, Words};
+
+/// Plays a script once.
+pub(crate) fn play(rt: &impl Abort, script: &str) {
+    play_row(rt, script, Row::new("", ""));
+}
+
+/// Plays a script once for each row of a table.
+pub(crate) fn play_each(rt: &impl Abort, table: &str, script: &str) {
+    if let Some((names, rows)) = table.split_once('\n') {
+        for values in rows.lines() {
+            play_row(rt, script, Row::new(names, values));
+        }
+    }
+}
+
+/// The battle that clauses set up.
+pub(crate) fn set_up(clauses: &str) -> Result<Packed, Fail> {
+    let mut scene = Scene::new().ok().ok_or("no memory")?;
+    for part in clauses.split(';') {
+        let words = Words::new(part.trim(), Row::new("", ""));
+        if !scene.sets(words).ok().ok_or("no such battle")? {
+            return Err("no such field")?;
+        }
+    }
+    Ok(scene.battle.clone()?)
+}
+
+fn play_row(rt: &impl Abort, script: &str, row: Row<'_>) {
+    match Scene::new() {
+        Ok(mut scene) => {
+            for line in script.lines() {
+                play_line(rt, &mut scene, line.trim(), row);
+            }
+        }
+        Err(why) => assert!(rt; false, "{why:?}"),
+    }
+}
+
+fn play_line(rt: &impl Abort, scene: &mut Scene, line: &str, row: Row<'_>) {
+    for part in line.split(';') {
+        let words = Words::new(part.trim(), row);
+        let clause = Clause::new(line, words);
+        if let Err(why) = done(rt, scene, clause, words) {
+            assert!(rt; false, "{why:?} in {clause:?}");
+        }
+    }
+}
+
+// Does a clause: a check, one that sets something, or a call.
+fn done(
+    rt: &impl Abort,
+    scene: &mut Scene,
+    clause: Clause<'_>,
+    words: Words<'_>,
+) -> Result<(), Unread> {
+    if words.is_empty() || scene.checks(rt, clause, words)? || scene.sets(words)? {
+        return Ok(());
+    }
+    scene.plays(rt, clause, words)
+}

@@ -1,0 +1,133 @@
+//! Clauses that compare what the last call did, or a field.
+use super::events::events_of;
+use super::scene::{Answer, Draws, Scene, learned, numbers};
+use super::words::{Clause, Unread, Words, number_of};
+use super::writes::write;
+use crate::battles::{assert_same_for, bytes_of};
+use gen1_layout::Packed;
+use gen1_machine::EventList;
+use gen1_rolls::LinkRandom;
+use std::process::Abort;
+
+impl Scene {
+    /// Does a clause that compares: whether it is one.
+    pub(crate) fn checks(
+        &self,
+        rt: &impl Abort,
+        clause: Clause<'_>,
+        mut words: Words<'_>,
+    ) -> Result<bool, Unread> {
+        match words.word() {
+            "told" => self.told(rt, clause, events_of(&self.battle, words)?),
+            "gives" => self.gives(rt, clause, words)?,
+            "draws" => assert_same_for(rt, &clause, self.drawn, words.byte()?),
+            "becomes" => {
+                let expected = written(self.before.clone()?, words)?;
+                same_bytes(rt, clause, &self.battle, &expected);
+            }
+            "bytes" => self.has_bytes(rt, clause, words)?,
+            "is" => {
+                let expected = written(self.battle.clone()?, words)?;
+                same_bytes(rt, clause, &self.battle, &expected);
+            }
+            "knows" => assert_same_for(rt, &clause, self.known, learned(self.knew, words)?),
+            "ring" => self.has_ring(rt, clause, words)?,
+            _ => return Ok(false),
+        }
+        Ok(true)
+    }
+
+    // Whether both generators did the same.
+    pub(crate) fn is_like(&self, rt: &impl Abort, clause: Clause<'_>, twin: &Scene) {
+        same_bytes(rt, clause, &self.battle, &twin.battle);
+        assert_eq!(rt;
+            self.events.as_slice(),
+            twin.events.as_slice(),
+            "{clause:?}"
+        );
+        assert_same_for(rt, &clause, self.known, twin.known);
+        assert_same_for(rt, &clause, self.answer, twin.answer);
+        assert_same_for(rt, &clause, self.drawn, twin.drawn);
+    }
+
+    fn told(&self, rt: &impl Abort, clause: Clause<'_>, expected: EventList) {
+        assert_eq!(rt; self.events.as_slice(), expected.as_slice(), "{clause:?}");
+    }
+
+    // A word, a number, or both.
+    fn gives(
+        &self,
+        rt: &impl Abort,
+        clause: Clause<'_>,
+        mut words: Words<'_>,
+    ) -> Result<(), Unread> {
+        let first = words.word();
+        let (word, number) = match first.parse::<u16>() {
+            Ok(number) => ("", Some(number)),
+            Err(_) => (first, number_after(words)?),
+        };
+        assert_same_for(rt, &clause, self.answer, Answer { word, number });
+        Ok(())
+    }
+
+    // The bytes of the battle before the last call, with other bytes at some places, as in `bytes 3=44, 4=1`.
+    fn has_bytes(
+        &self,
+        rt: &impl Abort,
+        clause: Clause<'_>,
+        words: Words<'_>,
+    ) -> Result<(), Unread> {
+        let mut expected = bytes_of(&self.before);
+        for item in words.items().split(',') {
+            if let Some((place, byte)) = item.split_once('=') {
+                let place = usize::from(number_of(place.trim())?);
+                let there = expected.get_mut(place).ok_or(Unread("no such place"))?;
+                *there = words.of_item(byte).byte()?;
+            } else if !item.is_empty() {
+                return Err(Unread("no byte"));
+            }
+        }
+        assert_same_for(rt, &clause, bytes_of(&self.battle), expected);
+        Ok(())
+    }
+
+    // Link numbers: their index, and the ten.
+    fn has_ring(
+        &self,
+        rt: &impl Abort,
+        clause: Clause<'_>,
+        mut words: Words<'_>,
+    ) -> Result<(), Unread> {
+        let index = words.byte()?;
+        let expected = LinkRandom::from_parts(index, numbers(words)?).ok_or(Unread(
+            "no such numbers",
+        ))?;
+        match self.draws {
+            Draws::Link(random) => assert_same_for(rt, &clause, random, expected),
+            _ => return Err(Unread("no link numbers")),
+        }
+        Ok(())
+    }
+}
+
+fn number_after(mut words: Words<'_>) -> Result<Option<u16>, Unread> {
+    if words.is_empty() {
+        return Ok(None);
+    }
+    Ok(Some(words.number()?))
+}
+
+// A battle after writes, in items.
+fn written(mut battle: Packed, words: Words<'_>) -> Result<Packed, Unread> {
+    for item in words.items().split(',') {
+        let of_item = words.of_item(item);
+        if !of_item.is_empty() && !write(&mut battle, of_item)? {
+            return Err(Unread("no such field"));
+        }
+    }
+    Ok(battle)
+}
+
+fn same_bytes(rt: &impl Abort, clause: Clause<'_>, found: &Packed, expected: &Packed) {
+    assert_same_for(rt, &clause, bytes_of(found), bytes_of(expected));
+}
