@@ -2,14 +2,18 @@
 //! functions. A third generator, with its own stream, meets the clauses of each operation that draws. The tests are in
 //! a crate of their own because a crate with tests is proved twice.
 //!
-//! - `hits`: hits, their damage and their chances
-//! - `status`: picks, the gate, statuses and stages
+//! - `script`: tests as text, which a few functions play that are proved once
+//! - `battles`: the two sides, and what tests compare
+//! - `damage`: damage and where it lands
+//! - `hit_tests`: critical draws, hit tests, and what is known of an action
+//! - `odds`: odds of a use of a move, and its chances to knock out
+//! - `status`: picks, the gate, statuses, stages and residual damage
 //! - `early_effects`: effects before any damage
 //! - `late_effects`: stages and sleep
 //! - `side_effects`: effects in addition to damage
-//! - `lasting_moves`: moves that last, as they begin
-//! - `battles`: the battles at the start of most tests, and what tests compare
-//! - `script`: tests as text, played by functions that are proved once
+//! - `lasting_moves`: moves that last several turns
+//! - `own_damage`: Counter, fixed damage and one-hit moves
+//! - `hits`: all hits of a move, what follows them, and what follows a miss
 //! - `countdown`: the third generator
 //! - `any`: operations that draw, with any generator
 //! - `at_countdown`: operations that draw, with a countdown

@@ -5,14 +5,18 @@
 //! functions. A third generator, with its own stream, meets the clauses of each operation that draws. The tests are in
 //! a crate of their own because a crate with tests is proved twice.
 //!
-//! - `hits`: hits, their damage and their chances
-//! - `status`: picks, the gate, statuses and stages
+//! - `script`: tests as text, which a few functions play that are proved once
+//! - `battles`: the two sides, and what tests compare
+//! - `damage`: damage and where it lands
+//! - `hit_tests`: critical draws, hit tests, and what is known of an action
+//! - `odds`: odds of a use of a move, and its chances to knock out
+//! - `status`: picks, the gate, statuses, stages and residual damage
 //! - `early_effects`: effects before any damage
 //! - `late_effects`: stages and sleep
 //! - `side_effects`: effects in addition to damage
-//! - `lasting_moves`: moves that last, as they begin
-//! - `battles`: the battles at the start of most tests, and what tests compare
-//! - `script`: tests as text, played by functions that are proved once
+//! - `lasting_moves`: moves that last several turns
+//! - `own_damage`: Counter, fixed damage and one-hit moves
+//! - `hits`: all hits of a move, what follows them, and what follows a miss
 //! - `countdown`: the third generator
 //! - `any`: operations that draw, with any generator
 //! - `at_countdown`: operations that draw, with a countdown
@@ -419,7 +423,10 @@ mod early_effects {
 
     #[test]
     fn splash() { let rt = gen1_tests::testing::HostRuntime;
-        play(&rt, "pair Tauros; from 0; early Splash; told activate one Splash; draws 0; becomes");
+        play(
+            &rt,
+            "pair Tauros; from 0; early Splash; told activate one Splash; draws 0; becomes",
+        );
     }
 
     // The numbers of Rock and Ground are 5 and 4.
@@ -1393,7 +1400,8 @@ mod odds {
     use crate::script::{play, play_each, set_up};
     use gen1::generated::layout::{Conditions, Packed};
     use gen1::generated::odds::{
-        Between, HpChange, Odds, drained, knock_out, knock_out_in_three, odds_of, recoil, takes_hit_test,
+        Between, HpChange, Odds, drained, knock_out, knock_out_in_three, odds_of, recoil,
+        takes_hit_test,
     };
     use gen1_tests::testing::Abort;
     use gen1_tests::testing::Fail;
@@ -2148,7 +2156,7 @@ mod script {
                     exp: 0,
                     stats: [5, 6, 6, 5],
                 }),
-                _ => Err(Unread("no such member")),
+                _ => Err(Unread),
             }
         }
 
@@ -2157,11 +2165,11 @@ mod script {
             let breed = breed_of(name)?;
             let mut known = ArrayVec::new();
             for id in moves.split(',') {
-                let id = MoveId::from_name(id.trim()).ok_or(Unread("no such move"))?;
-                known.try_push((id, 0)).ok().ok_or(Unread("too many moves"))?;
+                let id = MoveId::from_name(id.trim()).ok_or(Unread)?;
+                known.try_push((id, 0)).ok().ok_or(Unread)?;
             }
             Ok(MemberSpec {
-                species: Species::from_name(name).ok_or(Unread("no such species"))?,
+                species: Species::from_name(name).ok_or(Unread)?,
                 level,
                 dvs: [breed.dvs; 4],
                 exp: [breed.exp; 5],
@@ -2177,7 +2185,7 @@ mod script {
         }
 
         fn a_team(members: &[MemberSpec]) -> Result<Team, Unread> {
-            Team::new(members).ok().ok_or(Unread("no team"))
+            Team::new(members).ok().ok_or(Unread)
         }
 
         // A team by words, with `+` between its members.
@@ -2185,7 +2193,7 @@ mod script {
             let mut members: ArrayVec<MemberSpec, 6> = ArrayVec::new();
             for part in text.split('+') {
                 let spec = member_of(words.of_item(part))?;
-                members.try_push(spec).ok().ok_or(Unread("too many members"))?;
+                members.try_push(spec).ok().ok_or(Unread)?;
             }
             a_team(members.as_slice())
         }
@@ -2203,7 +2211,7 @@ mod script {
 
         // The first members of two teams are out.
         fn facing(one: &Team, two: &Team, rules: u8, names: [&str; 2]) -> Result<Packed, Unread> {
-            let rules = Rules::new(rules).ok_or(Unread("no such rules"))?;
+            let rules = Rules::new(rules).ok_or(Unread)?;
             let mut battle = Packed::with_rules(one, two, [0; 10], rules);
             send_out(&mut battle, Side::One, 1, names[0])?;
             send_out(&mut battle, Side::Two, 1, names[1])?;
@@ -2213,7 +2221,11 @@ mod script {
         // Each side has two members. The second knows Strength, and the first Strength too if no moves are named.
         fn pair(mut words: Words<'_>, rules: u8) -> Result<Packed, Unread> {
             let name = words.word();
-            let moves = if words.is_empty() { "Strength" } else { words.all() };
+            let moves = if words.is_empty() {
+                "Strength"
+            } else {
+                words.all()
+            };
             let team = a_team(&[member(name, 100, moves)?, member(name, 100, "Strength")?])?;
             facing(&team, &team, rules, [name, name])
         }
@@ -2235,7 +2247,7 @@ mod script {
 
         // Two teams of Tauros by words, with `/` between them.
         fn teams(words: Words<'_>) -> Result<Packed, Unread> {
-            let (one, two) = words.items().split_once('/').ok_or(Unread("no two teams"))?;
+            let (one, two) = words.items().split_once('/').ok_or(Unread)?;
             facing(
                 &team_of(one, words)?,
                 &team_of(two, words)?,
@@ -2271,7 +2283,8 @@ mod script {
         };
         use gen1::generated::hits::{
             Hit, Known, Landed, critical, damage, gain_hp, hit_or_miss, hit_test, land, land_on_hp,
-            land_on_substitute, lose_hp, must_hit, note_miss, numbers, own_numbers, scaled_accuracy, type_steps,
+            land_on_substitute, lose_hp, must_hit, note_miss, numbers, own_numbers, scaled_accuracy,
+            type_steps,
         };
         use gen1::generated::layout::Packed;
         use gen1::generated::machine::{Choice, DamageSource, EventList, MoveSlot, Pick, Side, UsedMove};
@@ -2282,7 +2295,8 @@ mod script {
         use gen1::generated::odds::{Reason, odds_of};
         use gen1::generated::rolls::{LinkRandom, Rolls, Sweep};
         use gen1::generated::status::{
-            Gate, gate, inflict, inflict_status, lower_stage, pick, raise_stage, residual, shift_stage, take_penalty, used_by,
+            Gate, gate, inflict, inflict_status, lower_stage, pick, raise_stage, residual, shift_stage,
+            take_penalty, used_by,
         };
         use gen1::generated::tables::{Effect, MoveId};
         use gen1_tests::testing::Abort;
@@ -2500,7 +2514,7 @@ mod script {
                 if found.is_none() {
                     found = self.other_call(words)?;
                 }
-                self.answer = found.ok_or(Unread("no such clause"))?;
+                self.answer = found.ok_or(Unread)?;
                 Ok(())
             }
 
@@ -2557,7 +2571,7 @@ mod script {
                     "late" => {
                         let id = words.id()?;
                         if !is_late(id.effect()) {
-                            return Err(Unread("no late effect"));
+                            return Err(Unread);
                         }
                         group_two(battle, USER, id, random, &mut events);
                     }
@@ -2591,7 +2605,7 @@ mod script {
                             Effect::Thrash => {
                                 thrash_knowing(battle, USER, id, &self.known, random, &mut events);
                             }
-                            _ => return Err(Unread("no thrashing move")),
+                            _ => return Err(Unread),
                         }
                     }
                     _ => return Ok(None),
@@ -2624,7 +2638,14 @@ mod script {
                             ..*known
                         };
                         let mut events = EventList::new();
-                        hits(battle, USER, words.id()?, &mut uncounted, random, &mut events);
+                        hits(
+                            battle,
+                            USER,
+                            words.id()?,
+                            &mut uncounted,
+                            random,
+                            &mut events,
+                        );
                         self.known = uncounted;
                         self.events = events;
                         NOTHING
@@ -2700,7 +2721,7 @@ mod script {
                 let answer = match words.word() {
                     "pick" => {
                         let side = words.side()?;
-                        let slot = MoveSlot::new(words.byte()?).ok_or(Unread("no such slot"))?;
+                        let slot = MoveSlot::new(words.byte()?).ok_or(Unread)?;
                         picked(pick(battle, side, Choice::Move(slot)))
                     }
                     "used_by" => used(used_by(battle, USER, pick_of(&mut words)?)),
@@ -2735,7 +2756,7 @@ mod script {
         fn early(mut words: Words<'_>) -> Result<MoveId, Unread> {
             let id = words.id()?;
             if !is_early(id.effect()) {
-                return Err(Unread("no early effect"));
+                return Err(Unread);
             }
             Ok(id)
         }
@@ -2784,7 +2805,11 @@ mod script {
             // Whether both generators did the same.
             pub(crate) fn is_like(&self, rt: &impl Abort, clause: Clause<'_>, twin: &Scene) {
                 same_bytes(rt, clause, &self.battle, &twin.battle);
-                assert_eq!(self.events.as_slice(), twin.events.as_slice(), "{clause:?}");
+                assert_eq!(
+        self.events.as_slice(),
+                    twin.events.as_slice(),
+                    "{clause:?}"
+                );
                 assert_same_for(rt, &clause, self.known, twin.known);
                 assert_same_for(rt, &clause, self.answer, twin.answer);
                 assert_same_for(rt, &clause, self.drawn, twin.drawn);
@@ -2795,7 +2820,12 @@ mod script {
             }
 
             // A word, a number, or both.
-            fn gives(&self, rt: &impl Abort, clause: Clause<'_>, mut words: Words<'_>) -> Result<(), Unread> {
+            fn gives(
+                &self,
+                rt: &impl Abort,
+                clause: Clause<'_>,
+                mut words: Words<'_>,
+            ) -> Result<(), Unread> {
                 let first = words.word();
                 let (word, number) = match first.parse::<u16>() {
                     Ok(number) => ("", Some(number)),
@@ -2806,15 +2836,20 @@ mod script {
             }
 
             // The bytes of the battle before the last call, with other bytes at some places, as in `bytes 3=44, 4=1`.
-            fn has_bytes(&self, rt: &impl Abort, clause: Clause<'_>, words: Words<'_>) -> Result<(), Unread> {
+            fn has_bytes(
+                &self,
+                rt: &impl Abort,
+                clause: Clause<'_>,
+                words: Words<'_>,
+            ) -> Result<(), Unread> {
                 let mut expected = bytes_of(&self.before);
                 for item in words.items().split(',') {
                     if let Some((place, byte)) = item.split_once('=') {
                         let place = usize::from(number_of(place.trim())?);
-                        let there = expected.get_mut(place).ok_or(Unread("no such place"))?;
+                        let there = expected.get_mut(place).ok_or(Unread)?;
                         *there = words.of_item(byte).byte()?;
                     } else if !item.is_empty() {
-                        return Err(Unread("no byte"));
+                        return Err(Unread);
                     }
                 }
                 assert_same_for(rt, &clause, bytes_of(&self.battle), expected);
@@ -2822,12 +2857,17 @@ mod script {
             }
 
             // Link numbers: their index, and the ten.
-            fn has_ring(&self, rt: &impl Abort, clause: Clause<'_>, mut words: Words<'_>) -> Result<(), Unread> {
+            fn has_ring(
+                &self,
+                rt: &impl Abort,
+                clause: Clause<'_>,
+                mut words: Words<'_>,
+            ) -> Result<(), Unread> {
                 let index = words.byte()?;
-                let expected = LinkRandom::from_parts(index, numbers(words)?).ok_or(Unread("no such numbers"))?;
+                let expected = LinkRandom::from_parts(index, numbers(words)?).ok_or(Unread)?;
                 match self.draws {
                     Draws::Link(random) => assert_same_for(rt, &clause, random, expected),
-                    _ => return Err(Unread("no link numbers")),
+                    _ => return Err(Unread),
                 }
                 Ok(())
             }
@@ -2845,7 +2885,7 @@ mod script {
             for item in words.items().split(',') {
                 let of_item = words.of_item(item);
                 if !of_item.is_empty() && !write(&mut battle, of_item)? {
-                    return Err(Unread("no such field"));
+                    return Err(Unread);
                 }
             }
             Ok(battle)
@@ -2897,7 +2937,7 @@ mod script {
                 let of_item = words.of_item(item);
                 if !of_item.is_empty() {
                     let event = event_of(battle, of_item)?;
-                    events.try_push(event).ok().ok_or(Unread("too many events"))?;
+                    events.try_push(event).ok().ok_or(Unread)?;
                 }
             }
             Ok(events)
@@ -2937,25 +2977,25 @@ mod script {
                 "activate" => Event::Activate(who, among(&VOLATILES, words.all())?),
                 "prepare" => Event::Prepare(who, words.id()?),
                 "cant" => Event::Cant(who, among(&REASONS, words.word())?),
-                "count" => Event::HitCount(who, HitCount::new(words.byte()?).ok_or(Unread("no such count"))?),
-                _ => return Err(Unread("no such event")),
+                "count" => Event::HitCount(who, HitCount::new(words.byte()?).ok_or(Unread)?),
+                _ => return Err(Unread),
             })
         }
 
         fn stages(count: u8) -> Result<StageCount, Unread> {
-            StageCount::new(count).ok_or(Unread("no such count"))
+            StageCount::new(count).ok_or(Unread)
         }
 
         // HP of the maximum, and perhaps a status.
         fn health(words: &mut Words<'_>) -> Result<Health, Unread> {
-            let (hp, max) = words.word().split_once('/').ok_or(Unread("no health"))?;
+            let (hp, max) = words.word().split_once('/').ok_or(Unread)?;
             let (hp, max) = (number_of(hp)?, number_of(max)?);
             let mut after = *words;
             let kind = after.kind().ok();
             if kind.is_some() {
                 *words = after;
             }
-            Health::new(hp, max, kind).ok_or(Unread("no such health"))
+            Health::new(hp, max, kind).ok_or(Unread)
         }
 
         // A health, and perhaps what the damage is by.
@@ -3062,7 +3102,7 @@ mod script {
                 if words.word() != "against" {
                     return Ok(false);
                 }
-                self.before = begun(words)?.ok_or(Unread("no such battle"))?;
+                self.before = begun(words)?.ok_or(Unread)?;
                 Ok(true)
             }
 
@@ -3112,7 +3152,7 @@ mod script {
                 "made" => known.hits_made = words.byte()?,
                 "planned" => known.hits_planned = words.count()?,
                 "tested" => known.accuracy_tested = words.count()?,
-                _ => return Err(Unread("no such fact")),
+                _ => return Err(Unread),
             }
             Ok(())
         }
@@ -3129,13 +3169,13 @@ mod script {
         use gen1::generated::tables::{MoveId, Stat};
         use gen1_tests::alloc::AllocError;
 
-        /// Why a clause can't be read.
+        /// A clause can't be read: a word or a number is not one that it can have.
         #[derive(Clone, Copy, Debug)]
-        pub(crate) struct Unread(pub(crate) &'static str);
+        pub(crate) struct Unread;
 
         impl From<AllocError> for Unread {
             fn from(_error: AllocError) -> Unread {
-                Unread("no memory")
+                Unread
             }
         }
 
@@ -3239,7 +3279,7 @@ mod script {
 
             /// By how many stages a stat rises, or falls.
             pub(crate) fn shift(&mut self) -> Result<i8, Unread> {
-                self.word().parse::<i8>().ok().ok_or(Unread("no number"))
+                self.word().parse::<i8>().ok().ok_or(Unread)
             }
 
             pub(crate) fn number(&mut self) -> Result<u16, Unread> {
@@ -3260,7 +3300,7 @@ mod script {
 
             /// The move that all words that are left name.
             pub(crate) fn id(&mut self) -> Result<MoveId, Unread> {
-                Ok(MoveId::from_name(self.all()).ok_or(Unread("no such move"))?)
+                Ok(MoveId::from_name(self.all()).ok_or(Unread)?)
             }
 
             pub(crate) fn kind(&mut self) -> Result<Kind, Unread> {
@@ -3298,18 +3338,18 @@ mod script {
         }
 
         pub(crate) fn number_of(word: &str) -> Result<u16, Unread> {
-            word.parse::<u16>().ok().ok_or(Unread("no number"))
+            word.parse::<u16>().ok().ok_or(Unread)
         }
 
         fn byte_of(word: &str) -> Result<u8, Unread> {
-            word.parse::<u8>().ok().ok_or(Unread("no byte"))
+            word.parse::<u8>().ok().ok_or(Unread)
         }
 
         pub(crate) fn side_of(word: &str) -> Result<Side, Unread> {
             match word {
                 "one" => Ok(Side::One),
                 "two" => Ok(Side::Two),
-                _ => Err(Unread("no such side")),
+                _ => Err(Unread),
             }
         }
 
@@ -3320,7 +3360,7 @@ mod script {
                     return Ok(*value);
                 }
             }
-            Err(Unread("no such word"))
+            Err(Unread)
         }
 
         const KINDS: [(&str, Kind); 5] = [
@@ -3380,11 +3420,13 @@ mod script {
                 return of_the_battle(battle, word, words);
             };
             let (side, field) = (side_of(side)?, words.value(field));
-            Ok(of_the_member(battle, side, field, words)?
-                || of_the_block(battle, side, field, words)?
-                || of_a_stat(battle, side, field, words)?
-                || of_a_condition(battle, side, field, words)?
-                || of_what_goes_on(battle, side, field, words)?)
+            Ok(
+                of_the_member(battle, side, field, words)?
+                    || of_the_block(battle, side, field, words)?
+                    || of_a_stat(battle, side, field, words)?
+                    || of_a_condition(battle, side, field, words)?
+                    || of_what_goes_on(battle, side, field, words)?,
+            )
         }
 
         fn of_the_battle(battle: &mut Packed, word: &str, mut words: Words<'_>) -> Result<bool, Unread> {
@@ -3417,7 +3459,7 @@ mod script {
         fn put_pp(battle: &mut Packed, side: Side, mut words: Words<'_>) -> Result<(), Unread> {
             let slot = words.byte()?;
             if !(1..=4).contains(&slot) {
-                return Err(Unread("no such slot"));
+                return Err(Unread);
             }
             battle.put_pp(side, slot, words.byte()?);
             Ok(())
@@ -3568,7 +3610,7 @@ mod script {
                     play_line(rt, &mut scene, line.trim(), row);
                 }
             }
-            Err(why) => assert!(false, "{why:?}"),
+            Err(Unread) => assert!(false, "no battle"),
         }
     }
 
@@ -3576,9 +3618,8 @@ mod script {
         for part in line.split(';') {
             let words = Words::new(part.trim(), row);
             let clause = Clause::new(line, words);
-            if let Err(why) = done(rt, scene, clause, words) {
-                assert!(false, "{why:?} in {clause:?}");
-            }
+            let is_read = done(rt, scene, clause, words).is_ok();
+            assert!(is_read, "not read: {clause:?}");
         }
     }
 
@@ -3638,7 +3679,10 @@ mod side_effects {
             "pair Tauros; two.types $type Rock; from 0; side $move; told; draws 0; becomes
          pair Tauros; two.types Rock $type; from 0; side $move; told; draws 0; becomes",
         );
-        play(&rt, "pair Tauros; from 0; side Body Slam; told; draws 0; becomes")
+        play(
+            &rt,
+            "pair Tauros; from 0; side Body Slam; told; draws 0; becomes",
+        )
     }
 
     // A Fire move that can burn thaws a frozen foe, even one of type Fire.
@@ -3709,7 +3753,10 @@ mod side_effects {
             "pair Tauros; two.flag mist; from 84; side $move; told unboost two $stat 1; draws 1; becomes two.$stat 5 $value
          pair Tauros; from 85; side $move; told; draws 1; becomes",
         );
-        play(&rt, "pair Tauros; two.defense 0 72; from 84; side Acid; told; draws 1; becomes")
+        play(
+            &rt,
+            "pair Tauros; two.defense 0 72; from 84; side Acid; told; draws 1; becomes",
+        )
     }
 
     #[test]

@@ -35,7 +35,7 @@ fn breed_of(name: &str) -> Result<Breed, Unread> {
             exp: 0,
             stats: [5, 6, 6, 5],
         }),
-        _ => Err(Unread("no such member")),
+        _ => Err(Unread),
     }
 }
 
@@ -44,14 +44,11 @@ fn member(name: &str, level: u8, moves: &str) -> Result<MemberSpec, Unread> {
     let breed = breed_of(name)?;
     let mut known = ArrayVec::new();
     for id in moves.split(',') {
-        let id = MoveId::from_name(id.trim()).ok_or(Unread("no such move"))?;
-        known
-            .try_push((id, 0))
-            .ok()
-            .ok_or(Unread("too many moves"))?;
+        let id = MoveId::from_name(id.trim()).ok_or(Unread)?;
+        known.try_push((id, 0)).ok().ok_or(Unread)?;
     }
     Ok(MemberSpec {
-        species: Species::from_name(name).ok_or(Unread("no such species"))?,
+        species: Species::from_name(name).ok_or(Unread)?,
         level,
         dvs: [breed.dvs; 4],
         exp: [breed.exp; 5],
@@ -67,7 +64,7 @@ fn member_of(mut words: Words<'_>) -> Result<MemberSpec, Unread> {
 }
 
 fn a_team(members: &[MemberSpec]) -> Result<Team, Unread> {
-    Team::new(members).ok().ok_or(Unread("no team"))
+    Team::new(members).ok().ok_or(Unread)
 }
 
 // A team by words, with `+` between its members.
@@ -75,10 +72,7 @@ fn team_of(text: &str, words: Words<'_>) -> Result<Team, Unread> {
     let mut members: ArrayVec<MemberSpec, 6> = ArrayVec::new();
     for part in text.split('+') {
         let spec = member_of(words.of_item(part))?;
-        members
-            .try_push(spec)
-            .ok()
-            .ok_or(Unread("too many members"))?;
+        members.try_push(spec).ok().ok_or(Unread)?;
     }
     a_team(members.as_slice())
 }
@@ -96,7 +90,7 @@ pub(crate) fn send_out(
 
 // The first members of two teams are out.
 fn facing(one: &Team, two: &Team, rules: u8, names: [&str; 2]) -> Result<Packed, Unread> {
-    let rules = Rules::new(rules).ok_or(Unread("no such rules"))?;
+    let rules = Rules::new(rules).ok_or(Unread)?;
     let mut battle = Packed::with_rules(one, two, [0; 10], rules);
     send_out(&mut battle, Side::One, 1, names[0])?;
     send_out(&mut battle, Side::Two, 1, names[1])?;
@@ -132,7 +126,7 @@ fn duel(mut words: Words<'_>) -> Result<Packed, Unread> {
 
 // Two teams of Tauros by words, with `/` between them.
 fn teams(words: Words<'_>) -> Result<Packed, Unread> {
-    let (one, two) = words.items().split_once('/').ok_or(Unread("no two teams"))?;
+    let (one, two) = words.items().split_once('/').ok_or(Unread)?;
     facing(
         &team_of(one, words)?,
         &team_of(two, words)?,

@@ -239,7 +239,7 @@ impl Scene {
         if found.is_none() {
             found = self.other_call(words)?;
         }
-        self.answer = found.ok_or(Unread("no such clause"))?;
+        self.answer = found.ok_or(Unread)?;
         Ok(())
     }
 
@@ -296,7 +296,7 @@ impl Scene {
             "late" => {
                 let id = words.id()?;
                 if !is_late(id.effect()) {
-                    return Err(Unread("no late effect"));
+                    return Err(Unread);
                 }
                 group_two(battle, USER, id, random, &mut events);
             }
@@ -330,7 +330,7 @@ impl Scene {
                     Effect::Thrash => {
                         thrash_knowing(battle, USER, id, &self.known, random, &mut events);
                     }
-                    _ => return Err(Unread("no thrashing move")),
+                    _ => return Err(Unread),
                 }
             }
             _ => return Ok(None),
@@ -446,7 +446,7 @@ impl Scene {
         let answer = match words.word() {
             "pick" => {
                 let side = words.side()?;
-                let slot = MoveSlot::new(words.byte()?).ok_or(Unread("no such slot"))?;
+                let slot = MoveSlot::new(words.byte()?).ok_or(Unread)?;
                 picked(pick(battle, side, Choice::Move(slot)))
             }
             "used_by" => used(used_by(battle, USER, pick_of(&mut words)?)),
@@ -481,7 +481,7 @@ impl Scene {
 fn early(mut words: Words<'_>) -> Result<MoveId, Unread> {
     let id = words.id()?;
     if !is_early(id.effect()) {
-        return Err(Unread("no early effect"));
+        return Err(Unread);
     }
     Ok(id)
 }

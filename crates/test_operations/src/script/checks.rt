@@ -81,10 +81,10 @@ impl Scene {
         for item in words.items().split(',') {
             if let Some((place, byte)) = item.split_once('=') {
                 let place = usize::from(number_of(place.trim())?);
-                let there = expected.get_mut(place).ok_or(Unread("no such place"))?;
+                let there = expected.get_mut(place).ok_or(Unread)?;
                 *there = words.of_item(byte).byte()?;
             } else if !item.is_empty() {
-                return Err(Unread("no byte"));
+                return Err(Unread);
             }
         }
         assert_same_for(rt, &clause, bytes_of(&self.battle), expected);
@@ -99,12 +99,10 @@ impl Scene {
         mut words: Words<'_>,
     ) -> Result<(), Unread> {
         let index = words.byte()?;
-        let expected = LinkRandom::from_parts(index, numbers(words)?).ok_or(Unread(
-            "no such numbers",
-        ))?;
+        let expected = LinkRandom::from_parts(index, numbers(words)?).ok_or(Unread)?;
         match self.draws {
             Draws::Link(random) => assert_same_for(rt, &clause, random, expected),
-            _ => return Err(Unread("no link numbers")),
+            _ => return Err(Unread),
         }
         Ok(())
     }
@@ -122,7 +120,7 @@ fn written(mut battle: Packed, words: Words<'_>) -> Result<Packed, Unread> {
     for item in words.items().split(',') {
         let of_item = words.of_item(item);
         if !of_item.is_empty() && !write(&mut battle, of_item)? {
-            return Err(Unread("no such field"));
+            return Err(Unread);
         }
     }
     Ok(battle)

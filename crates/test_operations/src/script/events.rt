@@ -38,10 +38,7 @@ pub(crate) fn events_of(battle: &Packed, words: Words<'_>) -> Result<EventList, 
         let of_item = words.of_item(item);
         if !of_item.is_empty() {
             let event = event_of(battle, of_item)?;
-            events
-                .try_push(event)
-                .ok()
-                .ok_or(Unread("too many events"))?;
+            events.try_push(event).ok().ok_or(Unread)?;
         }
     }
     Ok(events)
@@ -81,28 +78,25 @@ fn with_more(who: Who, word: &str, mut words: Words<'_>) -> Result<Event, Unread
         "activate" => Event::Activate(who, among(&VOLATILES, words.all())?),
         "prepare" => Event::Prepare(who, words.id()?),
         "cant" => Event::Cant(who, among(&REASONS, words.word())?),
-        "count" => Event::HitCount(
-            who,
-            HitCount::new(words.byte()?).ok_or(Unread("no such count"))?,
-        ),
-        _ => return Err(Unread("no such event")),
+        "count" => Event::HitCount(who, HitCount::new(words.byte()?).ok_or(Unread)?),
+        _ => return Err(Unread),
     })
 }
 
 fn stages(count: u8) -> Result<StageCount, Unread> {
-    StageCount::new(count).ok_or(Unread("no such count"))
+    StageCount::new(count).ok_or(Unread)
 }
 
 // HP of the maximum, and perhaps a status.
 fn health(words: &mut Words<'_>) -> Result<Health, Unread> {
-    let (hp, max) = words.word().split_once('/').ok_or(Unread("no health"))?;
+    let (hp, max) = words.word().split_once('/').ok_or(Unread)?;
     let (hp, max) = (number_of(hp)?, number_of(max)?);
     let mut after = *words;
     let kind = after.kind().ok();
     if kind.is_some() {
         *words = after;
     }
-    Health::new(hp, max, kind).ok_or(Unread("no such health"))
+    Health::new(hp, max, kind).ok_or(Unread)
 }
 
 // A health, and perhaps what the damage is by.

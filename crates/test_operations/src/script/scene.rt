@@ -90,7 +90,7 @@ impl Scene {
         if words.word() != "against" {
             return Ok(false);
         }
-        self.before = begun(words)?.ok_or(Unread("no such battle"))?;
+        self.before = begun(words)?.ok_or(Unread)?;
         Ok(true)
     }
 
@@ -140,7 +140,7 @@ fn learn(known: &mut Known, mut words: Words<'_>) -> Result<(), Unread> {
         "made" => known.hits_made = words.byte()?,
         "planned" => known.hits_planned = words.count()?,
         "tested" => known.accuracy_tested = words.count()?,
-        _ => return Err(Unread("no such fact")),
+        _ => return Err(Unread),
     }
     Ok(())
 }

@@ -8,13 +8,13 @@ use gen1_tables::Element::{
 use gen1_tables::{MoveId, Stat};
 use std::alloc::AllocError;
 
-/// Why a clause can't be read.
+/// A clause can't be read: a word or a number is not one that it can have.
 #[derive(Clone, Copy, Debug, Drop)]
-pub(crate) struct Unread(pub(crate) &'static str);
+pub(crate) struct Unread;
 
 impl From<AllocError> for Unread {
     fn from(_error: AllocError) -> Unread {
-        Unread("no memory")
+        Unread
     }
 }
 
@@ -118,7 +118,7 @@ impl<'a> Words<'a> {
 
     /// By how many stages a stat rises, or falls.
     pub(crate) fn shift(&mut self) -> Result<i8, Unread> {
-        self.word().parse::<i8>().ok().ok_or(Unread("no number"))
+        self.word().parse::<i8>().ok().ok_or(Unread)
     }
 
     pub(crate) fn number(&mut self) -> Result<u16, Unread> {
@@ -139,7 +139,7 @@ impl<'a> Words<'a> {
 
     /// The move that all words that are left name.
     pub(crate) fn id(&mut self) -> Result<MoveId, Unread> {
-        Ok(MoveId::from_name(self.all()).ok_or(Unread("no such move"))?)
+        Ok(MoveId::from_name(self.all()).ok_or(Unread)?)
     }
 
     pub(crate) fn kind(&mut self) -> Result<Kind, Unread> {
@@ -177,18 +177,18 @@ impl<'a> Words<'a> {
 }
 
 pub(crate) fn number_of(word: &str) -> Result<u16, Unread> {
-    word.parse::<u16>().ok().ok_or(Unread("no number"))
+    word.parse::<u16>().ok().ok_or(Unread)
 }
 
 fn byte_of(word: &str) -> Result<u8, Unread> {
-    word.parse::<u8>().ok().ok_or(Unread("no byte"))
+    word.parse::<u8>().ok().ok_or(Unread)
 }
 
 pub(crate) fn side_of(word: &str) -> Result<Side, Unread> {
     match word {
         "one" => Ok(Side::One),
         "two" => Ok(Side::Two),
-        _ => Err(Unread("no such side")),
+        _ => Err(Unread),
     }
 }
 
@@ -199,7 +199,7 @@ pub(crate) fn among<T: Copy>(known: &[(&str, T)], word: &str) -> Result<T, Unrea
             return Ok(*value);
         }
     }
-    Err(Unread("no such word"))
+    Err(Unread)
 }
 
 const KINDS: [(&str, Kind); 5] = [

@@ -50,7 +50,7 @@ fn of_the_member(
 fn put_pp(battle: &mut Packed, side: Side, mut words: Words<'_>) -> Result<(), Unread> {
     let slot = words.byte()?;
     if !(1..=4).contains(&slot) {
-        return Err(Unread("no such slot"));
+        return Err(Unread);
     }
     battle.put_pp(side, slot, words.byte()?);
     Ok(())
