@@ -1,6 +1,6 @@
 //! Damage: its numbers, its formula, types and factors, with worked values, and where it lands (docs/MECHANICS.md, "Damage
 //! formula", "Types", "Factors", "Landing").
-use crate::battles::{assert_same, named};
+use crate::comparing::{assert_same, named};
 use crate::script::{play, set_up};
 use arrayvec::ArrayVec;
 use gen1_hits::{

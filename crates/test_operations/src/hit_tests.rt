@@ -1,6 +1,6 @@
 //! What is known of an action, critical draws and hit tests (docs/MECHANICS.md, "Critical hits", "Hit test", "Action", "Kept
 //! accuracy"). Each draw is that of a sweep and of link numbers.
-use crate::battles::{FOE, USER, assert_same, assert_told, named, species};
+use crate::comparing::{FOE, USER, assert_same, assert_told, named, species};
 use crate::script::{play, set_up};
 use gen1_hits::{Known, critical_bound, note_miss};
 use gen1_machine::{Event, EventList};

@@ -3,7 +3,7 @@
 //! a crate of their own because a crate with tests is proved twice.
 //!
 //! - `script`: tests as text, which a few functions play that are proved once
-//! - `battles`: the two sides, and what tests compare
+//! - `comparing`: the two sides, and what tests compare
 //! - `damage`: damage and where it lands
 //! - `hit_tests`: critical draws, hit tests, and what is known of an action
 //! - `odds`: odds of a use of a move, and its chances to knock out
@@ -23,7 +23,7 @@
 mod any;
 mod at_countdown;
 #[cfg(test)]
-mod battles;
+mod comparing;
 mod countdown;
 #[cfg(test)]
 mod damage;

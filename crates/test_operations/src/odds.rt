@@ -1,7 +1,7 @@
 //! The odds of a use of a move, and its chances to knock out, worked out on paper or by another program (docs/MECHANICS.md,
 //! "Critical hits", "Hit test", "Early effects", "Late effects", "Side effects", "Landing", "Many hits", "Recoil, drain and
 //! explosion").
-use crate::battles::{FOE, USER, assert_same, named};
+use crate::comparing::{FOE, USER, assert_same, named};
 use crate::script::{play, play_each, set_up};
 use gen1_layout::{Conditions, Packed};
 use gen1_odds::{

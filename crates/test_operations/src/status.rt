@@ -1,6 +1,6 @@
 //! Picks, the gate, statuses, stages and residual damage (docs/MECHANICS.md, "Picks", "Gate", "Penalties", "Stage shift",
 //! "Residual damage"). Each side has one member out, which knows Strength and Dig.
-use crate::battles::assert_same;
+use crate::comparing::assert_same;
 use crate::script::{play, play_each};
 use gen1_status::Gate;
 

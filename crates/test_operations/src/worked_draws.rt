@@ -1,5 +1,5 @@
 //! The operations with a countdown, on numbers from worked calculations.
-use crate::battles::{USER, assert_same, named};
+use crate::comparing::{USER, assert_same, named};
 use crate::script::{play, set_up};
 use crate::{
     Countdown, critical_at, critical_by, factor_at, factor_by, gate_at, gate_by, hit_test_at,

@@ -2,7 +2,7 @@
 use super::scene::{Answer, Draws, NOTHING, Scene};
 use super::words::{Clause, Unread, Words, among};
 use crate::Countdown;
-use crate::battles::{FOE, USER};
+use crate::comparing::{FOE, USER};
 use gen1_effects::{
     group_one, group_one_knowing, group_two, is_early, is_late, side_effect, side_effect_knowing,
 };

@@ -1,7 +1,6 @@
 //! The battle of a script, and clauses on what an action knows and draws.
-use super::battles::{begun, single};
+use super::positions::{begun, single, write};
 use super::words::{Unread, Words};
-use super::writes::write;
 use gen1_hits::Known;
 use gen1_layout::Packed;
 use gen1_machine::EventList;
