@@ -55,7 +55,8 @@ fn a_new_action_tests_the_moves_accuracy(rt: HostRuntime) {
         &rt,
         "duel Tauros Tauros; last 75; one.trapping 3; one.kept 63
          knowing; from 215; hit_or_miss Toxic; knows tested 216; draws 1; is last 75, one.trapping 3
-         knowing; from 216; hit_or_miss Toxic; knows missed, tested 216; draws 1; is last 0, one.trapping none",
+         knowing; from 216; hit_or_miss Toxic; knows missed, tested 216; draws 1; is last 0, one.trapping none
+         knowing; from 216; hit_or_miss Toxic; knows missed, tested 216; draws 1; becomes",
     );
 }
 
@@ -66,7 +67,8 @@ fn a_new_action_tests_at_its_stage(rt: HostRuntime) {
         &rt,
         "duel Tauros Tauros; last 75; one.kept 63; one.accuracy 0
          knowing; from 18; hit_or_miss Guillotine; knows tested 19; draws 1
-         knowing; from 19; hit_or_miss Guillotine; knows missed, tested 19; draws 1",
+         knowing; from 19; hit_or_miss Guillotine; knows missed, tested 19; draws 1
+         knowing; from 19; hit_or_miss Guillotine; knows missed, tested 19; draws 1; becomes",
     );
 }
 
@@ -76,7 +78,8 @@ fn what_goes_on_tests_the_kept_accuracy(rt: HostRuntime) {
         &rt,
         "duel Tauros Tauros; last 75; one.kept 63
          knowing going_on; from 62; hit_or_miss Toxic; knows tested 63; draws 1
-         knowing going_on; from 63; hit_or_miss Toxic; knows missed, tested 63; draws 1",
+         knowing going_on; from 63; hit_or_miss Toxic; knows missed, tested 63; draws 1
+         knowing going_on; from 63; hit_or_miss Toxic; knows missed, tested 63; draws 1; becomes",
     );
 }
 

@@ -629,7 +629,8 @@ mod hit_tests {
             &rt,
             "duel Tauros Tauros; last 75; one.trapping 3; one.kept 63
          knowing; from 215; hit_or_miss Toxic; knows tested 216; draws 1; is last 75, one.trapping 3
-         knowing; from 216; hit_or_miss Toxic; knows missed, tested 216; draws 1; is last 0, one.trapping none",
+         knowing; from 216; hit_or_miss Toxic; knows missed, tested 216; draws 1; is last 0, one.trapping none
+         knowing; from 216; hit_or_miss Toxic; knows missed, tested 216; draws 1; becomes",
         );
     }
 
@@ -640,7 +641,8 @@ mod hit_tests {
             &rt,
             "duel Tauros Tauros; last 75; one.kept 63; one.accuracy 0
          knowing; from 18; hit_or_miss Guillotine; knows tested 19; draws 1
-         knowing; from 19; hit_or_miss Guillotine; knows missed, tested 19; draws 1",
+         knowing; from 19; hit_or_miss Guillotine; knows missed, tested 19; draws 1
+         knowing; from 19; hit_or_miss Guillotine; knows missed, tested 19; draws 1; becomes",
         );
     }
 
@@ -650,7 +652,8 @@ mod hit_tests {
             &rt,
             "duel Tauros Tauros; last 75; one.kept 63
          knowing going_on; from 62; hit_or_miss Toxic; knows tested 63; draws 1
-         knowing going_on; from 63; hit_or_miss Toxic; knows missed, tested 63; draws 1",
+         knowing going_on; from 63; hit_or_miss Toxic; knows missed, tested 63; draws 1
+         knowing going_on; from 63; hit_or_miss Toxic; knows missed, tested 63; draws 1; becomes",
         );
     }
 
@@ -2297,12 +2300,12 @@ mod script {
                 self.knew = self.known;
                 match self.draws {
                     Draws::Sweep(byte) => self.by_sweep(byte, words),
-                    Draws::Link(random) => self.by_link(random, words),
+                    Draws::Link(index, numbers) => self.by_link(index, numbers, words),
                     Draws::Countdown(byte) => self.by_countdown(byte, words),
                     Draws::Both(byte) => {
                         let mut twin = self.twin()?;
                         twin.by_sweep(byte, words)?;
-                        self.by_link(LinkRandom::new(rising(byte)), words)?;
+                        self.by_link(0, rising(byte), words)?;
                         self.draws = Draws::Both(byte.wrapping_add(self.drawn));
                         self.is_like(rt, clause, &twin);
                         Ok(())
@@ -2319,11 +2322,12 @@ mod script {
                 Ok(())
             }
 
-            fn by_link(&mut self, numbers: LinkRandom, words: Words<'_>) -> Result<(), Unread> {
-                let mut random = numbers;
+            fn by_link(&mut self, index: u8, numbers: [u8; 10], words: Words<'_>) -> Result<(), Unread> {
+                let mut random = LinkRandom::from_parts(index, numbers).ok_or(Unread)?;
+                let before = random.index();
                 self.call(words, &mut random)?;
-                self.drawn = (9 + random.index() - numbers.index()) % 9;
-                self.draws = Draws::Link(random);
+                self.drawn = (9 + random.index() - before) % 9;
+                self.draws = Draws::Link(random.index(), random.numbers());
                 Ok(())
             }
 
@@ -2618,7 +2622,6 @@ mod script {
         use gen1::generated::machine::{
             CantReason, DamageSource, Event, EventList, Health, HitCount, StageCount, Volatile, Who,
         };
-        use gen1::generated::rolls::LinkRandom;
         use gen1_tests::testing::Abort;
 
         impl Scene {
@@ -2710,10 +2713,9 @@ mod script {
                 clause: Clause<'_>,
                 mut words: Words<'_>,
             ) -> Result<(), Unread> {
-                let index = words.byte()?;
-                let expected = LinkRandom::from_parts(index, numbers(words)?).ok_or(Unread)?;
+                let expected = (words.byte()?, numbers(words)?);
                 match self.draws {
-                    Draws::Link(random) => assert_same_for(rt, &clause, random, expected),
+                    Draws::Link(index, ten) => assert_same_for(rt, &clause, (index, ten), expected),
                     _ => return Err(Unread),
                 }
                 Ok(())
@@ -3158,15 +3160,14 @@ mod script {
         use gen1::generated::hits::Known;
         use gen1::generated::layout::Packed;
         use gen1::generated::machine::EventList;
-        use gen1::generated::rolls::LinkRandom;
 
         /// What calls draw.
         #[derive(Clone, Copy)]
         pub(crate) enum Draws {
             /// The draws of a sweep from a byte.
             Sweep(u8),
-            /// Link numbers.
-            Link(LinkRandom),
+            /// Link numbers: the index, and the ten.
+            Link(u8, [u8; 10]),
             /// The draws of a sweep from a byte, and link numbers that rise from it: both must do the same. They are at most
             /// eight.
             Both(u8),
@@ -3252,8 +3253,8 @@ mod script {
                     "from" => self.draws = Draws::Both(words.byte()?),
                     "sweep" => self.draws = Draws::Sweep(words.byte()?),
                     "countdown" => self.draws = Draws::Countdown(words.byte()?),
-                    "link" => self.draws = Draws::Link(LinkRandom::new(numbers(words)?)),
-                    "equal" => self.draws = Draws::Link(LinkRandom::new([words.byte()?; 10])),
+                    "link" => self.draws = Draws::Link(0, numbers(words)?),
+                    "equal" => self.draws = Draws::Link(0, [words.byte()?; 10]),
                     "knowing" => self.known = learned(Known::new(), words)?,
                     _ => return Ok(false),
                 }

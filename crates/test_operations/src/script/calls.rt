@@ -178,12 +178,12 @@ impl Scene {
         self.knew = self.known;
         match self.draws {
             Draws::Sweep(byte) => self.by_sweep(byte, words),
-            Draws::Link(random) => self.by_link(random, words),
+            Draws::Link(index, numbers) => self.by_link(index, numbers, words),
             Draws::Countdown(byte) => self.by_countdown(byte, words),
             Draws::Both(byte) => {
                 let mut twin = self.twin()?;
                 twin.by_sweep(byte, words)?;
-                self.by_link(LinkRandom::new(rising(byte)), words)?;
+                self.by_link(0, rising(byte), words)?;
                 self.draws = Draws::Both(byte.wrapping_add(self.drawn));
                 self.is_like(rt, clause, &twin);
                 Ok(())
@@ -200,11 +200,12 @@ impl Scene {
         Ok(())
     }
 
-    fn by_link(&mut self, numbers: LinkRandom, words: Words<'_>) -> Result<(), Unread> {
-        let mut random = numbers;
+    fn by_link(&mut self, index: u8, numbers: [u8; 10], words: Words<'_>) -> Result<(), Unread> {
+        let mut random = LinkRandom::from_parts(index, numbers).ok_or(Unread)?;
+        let before = random.index();
         self.call(words, &mut random)?;
-        self.drawn = (9 + random.index() - numbers.index()) % 9;
-        self.draws = Draws::Link(random);
+        self.drawn = (9 + random.index() - before) % 9;
+        self.draws = Draws::Link(random.index(), random.numbers());
         Ok(())
     }
 

@@ -9,7 +9,6 @@ use gen1_layout::Packed;
 use gen1_machine::{
     CantReason, DamageSource, Event, EventList, Health, HitCount, StageCount, Volatile, Who,
 };
-use gen1_rolls::LinkRandom;
 use std::process::Abort;
 
 impl Scene {
@@ -101,10 +100,9 @@ impl Scene {
         clause: Clause<'_>,
         mut words: Words<'_>,
     ) -> Result<(), Unread> {
-        let index = words.byte()?;
-        let expected = LinkRandom::from_parts(index, numbers(words)?).ok_or(Unread)?;
+        let expected = (words.byte()?, numbers(words)?);
         match self.draws {
-            Draws::Link(random) => assert_same_for(rt, &clause, random, expected),
+            Draws::Link(index, ten) => assert_same_for(rt, &clause, (index, ten), expected),
             _ => return Err(Unread),
         }
         Ok(())

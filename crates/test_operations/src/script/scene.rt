@@ -4,15 +4,14 @@ use super::words::{Unread, Words};
 use gen1_hits::Known;
 use gen1_layout::Packed;
 use gen1_machine::EventList;
-use gen1_rolls::LinkRandom;
 
 /// What calls draw.
 #[derive(Clone, Copy)]
 pub(crate) enum Draws {
     /// The draws of a sweep from a byte.
     Sweep(u8),
-    /// Link numbers.
-    Link(LinkRandom),
+    /// Link numbers: the index, and the ten.
+    Link(u8, [u8; 10]),
     /// The draws of a sweep from a byte, and link numbers that rise from it: both must do the same. They are at most
     /// eight.
     Both(u8),
@@ -98,8 +97,8 @@ impl Scene {
             "from" => self.draws = Draws::Both(words.byte()?),
             "sweep" => self.draws = Draws::Sweep(words.byte()?),
             "countdown" => self.draws = Draws::Countdown(words.byte()?),
-            "link" => self.draws = Draws::Link(LinkRandom::new(numbers(words)?)),
-            "equal" => self.draws = Draws::Link(LinkRandom::new([words.byte()?; 10])),
+            "link" => self.draws = Draws::Link(0, numbers(words)?),
+            "equal" => self.draws = Draws::Link(0, [words.byte()?; 10]),
             "knowing" => self.known = learned(Known::new(), words)?,
             _ => return Ok(false),
         }
