@@ -214,6 +214,7 @@ fn settled_without_a_draw(rt: HostRuntime) {
         "duel Persian Tauros; two.flag invulnerable; last 75
          from 255; hit_test Swift; gives hit 255; draws 0; is last 75
          from 0; hit_test Strength; gives miss 255; draws 0; is last 0
+         from 0; hit_test Strength; gives miss 255; draws 0; becomes
          duel Persian Tauros; from 0; hit_test Dream Eater; gives miss 255; draws 0
          two.status slp 3; from 0; hit_test Dream Eater; gives hit 255; draws 1
          from 0; hit_test Growl; gives hit 255; draws 1

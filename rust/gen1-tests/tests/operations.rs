@@ -788,6 +788,7 @@ mod hit_tests {
             "duel Persian Tauros; two.flag invulnerable; last 75
          from 255; hit_test Swift; gives hit 255; draws 0; is last 75
          from 0; hit_test Strength; gives miss 255; draws 0; is last 0
+         from 0; hit_test Strength; gives miss 255; draws 0; becomes
          duel Persian Tauros; from 0; hit_test Dream Eater; gives miss 255; draws 0
          two.status slp 3; from 0; hit_test Dream Eater; gives hit 255; draws 1
          from 0; hit_test Growl; gives hit 255; draws 1
@@ -2409,11 +2410,17 @@ mod script {
                 let mut answer = NOTHING;
                 match words.word() {
                     "early" => {
-                        let id = early(words)?;
+                        let id = words.id()?;
+                        if !is_early(id.effect()) {
+                            return Err(Unread);
+                        }
                         group_one(battle, USER, id, random, &mut events);
                     }
                     "early_knowing" => {
-                        let id = early(words)?;
+                        let id = words.id()?;
+                        if !is_early(id.effect()) {
+                            return Err(Unread);
+                        }
                         group_one_knowing(battle, USER, id, known, random, &mut events);
                     }
                     "late" => {
@@ -2598,15 +2605,6 @@ mod script {
                 self.events = events;
                 Ok(Some(answer))
             }
-        }
-
-        // The move of an early effect.
-        fn early(mut words: Words<'_>) -> Result<MoveId, Unread> {
-            let id = words.id()?;
-            if !is_early(id.effect()) {
-                return Err(Unread);
-            }
-            Ok(id)
         }
     }
 

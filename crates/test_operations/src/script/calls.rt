@@ -287,11 +287,17 @@ impl Scene {
         let mut answer = NOTHING;
         match words.word() {
             "early" => {
-                let id = early(words)?;
+                let id = words.id()?;
+                if !is_early(id.effect()) {
+                    return Err(Unread);
+                }
                 group_one(battle, USER, id, random, &mut events);
             }
             "early_knowing" => {
-                let id = early(words)?;
+                let id = words.id()?;
+                if !is_early(id.effect()) {
+                    return Err(Unread);
+                }
                 group_one_knowing(battle, USER, id, known, random, &mut events);
             }
             "late" => {
@@ -476,13 +482,4 @@ impl Scene {
         self.events = events;
         Ok(Some(answer))
     }
-}
-
-// The move of an early effect.
-fn early(mut words: Words<'_>) -> Result<MoveId, Unread> {
-    let id = words.id()?;
-    if !is_early(id.effect()) {
-        return Err(Unread);
-    }
-    Ok(id)
 }
