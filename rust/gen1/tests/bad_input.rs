@@ -104,7 +104,7 @@ fn choices() {
             text.parse::<Choice>()
                 .unwrap_err()
                 .to_string()
-                .starts_with("no choice"),
+                .starts_with("not a choice"),
             "{text}"
         );
     }
