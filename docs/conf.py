@@ -18,6 +18,7 @@ html_theme = "furo" if find_spec("furo") else "alabaster"
 html_title = f"gen1 {version}"
 html_copy_source = html_show_sourcelink = html_show_copyright = html_show_sphinx = False
 smartquotes = False
+highlight_language = "text"
 # Links to headings, as the repository's pages show them.
 myst_heading_anchors = 6
 
