@@ -1,19 +1,19 @@
 """The table of the crates of crates.txt in their layers, between the two marks of docs/ARCHITECTURE.md.
 
-This file says which layer a crate belongs to, and what the layer contains. A crate may depend on crates of its own layer and of those
-below; one that depends on a crate above, or that is in no layer, is an error. The row of a crate has the first sentence of its head, and
-the crates that it names, without those that it reaches through another one.
+This file says which layer a crate belongs to, and what the layer knows. A crate may depend on crates of its own layer and of those
+below; one that depends on a crate above, or that is in no layer, is an error. The row of a crate has the beginning of its head.
 """
 
+import re
 import sys
 
 from contracts import link, purpose
-from repository import ROOT, below, crates
+from repository import ROOT, crates
 
 DOCUMENT = ROOT / "docs" / "ARCHITECTURE.md"
 BEGIN, END = "<!-- layers -->\n", "<!-- end -->\n"
 
-# From the top down: the title, the contents, and the crates of a layer.
+# From the top down: the title of a layer, what it knows and does not know, and its crates.
 LAYERS = (
     (
         "Tests and examples",
@@ -22,32 +22,32 @@ LAYERS = (
     ),
     (
         "Programs and C",
-        "what opens files, prints, or is called from another language",
+        "files, JSON, command lines, exit statuses and pointers; no rules of battle",
         ("battle_tool", "battle_commands", "battle_input", "trace_tool", "layout_tool", "gen1_c"),
     ),
     (
         "Battle",
-        "a turn, an update, all that it can lead to, playouts, a room of two players, what a player knows",
+        "the order of a turn, which kind of update is due, refusals, the log of an update; no offsets and no files",
         ("gen1_player", "gen1_room", "gen1_playouts", "gen1_outcomes", "gen1_engine", "gen1_turn"),
     ),
     (
         "Operations",
-        "one phase of the machine each, over the 384 bytes",
+        "one phase of the machine each, by the readers and writers of gen1_layout; no offsets, no log bytes, any generator",
         ("gen1_switching", "gen1_offers", "gen1_multiturn", "gen1_effects", "gen1_status", "gen1_odds", "gen1_hits"),
     ),
     (
         "Representations",
-        "a state as 384 bytes and as plain structs; events as bytes, as lines, as a view",
+        "where a field is in the 384 bytes, and which are valid; events as bytes, lines, a view; not what an update does",
         ("gen1_states", "gen1_layout", "gen1_spectator", "gen1_printer", "gen1_events"),
     ),
     (
         "Machine",
-        "what a battle is, as definitions and laws; the public types; sinks and sources of bytes",
+        "what a battle and its bytes are, as definitions and laws; the public types; sinks and sources",
         ("gen1_machine", "gen1_devices"),
     ),
     (
         "Numbers",
-        "teams, also from text, and stats; species, moves and types; draws",
+        "teams, stats, species, moves, types and draws; not the state of a battle",
         ("gen1_text", "gen1_stats", "gen1_tables", "gen1_rolls"),
     ),
 )
@@ -66,31 +66,23 @@ def faults(known):
                 yield f"{name} names {it}, which is in a layer above its own"
 
 
-def nearest(name, known):
-    """The crates that a crate depends on, without those that it reaches through another of them."""
-    return [
-        it for it in known[name] if not any(it in below([other], known)[:-1] for other in known[name] if other != it)
-    ]
-
-
-def rows(known):
+def rows():
     """The rows of the table: each layer from the top down, and its crates."""
-    yield "| Crate | What it is | Names |\n|---|---|---|\n"
-    for title, holds, names in LAYERS:
-        yield f"| **{title}** | *{holds}* | |\n"
+    yield "| Crate | Purpose |\n|---|---|\n"
+    for title, knows, names in LAYERS:
+        yield f"| **{title}** | *{knows}* |\n"
         for name in names:
             file, text = purpose(name)
-            calls = file.parent.parent / "CALLING.md"
-            page = f", [calls]({link(calls, DOCUMENT.parent)})" if calls.is_file() else ""
-            yield f"| [{name}]({link(file, DOCUMENT.parent)}){page} | {text} | {' '.join(nearest(name, known))} |\n"
+            text = re.match(r"[^:.]*?(?=[:.]|, through their public)", text)[0]
+            yield f"| [{name}]({link(file.parents[1], DOCUMENT.parent)}) | {text} |\n"
 
 
 def generated():
     """The document with the table in it."""
-    known, text = crates(), DOCUMENT.read_text()
-    if found := [*faults(known)]:
+    text = DOCUMENT.read_text()
+    if found := [*faults(crates())]:
         sys.exit("\n".join(found))
     if text.count(BEGIN) != 1 or text.count(END) != 1:
         sys.exit(f"{DOCUMENT.relative_to(ROOT)} has no place for the layers, or several: {BEGIN!r} and then {END!r}")
     before, rest = text.split(BEGIN)
-    return {DOCUMENT: before + BEGIN + "".join(rows(known)) + END + rest.split(END)[1]}
+    return {DOCUMENT: before + BEGIN + "".join(rows()) + END + rest.split(END)[1]}
