@@ -13,7 +13,7 @@ run: python ## plays examples/tauros.json with the program gen1
 	tools/setup plain && cargo run -p gen1-cli -- run examples/tauros.json
 
 test: python ## runs the tests of the Rust workspace
-	tools/setup plain && cargo test --workspace
+	tools/setup plain && cargo test --workspace --features gen1/serde
 
 check: ## checks the crates that changed, with those above them, over what earlier checks kept
 	tools/quick

@@ -17,7 +17,7 @@ def workspace():
 
 def test_own_tests(checks):
     """The tests of the sources' own crates and the doctests, with overflow and index checks."""
-    add_counts(ran("cargo", "test", "--workspace", *SERDE), checks)
+    add_counts(ran("make", "test"), checks)
 
 
 def test_recorded_cases_by_a_debug_build(battles, checks):
