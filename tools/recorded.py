@@ -1,7 +1,7 @@
 """Tests of whole recorded battles (docs/PROOFS.md, "Recorded battles"), and the recorded battles of docs/DIFFERENCES.md.
 
-Each battle of BATTLES, a line of traces.jsonl of tests/battles, is a module of crates/test_engine/src/recorded: its teams, and for each
-update the pair of choices, the recorded log and all 384 bytes. crates/test_engine/src/recorded.rt plays them. Run `rt fmt` in
+Each battle of BATTLES, a line of traces.jsonl of tests/battles, is a row of crates/test_engine/src/recorded_battles.rt: its teams, and for
+each update the pair of choices, the recorded log and all 384 bytes. crates/test_engine/src/recorded.rt plays them. Run `rt fmt` in
 crates/test_engine after they are written.
 
 A file of examples/differences with a key "recorded", such as "corners 251, update 4", is the recorded battle of that line of that file, up
@@ -18,74 +18,31 @@ from battles import recorded, traces
 from log_lines import lines
 from repository import ROOT
 
-# The number of the line, from 0, by the name of the module.
-BATTLES = {"raging": 17, "outnumbered": 28, "digging": 50}
+# The numbers of the lines, from 0.
+BATTLES = (17, 28, 50)
 
-FOLDER = ROOT / "crates" / "test_engine" / "src" / "recorded"
+FILE = ROOT / "crates" / "test_engine" / "src" / "recorded_battles.rt"
 
 DIFFERENCES = ROOT / "examples" / "differences"
 UPDATE = re.compile(r"(corners|traces) (\d+), update (\d+)")
 
 SIDES = ("one", "two")
-PLACES = ("first", "second", "third", "fourth", "fifth", "sixth")
 
-HEAD = """//! A recorded battle: {species}. Made by tools/gen.
-use crate::recorded::{{Update, played}};
-use crate::setting::{{assert_same, member_of}};
-use gen1_machine::{{Rules, TurnLimit}};
-use gen1_stats::{{MemberSpec, Team}};
-use std::test::Fail;
+HEAD = """//! Recorded battles. Made by tools/gen.
+use crate::recorded::{Recorded, Update};
 
-const SEED: [u8; 10] = {seed};
-
-{members}fn one() -> Result<Team, Fail> {{
-    Ok(Team::new(&[{one}])?)
-}}
-
-fn two() -> Result<Team, Fail> {{
-    Ok(Team::new(&[{two}])?)
-}}
-
-#[test]
-fn the_battle_is_played_as_it_was_recorded(rt: HostRuntime) -> Result<(), Fail> {{
-    let rules = Rules::new({rules}).ok_or("no such rules")?;
-    let limit = TurnLimit::new({limit}).ok_or("no such limit")?;
-    let as_recorded = played(&one()?, &two()?, SEED, rules, limit, &UPDATES)?;
-    assert_same(&rt, as_recorded, UPDATES.len());
-    Ok(())
-}}
-
-// A constant would be proved at greater cost.
-static UPDATES: [Update; {count}] = [
 """
+# A static is proved at less cost than a constant.
+TABLE = "pub(crate) static BATTLES: [Recorded; %d] = [\n%s];\n"
 
 
 def a_list(items):
     return "[%s]" % ", ".join(map(str, items))
 
 
-def species_word(member):
-    """The species as the name of a function, as mr_mime."""
-    return "_".join(re.findall("[a-z0-9]+", member["species"].lower()))
-
-
-def member_names(given):
-    """The name of each member's function, by side: its species, followed by its side and place where another has that species."""
-    words = [species_word(member) for side in SIDES for member in given[side]]
-    return {
-        side: [
-            word if words.count(word) == 1 else "%s_%s_of_side_%s" % (word, place, side)
-            for word, place in zip(map(species_word, given[side]), PLACES)
-        ]
-        for side in SIDES
-    }
-
-
-def member(name, given):
-    """A function of its own, so that none is long, and each is proved apart."""
+def member(given):
     moves = ", ".join('("%s", %d)' % (move, ups) for move, ups in given["moves"])
-    return 'fn %s() -> Result<MemberSpec, Fail> {\n    member_of("%s", %d, %s, %s, &[%s])\n}\n\n' % (
-        name,
+    return '("%s", %d, %s, %s, &[%s]),\n' % (
         given["species"],
         given["level"],
         a_list(given["dvs"]),
@@ -94,40 +51,28 @@ def member(name, given):
     )
 
 
-def called(names):
-    return ", ".join("%s()?" % name for name in names)
-
-
 def update(given):
     """The bytes in seven lines: the header, and three lines for each side."""
     text = given["bytes"]
     lines = [text[:48]] + [text[at : at + 120] for at in range(48, 768, 120)]
-    return (
-        "    Update {\n"
-        "        choices: (0x%02x, 0x%02x),\n"
-        '        log: "%s",\n'
-        "        bytes: [\n%s        ],\n"
-        "    },\n"
-    ) % (*given["pair"], given["log"], "".join('            "%s",\n' % line for line in lines))
+    return ("Update {\n" "choices: (0x%02x, 0x%02x),\n" 'log: "%s",\n' "bytes: [\n%s],\n" "},\n") % (
+        *given["pair"],
+        given["log"],
+        "".join('"%s",\n' % line for line in lines),
+    )
 
 
-def module(battle):
+def row(battle):
     given, updates = battle["object"], battle["updates"]
     teams = [" and ".join(member["species"] for member in given[side]) for side in SIDES]
-    names = member_names(given)
-    return (
-        HEAD.format(
-            species=" against ".join(teams),
-            seed=a_list(given["seed"]),
-            members="".join("".join(map(member, names[side], given[side])) for side in SIDES),
-            one=called(names["one"]),
-            two=called(names["two"]),
-            rules=given.get("rules", 0),
-            limit=given.get("limit", 1000),
-            count=len(updates),
-        )
-        + "".join(map(update, updates))
-        + "];\n"
+    members = "".join("%s: &[\n%s],\n" % (side, "".join(map(member, given[side]))) for side in SIDES)
+    return 'Recorded {\nname: "%s",\nseed: %s,\nrules: %d,\nlimit: %d,\n%supdates: &[\n%s],\n},\n' % (
+        " against ".join(teams),
+        a_list(given["seed"]),
+        given.get("rules", 0),
+        given.get("limit", 1000),
+        members,
+        "".join(map(update, updates)),
     )
 
 
@@ -183,7 +128,7 @@ def differences():
 def generated():
     """The text of each file."""
     battles = battles_of("traces")
-    if len(battles) <= max(BATTLES.values()):
+    if len(battles) <= max(BATTLES):
         sys.exit(f"tests/battles has only {len(battles)} battles")
-    modules = {FOLDER / f"{name}.rt": module(battles[line]) for name, line in BATTLES.items()}
-    return {**modules, **dict(differences())}
+    text = HEAD + TABLE % (len(BATTLES), "".join(row(battles[line]) for line in BATTLES))
+    return {FILE: text, **dict(differences())}

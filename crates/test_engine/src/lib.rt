@@ -1,59 +1,42 @@
 //! Tests of `gen1_offers`, `gen1_switching`, `gen1_turn`, `gen1_engine`, `gen1_events` and `gen1_printer`, through their public
-//! functions. They are in a crate of their own because a crate with tests is proved twice.
+//! functions. They are in a crate of their own because a crate with tests is proved twice. Most are rows: tables of battles
+//! and calls that a few functions play, since a row costs the prover next to nothing.
 //!
-//! - `start`: the first update
+//! - `rows`: what a row is, and how it is played
 //! - `switching_in`: members that come out
-//! - `offered_choices`: what may be chosen
-//! - `turn_order`: who acts first
-//! - `turn_choices`: whole turns
-//! - `action`: actions of one side
 //! - `falls`: the end of an update
-//! - `recorded`: recorded battles
-//! - `duels`: battles of a few members, as tests of turns have them
-//! - `setting`: the battle at the start of most tests of turns
-//! - `first_state`: a battle before its first update
-//! - `loading`: battles that are loaded
-//! - `stored_run`: the stored run of `battle_tool`
-//! - `failing_writers`: the same run, replayed to writers that fail
+//! - `choices`: what may be chosen
+//! - `turns`: whole turns
+//! - `actions`: actions of one side
+//! - `recorded`: recorded battles, and how they are played
+//! - `recorded_battles`: their rows
+//! - `battles`: the calls of a battle
+//! - `replays`: a run that is replayed to writers, also to some that fail
 //! - `events`: codes, cuts and errors of log bytes
 //! - `lines`: lines, cuts and errors
-//! - `two_tauros`: the battle of the stored run, its team, and its log
-//! - `comparing`: what the tests compare
 #![tactic(auto)]
 
 #[cfg(test)]
-mod action;
+mod actions;
 #[cfg(test)]
-mod comparing;
+mod battles;
 #[cfg(test)]
-mod duels;
+mod choices;
 #[cfg(test)]
 mod events;
 #[cfg(test)]
-mod failing_writers;
-#[cfg(test)]
 mod falls;
-#[cfg(test)]
-mod first_state;
 #[cfg(test)]
 mod lines;
 #[cfg(test)]
-mod loading;
-#[cfg(test)]
-mod offered_choices;
-#[cfg(test)]
 mod recorded;
 #[cfg(test)]
-mod setting;
+mod recorded_battles;
 #[cfg(test)]
-mod start;
+mod replays;
 #[cfg(test)]
-mod stored_run;
+mod rows;
 #[cfg(test)]
 mod switching_in;
 #[cfg(test)]
-mod turn_choices;
-#[cfg(test)]
-mod turn_order;
-#[cfg(test)]
-mod two_tauros;
+mod turns;

@@ -1,17 +1,36 @@
 //! Whole battles that an independent program recorded, played by `start`, `turn` and `replace`. After each update all
-//! 384 bytes and the log are as recorded. `tools/gen` writes these files.
+//! 384 bytes and the log are as recorded. `tools/recorded.py` writes them.
+use crate::recorded_battles::BATTLES;
+use crate::rows::member_of;
+use arrayvec::ArrayVec;
 use gen1_events::{LogBuf, write};
 use gen1_layout::Packed;
 use gen1_machine::{Choice, EventList, Request, Rules, Side, TurnLimit};
-use gen1_stats::Team;
+use gen1_stats::{MemberSpec, Team};
 use gen1_turn::{replace, start, turn};
 use std::test::Fail;
 
-mod digging;
-mod outnumbered;
-mod raging;
+/// A species, its level, DVs and experience, and its moves with their PP ups.
+pub(crate) type Member = (
+    &'static str,
+    u8,
+    [u8; 4],
+    [u16; 5],
+    &'static [(&'static str, u8)],
+);
 
-// An update: the bytes of both choices, and in hex the log, the header, and three lines for each side.
+#[derive(Clone, Copy, Drop)]
+pub(crate) struct Recorded {
+    pub(crate) name: &'static str,
+    pub(crate) seed: [u8; 10],
+    pub(crate) rules: u8,
+    pub(crate) limit: u16,
+    pub(crate) one: &'static [Member],
+    pub(crate) two: &'static [Member],
+    pub(crate) updates: &'static [Update],
+}
+
+/// An update: the bytes of both choices, and in hex the log, the header, and three lines for each side.
 #[derive(Clone, Copy, Drop)]
 pub(crate) struct Update {
     pub(crate) choices: (u8, u8),
@@ -19,17 +38,25 @@ pub(crate) struct Update {
     pub(crate) bytes: [&'static str; 7],
 }
 
+#[test]
+fn battles_are_played_as_they_were_recorded(rt: HostRuntime) -> Result<(), Fail> {
+    for recorded in BATTLES {
+        let as_recorded = played(&recorded)?;
+        assert_eq!(rt;
+            (recorded.name, as_recorded),
+            (recorded.name, recorded.updates.len())
+        );
+    }
+    Ok(())
+}
+
 // How many updates came out as recorded, up to the first that didn't.
-pub(crate) fn played(
-    one: &Team,
-    two: &Team,
-    seed: [u8; 10],
-    rules: Rules,
-    limit: TurnLimit,
-    updates: &[Update],
-) -> Result<usize, Fail> {
-    let mut battle = Packed::with_limit(one, two, seed, rules, limit);
-    for (number, update) in updates.iter().enumerate() {
+fn played(recorded: &Recorded) -> Result<usize, Fail> {
+    let (one, two) = (team(recorded.one)?, team(recorded.two)?);
+    let rules = Rules::new(recorded.rules).ok_or("no such rules")?;
+    let limit = TurnLimit::new(recorded.limit).ok_or("no such limit")?;
+    let mut battle = Packed::with_limit(&one, &two, recorded.seed, rules, limit);
+    for (number, update) in recorded.updates.iter().enumerate() {
         let first = Choice::from_byte(update.choices.0).ok_or("no such choice")?;
         let second = Choice::from_byte(update.choices.1).ok_or("no such choice")?;
         let events = run_update(&mut battle, first, second);
@@ -38,7 +65,20 @@ pub(crate) fn played(
             return Ok(number);
         }
     }
-    Ok(updates.len())
+    Ok(recorded.updates.len())
+}
+
+fn team(members: &[Member]) -> Result<Team, Fail> {
+    let mut specs = ArrayVec::<MemberSpec, 6>::new();
+    for (species, level, dvs, exp, moves) in members {
+        if specs
+            .try_push(member_of(species, *level, *dvs, *exp, moves)?)
+            .is_err()
+        {
+            return Err(Fail::from("more than six members"));
+        }
+    }
+    Ok(Team::new(specs.as_slice())?)
 }
 
 // Plays the update that was asked for. A turn draws from the generator in the bytes, and writes it back.

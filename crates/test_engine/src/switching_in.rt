@@ -1,172 +1,345 @@
-//! Members that come out in a battle (docs/MECHANICS.md, "Switching in", "Falls and requests").
-use crate::setting::{
-    FOE, GENGAR_OUT, USER, assert_bytes, assert_same, assert_told, bytes_of, gengar_out, started,
-    tauros_out, turn, with,
+//! Members that come out: the first update, a switch and replacements (docs/MECHANICS.md, "Switching in", "Falls and
+//! requests"). Tauros has 298 Attack, 288 Defense, 318 Speed and 238 Special, and Gengar 228, 218, 318 and 358.
+use crate::rows::Step::{
+    Changed, Close, Is, Load, Mark, Put, Replace, SendBothFirst, SendOut, Start, Told, ToldSome,
 };
-use gen1_layout::{Conditions, Packed};
-use gen1_machine::{Choice, DisabledSlot, EventList, Kind, Place, Request, Side, UsedMove};
+use crate::rows::Teams::{Alone, Pairs};
+use crate::rows::{FOE, Fact, Row, USER, play};
+use gen1_layout::Conditions;
+use gen1_machine::{DisabledSlot, Outcome, Request, UsedMove};
 use gen1_stats::Status;
-use gen1_switching::{close, replace, send_out};
-use gen1_tables::Stat;
 use std::test::Fail;
 
-fn place(number: u8) -> Result<Place, Fail> {
-    Ok(Place::new(number).ok_or("no such place")?)
-}
+// Their active blocks after they come out: place, types, stages of 6, Attack, Defense, Speed and Special, and nothing
+// else.
+const TAUROS_OUT: [u8; 36] = [
+    1, 0, 0, 6, 6, 6, 6, 6, 6, 42, 1, 32, 1, 62, 1, 238, 0, 0, 0, 0, 0, 0, 0, 0, 0, 0, 0, 0, 0, 0,
+    0, 0, 0, 0, 0, 0,
+];
 
-// The user leaves and comes back, with the events of its coming back.
-fn away_and_back(battle: &mut Packed) -> Result<EventList, Fail> {
-    send_out(battle, USER, place(2)?, &mut EventList::new());
-    let mut events = EventList::new();
-    send_out(battle, USER, place(1)?, &mut events);
-    Ok(events)
+const GENGAR_OUT: [u8; 36] = [
+    2, 7, 3, 6, 6, 6, 6, 6, 6, 228, 0, 218, 0, 62, 1, 102, 1, 0, 0, 0, 0, 0, 0, 0, 0, 0, 0, 0, 0,
+    0, 0, 0, 0, 0, 0, 0,
+];
+
+static FIRST_UPDATES: [Row; 4] = [
+    Row {
+        name: "a battle begins with turn 1",
+        teams: Alone("Strength", 100),
+        steps: &[
+            Mark,
+            Start,
+            Told(&[
+                "|switch|p1a: Tauros|Tauros|353/353 at place 1",
+                "|switch|p2a: Tauros|Tauros|353/353 at place 1",
+                "|turn|1",
+            ]),
+            // The turn is 1, both are asked for moves, and both members are out. Nothing was drawn.
+            Changed(&[
+                (1, &[1, 0]),
+                (17, &[1, 1]),
+                (168, &TAUROS_OUT),
+                (348, &TAUROS_OUT),
+            ]),
+        ],
+    },
+    Row {
+        name: "the first members come out",
+        teams: Pairs(1),
+        steps: &[
+            Start,
+            Is(Fact::Place(USER, 1)),
+            Is(Fact::Place(FOE, 1)),
+            ToldSome(3, &[]),
+            // Turn 1 is still to be played, even if it is the last.
+            Is(Fact::Turn(1)),
+            Is(Fact::Outcome(Outcome::Ongoing)),
+            Is(Fact::Requests(Request::Move, Request::Move)),
+        ],
+    },
+    Row {
+        name: "two members face each other before turn 1",
+        teams: Alone("Strength", 100),
+        steps: &[
+            Mark,
+            SendBothFirst,
+            Told(&[
+                "|switch|p1a: Tauros|Tauros|353/353 at place 1",
+                "|switch|p2a: Tauros|Tauros|353/353 at place 1",
+            ]),
+            // Both members are out, and nothing else has changed: the turn is 0, and nothing is asked for.
+            Changed(&[(168, &TAUROS_OUT), (348, &TAUROS_OUT)]),
+        ],
+    },
+    Row {
+        name: "a hurt and burned member comes out first",
+        teams: Pairs(1000),
+        steps: &[
+            // The foe's first member is burned and has 100 HP, which a loaded battle may have at turn 0.
+            Load(&[(208, &[100, 0]), (218, &[16])]),
+            Mark,
+            Start,
+            Told(&[
+                "|switch|p1a: Tauros|Tauros|353/353 at place 1",
+                "|switch|p2a: Tauros|Tauros|100/353 brn at place 1",
+                "|turn|1",
+            ]),
+            // Half of 298 is 149.
+            Changed(&[
+                (1, &[1, 0]),
+                (17, &[1, 1]),
+                (168, &TAUROS_OUT),
+                (348, &TAUROS_OUT),
+                (357, &[149, 0]),
+            ]),
+        ],
+    },
+];
+
+static SWITCHES: [Row; 8] = [
+    Row {
+        name: "a switch resets stages and moves",
+        teams: Pairs(1000),
+        steps: &[
+            Start,
+            Put(Fact::LastDamage(75)),
+            Mark,
+            Put(Fact::Attack(USER, 12, 999)),
+            Put(Fact::Special(USER, 0, 59)),
+            Put(Fact::Evasion(USER, 12)),
+            Put(Fact::CurrentMove(USER, UsedMove::Slot(1))),
+            Put(Fact::PickedMove(USER, UsedMove::Struggle)),
+            Put(Fact::KeptAccuracy(USER, 255)),
+            SendOut(USER, 2),
+            Changed(&[(168, &GENGAR_OUT)]),
+            Told(&["|switch|p1a: Gengar|Gengar|323/323 at place 2"]),
+        ],
+    },
+    Row {
+        name: "a switch leaves no condition",
+        teams: Pairs(1000),
+        steps: &[
+            Start,
+            Mark,
+            Put(Fact::Condition(FOE, Conditions::SEEDED, true)),
+            Put(Fact::Substitute(FOE, Some(88))),
+            Put(Fact::Confused(FOE, Some(5))),
+            Put(Fact::Disabled(FOE, Some(DisabledSlot { slot: 1, turns: 8 }))),
+            Put(Fact::Thrash(FOE, Some(3))),
+            SendOut(FOE, 2),
+            Changed(&[(348, &GENGAR_OUT)]),
+            Told(&["|switch|p2a: Gengar|Gengar|323/323 at place 2"]),
+        ],
+    },
+    Row {
+        name: "a switch of side 1 ends the trapping by side 2",
+        teams: Pairs(1000),
+        steps: &[
+            Start,
+            Put(Fact::Confused(FOE, Some(2))),
+            Mark,
+            Put(Fact::Trapping(FOE, Some(3))),
+            SendOut(USER, 2),
+            Changed(&[(168, &GENGAR_OUT)]),
+        ],
+    },
+    Row {
+        name: "a switch of side 2 ends the trapping by side 1",
+        teams: Pairs(1000),
+        steps: &[
+            Start,
+            Put(Fact::Confused(USER, Some(2))),
+            Mark,
+            Put(Fact::Trapping(USER, Some(3))),
+            SendOut(FOE, 2),
+            Changed(&[(348, &GENGAR_OUT)]),
+        ],
+    },
+    Row {
+        name: "bad poison becomes plain poison",
+        teams: Pairs(1000),
+        steps: &[
+            Start,
+            Put(Fact::Status(USER, Status::Poisoned)),
+            Put(Fact::BadPoison(USER, Some(3))),
+            SendOut(USER, 2),
+            SendOut(USER, 1),
+            Is(Fact::Status(USER, Status::Poisoned)),
+            Is(Fact::BadPoison(USER, None)),
+            Is(Fact::Condition(USER, Conditions::BAD_POISON, false)),
+        ],
+    },
+    Row {
+        name: "a replacement comes out",
+        teams: Pairs(1000),
+        steps: &[
+            Start,
+            Put(Fact::Attack(FOE, 12, 999)),
+            Put(Fact::Hp(FOE, 0)),
+            Close(USER),
+            Mark,
+            Replace(0x00, 0x22),
+            Told(&["|switch|p2a: Gengar|Gengar|323/323 at place 2", "|turn|2"]),
+            // The turn is 2, and both are asked for moves.
+            Changed(&[(1, &[2, 0]), (17, &[1, 1]), (348, &GENGAR_OUT)]),
+        ],
+    },
+    Row {
+        name: "of two replacements side 1's is first",
+        teams: Pairs(1000),
+        steps: &[
+            Start,
+            Put(Fact::Attack(USER, 12, 999)),
+            Put(Fact::Hp(USER, 0)),
+            Put(Fact::Attack(FOE, 12, 999)),
+            Put(Fact::Hp(FOE, 0)),
+            Close(USER),
+            Mark,
+            Replace(0x22, 0x22),
+            Told(&[
+                "|switch|p1a: Gengar|Gengar|323/323 at place 2",
+                "|switch|p2a: Gengar|Gengar|323/323 at place 2",
+                "|turn|2",
+            ]),
+            Changed(&[
+                (1, &[2, 0]),
+                (17, &[1, 1]),
+                (168, &GENGAR_OUT),
+                (348, &GENGAR_OUT),
+            ]),
+        ],
+    },
+    Row {
+        name: "who stays keeps its stages",
+        teams: Pairs(1000),
+        steps: &[
+            Start,
+            Put(Fact::Evasion(USER, 12)),
+            Mark,
+            Put(Fact::Hp(FOE, 0)),
+            Close(USER),
+            Replace(0x00, 0x22),
+            Changed(&[
+                (1, &[2, 0]),
+                (17, &[1, 1]),
+                (208, &[0, 0]),
+                (348, &GENGAR_OUT),
+            ]),
+        ],
+    },
+];
+
+// A member with a status leaves and comes back. Half of 298 is 149, and a quarter of 318 is 79.
+static PENALTIES: [Row; 6] = [
+    Row {
+        name: "a healthy member comes back unchanged",
+        teams: Pairs(1000),
+        steps: &[
+            Start,
+            Put(Fact::Hp(USER, 41)),
+            Put(Fact::Status(USER, Status::Healthy)),
+            SendOut(USER, 2),
+            SendOut(USER, 1),
+            Told(&["|switch|p1a: Tauros|Tauros|41/353 at place 1"]),
+            Is(Fact::Stats(USER, [298, 288, 318, 238])),
+            Is(Fact::Status(USER, Status::Healthy)),
+        ],
+    },
+    Row {
+        name: "a burned member has half its Attack",
+        teams: Pairs(1000),
+        steps: &[
+            Start,
+            Put(Fact::Hp(USER, 41)),
+            Put(Fact::Status(USER, Status::Burned)),
+            SendOut(USER, 2),
+            SendOut(USER, 1),
+            Told(&["|switch|p1a: Tauros|Tauros|41/353 brn at place 1"]),
+            Is(Fact::Stats(USER, [149, 288, 318, 238])),
+            Is(Fact::Status(USER, Status::Burned)),
+        ],
+    },
+    Row {
+        name: "a paralysed member has a quarter of its Speed",
+        teams: Pairs(1000),
+        steps: &[
+            Start,
+            Put(Fact::Hp(USER, 41)),
+            Put(Fact::Status(USER, Status::Paralysed)),
+            SendOut(USER, 2),
+            SendOut(USER, 1),
+            Told(&["|switch|p1a: Tauros|Tauros|41/353 par at place 1"]),
+            Is(Fact::Stats(USER, [298, 288, 79, 238])),
+            Is(Fact::Status(USER, Status::Paralysed)),
+        ],
+    },
+    Row {
+        name: "a poisoned member has its stats",
+        teams: Pairs(1000),
+        steps: &[
+            Start,
+            Put(Fact::Hp(USER, 41)),
+            Put(Fact::Status(USER, Status::Poisoned)),
+            SendOut(USER, 2),
+            SendOut(USER, 1),
+            Told(&["|switch|p1a: Tauros|Tauros|41/353 psn at place 1"]),
+            Is(Fact::Stats(USER, [298, 288, 318, 238])),
+            Is(Fact::Status(USER, Status::Poisoned)),
+        ],
+    },
+    Row {
+        name: "a frozen member has its stats",
+        teams: Pairs(1000),
+        steps: &[
+            Start,
+            Put(Fact::Hp(USER, 41)),
+            Put(Fact::Status(USER, Status::Frozen)),
+            SendOut(USER, 2),
+            SendOut(USER, 1),
+            Told(&["|switch|p1a: Tauros|Tauros|41/353 frz at place 1"]),
+            Is(Fact::Stats(USER, [298, 288, 318, 238])),
+            Is(Fact::Status(USER, Status::Frozen)),
+        ],
+    },
+    Row {
+        name: "a sleeper has its stats",
+        teams: Pairs(1000),
+        steps: &[
+            Start,
+            Put(Fact::Hp(USER, 41)),
+            Put(Fact::Status(
+                USER,
+                Status::Asleep {
+                    turns: 7,
+                    marked: false,
+                },
+            )),
+            SendOut(USER, 2),
+            SendOut(USER, 1),
+            Told(&["|switch|p1a: Tauros|Tauros|41/353 slp at place 1"]),
+            Is(Fact::Stats(USER, [298, 288, 318, 238])),
+            Is(Fact::Status(
+                USER,
+                Status::Asleep {
+                    turns: 7,
+                    marked: false,
+                },
+            )),
+        ],
+    },
+];
+
+#[test]
+fn the_first_update(rt: HostRuntime) -> Result<(), Fail> {
+    play(&rt, &FIRST_UPDATES)
 }
 
 #[test]
-fn a_switch_resets_stages_and_moves(rt: HostRuntime) -> Result<(), Fail> {
-    let mut battle = started()?;
-    battle.put_last_damage(75);
-    let before = bytes_of(&battle);
-    battle.put_attack(USER, 12, 999);
-    battle.put_special(USER, 0, 59);
-    battle.put_evasion(USER, 12);
-    battle.put_current_move(USER, UsedMove::Slot(1));
-    battle.put_picked_move(USER, UsedMove::Struggle);
-    battle.put_kept_accuracy(USER, 255);
-    let mut events = EventList::new();
-    send_out(&mut battle, USER, place(2)?, &mut events);
-    assert_bytes(&rt, &battle, with(before, 168, &GENGAR_OUT));
-    assert_told(&rt, &events, &[gengar_out(USER)?]);
-    Ok(())
-}
-
-#[test]
-fn a_switch_leaves_no_condition(rt: HostRuntime) -> Result<(), Fail> {
-    let mut battle = started()?;
-    let before = bytes_of(&battle);
-    battle.put_flag(FOE, Conditions::SEEDED, true);
-    battle.put_substitute(FOE, Some(88));
-    battle.put_confused(FOE, Some(5));
-    battle.put_disabled(FOE, Some(DisabledSlot { slot: 1, turns: 8 }));
-    battle.put_thrash(FOE, 3);
-    let mut events = EventList::new();
-    send_out(&mut battle, FOE, place(2)?, &mut events);
-    assert_bytes(&rt, &battle, with(before, 348, &GENGAR_OUT));
-    assert_told(&rt, &events, &[gengar_out(FOE)?]);
-    Ok(())
-}
-
-#[test]
-fn a_switch_ends_the_foes_trapping(rt: HostRuntime) -> Result<(), Fail> {
-    for (side, foe, start) in [(USER, FOE, 168), (FOE, USER, 348)] {
-        let mut battle = started()?;
-        battle.put_confused(foe, Some(2));
-        let before = bytes_of(&battle);
-        battle.put_trapping(foe, 3);
-        send_out(&mut battle, side, place(2)?, &mut EventList::new());
-        assert_bytes(&rt, &battle, with(before, start, &GENGAR_OUT));
-    }
-    Ok(())
+fn switches_and_replacements(rt: HostRuntime) -> Result<(), Fail> {
+    play(&rt, &SWITCHES)
 }
 
 #[test]
 fn a_status_brings_its_penalty(rt: HostRuntime) -> Result<(), Fail> {
-    // Half of 298 is 149, and a quarter of 318 is 79.
-    for (status, attack, speed, kind) in [
-        (Status::Healthy, 298, 318, None),
-        (Status::Burned, 149, 318, Some(Kind::Burn)),
-        (Status::Paralysed, 298, 79, Some(Kind::Paralysis)),
-        (Status::Poisoned, 298, 318, Some(Kind::Poison)),
-        (Status::Frozen, 298, 318, Some(Kind::Freeze)),
-        (
-            Status::Asleep {
-                turns: 7,
-                marked: false,
-            },
-            298,
-            318,
-            Some(Kind::Sleep),
-        ),
-    ] {
-        let mut battle = started()?;
-        battle.put_hp(USER, 41);
-        battle.put_status(USER, status);
-        let events = away_and_back(&mut battle)?;
-        assert_told(&rt, &events, &[tauros_out(USER, 41, kind)?]);
-        let stats = [Stat::Attack, Stat::Defense, Stat::Speed, Stat::Special].map(
-            |stat| battle.current_stat(USER, stat),
-        );
-        assert_same(&rt, stats, [attack, 288, speed, 238]);
-        assert_same(&rt, battle.status(USER), status);
-    }
-    Ok(())
-}
-
-#[test]
-fn bad_poison_becomes_plain_poison(rt: HostRuntime) -> Result<(), Fail> {
-    let mut battle = started()?;
-    battle.put_status(USER, Status::Poisoned);
-    battle.put_bad_poison(USER, Some(3));
-    away_and_back(&mut battle)?;
-    assert_same(&rt, battle.status(USER), Status::Poisoned);
-    assert_same(&rt, battle.bad_poison(USER), None);
-    assert_same(&rt, battle.is_on(USER, Conditions::BAD_POISON), false);
-    Ok(())
-}
-
-// The members of these sides have fallen, and replacements are asked for.
-fn fallen(sides: &[Side]) -> Result<Packed, Fail> {
-    let mut battle = started()?;
-    for side in sides {
-        battle.put_attack(*side, 12, 999);
-        battle.put_hp(*side, 0);
-    }
-    close(&mut battle, USER, &mut EventList::new());
-    Ok(battle)
-}
-
-#[test]
-fn a_replacement_comes_out(rt: HostRuntime) -> Result<(), Fail> {
-    let mut battle = fallen(&[FOE])?;
-    let before = bytes_of(&battle);
-    let mut events = EventList::new();
-    let choice = Choice::Switch(place(2)?);
-    replace(&mut battle, Choice::Pass, choice, &mut events);
-    let told = [gengar_out(FOE)?, turn(2)?];
-    assert_told(&rt, &events, &told);
-    // The turn is 2, and both are asked for moves.
-    let turned = with(with(before, 1, &[2, 0]), 17, &[1, 1]);
-    assert_bytes(&rt, &battle, with(turned, 348, &GENGAR_OUT));
-    Ok(())
-}
-
-#[test]
-fn of_two_replacements_side_1s_is_first(rt: HostRuntime) -> Result<(), Fail> {
-    let mut battle = fallen(&[USER, FOE])?;
-    let mut events = EventList::new();
-    let choice = Choice::Switch(place(2)?);
-    replace(&mut battle, choice, choice, &mut events);
-    let told = [gengar_out(USER)?, gengar_out(FOE)?, turn(2)?];
-    assert_told(&rt, &events, &told);
-    assert_same(&rt, battle.active(USER), GENGAR_OUT.as_slice());
-    assert_same(&rt, battle.active(FOE), GENGAR_OUT.as_slice());
-    Ok(())
-}
-
-#[test]
-fn who_stays_keeps_its_stages(rt: HostRuntime) -> Result<(), Fail> {
-    let mut battle = started()?;
-    battle.put_evasion(USER, 12);
-    battle.put_hp(FOE, 0);
-    close(&mut battle, USER, &mut EventList::new());
-    replace(
-        &mut battle,
-        Choice::Pass,
-        Choice::Switch(place(2)?),
-        &mut EventList::new(),
-    );
-    let kept = with(bytes_of(&started()?), 176, &[12]);
-    assert_same(&rt, battle.active(USER), &kept[168..204]);
-    assert_same(&rt, battle.request(USER), Request::Move);
-    Ok(())
+    play(&rt, &PENALTIES)
 }

@@ -1,13 +1,37 @@
-//! The stored run, replayed to a writer that fails at each of its writes (docs/MECHANICS.md, "Log bytes").
-use crate::comparing::{assert_same, bytes_of, stands_at};
-use crate::stored_run::{FIRST, PAIRS, SECOND, START, WON};
-use crate::two_tauros::two_tauros;
-use gen1_engine::{Battle, BattleResult, ReplayFault};
+//! The stored run, replayed to a writer, and to one that fails at each of its writes (docs/MECHANICS.md, "Log bytes").
+use crate::battles::{
+    FIRST, PAIRS, SECOND, START, WON, assert_same, bytes_of, stands_at, two_tauros,
+};
+use gen1_engine::{Battle, BattleResult, Refusal, ReplayFault};
 use gen1_events::LogBuf;
-use gen1_machine::Device;
+use gen1_machine::{Device, Side};
 use std::process::Abort;
 use std::test::Fail;
 use test_support::Failing;
+
+#[test]
+fn a_replay_writes_every_log(rt: HostRuntime) -> Result<(), Fail> {
+    let mut battle = two_tauros()?;
+    let mut sink = Device::new(Vec::new(rt.alloc()));
+    assert_same(&rt, battle.replay(&PAIRS, &mut sink), Ok(WON));
+    let bytes = sink.into_inner();
+    assert_same(&rt, bytes.len(), 82);
+    assert_same(&rt, stands_at(bytes.as_slice(), 0, &START), true);
+    assert_same(&rt, stands_at(bytes.as_slice(), 23, &FIRST), true);
+    assert_same(&rt, stands_at(bytes.as_slice(), 59, &SECOND), true);
+    Ok(())
+}
+
+#[test]
+fn a_replay_tells_a_refused_pair(rt: HostRuntime) -> Result<(), Fail> {
+    let mut battle = two_tauros()?;
+    let mut sink = Device::new(Vec::new(rt.alloc()));
+    let result = battle.replay(&[(0x00, 0x00), (0x11, 0x15)], &mut sink);
+    let why = Refusal::NotOffered(Side::Two);
+    assert_same(&rt, result, Err(ReplayFault::Refused { pair: 1, why }));
+    assert_same(&rt, sink.into_inner().len(), 23);
+    Ok(())
+}
 
 /// The length of the log after each pair: 23, 36 and 23 more bytes.
 const ENDS: [usize; 3] = [23, 59, 82];
