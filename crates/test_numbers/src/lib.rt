@@ -1,5 +1,5 @@
-//! Tests of `gen1_tables`, `gen1_rolls`, `gen1_stats`, `gen1_text`, `gen1_machine`, `gen1_layout`, `gen1_states` and
-//! `gen1_spectator`, through their public functions. They are in a crate of their own because a crate with tests is
+//! Tests of `gen1_tables`, `gen1_rolls`, `gen1_stats`, `gen1_text`, `gen1_machine`, `gen1_layout` and `gen1_states`,
+//! through their public functions. They are in a crate of their own because a crate with tests is
 //! proved twice. Expected values come from docs/TABLES.md, docs/MECHANICS.md, docs/TEAM_TEXT.md and docs/LAYOUT.md.
 //!
 //! - `tables`: rows of each table
@@ -13,8 +13,6 @@
 //! - `readers`: members by their places, and several conditions
 //! - `loading`: each field at the ends of its range, and past them
 //! - `states`: plain states, and their fields at the ends of their ranges
-//! - `view`: what each event changes of a spectator's view
-//! - `following`: a view that follows log bytes
 //! - `comparing`: what the tests compare
 //! - `tauros`: the member of the tests of bytes
 #![tactic(auto)]
@@ -27,8 +25,6 @@ mod draws;
 mod export_texts;
 #[cfg(test)]
 mod fields;
-#[cfg(test)]
-mod following;
 #[cfg(test)]
 mod laws;
 #[cfg(test)]
@@ -47,5 +43,3 @@ mod tauros;
 mod teams;
 #[cfg(test)]
 mod values;
-#[cfg(test)]
-mod view;

@@ -1,6 +1,7 @@
 //! Whole battles: after each update the view that followed the logs shows what the bytes of the battle say.
-use crate::comparing::assert_same;
+use crate::events::{ONE, TWO};
 use crate::teams::{SEED, lead_and_chansey, tauros};
+use crate::views::{Shown, expect};
 use gen1_engine::Battle;
 use gen1_events::{LogBuf, LogReader};
 use gen1_machine::{Choice, Kind, Outcome, Side};
@@ -128,92 +129,129 @@ fn watch(one: &Team, two: &Team, wishes: &[(u8, u8)]) -> Result<View, Fail> {
     Ok(view)
 }
 
+/// A battle of a Tauros that knows these moves and a Chansey on each side. The choices are bytes; where one isn't offered, the first
+/// that is offered is taken.
+#[derive(Clone, Copy, Drop)]
+struct Row {
+    name: &'static str,
+    one: &'static [&'static str],
+    two: &'static [&'static str],
+    choices: &'static [(u8, u8)],
+    shown: &'static [Shown],
+}
+
+static BATTLES: [Row; 8] = [
+    Row {
+        name: "Haze, before it",
+        one: &["Swords Dance", "Reflect", "Haze", "Light Screen"],
+        two: &["Amnesia", "Light Screen", "Barrier", "Strength"],
+        choices: &[(0x11, 0x11), (0x12, 0x12)],
+        shown: &[
+            Shown::Stage(ONE, Stat::Attack, 2),
+            Shown::Stage(TWO, Stat::Special, 2),
+            Shown::Screens(TWO, [true, false]),
+        ],
+    },
+    Row {
+        name: "Haze, after it",
+        one: &["Swords Dance", "Reflect", "Haze", "Light Screen"],
+        two: &["Amnesia", "Light Screen", "Barrier", "Strength"],
+        choices: &[(0x11, 0x11), (0x12, 0x12), (0x13, 0x14)],
+        shown: &[
+            Shown::Stage(TWO, Stat::Special, 0),
+            Shown::Screens(TWO, [false, false]),
+        ],
+    },
+    Row {
+        name: "a substitute is made",
+        one: &["Substitute", "Recover"],
+        two: &["Strength", "Splash"],
+        choices: &[(0x11, 0x12)],
+        shown: &[Shown::Substitute(ONE, true), Shown::Hp(ONE, 1, 265)],
+    },
+    Row {
+        name: "a substitute is hit",
+        one: &["Substitute", "Recover"],
+        two: &["Strength", "Splash"],
+        choices: &[(0x11, 0x12), (0x12, 0x11), (0x12, 0x11), (0x11, 0x11)],
+        shown: &[Shown::Turn(5)],
+    },
+    Row {
+        name: "Rest",
+        one: &["Splash", "Rest"],
+        two: &["Strength", "Splash"],
+        choices: &[(0x11, 0x11), (0x12, 0x12)],
+        shown: &[
+            Shown::Status(ONE, 1, Some(Kind::Sleep)),
+            Shown::Hp(ONE, 1, 353),
+        ],
+    },
+    Row {
+        name: "switches",
+        one: &["Confuse Ray", "Thunder Wave"],
+        two: &["Double Team", "Toxic"],
+        choices: &[(0x11, 0x11), (0x12, 0x12), (0x22, 0x22), (0x11, 0x21)],
+        shown: &[
+            Shown::Place(ONE, 2),
+            Shown::Place(TWO, 1),
+            Shown::Stage(TWO, Stat::Evasion, 0),
+            Shown::Confused(TWO, false),
+        ],
+    },
+    Row {
+        name: "Explosion",
+        one: &["Explosion"],
+        two: &["Splash", "Swords Dance"],
+        choices: &[(0x11, 0x12)],
+        shown: &[Shown::Hp(ONE, 1, 0), Shown::Place(ONE, 1)],
+    },
+    Row {
+        name: "Explosion, and a replacement",
+        one: &["Explosion"],
+        two: &["Splash", "Swords Dance"],
+        choices: &[(0x11, 0x12), (0x22, 0x22), (0x11, 0x11)],
+        shown: &[Shown::Place(ONE, 2)],
+    },
+];
+
 #[test]
-fn the_stored_battle(rt: HostRuntime) -> Result<(), Fail> {
+fn battles_are_shown(rt: HostRuntime) -> Result<(), Fail> {
+    for row in BATTLES {
+        let view = watch(
+            &lead_and_chansey(row.one)?,
+            &lead_and_chansey(row.two)?,
+            row.choices,
+        )?;
+        for (number, shown) in row.shown.iter().enumerate() {
+            expect(&rt, &view, *shown, (row.name, number));
+        }
+    }
+    Ok(())
+}
+
+#[test]
+fn the_stored_battle_is_shown(rt: HostRuntime) -> Result<(), Fail> {
     let view = watch(&tauros()?, &tauros()?, &[(0x11, 0x11), (0x11, 0x11)])?;
-    assert_same(&rt, (view.place(Side::One), view.place(Side::Two)), (1, 1));
-    assert_same(
-        &rt,
-        (view.hp(Side::One, 1), view.hp(Side::Two, 1)),
-        (263, 0),
-    );
-    assert_same(&rt, (view.turn(), view.outcome()), (2, Outcome::WinOne));
+    for shown in [
+        Shown::Place(ONE, 1),
+        Shown::Place(TWO, 1),
+        Shown::Hp(ONE, 1, 263),
+        Shown::Hp(TWO, 1, 0),
+        Shown::Turn(2),
+        Shown::Outcome(Outcome::WinOne),
+    ] {
+        expect(&rt, &view, shown, ("the stored battle", 0));
+    }
     Ok(())
 }
 
-#[test]
-fn a_battle_with_haze(rt: HostRuntime) -> Result<(), Fail> {
-    let one = lead_and_chansey(&["Swords Dance", "Reflect", "Haze", "Light Screen"])?;
-    let two = lead_and_chansey(&["Amnesia", "Light Screen", "Barrier", "Strength"])?;
-    let raised = watch(&one, &two, &[(0x11, 0x11), (0x12, 0x12)])?;
-    assert_same(&rt, raised.stage(Side::One, Stat::Attack), 2);
-    assert_same(&rt, raised.stage(Side::Two, Stat::Special), 2);
-    assert_same(&rt, raised.screens(Side::Two), [true, false]);
-    let cleared = watch(&one, &two, &[(0x11, 0x11), (0x12, 0x12), (0x13, 0x14)])?;
-    assert_same(&rt, cleared.stage(Side::Two, Stat::Special), 0);
-    assert_same(&rt, cleared.screens(Side::Two), [false, false]);
-    Ok(())
-}
-
-#[test]
-fn a_battle_with_a_substitute(rt: HostRuntime) -> Result<(), Fail> {
-    let one = lead_and_chansey(&["Substitute", "Recover"])?;
-    let two = lead_and_chansey(&["Strength", "Splash"])?;
-    let view = watch(&one, &two, &[(0x11, 0x12)])?;
-    assert_same(
-        &rt,
-        (view.substitute(Side::One), view.hp(Side::One, 1)),
-        (true, 265),
-    );
-    let wishes = [(0x11, 0x12), (0x12, 0x11), (0x12, 0x11), (0x11, 0x11)];
-    let later = watch(&one, &two, &wishes)?;
-    assert_same(&rt, later.turn(), 5);
-    Ok(())
-}
-
-#[test]
-fn a_battle_with_rest(rt: HostRuntime) -> Result<(), Fail> {
-    let one = lead_and_chansey(&["Splash", "Rest"])?;
-    let two = lead_and_chansey(&["Strength", "Splash"])?;
-    let view = watch(&one, &two, &[(0x11, 0x11), (0x12, 0x12)])?;
-    assert_same(&rt, view.status(Side::One, 1), Some(Kind::Sleep));
-    assert_same(&rt, view.hp(Side::One, 1), 353);
-    Ok(())
-}
-
+// Leech Seed drains some HP each turn.
 #[test]
 fn a_battle_with_leech_seed(rt: HostRuntime) -> Result<(), Fail> {
     let one = lead_and_chansey(&["Leech Seed", "Strength"])?;
     let two = lead_and_chansey(&["Strength", "Splash"])?;
-    let wishes = [(0x11, 0x11), (0x11, 0x12), (0x12, 0x11), (0x12, 0x12)];
-    let view = watch(&one, &two, &wishes)?;
-    assert_same(&rt, view.hp(Side::Two, 1) < 353, true);
-    Ok(())
-}
-
-#[test]
-fn a_battle_with_switches(rt: HostRuntime) -> Result<(), Fail> {
-    let one = lead_and_chansey(&["Confuse Ray", "Thunder Wave"])?;
-    let two = lead_and_chansey(&["Double Team", "Toxic"])?;
-    let wishes = [(0x11, 0x11), (0x12, 0x12), (0x22, 0x22), (0x11, 0x21)];
-    let view = watch(&one, &two, &wishes)?;
-    assert_same(&rt, (view.place(Side::One), view.place(Side::Two)), (2, 1));
-    assert_same(&rt, view.stage(Side::Two, Stat::Evasion), 0);
-    assert_same(&rt, view.confused(Side::Two), false);
-    Ok(())
-}
-
-#[test]
-fn a_battle_with_an_explosion(rt: HostRuntime) -> Result<(), Fail> {
-    let one = lead_and_chansey(&["Explosion"])?;
-    let two = lead_and_chansey(&["Splash", "Swords Dance"])?;
-    let fallen = watch(&one, &two, &[(0x11, 0x12)])?;
-    assert_same(
-        &rt,
-        (fallen.hp(Side::One, 1), fallen.place(Side::One)),
-        (0, 1),
-    );
-    let replaced = watch(&one, &two, &[(0x11, 0x12), (0x22, 0x22), (0x11, 0x11)])?;
-    assert_same(&rt, replaced.place(Side::One), 2);
+    let choices = [(0x11, 0x11), (0x11, 0x12), (0x12, 0x11), (0x12, 0x12)];
+    let view = watch(&one, &two, &choices)?;
+    assert!(rt; view.hp(TWO, 1) < 353);
     Ok(())
 }

@@ -2,11 +2,14 @@
 //! knows, and how a room passes choices on. They are in a crate of their own because a crate with tests is proved twice.
 //!
 //! - `battles`: views and bytes of whole battles
+//! - `views`: what each event changes of a spectator's view
+//! - `following`: a view that follows log bytes
 //! - `own_sides`: what a side is shown of itself
 //! - `players`: what a player knows
 //! - `rooms`: rooms
 //! - `plain_rooms`: rooms that their caller keeps, and forfeits
 //! - `teams`: the teams of these tests
+//! - `events`: events in plain numbers
 //! - `comparing`: what the tests compare
 #![tactic(auto)]
 
@@ -14,6 +17,10 @@
 mod battles;
 #[cfg(test)]
 mod comparing;
+#[cfg(test)]
+mod events;
+#[cfg(test)]
+mod following;
 #[cfg(test)]
 mod own_sides;
 #[cfg(test)]
@@ -24,3 +31,5 @@ mod players;
 mod rooms;
 #[cfg(test)]
 mod teams;
+#[cfg(test)]
+mod views;

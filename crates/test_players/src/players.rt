@@ -2,405 +2,549 @@
 //! public, what a side is told, and a player that is fed log bytes. Side 1 sends out Tauros (128, Normal), side 2 Starmie (121, Water and
 //! Psychic).
 use crate::comparing::assert_same;
+use crate::events::Tell::{
+    Boost, Cant, ClearAll, Cure, Damage, End, Faint, Fault, Heal, Move, MustRecharge, Prepare,
+    Start, Status, Switch, Tie, Turn, Unboost, Win,
+};
+use crate::events::{CHANSEY, ONE, STARMIE, TAUROS, TWO, Tell, event};
 use crate::teams::lead_and_chansey;
 use gen1_events::{LogBuf, LogFault, write};
-use gen1_machine::{
-    CantReason, DamageSource, Event, FaultCode, Health, Kind, Level, Place, Side, StageCount,
-    TurnNumber, Volatile, Who,
-};
-use gen1_player::{Player, Public, Seen, SeenMove, Teller};
-use gen1_tables::{MoveId, Species, Stat};
+use gen1_machine::{CantReason, DamageSource, Kind, Side, Volatile};
+use gen1_player::{Player, Public, PublicSide, Seen, Teller};
+use gen1_tables::Stat;
+use std::process::Abort;
 use std::test::Fail;
 
-const ONE: Side = Side::One;
+// The species that are out.
+const OUT: [u8; 2] = [TAUROS, STARMIE];
 
-const TWO: Side = Side::Two;
-
-const TAUROS: u8 = 128;
-
-const STARMIE: u8 = 121;
-
-const CHANSEY: u8 = 113;
-
-fn who(side: Side, species: u8) -> Result<Who, Fail> {
-    let species = Species::new(species).ok_or("no such species")?;
-    Ok(Who { side, species })
+/// A name, and events with what is public after them.
+#[derive(Clone, Copy, Drop)]
+struct Row {
+    name: &'static str,
+    steps: &'static [Step],
 }
 
-fn active(side: Side) -> Result<Who, Fail> {
+#[derive(Clone, Copy, Drop)]
+enum Step {
+    /// Tauros with 353 HP comes out at place 1, and Starmie with 323 HP at place 3.
+    Begin,
+    Tells(Tell),
+    /// An event this many times.
+    Repeats(u16, Tell),
+    Is(Fact),
+    /// The conditions that are announced of a side, and no others are.
+    Announced(Side, &'static [&'static str]),
+    /// Nothing is public.
+    Nothing,
+}
+
+#[derive(Clone, Copy, Debug, PartialEq, Drop)]
+enum Fact {
+    Turn(u16),
+    Outcome(u8),
+    Place(Side, u8),
+    Types(Side, u8, u8),
+    LastMove(Side, u8),
+    Attack(Side, u8),
+    Evasion(Side, u8),
+    /// Facts of the member at a place.
+    Species(Side, u8, u8),
+    Level(Side, u8, u8),
+    Hp(Side, u8, u16),
+    Max(Side, u8, u16),
+    Status(Side, u8, u8),
+    /// The move at an index from 0, and how often it was used.
+    Used(Side, u8, usize, u8, u8),
+}
+
+static PUBLIC: [Row; 12] = [
+    Row {
+        name: "before the first event nothing is public",
+        steps: &[
+            Step::Is(Fact::Place(ONE, 0)),
+            Step::Is(Fact::Place(TWO, 0)),
+            Step::Is(Fact::Turn(0)),
+            Step::Is(Fact::Species(TWO, 1, 0)),
+            Step::Tells(Damage(TWO, 12, 323, DamageSource::Direct)),
+            Step::Tells(Move(TWO, 57)),
+            Step::Nothing,
+        ],
+    },
+    Row {
+        name: "a switch makes the member public",
+        steps: &[
+            Step::Begin,
+            Step::Is(Fact::Place(TWO, 3)),
+            Step::Is(Fact::Species(TWO, 1, 0)),
+            Step::Is(Fact::Species(TWO, 3, STARMIE)),
+            Step::Is(Fact::Level(TWO, 3, 100)),
+            Step::Is(Fact::Hp(TWO, 3, 323)),
+            Step::Is(Fact::Max(TWO, 3, 323)),
+            Step::Is(Fact::Status(TWO, 3, 0)),
+            // Water is 9, Psychic 12.
+            Step::Is(Fact::Types(TWO, 9, 12)),
+            Step::Is(Fact::Types(ONE, 0, 0)),
+        ],
+    },
+    Row {
+        name: "moves are counted",
+        steps: &[
+            Step::Begin,
+            Step::Tells(Move(TWO, 57)),
+            Step::Tells(Move(TWO, 85)),
+            Step::Tells(Move(TWO, 57)),
+            Step::Is(Fact::Used(TWO, 3, 0, 57, 2)),
+            Step::Is(Fact::Used(TWO, 3, 1, 85, 1)),
+            Step::Is(Fact::Used(TWO, 3, 2, 0, 0)),
+            Step::Is(Fact::LastMove(TWO, 57)),
+            Step::Repeats(300, Move(TWO, 57)),
+            Step::Is(Fact::Used(TWO, 3, 0, 57, 255)),
+        ],
+    },
+    Row {
+        name: "a sixth move is not kept",
+        steps: &[
+            Step::Begin,
+            Step::Tells(Move(ONE, 1)),
+            Step::Tells(Move(ONE, 2)),
+            Step::Tells(Move(ONE, 3)),
+            Step::Tells(Move(ONE, 4)),
+            Step::Tells(Move(ONE, 5)),
+            Step::Tells(Move(ONE, 6)),
+            Step::Is(Fact::Used(ONE, 1, 4, 5, 1)),
+            Step::Is(Fact::LastMove(ONE, 6)),
+        ],
+    },
+    Row {
+        name: "HP and status are the last that were shown",
+        steps: &[
+            Step::Begin,
+            Step::Tells(Damage(TWO, 100, 323, DamageSource::Direct)),
+            Step::Is(Fact::Hp(TWO, 3, 100)),
+            Step::Tells(Heal(TWO, 261, 323, None)),
+            Step::Is(Fact::Hp(TWO, 3, 261)),
+            Step::Tells(Status(TWO, Kind::Paralysis)),
+            Step::Is(Fact::Status(TWO, 3, 5)),
+            Step::Tells(Cure(TWO, Kind::Paralysis)),
+            Step::Is(Fact::Status(TWO, 3, 0)),
+            Step::Tells(Status(TWO, Kind::Burn)),
+            Step::Tells(Faint(TWO)),
+            Step::Is(Fact::Hp(TWO, 3, 0)),
+            Step::Is(Fact::Status(TWO, 3, 0)),
+        ],
+    },
+    Row {
+        name: "stages rise and fall",
+        steps: &[
+            Step::Begin,
+            Step::Repeats(4, Boost(ONE, Stat::Attack, 2)),
+            Step::Repeats(4, Unboost(ONE, Stat::Evasion, 2)),
+            Step::Is(Fact::Attack(ONE, 12)),
+            Step::Is(Fact::Evasion(ONE, 0)),
+            Step::Tells(ClearAll),
+            Step::Is(Fact::Attack(ONE, 6)),
+            Step::Is(Fact::Evasion(ONE, 6)),
+        ],
+    },
+    Row {
+        name: "each volatile is announced and ended",
+        steps: &[
+            Step::Begin,
+            Step::Tells(Start(ONE, Volatile::Confusion)),
+            Step::Tells(Start(ONE, Volatile::Bide)),
+            Step::Tells(Start(ONE, Volatile::Substitute)),
+            Step::Tells(Start(ONE, Volatile::LeechSeed)),
+            Step::Tells(Start(ONE, Volatile::Mist)),
+            Step::Tells(Start(ONE, Volatile::FocusEnergy)),
+            Step::Tells(Start(ONE, Volatile::LightScreen)),
+            Step::Tells(Start(ONE, Volatile::Reflect)),
+            Step::Tells(Start(ONE, Volatile::Disable)),
+            Step::Tells(Start(ONE, Volatile::Rage)),
+            Step::Announced(
+                ONE,
+                &[
+                    "confused",
+                    "bide",
+                    "substitute",
+                    "seeded",
+                    "mist",
+                    "focus energy",
+                    "light screen",
+                    "reflect",
+                    "disabled",
+                    "rage",
+                ],
+            ),
+            Step::Announced(TWO, &[]),
+            Step::Tells(ClearAll),
+            Step::Announced(ONE, &["bide", "substitute", "rage"]),
+            Step::Tells(End(ONE, Volatile::Substitute)),
+            Step::Tells(End(ONE, Volatile::Bide)),
+            Step::Announced(ONE, &["rage"]),
+            Step::Tells(Switch(ONE, CHANSEY, 2, 703, 703, None)),
+            Step::Announced(ONE, &[]),
+        ],
+    },
+    Row {
+        name: "Conversion copies types",
+        steps: &[
+            Step::Begin,
+            Step::Tells(Start(ONE, Volatile::TypeChange)),
+            Step::Is(Fact::Types(ONE, 9, 12)),
+        ],
+    },
+    Row {
+        name: "poison by Toxic is bad poison",
+        steps: &[
+            Step::Begin,
+            Step::Tells(Move(TWO, 40)),
+            Step::Tells(Status(ONE, Kind::Poison)),
+            Step::Announced(ONE, &[]),
+            Step::Tells(Move(TWO, 92)),
+            Step::Tells(Status(ONE, Kind::Poison)),
+            Step::Announced(ONE, &["toxic"]),
+            Step::Announced(TWO, &[]),
+        ],
+    },
+    Row {
+        name: "recharging ends by what the log shows",
+        steps: &[
+            Step::Begin,
+            Step::Tells(MustRecharge(ONE)),
+            Step::Announced(ONE, &["recharging"]),
+            Step::Tells(Cant(ONE, CantReason::Recharging)),
+            Step::Announced(ONE, &[]),
+            Step::Tells(MustRecharge(ONE)),
+            Step::Announced(ONE, &["recharging"]),
+            Step::Tells(Cant(ONE, CantReason::Flinched)),
+            Step::Announced(ONE, &[]),
+            // Its next move.
+            Step::Tells(MustRecharge(ONE)),
+            Step::Announced(ONE, &["recharging"]),
+            Step::Tells(Move(ONE, 63)),
+            Step::Announced(ONE, &[]),
+            // Sleep Powder and Wrap of the foe.
+            Step::Tells(MustRecharge(ONE)),
+            Step::Announced(ONE, &["recharging"]),
+            Step::Tells(Move(TWO, 79)),
+            Step::Announced(ONE, &[]),
+            Step::Tells(MustRecharge(ONE)),
+            Step::Announced(ONE, &["recharging"]),
+            Step::Tells(Move(TWO, 35)),
+            Step::Announced(ONE, &[]),
+            Step::Tells(MustRecharge(ONE)),
+            Step::Announced(ONE, &["recharging"]),
+            Step::Tells(Status(ONE, Kind::Freeze)),
+            Step::Announced(ONE, &[]),
+            // Thunder Wave doesn't end it.
+            Step::Tells(MustRecharge(ONE)),
+            Step::Tells(Move(TWO, 86)),
+            Step::Announced(ONE, &["recharging"]),
+        ],
+    },
+    Row {
+        name: "charging ends by what the log shows",
+        steps: &[
+            Step::Begin,
+            Step::Tells(Prepare(ONE, 91)),
+            Step::Announced(ONE, &["charging"]),
+            Step::Tells(Move(ONE, 91)),
+            Step::Announced(ONE, &[]),
+            Step::Tells(Prepare(ONE, 91)),
+            Step::Announced(ONE, &["charging"]),
+            Step::Tells(Cant(ONE, CantReason::Disabled)),
+            Step::Announced(ONE, &[]),
+            Step::Tells(Prepare(ONE, 91)),
+            Step::Announced(ONE, &["charging"]),
+            Step::Tells(Cant(ONE, CantReason::Paralysed)),
+            Step::Announced(ONE, &[]),
+            Step::Tells(Prepare(ONE, 91)),
+            Step::Announced(ONE, &["charging"]),
+            Step::Tells(Damage(ONE, 300, 353, DamageSource::Confusion)),
+            Step::Announced(ONE, &[]),
+            Step::Tells(Prepare(ONE, 91)),
+            Step::Tells(Damage(ONE, 290, 353, DamageSource::Direct)),
+            Step::Announced(ONE, &["charging"]),
+        ],
+    },
+    Row {
+        name: "turn and outcome are public",
+        steps: &[
+            Step::Begin,
+            Step::Tells(Turn(7)),
+            Step::Is(Fact::Turn(7)),
+            Step::Is(Fact::Outcome(0)),
+            Step::Tells(Win(TWO)),
+            Step::Is(Fact::Outcome(2)),
+            Step::Tells(Tie),
+            Step::Is(Fact::Outcome(3)),
+            Step::Tells(Fault(2)),
+            Step::Is(Fact::Outcome(5)),
+        ],
+    },
+];
+
+#[test]
+fn what_is_public(rt: HostRuntime) -> Result<(), Fail> {
+    for row in PUBLIC {
+        let mut public = Public::new();
+        for (number, step) in row.steps.iter().enumerate() {
+            take(&rt, &mut public, *step, (row.name, number))?;
+        }
+    }
+    Ok(())
+}
+
+fn take(rt: &impl Abort, public: &mut Public, step: Step, at: (&str, usize)) -> Result<(), Fail> {
+    match step {
+        Step::Begin => {
+            public.apply(&event(Switch(ONE, TAUROS, 1, 353, 353, None), OUT)?);
+            public.apply(&event(Switch(TWO, STARMIE, 3, 323, 323, None), OUT)?);
+        }
+        Step::Tells(tell) => public.apply(&event(tell, OUT)?),
+        Step::Repeats(times, tell) => {
+            let event = event(tell, OUT)?;
+            for _ in 0..times {
+                public.apply(&event);
+            }
+        }
+        Step::Is(fact) => assert_eq!(rt; found(public, fact), fact, "in {at:?}"),
+        Step::Announced(side, names) => {
+            for (name, is_on) in announced(side_of(public, side)) {
+                let expected = if is_in(names, name) { 1u8 } else { 0 };
+                assert_eq!(rt; is_on, expected, "{name} in {at:?}");
+            }
+        }
+        Step::Nothing => assert_eq!(rt; *public, Public::new(), "in {at:?}"),
+    }
+    Ok(())
+}
+
+fn side_of(public: &Public, side: Side) -> &PublicSide {
     match side {
-        Side::One => who(ONE, TAUROS),
-        Side::Two => who(TWO, STARMIE),
+        Side::One => &public.one,
+        Side::Two => &public.two,
     }
 }
 
-fn health(hp: u16, max: u16, kind: Option<Kind>) -> Result<Health, Fail> {
-    Ok(Health::new(hp, max, kind).ok_or("no such health")?)
-}
-
-fn switch(side: Side, species: u8, place: u8, health: Health) -> Result<Event, Fail> {
-    let place = Place::new(place).ok_or("no such place")?;
-    let level = Level::new(100).ok_or("no such level")?;
-    Ok(Event::Switch(who(side, species)?, place, level, health))
-}
-
-fn uses(side: Side, id: u8) -> Result<Event, Fail> {
-    let id = MoveId::new(id).ok_or("no such move")?;
-    Ok(Event::Move(active(side)?, id, active(side.other())?))
-}
-
-fn damage(side: Side, hp: u16, max: u16, source: DamageSource) -> Result<Event, Fail> {
-    Ok(Event::Damage(active(side)?, health(hp, max, None)?, source))
-}
-
-fn starts(side: Side, what: Volatile) -> Result<Event, Fail> {
-    Ok(Event::Start(active(side)?, what))
-}
-
-fn cant(side: Side, why: CantReason) -> Result<Event, Fail> {
-    Ok(Event::Cant(active(side)?, why))
-}
-
-// After both sides have sent out their first members: Tauros with 353 HP at place 1, Starmie with 323 HP at place 3.
-fn begun() -> Result<Public, Fail> {
-    let mut public = Public::new();
-    public.apply(&switch(ONE, TAUROS, 1, health(353, 353, None)?)?);
-    public.apply(&switch(TWO, STARMIE, 3, health(323, 323, None)?)?);
-    Ok(public)
-}
-
-#[test]
-fn before_the_first_event_nothing_is_public(rt: HostRuntime) -> Result<(), Fail> {
-    let public = Public::new();
-    assert_same(
-        &rt,
-        (public.one.place, public.two.place, public.turn),
-        (0, 0, 0),
-    );
-    assert_same(&rt, public.two.member(1).species, 0);
-    let mut other = public;
-    other.apply(&damage(TWO, 12, 323, DamageSource::Direct)?);
-    other.apply(&uses(TWO, 57)?);
-    assert_same(&rt, other, public);
-    Ok(())
-}
-
-#[test]
-fn a_switch_makes_the_member_public(rt: HostRuntime) -> Result<(), Fail> {
-    let public = begun()?;
-    let seen = public.two.member(3);
-    assert_same(
-        &rt,
-        (public.two.place, public.two.member(1).species),
-        (3, 0),
-    );
-    assert_same(
-        &rt,
-        (seen.species, seen.level, seen.hp),
-        (STARMIE, 100, 323),
-    );
-    assert_same(&rt, (seen.max, seen.status), (323, 0));
-    // Water is 9, Psychic 12.
-    assert_same(
-        &rt,
-        (public.two.first_type, public.two.second_type),
-        (9, 12),
-    );
-    assert_same(&rt, (public.one.first_type, public.one.second_type), (0, 0));
-    Ok(())
-}
-
-#[test]
-fn moves_are_counted(rt: HostRuntime) -> Result<(), Fail> {
-    let mut public = begun()?;
-    for id in [57, 85, 57] {
-        public.apply(&uses(TWO, id)?);
+// The same fact with the values that are public.
+fn found(public: &Public, fact: Fact) -> Fact {
+    match fact {
+        Fact::Turn(_) => Fact::Turn(public.turn),
+        Fact::Outcome(_) => Fact::Outcome(public.outcome),
+        Fact::Place(side, _) => Fact::Place(side, side_of(public, side).place),
+        Fact::Types(side, ..) => {
+            let it = side_of(public, side);
+            Fact::Types(side, it.first_type, it.second_type)
+        }
+        Fact::LastMove(side, _) => Fact::LastMove(side, side_of(public, side).last_move),
+        Fact::Attack(side, _) => Fact::Attack(side, side_of(public, side).stages.attack),
+        Fact::Evasion(side, _) => Fact::Evasion(side, side_of(public, side).stages.evasion),
+        _ => found_member(public, fact),
     }
-    let seen = public.two.member(3);
-    assert_same(&rt, seen.moves[0], SeenMove { id: 57, uses: 2 });
-    assert_same(&rt, seen.moves[1], SeenMove { id: 85, uses: 1 });
-    assert_same(&rt, seen.moves[2], SeenMove { id: 0, uses: 0 });
-    assert_same(&rt, public.two.last_move, 57);
-    for _ in 0..300 {
-        public.apply(&uses(TWO, 57)?);
+}
+
+fn seen(public: &Public, side: Side, place: u8) -> Seen {
+    side_of(public, side).member(place)
+}
+
+fn found_member(public: &Public, fact: Fact) -> Fact {
+    match fact {
+        Fact::Species(side, place, _) => {
+            Fact::Species(side, place, seen(public, side, place).species)
+        }
+        Fact::Level(side, place, _) => Fact::Level(side, place, seen(public, side, place).level),
+        Fact::Hp(side, place, _) => Fact::Hp(side, place, seen(public, side, place).hp),
+        Fact::Max(side, place, _) => Fact::Max(side, place, seen(public, side, place).max),
+        Fact::Status(side, place, _) => Fact::Status(side, place, seen(public, side, place).status),
+        Fact::Used(side, place, index, ..) => match seen(public, side, place).moves.get(index) {
+            Some(it) => Fact::Used(side, place, index, it.id, it.uses),
+            None => Fact::Turn(0),
+        },
+        other => other,
     }
-    assert_same(&rt, public.two.member(3).moves[0].uses, 255);
-    Ok(())
 }
 
-#[test]
-fn a_sixth_move_is_not_kept(rt: HostRuntime) -> Result<(), Fail> {
-    let mut public = begun()?;
-    for id in 1..=6 {
-        public.apply(&uses(ONE, id)?);
+// Each condition by its name.
+fn announced(side: &PublicSide) -> [(&'static str, u8); 13] {
+    let on = side.announced;
+    [
+        ("substitute", on.substitute),
+        ("confused", on.confused),
+        ("mist", on.mist),
+        ("focus energy", on.focus_energy),
+        ("light screen", on.light_screen),
+        ("reflect", on.reflect),
+        ("seeded", on.seeded),
+        ("toxic", on.toxic),
+        ("disabled", on.disabled),
+        ("rage", on.rage),
+        ("bide", on.bide),
+        ("charging", on.charging),
+        ("recharging", on.recharging),
+    ]
+}
+
+fn is_in(names: &[&'static str], name: &'static str) -> bool {
+    for other in names {
+        if *other == name {
+            return true;
+        }
     }
-    let seen = public.one.member(1);
-    assert_same(&rt, seen.moves[4], SeenMove { id: 5, uses: 1 });
-    assert_same(&rt, public.one.last_move, 6);
-    Ok(())
+    false
 }
 
-#[test]
-fn hp_and_status_are_the_last_that_were_shown(rt: HostRuntime) -> Result<(), Fail> {
-    let mut public = begun()?;
-    public.apply(&damage(TWO, 100, 323, DamageSource::Direct)?);
-    assert_same(&rt, public.two.member(3).hp, 100);
-    public.apply(&Event::Heal(active(TWO)?, health(261, 323, None)?));
-    assert_same(&rt, public.two.member(3).hp, 261);
-    public.apply(&Event::Status(active(TWO)?, Kind::Paralysis));
-    assert_same(&rt, public.two.member(3).status, 5);
-    public.apply(&Event::Cure(active(TWO)?, Kind::Paralysis));
-    assert_same(&rt, public.two.member(3).status, 0);
-    public.apply(&Event::Status(active(TWO)?, Kind::Burn));
-    public.apply(&Event::Faint(active(TWO)?));
-    assert_same(
-        &rt,
-        (public.two.member(3).hp, public.two.member(3).status),
-        (0, 0),
-    );
-    Ok(())
-}
+/// An event, and what a side is told of it.
+type Telling = (Tell, Tell);
 
-#[test]
-fn stages_rise_and_fall(rt: HostRuntime) -> Result<(), Fail> {
-    let mut public = begun()?;
-    let two = StageCount::new(2).ok_or("no such count")?;
-    for _ in 0..4 {
-        public.apply(&Event::Boost(active(ONE)?, Stat::Attack, two));
-        public.apply(&Event::Unboost(active(ONE)?, Stat::Evasion, two));
+// Side 1 is told the places of side 2 in the order in which they appear.
+static BY_APPEARANCE: [Telling; 10] = [
+    (
+        Switch(TWO, STARMIE, 3, 323, 323, None),
+        Switch(TWO, STARMIE, 1, 323, 323, None),
+    ),
+    (
+        Switch(TWO, STARMIE, 5, 323, 323, None),
+        Switch(TWO, STARMIE, 2, 323, 323, None),
+    ),
+    (
+        Switch(TWO, STARMIE, 3, 323, 323, None),
+        Switch(TWO, STARMIE, 1, 323, 323, None),
+    ),
+    (
+        Switch(TWO, STARMIE, 1, 323, 323, None),
+        Switch(TWO, STARMIE, 3, 323, 323, None),
+    ),
+    (
+        Switch(TWO, STARMIE, 5, 323, 323, None),
+        Switch(TWO, STARMIE, 2, 323, 323, None),
+    ),
+    (
+        Switch(TWO, STARMIE, 6, 323, 323, None),
+        Switch(TWO, STARMIE, 4, 323, 323, None),
+    ),
+    (
+        Switch(TWO, STARMIE, 2, 323, 323, None),
+        Switch(TWO, STARMIE, 5, 323, 323, None),
+    ),
+    (
+        Switch(TWO, STARMIE, 4, 323, 323, None),
+        Switch(TWO, STARMIE, 6, 323, 323, None),
+    ),
+    (
+        Switch(TWO, STARMIE, 1, 323, 323, None),
+        Switch(TWO, STARMIE, 3, 323, 323, None),
+    ),
+    (
+        Switch(ONE, TAUROS, 4, 323, 323, None),
+        Switch(ONE, TAUROS, 4, 323, 323, None),
+    ),
+];
+
+// 48 * 323 / 323 is 48, 48 * 322 / 323 is 47.8, 48 * 6 / 323 is 0.9.
+static IN_48THS: [Telling; 10] = [
+    (
+        Damage(TWO, 323, 323, DamageSource::Direct),
+        Damage(TWO, 48, 48, DamageSource::Direct),
+    ),
+    (
+        Damage(TWO, 322, 323, DamageSource::Direct),
+        Damage(TWO, 47, 48, DamageSource::Direct),
+    ),
+    (
+        Damage(TWO, 162, 323, DamageSource::Direct),
+        Damage(TWO, 24, 48, DamageSource::Direct),
+    ),
+    (
+        Damage(TWO, 7, 323, DamageSource::Direct),
+        Damage(TWO, 1, 48, DamageSource::Direct),
+    ),
+    (
+        Damage(TWO, 6, 323, DamageSource::Direct),
+        Damage(TWO, 1, 48, DamageSource::Direct),
+    ),
+    (
+        Damage(TWO, 1, 323, DamageSource::Direct),
+        Damage(TWO, 1, 48, DamageSource::Direct),
+    ),
+    (
+        Damage(TWO, 0, 323, DamageSource::Direct),
+        Damage(TWO, 0, 48, DamageSource::Direct),
+    ),
+    (
+        Damage(ONE, 100, 353, DamageSource::Direct),
+        Damage(ONE, 100, 353, DamageSource::Direct),
+    ),
+    (
+        Heal(TWO, 161, 323, Some(Kind::Sleep)),
+        Heal(TWO, 23, 48, Some(Kind::Sleep)),
+    ),
+    (
+        Switch(TWO, STARMIE, 6, 7, 703, None),
+        Switch(TWO, STARMIE, 1, 1, 48, None),
+    ),
+];
+
+// Tells each event, and returns the places that have appeared.
+fn tell(rt: &impl Abort, in_48ths: bool, rows: &[Telling]) -> Result<[u8; 6], Fail> {
+    let mut teller = Teller::new(ONE, in_48ths);
+    for (number, (whole, told)) in rows.iter().enumerate() {
+        let found = teller.tell(&event(*whole, OUT)?);
+        assert_eq!(rt; found, event(*told, OUT)?, "at {number}");
     }
-    assert_same(
-        &rt,
-        (public.one.stages.attack, public.one.stages.evasion),
-        (12, 0),
-    );
-    public.apply(&Event::ClearAll);
-    assert_same(
-        &rt,
-        (public.one.stages.attack, public.one.stages.evasion),
-        (6, 6),
-    );
-    Ok(())
+    Ok(teller.places)
 }
 
 #[test]
-fn each_volatile_is_announced_and_ended(rt: HostRuntime) -> Result<(), Fail> {
-    let mut public = begun()?;
-    for what in [
-        Volatile::Confusion,
-        Volatile::Bide,
-        Volatile::Substitute,
-        Volatile::LeechSeed,
-        Volatile::Mist,
-        Volatile::FocusEnergy,
-        Volatile::LightScreen,
-        Volatile::Reflect,
-        Volatile::Disable,
-        Volatile::Rage,
-    ] {
-        public.apply(&starts(ONE, what)?);
-    }
-    let on = public.one.announced;
-    assert_same(
-        &rt,
-        (on.confused, on.bide, on.substitute, on.seeded),
-        (1, 1, 1, 1),
-    );
-    assert_same(
-        &rt,
-        (on.mist, on.focus_energy, on.light_screen, on.reflect),
-        (1, 1, 1, 1),
-    );
-    assert_same(
-        &rt,
-        (on.disabled, on.rage, on.toxic, on.charging),
-        (1, 1, 0, 0),
-    );
-    assert_same(&rt, public.two.announced.confused, 0);
-    public.apply(&Event::ClearAll);
-    let on = public.one.announced;
-    assert_same(
-        &rt,
-        (on.confused, on.bide, on.substitute, on.seeded),
-        (0, 1, 1, 0),
-    );
-    assert_same(
-        &rt,
-        (on.mist, on.focus_energy, on.light_screen, on.reflect),
-        (0, 0, 0, 0),
-    );
-    assert_same(&rt, (on.disabled, on.rage), (0, 1));
-    public.apply(&Event::End(active(ONE)?, Volatile::Substitute));
-    public.apply(&Event::End(active(ONE)?, Volatile::Bide));
-    let on = public.one.announced;
-    assert_same(&rt, (on.bide, on.substitute, on.rage), (0, 0, 1));
-    public.apply(&switch(ONE, CHANSEY, 2, health(703, 703, None)?)?);
-    assert_same(&rt, public.one.announced.rage, 0);
-    Ok(())
-}
-
-#[test]
-fn conversion_copies_types(rt: HostRuntime) -> Result<(), Fail> {
-    let mut public = begun()?;
-    public.apply(&starts(ONE, Volatile::TypeChange)?);
-    assert_same(
-        &rt,
-        (public.one.first_type, public.one.second_type),
-        (9, 12),
-    );
-    Ok(())
-}
-
-#[test]
-fn poison_by_toxic_is_bad_poison(rt: HostRuntime) -> Result<(), Fail> {
-    let mut public = begun()?;
-    public.apply(&uses(TWO, 40)?);
-    public.apply(&Event::Status(active(ONE)?, Kind::Poison));
-    assert_same(&rt, public.one.announced.toxic, 0);
-    public.apply(&uses(TWO, 92)?);
-    public.apply(&Event::Status(active(ONE)?, Kind::Poison));
-    assert_same(
-        &rt,
-        (public.one.announced.toxic, public.two.announced.toxic),
-        (1, 0),
-    );
-    Ok(())
-}
-
-#[test]
-fn recharging_ends_by_what_the_log_shows(rt: HostRuntime) -> Result<(), Fail> {
-    let mut public = begun()?;
-    let must = Event::MustRecharge(active(ONE)?);
-    // The gate; a flinch; its next move; sleep powder (79) and wrap (35) of the foe; a freeze.
-    for event in [
-        cant(ONE, CantReason::Recharging)?,
-        cant(ONE, CantReason::Flinched)?,
-        uses(ONE, 63)?,
-        uses(TWO, 79)?,
-        uses(TWO, 35)?,
-        Event::Status(active(ONE)?, Kind::Freeze),
-    ] {
-        public.apply(&must);
-        assert_same(&rt, public.one.announced.recharging, 1);
-        public.apply(&event);
-        assert_same(&rt, public.one.announced.recharging, 0);
-    }
-    // Thunder Wave (86) doesn't end it.
-    public.apply(&must);
-    public.apply(&uses(TWO, 86)?);
-    assert_same(&rt, public.one.announced.recharging, 1);
-    Ok(())
-}
-
-#[test]
-fn charging_ends_by_what_the_log_shows(rt: HostRuntime) -> Result<(), Fail> {
-    let mut public = begun()?;
-    let dig = MoveId::new(91).ok_or("no such move")?;
-    for event in [
-        uses(ONE, 91)?,
-        cant(ONE, CantReason::Disabled)?,
-        cant(ONE, CantReason::Paralysed)?,
-        damage(ONE, 300, 353, DamageSource::Confusion)?,
-    ] {
-        public.apply(&Event::Prepare(active(ONE)?, dig));
-        assert_same(&rt, public.one.announced.charging, 1);
-        public.apply(&event);
-        assert_same(&rt, public.one.announced.charging, 0);
-    }
-    public.apply(&Event::Prepare(active(ONE)?, dig));
-    public.apply(&damage(ONE, 290, 353, DamageSource::Direct)?);
-    assert_same(&rt, public.one.announced.charging, 1);
-    Ok(())
-}
-
-#[test]
-fn turn_and_outcome_are_public(rt: HostRuntime) -> Result<(), Fail> {
-    let mut public = begun()?;
-    public.apply(&Event::Turn(TurnNumber::new(7).ok_or("no such turn")?));
-    assert_same(&rt, (public.turn, public.outcome), (7, 0));
-    public.apply(&Event::Win(TWO));
-    assert_same(&rt, public.outcome, 2);
-    public.apply(&Event::Tie);
-    assert_same(&rt, public.outcome, 3);
-    public.apply(&Event::Fault(FaultCode::new(2).ok_or("no such code")?));
-    assert_same(&rt, public.outcome, 5);
-    Ok(())
-}
-
-#[test]
-fn the_foe_is_told_by_order_of_appearance(rt: HostRuntime) -> Result<(), Fail> {
-    let mut teller = Teller::new(ONE, false);
-    let whole = health(323, 323, None)?;
-    for (place, told) in [
-        (3, 1),
-        (5, 2),
-        (3, 1),
-        (1, 3),
-        (5, 2),
-        (6, 4),
-        (2, 5),
-        (4, 6),
-        (1, 3),
-    ] {
-        let event = switch(TWO, STARMIE, place, whole)?;
-        assert_same(&rt, teller.tell(&event), switch(TWO, STARMIE, told, whole)?);
-    }
-    let own = switch(ONE, TAUROS, 4, whole)?;
-    assert_same(&rt, teller.tell(&own), own);
-    assert_same(&rt, teller.places, [3, 5, 1, 6, 2, 4]);
-    Ok(())
-}
-
-#[test]
-fn hp_is_told_in_48ths(rt: HostRuntime) -> Result<(), Fail> {
-    let mut teller = Teller::new(ONE, true);
-    // 48 * 323 / 323 is 48, 48 * 322 / 323 is 47.8, 48 * 6 / 323 is 0.9.
-    for (hp, told) in [
-        (323, 48),
-        (322, 47),
-        (162, 24),
-        (7, 1),
-        (6, 1),
-        (1, 1),
-        (0, 0),
-    ] {
-        let event = damage(TWO, hp, 323, DamageSource::Direct)?;
-        assert_same(
-            &rt,
-            teller.tell(&event),
-            damage(TWO, told, 48, DamageSource::Direct)?,
-        );
-    }
-    let own = damage(ONE, 100, 353, DamageSource::Direct)?;
-    assert_same(&rt, teller.tell(&own), own);
-    let heal = Event::Heal(active(TWO)?, health(161, 323, Some(Kind::Sleep))?);
-    let told = Event::Heal(active(TWO)?, health(23, 48, Some(Kind::Sleep))?);
-    assert_same(&rt, teller.tell(&heal), told);
-    let comes = switch(TWO, STARMIE, 6, health(7, 703, None)?)?;
-    assert_same(
-        &rt,
-        teller.tell(&comes),
-        switch(TWO, STARMIE, 1, health(1, 48, None)?)?,
-    );
+fn what_a_side_is_told(rt: HostRuntime) -> Result<(), Fail> {
+    assert_same(&rt, tell(&rt, false, &BY_APPEARANCE)?, [3, 5, 1, 6, 2, 4]);
+    tell(&rt, true, &IN_48THS)?;
     Ok(())
 }
 
 // The log bytes of some events.
-fn log_of(events: &[Event]) -> LogBuf {
+fn log_of(tells: &[Tell]) -> Result<LogBuf, Fail> {
     let mut log = LogBuf::new();
-    for event in events {
-        let _fits = write(event, &mut log);
+    for tell in tells {
+        let _fits = write(&event(*tell, OUT)?, &mut log);
     }
-    log
+    Ok(log)
 }
 
-fn first_events() -> Result<[Event; 4], Fail> {
-    Ok([
-        switch(ONE, TAUROS, 1, health(353, 353, None)?)?,
-        switch(TWO, STARMIE, 1, health(48, 48, None)?)?,
-        Event::Turn(TurnNumber::new(1).ok_or("no such turn")?),
-        uses(TWO, 57)?,
-    ])
+#[test]
+fn an_update_is_told_in_log_bytes(rt: HostRuntime) -> Result<(), Fail> {
+    let mut teller = Teller::new(ONE, true);
+    let log = log_of(&[
+        Switch(ONE, TAUROS, 2, 353, 353, None),
+        Switch(TWO, STARMIE, 5, 323, 323, None),
+        Damage(TWO, 6, 323, DamageSource::Direct),
+        ClearAll,
+    ])?;
+    let told = log_of(&[
+        Switch(ONE, TAUROS, 2, 353, 353, None),
+        Switch(TWO, STARMIE, 1, 48, 48, None),
+        Damage(TWO, 1, 48, DamageSource::Direct),
+        ClearAll,
+    ])?;
+    assert_same(&rt, teller.tell_log(log.as_slice()), Ok(told));
+    assert_same(&rt, teller.places, [5, 0, 0, 0, 0, 0]);
+    Ok(())
+}
+
+#[test]
+fn what_is_not_a_log_is_not_told(rt: HostRuntime) -> Result<(), Fail> {
+    let mut teller = Teller::new(TWO, false);
+    // A switch of side 1 to its Tauros at place 4, level 100, with 353 of 353 HP, without the byte of its status.
+    let cut = [2, 1, 128, 4, 100, 0x61, 1, 0x61, 1];
+    assert_same(&rt, teller.tell_log(&cut), Err(LogFault::Truncated));
+    assert_same(
+        &rt,
+        teller.tell_log(&[0x1B, 0x1D]),
+        Err(LogFault::UnknownTag),
+    );
+    assert_same(&rt, teller, Teller::new(TWO, false));
+    Ok(())
 }
 
 #[test]
@@ -423,7 +567,12 @@ fn a_player_knows_its_own_team_and_nothing_of_the_foe(rt: HostRuntime) -> Result
 #[test]
 fn a_player_is_fed_however_its_log_is_cut(rt: HostRuntime) -> Result<(), Fail> {
     let team = lead_and_chansey(&["Strength"])?;
-    let log = log_of(&first_events()?);
+    let log = log_of(&[
+        Switch(ONE, TAUROS, 1, 353, 353, None),
+        Switch(TWO, STARMIE, 1, 48, 48, None),
+        Turn(1),
+        Move(TWO, 57),
+    ])?;
     for cut in 0..=log.len() {
         let mut player = Player::new(ONE, &team, 6);
         assert_same(&rt, player.feed(&log.as_slice()[..cut]), Ok(()));
@@ -454,40 +603,5 @@ fn a_fault_changes_nothing_of_a_player(rt: HostRuntime) -> Result<(), Fail> {
     assert_same(&rt, (player.public.turn, player.held_count), (0, 2));
     assert_same(&rt, player.feed(&[0]), Ok(()));
     assert_same(&rt, (player.public.turn, player.held_count), (7, 0));
-    Ok(())
-}
-
-#[test]
-fn an_update_is_told_in_log_bytes(rt: HostRuntime) -> Result<(), Fail> {
-    let mut teller = Teller::new(ONE, true);
-    let log = log_of(&[
-        switch(ONE, TAUROS, 2, health(353, 353, None)?)?,
-        switch(TWO, STARMIE, 5, health(323, 323, None)?)?,
-        damage(TWO, 6, 323, DamageSource::Direct)?,
-        Event::ClearAll,
-    ]);
-    let told = log_of(&[
-        switch(ONE, TAUROS, 2, health(353, 353, None)?)?,
-        switch(TWO, STARMIE, 1, health(48, 48, None)?)?,
-        damage(TWO, 1, 48, DamageSource::Direct)?,
-        Event::ClearAll,
-    ]);
-    assert_same(&rt, teller.tell_log(log.as_slice()), Ok(told));
-    assert_same(&rt, teller.places, [5, 0, 0, 0, 0, 0]);
-    Ok(())
-}
-
-#[test]
-fn what_is_not_a_log_is_not_told(rt: HostRuntime) -> Result<(), Fail> {
-    let mut teller = Teller::new(TWO, false);
-    // A switch of side 1 to its Tauros at place 4, level 100, with 353 of 353 HP, without the byte of its status.
-    let cut = [2, 1, 128, 4, 100, 0x61, 1, 0x61, 1];
-    assert_same(&rt, teller.tell_log(&cut), Err(LogFault::Truncated));
-    assert_same(
-        &rt,
-        teller.tell_log(&[0x1B, 0x1D]),
-        Err(LogFault::UnknownTag),
-    );
-    assert_same(&rt, teller, Teller::new(TWO, false));
     Ok(())
 }

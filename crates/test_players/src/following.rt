@@ -1,10 +1,9 @@
 //! A view that follows log bytes (docs/MECHANICS.md, "Log bytes", "Spectator's view").
 use crate::comparing::assert_same;
-use crate::tauros::tauros;
+use crate::teams::tauros;
 use gen1_events::{LogFault, LogReader};
 use gen1_machine::{Outcome, Side};
 use gen1_spectator::{View, followers_agree, watchers_agree};
-use gen1_stats::Team;
 use std::test::Fail;
 
 // The log of the battle that is stored in crates/battle_tool (stdin, stdout): both come out, the first turn hits
@@ -17,7 +16,7 @@ static LOG: [u8; 82] = [
 ];
 
 fn new_view() -> Result<View, Fail> {
-    let team = Team::new(&[tauros()?])?;
+    let team = tauros()?;
     Ok(View::new(&team, &team))
 }
 
