@@ -34,6 +34,29 @@ pub(crate) fn spec(
     })
 }
 
+/// A species, its level, DVs and experience, and its moves, each with three PP ups.
+pub(crate) type Written = (&'static str, u8, [u8; 4], [u16; 5], &'static [&'static str]);
+
+/// Asserts that the members are as they are written.
+pub(crate) fn assert_written(
+    rt: &impl Abort,
+    members: &[MemberSpec],
+    written: &[Written],
+) -> Result<(), &'static str> {
+    assert_eq!(rt; members.len(), written.len());
+    for (member, (species, level, dvs, exp, moves)) in members.iter().zip(written) {
+        let mut known = ArrayVec::<(&str, u8), 4>::new();
+        for name in *moves {
+            if known.try_push((*name, 3)).is_err() {
+                return Err("too many moves");
+            }
+        }
+        let expected = spec(species, *level, *dvs, *exp, known.as_slice())?;
+        assert_eq!(rt; *member, expected, "for {species}");
+    }
+    Ok(())
+}
+
 /// HP, Attack, Defense, Speed and Special.
 pub(crate) fn stats(member: &Member) -> [u16; 5] {
     [

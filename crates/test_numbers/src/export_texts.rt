@@ -1,5 +1,5 @@
 //! Export texts (docs/TEAM_TEXT.md, "Export text", "Names", "EVs and experience", "IVs and DVs", "Faults").
-use crate::comparing::{assert_same, spec, stats};
+use crate::comparing::{Written, assert_same, assert_written, stats};
 use gen1_stats::TeamRefusal;
 use gen1_text::{
     MemberFault, TextFault, members_in_text, move_called, species_called, team_in_text,
@@ -27,143 +27,174 @@ IVs: 6 HP / 0 Atk / 20 Def
 - double-edge
 ";
 
-#[test]
-fn two_members(rt: HostRuntime) -> Result<(), Fail> {
-    let members = members_in_text(TWO_MEMBERS)?;
-    let starmie = spec(
-        "Starmie",
-        100,
-        [15; 4],
-        [63504; 5],
+static MEMBERS: [(&[u8], &[Written]); 5] = [
+    (
+        TWO_MEMBERS,
         &[
-            ("Thunder Wave", 3),
-            ("Psychic", 3),
-            ("Blizzard", 3),
-            ("Recover", 3),
+            (
+                "Starmie",
+                100,
+                [15; 4],
+                [63504; 5],
+                &["Thunder Wave", "Psychic", "Blizzard", "Recover"],
+            ),
+            (
+                "Tauros",
+                88,
+                [0, 10, 15, 15],
+                [63504, 16, 0, 0, 10000],
+                &["Body Slam", "Double-Edge"],
+            ),
         ],
-    )?;
-    let tauros = spec(
-        "Tauros",
-        88,
-        [0, 10, 15, 15],
-        [63504, 16, 0, 0, 10000],
-        &[("Body Slam", 3), ("Double-Edge", 3)],
-    )?;
-    assert_same(&rt, members.as_slice(), [starmie, tauros].as_slice());
+    ),
+    // names in any dress
+    (
+        b"MR MIME\n- ACIDARMOR",
+        &[("Mr. Mime", 100, [15; 4], [63504; 5], &["Acid Armor"])],
+    ),
+    (
+        b"mrmime\n-acid-armor",
+        &[("Mr. Mime", 100, [15; 4], [63504; 5], &["Acid Armor"])],
+    ),
+    (
+        b"Nick (the) name (Mr. Mime)\n-  Acid Armor",
+        &[("Mr. Mime", 100, [15; 4], [63504; 5], &["Acid Armor"])],
+    ),
+    (
+        b"Farfetch'd\n- Vise Grip\n- Hi Jump Kick\n- Softboiled",
+        &[(
+            "Farfetchd",
+            100,
+            [15; 4],
+            [63504; 5],
+            &["Vice Grip", "High Jump Kick", "Soft-Boiled"],
+        )],
+    ),
+];
+
+#[test]
+fn members_as_they_are_read(rt: HostRuntime) -> Result<(), Fail> {
+    for (text, written) in MEMBERS {
+        let members = members_in_text(text)?;
+        assert_written(&rt, members.as_slice(), written)?;
+    }
     Ok(())
 }
 
 #[test]
 fn stats_as_they_are_shown(rt: HostRuntime) -> Result<(), Fail> {
-    let team = team_in_text(TWO_MEMBERS)?;
-    let [_, tauros] = team.members() else {
-        return Err("two members")?;
-    };
-    assert_same(&rt, stats(tauros), [290, 181, 189, 225, 176]);
-    let team = team_in_text(b"Tauros\r\n- Tackle")?;
-    let [tauros] = team.members() else {
-        return Err("one member")?;
-    };
-    assert_same(&rt, stats(tauros), [353, 298, 288, 318, 238]);
+    assert_same(&rt, last_stats(TWO_MEMBERS)?, [290, 181, 189, 225, 176]);
+    assert_same(
+        &rt,
+        last_stats(b"Tauros\r\n- Tackle")?,
+        [353, 298, 288, 318, 238],
+    );
     Ok(())
 }
 
-#[test]
-fn names_in_any_dress(rt: HostRuntime) -> Result<(), Fail> {
-    for text in [
-        b"MR MIME\n- ACIDARMOR".as_slice(),
-        b"mrmime\n-acid-armor".as_slice(),
-        b"Nick (the) name (Mr. Mime)\n-  Acid Armor".as_slice(),
-    ] {
-        let members = members_in_text(text)?;
-        let mime = spec("Mr. Mime", 100, [15; 4], [63504; 5], &[("Acid Armor", 3)])?;
-        assert_same(&rt, members.as_slice(), [mime].as_slice());
-    }
-    let members = members_in_text(b"Farfetch'd\n- Vise Grip\n- Hi Jump Kick\n- Softboiled")?;
-    let moves = [("Vice Grip", 3), ("High Jump Kick", 3), ("Soft-Boiled", 3)];
-    let duck = spec("Farfetchd", 100, [15; 4], [63504; 5], &moves)?;
-    assert_same(&rt, members.as_slice(), [duck].as_slice());
-    Ok(())
+// The stats of the last member.
+fn last_stats(text: &[u8]) -> Result<[u16; 5], Fail> {
+    let team = team_in_text(text)?;
+    Ok(stats(team.members().last().ok_or("no member")?))
 }
+
+// A text, and the numbers of the species and of the move with this name, or 0.
+static NAMES: [(&[u8], u8, u8); 4] = [
+    (b" mr.MIME", 122, 0),
+    (b"", 0, 0),
+    (b"SELFDESTRUCT", 0, 120),
+    (b"Roost", 0, 0),
+];
 
 #[test]
 fn names_alone(rt: HostRuntime) {
-    let number = species_called(b" mr.MIME").map(|species| species.number());
-    assert_same(&rt, number, Some(122));
-    assert_same(
-        &rt,
-        species_called(b"").map(|species| species.number()),
-        None,
-    );
-    let number = move_called(b"SELFDESTRUCT").map(|id| id.number());
-    assert_same(&rt, number, Some(120));
-    assert_same(&rt, move_called(b"Roost").map(|id| id.number()), None);
+    for (text, species, id) in NAMES {
+        assert_eq!(rt; species_number(text), species, "at {text:?}");
+        assert_eq!(rt; move_number(text), id, "at {text:?}");
+    }
 }
+
+fn species_number(text: &[u8]) -> u8 {
+    match species_called(text) {
+        Some(species) => species.number(),
+        None => 0,
+    }
+}
+
+fn move_number(text: &[u8]) -> u8 {
+    match move_called(text) {
+        Some(id) => id.number(),
+        None => 0,
+    }
+}
+
+/// A text, the line of its fault, and the fault.
+static FAULTS: [(&[u8], usize, MemberFault); 22] = [
+    // first lines
+    (b"\n\nMissingno", 3, MemberFault::Species),
+    (b"Tauros (Bob)", 1, MemberFault::Species),
+    (b"Tauros @ Leftovers\n- Tackle", 1, MemberFault::Item),
+    (
+        b"Mew\n\nMew\n\nMew\n\nMew\n\nMew\n\nMew\n\nMew\n- Fly",
+        13,
+        MemberFault::SeventhMember,
+    ),
+    // levels
+    (b"Mew\nLevel: 0", 2, MemberFault::Level),
+    (b"Mew\nLevel: 101", 2, MemberFault::Level),
+    (b"Mew\nLevel:", 2, MemberFault::Level),
+    (b"Mew\nLevel: 5x", 2, MemberFault::Level),
+    (b"Mew\nLevel: 4294967297", 2, MemberFault::Level),
+    // moves
+    (b"Mew\n- Tackel", 2, MemberFault::Move),
+    (b"Mew\n- ", 2, MemberFault::Move),
+    (
+        b"Mew\n- Fly\n- Dig\n- Cut\n- Surf\n- Wrap",
+        6,
+        MemberFault::FifthMove,
+    ),
+    (b"Mew\n- Fly\nLevle: 5", 3, MemberFault::UnknownLine),
+    // spreads
+    (b"Mew\nEVs: 256 HP", 2, MemberFault::Evs),
+    (b"Mew\nEVs: 252", 2, MemberFault::Evs),
+    (b"Mew\nEVs: 252 Attack", 2, MemberFault::Evs),
+    (b"Mew\nEVs: 252 HP /", 2, MemberFault::Evs),
+    (b"Mew\nEVs: -1 HP", 2, MemberFault::Evs),
+    (b"Mew\nEVs: 252 SpA / 4 SpD", 2, MemberFault::SpecialEvs),
+    (b"Mew\nIVs: 32 HP", 2, MemberFault::Ivs),
+    (b"Mew\nIVs: 30 SpA / 28 SpD", 2, MemberFault::SpecialIvs),
+    (b"Mew\nIVs: 30 HP / 0 Atk", 2, MemberFault::HpIv),
+];
+
+static REFUSALS: [(&[u8], TeamRefusal); 3] = [
+    (b"", TeamRefusal::Empty),
+    (b" \n\r\n", TeamRefusal::Empty),
+    (
+        b"Mew\n- Fly\n\nMew\n- Fly\n- fly",
+        TeamRefusal::RepeatedMove(2),
+    ),
+];
 
 fn fault_of(text: &[u8]) -> Option<TextFault> {
     team_in_text(text).err()
 }
 
-fn at(line: usize, fault: MemberFault) -> Option<TextFault> {
-    Some(TextFault::Line { line, fault })
-}
-
 #[test]
-fn faults_of_first_lines(rt: HostRuntime) {
-    assert_same(&rt, fault_of(b"\n\nMissingno"), at(3, MemberFault::Species));
-    assert_same(&rt, fault_of(b"Tauros (Bob)"), at(1, MemberFault::Species));
-    let held = b"Tauros @ Leftovers\n- Tackle";
-    assert_same(&rt, fault_of(held), at(1, MemberFault::Item));
-    let seven = b"Mew\n\nMew\n\nMew\n\nMew\n\nMew\n\nMew\n\nMew\n- Fly";
-    assert_same(&rt, fault_of(seven), at(13, MemberFault::SeventhMember));
-}
-
-#[test]
-fn faults_of_levels_and_moves(rt: HostRuntime) {
-    for text in [
-        b"Mew\nLevel: 0".as_slice(),
-        b"Mew\nLevel: 101".as_slice(),
-        b"Mew\nLevel:".as_slice(),
-        b"Mew\nLevel: 5x".as_slice(),
-        b"Mew\nLevel: 4294967297".as_slice(),
-    ] {
-        assert_same(&rt, fault_of(text), at(2, MemberFault::Level));
+fn faults_of_lines_and_teams(rt: HostRuntime) {
+    for (text, line, fault) in FAULTS {
+        assert_eq!(rt;
+            fault_of(text),
+            Some(TextFault::Line { line, fault }),
+            "at {text:?}"
+        );
     }
-    assert_same(&rt, fault_of(b"Mew\n- Tackel"), at(2, MemberFault::Move));
-    assert_same(&rt, fault_of(b"Mew\n- "), at(2, MemberFault::Move));
-    let five = b"Mew\n- Fly\n- Dig\n- Cut\n- Surf\n- Wrap";
-    assert_same(&rt, fault_of(five), at(6, MemberFault::FifthMove));
-    let unknown = b"Mew\n- Fly\nLevle: 5";
-    assert_same(&rt, fault_of(unknown), at(3, MemberFault::UnknownLine));
-}
-
-#[test]
-fn faults_of_spreads(rt: HostRuntime) {
-    for text in [
-        b"Mew\nEVs: 256 HP".as_slice(),
-        b"Mew\nEVs: 252".as_slice(),
-        b"Mew\nEVs: 252 Attack".as_slice(),
-        b"Mew\nEVs: 252 HP /".as_slice(),
-        b"Mew\nEVs: -1 HP".as_slice(),
-    ] {
-        assert_same(&rt, fault_of(text), at(2, MemberFault::Evs));
+    for (text, refusal) in REFUSALS {
+        assert_eq!(rt;
+            fault_of(text),
+            Some(TextFault::Team(refusal)),
+            "at {text:?}"
+        );
     }
-    let split = b"Mew\nEVs: 252 SpA / 4 SpD";
-    assert_same(&rt, fault_of(split), at(2, MemberFault::SpecialEvs));
-    assert_same(&rt, fault_of(b"Mew\nIVs: 32 HP"), at(2, MemberFault::Ivs));
-    let split = b"Mew\nIVs: 30 SpA / 28 SpD";
-    assert_same(&rt, fault_of(split), at(2, MemberFault::SpecialIvs));
-    let hp = b"Mew\nIVs: 30 HP / 0 Atk";
-    assert_same(&rt, fault_of(hp), at(2, MemberFault::HpIv));
-}
-
-#[test]
-fn faults_of_teams(rt: HostRuntime) {
-    let refused = |refusal| Some(TextFault::Team(refusal));
-    assert_same(&rt, fault_of(b""), refused(TeamRefusal::Empty));
-    assert_same(&rt, fault_of(b" \n\r\n"), refused(TeamRefusal::Empty));
-    let text = b"Mew\n- Fly\n\nMew\n- Fly\n- fly";
-    assert_same(&rt, fault_of(text), refused(TeamRefusal::RepeatedMove(2)));
 }
 
 #[test]

@@ -1,5 +1,5 @@
 //! Packed lines (docs/TEAM_TEXT.md, "Packed line", "Faults").
-use crate::comparing::{assert_same, spec, stats};
+use crate::comparing::{Written, assert_same, assert_written, stats};
 use gen1_stats::TeamRefusal;
 use gen1_text::{MemberFault, PackedFault, members_in_packed, team_in_packed};
 use std::test::Fail;
@@ -7,34 +7,27 @@ use std::test::Fail;
 const TWO_MEMBERS: &[u8] =
     b"Bob|Tauros||NoAbility|bodyslam,hyperbeam,blizzard,earthquake||,4,,,,|M|,0,,,,|S|88|255,,]Starmie||||psychic,blizzard,,thunderwave,recover|||||||\n";
 
-#[test]
-fn two_members(rt: HostRuntime) -> Result<(), Fail> {
-    let members = members_in_packed(TWO_MEMBERS)?;
-    let tauros = spec(
+static WRITTEN: [Written; 2] = [
+    (
         "Tauros",
         88,
         [0, 15, 15, 15],
         [0, 16, 0, 0, 0],
-        &[
-            ("Body Slam", 3),
-            ("Hyper Beam", 3),
-            ("Blizzard", 3),
-            ("Earthquake", 3),
-        ],
-    )?;
-    let starmie = spec(
+        &["Body Slam", "Hyper Beam", "Blizzard", "Earthquake"],
+    ),
+    (
         "Starmie",
         100,
         [15; 4],
         [63504; 5],
-        &[
-            ("Psychic", 3),
-            ("Blizzard", 3),
-            ("Thunder Wave", 3),
-            ("Recover", 3),
-        ],
-    )?;
-    assert_same(&rt, members.as_slice(), [tauros, starmie].as_slice());
+        &["Psychic", "Blizzard", "Thunder Wave", "Recover"],
+    ),
+];
+
+#[test]
+fn two_members(rt: HostRuntime) -> Result<(), Fail> {
+    let members = members_in_packed(TWO_MEMBERS)?;
+    assert_written(&rt, members.as_slice(), &WRITTEN)?;
     Ok(())
 }
 
@@ -53,50 +46,58 @@ fn fault_of(text: &[u8]) -> Option<PackedFault> {
     team_in_packed(text).err()
 }
 
-fn at(member: usize, field: usize, fault: MemberFault) -> Option<PackedFault> {
-    Some(PackedFault::Field {
-        member,
-        field,
-        fault,
-    })
-}
+/// A line, the member and the field of its fault, and the fault.
+static FAULTS: [(&[u8], usize, usize, MemberFault); 10] = [
+    (
+        b"Mew||||fly|||||||]Bob|Missingno|||fly|||||||",
+        2,
+        2,
+        MemberFault::Species,
+    ),
+    (b"Mew||leftovers||fly|||||||", 1, 3, MemberFault::Item),
+    (b"Mew||||fly,flyy|||||||", 1, 5, MemberFault::Move),
+    (
+        b"Mew||||fly,dig,cut,surf,wrap|||||||",
+        1,
+        5,
+        MemberFault::FifthMove,
+    ),
+    (b"Mew||||fly||252,4|||||", 1, 7, MemberFault::Evs),
+    (b"Mew||||fly||,,,,,,|||||", 1, 7, MemberFault::Evs),
+    (b"Mew||||fly||256,,,,,|||||", 1, 7, MemberFault::Evs),
+    (b"Mew||||fly||,,,252,4,|||||", 1, 7, MemberFault::SpecialEvs),
+    (b"Mew||||fly||||30,0,,,,|||", 1, 9, MemberFault::HpIv),
+    (b"Mew||||fly||||||200|", 1, 11, MemberFault::Level),
+];
+
+// Lines with a fault of no field.
+static LINES: [(&[u8], PackedFault); 4] = [
+    (b"", PackedFault::Fields { member: 1 }),
+    (b"Mew||||fly|||||||]Mew", PackedFault::Fields { member: 2 }),
+    (
+        b"Mew||||fly|||||||]Mew||||fly|||||||]Mew||||fly|||||||]Mew||||fly|||||||]Mew||||fly|||||||]Mew||||fly|||||||]x",
+        PackedFault::SeventhMember,
+    ),
+    (b"Mew|||||||||||", PackedFault::Team(TeamRefusal::NoMove(1))),
+];
 
 #[test]
-fn faults_of_fields(rt: HostRuntime) {
-    let species = b"Mew||||fly|||||||]Bob|Missingno|||fly|||||||";
-    assert_same(&rt, fault_of(species), at(2, 2, MemberFault::Species));
-    let item = b"Mew||leftovers||fly|||||||";
-    assert_same(&rt, fault_of(item), at(1, 3, MemberFault::Item));
-    let wrong = b"Mew||||fly,flyy|||||||";
-    assert_same(&rt, fault_of(wrong), at(1, 5, MemberFault::Move));
-    let five = b"Mew||||fly,dig,cut,surf,wrap|||||||";
-    assert_same(&rt, fault_of(five), at(1, 5, MemberFault::FifthMove));
-    for evs in [
-        b"Mew||||fly||252,4|||||".as_slice(),
-        b"Mew||||fly||,,,,,,|||||".as_slice(),
-        b"Mew||||fly||256,,,,,|||||".as_slice(),
-    ] {
-        assert_same(&rt, fault_of(evs), at(1, 7, MemberFault::Evs));
+fn faults_of_fields_and_lines(rt: HostRuntime) {
+    for (text, member, field, fault) in FAULTS {
+        let expected = PackedFault::Field {
+            member,
+            field,
+            fault,
+        };
+        assert_eq!(rt; fault_of(text), Some(expected), "at {text:?}");
     }
-    let evs = b"Mew||||fly||,,,252,4,|||||";
-    assert_same(&rt, fault_of(evs), at(1, 7, MemberFault::SpecialEvs));
-    let ivs = b"Mew||||fly||||30,0,,,,|||";
-    assert_same(&rt, fault_of(ivs), at(1, 9, MemberFault::HpIv));
-    let level = b"Mew||||fly||||||200|";
-    assert_same(&rt, fault_of(level), at(1, 11, MemberFault::Level));
+    for (text, fault) in LINES {
+        assert_eq!(rt; fault_of(text), Some(fault), "at {text:?}");
+    }
 }
 
 #[test]
-fn faults_of_lines(rt: HostRuntime) -> Result<(), Fail> {
-    let fields = |member| Some(PackedFault::Fields { member });
-    assert_same(&rt, fault_of(b""), fields(1));
-    assert_same(&rt, fault_of(b"Mew||||fly|||||||]Mew"), fields(2));
-    let seven =
-        b"Mew||||fly|||||||]Mew||||fly|||||||]Mew||||fly|||||||]Mew||||fly|||||||]Mew||||fly|||||||]Mew||||fly|||||||]x";
-    assert_same(&rt, fault_of(seven), Some(PackedFault::SeventhMember));
-    let none = b"Mew|||||||||||";
-    let refused = Some(PackedFault::Team(TeamRefusal::NoMove(1)));
-    assert_same(&rt, fault_of(none), refused);
+fn faults_in_words(rt: HostRuntime) -> Result<(), Fail> {
     let fault = fault_of(b"Mew||||fly||||||200|").ok_or("a fault")?;
     let printed = format!(in rt.alloc(); "{fault}")?;
     let words = "member 1, field 11: expected a level from 1 to 100";

@@ -1,7 +1,7 @@
 //! Plain states: read from bytes, made into them, and refused (docs/LAYOUT.md, "Plain states"; crates/gen1_states/CALLING.md, "Faults").
 //! Stats are worked out by the formulas of docs/MECHANICS.md, "Stats".
 use crate::comparing::assert_same;
-use crate::loading::{put, put_block, three_tauros, two_tauros};
+use crate::loading::{put, three_tauros, two_tauros, unstarted};
 use gen1_layout::{LoadFault, Packed};
 use gen1_states::{BattleState, StateFault, from_state, state_of};
 use std::process::Abort;
@@ -48,14 +48,6 @@ fn assert_wrong(rt: &impl Abort, state: &BattleState, fault: [u32; 7]) {
 fn changed(changes: &[(usize, u8)]) -> [u8; 384] {
     let mut form = two_tauros();
     put(&mut form, changes);
-    form
-}
-
-// The bytes of two Tauros before their first turn.
-fn unstarted() -> [u8; 384] {
-    let mut form = changed(&[(1, 0), (17, 0), (18, 0)]);
-    put_block(&mut form, 168, &[0; 36]);
-    put_block(&mut form, 348, &[0; 36]);
     form
 }
 

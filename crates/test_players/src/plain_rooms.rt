@@ -1,16 +1,15 @@
 //! Rooms that their caller keeps, and forfeits (docs/MECHANICS.md, "Rooms").
 use crate::comparing::assert_same;
+use crate::events::{ONE, TWO};
+use crate::rooms::{Answer, GOES_ON, answer};
 use crate::teams::{SEED, tauros};
 use gen1_engine::BattleResult;
 use gen1_layout::Packed;
 use gen1_machine::{Outcome, Request, Side};
+use gen1_room::RoomRefusal;
 use gen1_room::plain::{PlainRoom, begin, choices, forfeit, result, submit};
-use gen1_room::{RoomRefusal, Submitted};
+use std::process::Abort;
 use std::test::Fail;
-
-const ONE: Side = Side::One;
-
-const TWO: Side = Side::Two;
 
 // A room with an old log, choices and a forfeit, which are gone once it begins.
 fn two_tauros() -> Result<PlainRoom, Fail> {
@@ -29,13 +28,64 @@ fn two_tauros() -> Result<PlainRoom, Fail> {
     Ok(room)
 }
 
+/// A step of a room, and its answer.
+#[derive(Clone, Copy, Drop)]
+enum Step {
+    /// The side, the number of the pair, and the choice as a byte.
+    Submits(Side, u32, u8, Answer),
+    Forfeits(Side, Answer),
+}
+
+const OVER: Answer = Answer::Refuses(RoomRefusal::Over);
+
 // How a battle ends that a side has won.
-fn won(outcome: Outcome) -> BattleResult {
-    BattleResult {
-        outcome,
-        request_one: Request::Pass,
-        request_two: Request::Pass,
+const ONE_HAS_WON: Answer = Answer::Advances(Outcome::WinOne, Request::Pass, Request::Pass);
+
+const TWO_HAS_WON: Answer = Answer::Advances(Outcome::WinTwo, Request::Pass, Request::Pass);
+
+// Side 2's choice, which was there, is gone.
+static FORFEIT: [Step; 2] = [
+    Step::Submits(TWO, 0, 17, Answer::Waits),
+    Step::Forfeits(ONE, TWO_HAS_WON),
+];
+
+static AFTER_A_FORFEIT: [Step; 5] = [
+    Step::Forfeits(TWO, ONE_HAS_WON),
+    Step::Submits(ONE, 1, 17, OVER),
+    Step::Submits(ONE, 0, 17, OVER),
+    Step::Forfeits(TWO, OVER),
+    Step::Forfeits(ONE, OVER),
+];
+
+// Side 1 wins in the second turn (README.md, "The example").
+static AFTER_THE_END: [Step; 5] = [
+    Step::Submits(ONE, 0, 17, Answer::Waits),
+    Step::Submits(TWO, 0, 17, GOES_ON),
+    Step::Submits(ONE, 1, 17, Answer::Waits),
+    Step::Submits(TWO, 1, 17, ONE_HAS_WON),
+    Step::Forfeits(ONE, OVER),
+];
+
+// Plays the steps from the start, and asserts each answer. Returns the room.
+fn play(rt: &impl Abort, steps: &[Step]) -> Result<PlainRoom, Fail> {
+    let mut room = two_tauros()?;
+    for (at, step) in steps.iter().enumerate() {
+        let (found, expected) = match *step {
+            Step::Submits(side, number, byte, expected) => {
+                (answer(&submit(&mut room, side, number, byte)), expected)
+            }
+            Step::Forfeits(side, expected) => match forfeit(&mut room, side) {
+                Ok(result) => (result_of(&result), expected),
+                Err(refusal) => (Answer::Refuses(refusal), expected),
+            },
+        };
+        assert_eq!(rt; found, expected, "at {at}");
     }
+    Ok(room)
+}
+
+fn result_of(it: &BattleResult) -> Answer {
+    Answer::Advances(it.outcome, it.request_one, it.request_two)
 }
 
 #[test]
@@ -51,48 +101,40 @@ fn a_room_begins_with_a_clear_log(rt: HostRuntime) -> Result<(), Fail> {
     Ok(())
 }
 
-// The log of a win is the byte 26 and the side. Side 2's choice, which was there, is gone.
+// The log of a win is the byte 26 and the side.
 #[test]
 fn the_other_side_of_a_forfeit_wins(rt: HostRuntime) -> Result<(), Fail> {
-    let mut room = two_tauros()?;
-    assert_same(&rt, submit(&mut room, TWO, 0, 17), Ok(Submitted::Waiting));
-    let turn = room.battle.turn();
-    assert_same(&rt, forfeit(&mut room, ONE), Ok(won(Outcome::WinTwo)));
-    assert_same(&rt, result(&room), won(Outcome::WinTwo));
+    let turn = two_tauros()?.battle.turn();
+    let room = play(&rt, &FORFEIT)?;
+    assert_same(&rt, result_of(&result(&room)), TWO_HAS_WON);
     assert_same(&rt, (room.number, room.forfeit), (1, 1));
     assert_same(&rt, room.log_length, 2);
     assert_same(&rt, &room.log[..3], [26, 2, 128].as_slice());
-    assert_same(&rt, room.battle.turn(), turn);
-    assert_same(&rt, room.battle.outcome(), Outcome::Ongoing);
+    assert_same(
+        &rt,
+        (room.battle.turn(), room.battle.outcome()),
+        (turn, Outcome::Ongoing),
+    );
     Ok(())
 }
 
 #[test]
 fn a_forfeit_ends_the_room(rt: HostRuntime) -> Result<(), Fail> {
-    let mut room = two_tauros()?;
-    assert_same(&rt, forfeit(&mut room, TWO), Ok(won(Outcome::WinOne)));
-    assert_same(&rt, submit(&mut room, ONE, 1, 17), Err(RoomRefusal::Over));
-    assert_same(&rt, submit(&mut room, ONE, 0, 17), Err(RoomRefusal::Over));
-    assert_same(&rt, forfeit(&mut room, TWO), Err(RoomRefusal::Over));
-    assert_same(&rt, forfeit(&mut room, ONE), Err(RoomRefusal::Over));
-    assert_same(&rt, choices(&room, ONE).len(), 0);
-    assert_same(&rt, choices(&room, TWO).len(), 0);
+    let room = play(&rt, &AFTER_A_FORFEIT)?;
+    assert_same(
+        &rt,
+        (choices(&room, ONE).len(), choices(&room, TWO).len()),
+        (0, 0),
+    );
     assert_same(&rt, (room.number, room.forfeit), (1, 2));
-    assert_same(&rt, result(&room), won(Outcome::WinOne));
+    assert_same(&rt, result_of(&result(&room)), ONE_HAS_WON);
     Ok(())
 }
 
-// Side 1 wins in the second turn (README.md, "The example").
 #[test]
 fn a_battle_that_is_over_is_not_forfeited(rt: HostRuntime) -> Result<(), Fail> {
-    let mut room = two_tauros()?;
-    for pair in 0..2 {
-        let _ = submit(&mut room, ONE, pair, 17);
-        let _ = submit(&mut room, TWO, pair, 17);
-    }
-    assert_same(&rt, result(&room), won(Outcome::WinOne));
-    assert_same(&rt, forfeit(&mut room, ONE), Err(RoomRefusal::Over));
+    let room = play(&rt, &AFTER_THE_END)?;
     assert_same(&rt, (room.number, room.forfeit), (2, 0));
-    assert_same(&rt, result(&room), won(Outcome::WinOne));
+    assert_same(&rt, result_of(&result(&room)), ONE_HAS_WON);
     Ok(())
 }

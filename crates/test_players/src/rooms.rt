@@ -1,14 +1,12 @@
 //! Rooms, with the table and the example of docs/MECHANICS.md, "Rooms".
 use crate::comparing::assert_same;
+use crate::events::{ONE, TWO};
 use crate::teams::{SEED, chansey, gengar, lead_and_chansey, tauros};
 use gen1_engine::Battle;
 use gen1_machine::{Outcome, Request, Side};
 use gen1_room::{Reply, Room, RoomRefusal, Submitted, pairs_are_answered, replies_hide_choices};
+use std::process::Abort;
 use std::test::Fail;
-
-const ONE: Side = Side::One;
-
-const TWO: Side = Side::Two;
 
 // The first update of the battle that is stored in crates/battle_tool: both come out, and turn 1 begins.
 static START: [u8; 23] = [
@@ -25,14 +23,80 @@ fn two_chanseys() -> Result<Room, Fail> {
     Ok(Room::new(Battle::new(&team, &team, SEED)))
 }
 
-// Whether a pair was completed, and the battle goes on with a turn.
-fn goes_on(reply: &Reply) -> bool {
-    let Ok(Submitted::Advanced(result)) = reply else {
-        return false;
-    };
-    result.outcome == Outcome::Ongoing
-        && result.request_one == Request::Move
-        && result.request_two == Request::Move
+/// A reply in words.
+#[derive(Clone, Copy, Debug, PartialEq, Drop)]
+pub(crate) enum Answer {
+    Waits,
+    /// A pair was completed: the outcome, and what each side is asked for.
+    Advances(Outcome, Request, Request),
+    Refuses(RoomRefusal),
+}
+
+/// A pair was completed, and the battle goes on with a turn.
+pub(crate) const GOES_ON: Answer = Answer::Advances(Outcome::Ongoing, Request::Move, Request::Move);
+
+pub(crate) fn answer(reply: &Reply) -> Answer {
+    match *reply {
+        Ok(Submitted::Waiting) => Answer::Waits,
+        Ok(Submitted::Advanced(result)) => {
+            Answer::Advances(result.outcome, result.request_one, result.request_two)
+        }
+        Err(refusal) => Answer::Refuses(refusal),
+    }
+}
+
+/// A submission and its reply: the side, the number of the pair, the choice as a byte, and the answer.
+type Submission = (Side, u32, u8, Answer);
+
+static BY_REASONS: [Submission; 7] = [
+    (ONE, 0, 17, Answer::Waits),
+    (ONE, 0, 17, Answer::Refuses(RoomRefusal::AlreadyChosen)),
+    (ONE, 0, 99, Answer::Refuses(RoomRefusal::AlreadyChosen)),
+    (TWO, 1, 17, Answer::Refuses(RoomRefusal::Stale(0))),
+    (TWO, 0, 17, GOES_ON),
+    (TWO, 0, 17, Answer::Refuses(RoomRefusal::Stale(1))),
+    (ONE, 1, 0x14, Answer::Refuses(RoomRefusal::NotOffered)),
+];
+
+static TO_THE_END: [Submission; 6] = [
+    (ONE, 0, 17, Answer::Waits),
+    (TWO, 0, 17, GOES_ON),
+    (ONE, 1, 17, Answer::Waits),
+    (
+        TWO,
+        1,
+        17,
+        Answer::Advances(Outcome::WinOne, Request::Pass, Request::Pass),
+    ),
+    (ONE, 2, 17, Answer::Refuses(RoomRefusal::Over)),
+    (TWO, 0, 0, Answer::Refuses(RoomRefusal::Over)),
+];
+
+// Gengar is immune to Explosion, so only the user falls, and only its side is asked for something.
+static EXPLOSION: [Submission; 5] = [
+    (ONE, 0, 17, Answer::Waits),
+    (
+        TWO,
+        0,
+        17,
+        Answer::Advances(Outcome::Ongoing, Request::Switch, Request::Pass),
+    ),
+    (TWO, 1, 0, Answer::Refuses(RoomRefusal::AlreadyChosen)),
+    (ONE, 1, 17, Answer::Refuses(RoomRefusal::NotOffered)),
+    (ONE, 1, 0x22, GOES_ON),
+];
+
+static ONE_FIRST: [Submission; 2] = [(ONE, 0, 17, Answer::Waits), (TWO, 0, 17, GOES_ON)];
+
+static TWO_FIRST: [Submission; 2] = [(TWO, 0, 17, Answer::Waits), (ONE, 0, 17, GOES_ON)];
+
+// Makes the submissions, and asserts each reply. Returns the room.
+fn play(rt: &impl Abort, mut room: Room, submissions: &[Submission]) -> Room {
+    for (at, (side, number, byte, expected)) in submissions.iter().enumerate() {
+        let reply = room.submit(*side, *number, *byte);
+        assert_eq!(rt; answer(&reply), *expected, "at {at}");
+    }
+    room
 }
 
 #[test]
@@ -46,23 +110,40 @@ fn a_battle_is_started_with_its_room(rt: HostRuntime) -> Result<(), Fail> {
 
 #[test]
 fn submissions_are_answered_in_the_order_of_the_reasons(rt: HostRuntime) -> Result<(), Fail> {
-    let mut room = two_tauros()?;
-    assert_same(&rt, room.submit(ONE, 0, 17), Ok(Submitted::Waiting));
-    assert_same(
-        &rt,
-        room.submit(ONE, 0, 17),
-        Err(RoomRefusal::AlreadyChosen),
-    );
-    assert_same(
-        &rt,
-        room.submit(ONE, 0, 99),
-        Err(RoomRefusal::AlreadyChosen),
-    );
-    assert_same(&rt, room.submit(TWO, 1, 17), Err(RoomRefusal::Stale(0)));
-    assert_same(&rt, goes_on(&room.submit(TWO, 0, 17)), true);
-    assert_same(&rt, room.submit(TWO, 0, 17), Err(RoomRefusal::Stale(1)));
-    assert_same(&rt, room.submit(ONE, 1, 0x14), Err(RoomRefusal::NotOffered));
+    let room = play(&rt, two_tauros()?, &BY_REASONS);
     assert_same(&rt, room.number(), 1);
+    Ok(())
+}
+
+#[test]
+fn a_battle_that_is_over_takes_nothing(rt: HostRuntime) -> Result<(), Fail> {
+    let room = play(&rt, two_tauros()?, &TO_THE_END);
+    assert_same(
+        &rt,
+        (room.number(), room.log().last().copied()),
+        (2, Some(1)),
+    );
+    Ok(())
+}
+
+#[test]
+fn a_side_of_which_nothing_is_asked_passes_by_itself(rt: HostRuntime) -> Result<(), Fail> {
+    let one = lead_and_chansey(&["Explosion"])?;
+    let room = play(
+        &rt,
+        Room::new(Battle::new(&one, &gengar()?, SEED)),
+        &EXPLOSION,
+    );
+    assert_same(&rt, room.number(), 2);
+    Ok(())
+}
+
+#[test]
+fn who_submits_first_changes_nothing(rt: HostRuntime) -> Result<(), Fail> {
+    let first = play(&rt, two_tauros()?, &ONE_FIRST);
+    let second = play(&rt, two_tauros()?, &TWO_FIRST);
+    assert_same(&rt, first.battle().bytes(), second.battle().bytes());
+    assert_same(&rt, first.log(), second.log());
     Ok(())
 }
 
@@ -72,34 +153,6 @@ fn refusals_have_numbers(rt: HostRuntime) -> Result<(), Fail> {
     assert_same(&rt, RoomRefusal::Stale(7).number(), 2);
     assert_same(&rt, RoomRefusal::AlreadyChosen.number(), 3);
     assert_same(&rt, RoomRefusal::NotOffered.number(), 4);
-    Ok(())
-}
-
-#[test]
-fn a_battle_that_is_over_takes_nothing(rt: HostRuntime) -> Result<(), Fail> {
-    let mut room = two_tauros()?;
-    for pair in 0..2 {
-        let _ = room.submit(ONE, pair, 17);
-        let _ = room.submit(TWO, pair, 17);
-    }
-    assert_same(&rt, room.battle().result().outcome, Outcome::WinOne);
-    assert_same(&rt, room.number(), 2);
-    assert_same(&rt, room.submit(ONE, 2, 17), Err(RoomRefusal::Over));
-    assert_same(&rt, room.submit(TWO, 0, 0), Err(RoomRefusal::Over));
-    assert_same(&rt, room.log().last().copied(), Some(1));
-    Ok(())
-}
-
-#[test]
-fn who_submits_first_changes_nothing(rt: HostRuntime) -> Result<(), Fail> {
-    let mut first = two_tauros()?;
-    assert_same(&rt, first.submit(ONE, 0, 17), Ok(Submitted::Waiting));
-    assert_same(&rt, goes_on(&first.submit(TWO, 0, 17)), true);
-    let mut second = two_tauros()?;
-    assert_same(&rt, second.submit(TWO, 0, 17), Ok(Submitted::Waiting));
-    assert_same(&rt, goes_on(&second.submit(ONE, 0, 17)), true);
-    assert_same(&rt, first.battle().bytes(), second.battle().bytes());
-    assert_same(&rt, first.log(), second.log());
     Ok(())
 }
 
@@ -136,21 +189,6 @@ fn every_order_of_two_players_comes_to_the_same(rt: HostRuntime) -> Result<(), F
     Ok(())
 }
 
-// Gengar is immune to Explosion, so only the user falls, and only its side is asked for something.
-#[test]
-fn a_side_of_which_nothing_is_asked_passes_by_itself(rt: HostRuntime) -> Result<(), Fail> {
-    let one = lead_and_chansey(&["Explosion"])?;
-    let mut room = Room::new(Battle::new(&one, &gengar()?, SEED));
-    let _ = room.submit(ONE, 0, 17);
-    let _ = room.submit(TWO, 0, 17);
-    assert_same(&rt, room.battle().result().request_one, Request::Switch);
-    assert_same(&rt, room.submit(TWO, 1, 0), Err(RoomRefusal::AlreadyChosen));
-    assert_same(&rt, room.submit(ONE, 1, 17), Err(RoomRefusal::NotOffered));
-    assert_same(&rt, goes_on(&room.submit(ONE, 1, 0x22)), true);
-    assert_same(&rt, room.number(), 2);
-    Ok(())
-}
-
 #[test]
 fn a_run_is_submission_after_submission(rt: HostRuntime) -> Result<(), Fail> {
     let team = tauros()?;
@@ -164,11 +202,14 @@ fn a_run_is_submission_after_submission(rt: HostRuntime) -> Result<(), Fail> {
     let mut replies = [Ok(Submitted::Waiting); 5];
     let room = Room::run(Battle::new(&team, &team, SEED), &submissions, &mut replies);
     assert_same(&rt, room.number(), 1);
-    assert_same(&rt, replies[0], Ok(Submitted::Waiting));
-    assert_same(&rt, replies[1], Err(RoomRefusal::AlreadyChosen));
-    assert_same(&rt, replies[2], Err(RoomRefusal::Stale(0)));
-    assert_same(&rt, goes_on(&replies[3]), true);
-    assert_same(&rt, replies[4], Err(RoomRefusal::Stale(1)));
+    let expected = [
+        Answer::Waits,
+        Answer::Refuses(RoomRefusal::AlreadyChosen),
+        Answer::Refuses(RoomRefusal::Stale(0)),
+        GOES_ON,
+        Answer::Refuses(RoomRefusal::Stale(1)),
+    ];
+    assert_same(&rt, replies.map(|reply| answer(&reply)), expected);
     Ok(())
 }
 
