@@ -1,9 +1,6 @@
 //! The stored run, replayed to a writer, and to one that fails at each of its writes (docs/MECHANICS.md, "Log bytes").
-use crate::battles::{
-    FIRST, PAIRS, SECOND, START, WON, assert_same, bytes_of, stands_at, two_tauros,
-};
-use gen1_engine::{Battle, BattleResult, Refusal, ReplayFault};
-use gen1_events::LogBuf;
+use crate::battles::{ENDS, LOG, PAIRS, WON, assert_same, bytes_of, played, two_tauros};
+use gen1_engine::{BattleResult, Refusal, ReplayFault};
 use gen1_machine::{Device, Side};
 use std::process::Abort;
 use std::test::Fail;
@@ -14,11 +11,7 @@ fn a_replay_writes_every_log(rt: HostRuntime) -> Result<(), Fail> {
     let mut battle = two_tauros()?;
     let mut sink = Device::new(Vec::new(rt.alloc()));
     assert_same(&rt, battle.replay(&PAIRS, &mut sink), Ok(WON));
-    let bytes = sink.into_inner();
-    assert_same(&rt, bytes.len(), 82);
-    assert_same(&rt, stands_at(bytes.as_slice(), 0, &START), true);
-    assert_same(&rt, stands_at(bytes.as_slice(), 23, &FIRST), true);
-    assert_same(&rt, stands_at(bytes.as_slice(), 59, &SECOND), true);
+    assert_same(&rt, sink.into_inner().as_slice(), LOG.as_slice());
     Ok(())
 }
 
@@ -33,22 +26,9 @@ fn a_replay_tells_a_refused_pair(rt: HostRuntime) -> Result<(), Fail> {
     Ok(())
 }
 
-/// The length of the log after each pair: 23, 36 and 23 more bytes.
-const ENDS: [usize; 3] = [23, 59, 82];
-
-/// The battle after this many of the pairs.
-fn after(count: usize) -> Result<Battle, Fail> {
-    let mut battle = two_tauros()?;
-    let mut log = LogBuf::new();
-    for (one, two) in &PAIRS[..count.min(3)] {
-        battle.update_by_bytes(*one, *two, &mut log)?;
-    }
-    Ok(battle)
-}
-
 /// How many pairs a replay plays if its writer takes this many bytes: those that are written whole, and the one that
 /// isn't.
-fn played(written: usize) -> usize {
+fn count_of(written: usize) -> usize {
     if written < ENDS[0] {
         1
     } else if written < ENDS[1] {
@@ -58,15 +38,14 @@ fn played(written: usize) -> usize {
     }
 }
 
-/// Whether these bytes are the prefix of the log of this length.
-fn is_front(bytes: &[u8], written: usize) -> bool {
-    for (at, log) in [(0usize, START.as_slice()), (23, &FIRST), (59, &SECOND)] {
-        let end = log.len().min(written.saturating_sub(at));
-        if !stands_at(bytes, at, &log[..end]) {
-            return false;
-        }
+fn told(written: usize) -> Result<BattleResult, ReplayFault> {
+    if written < ENDS[2] {
+        Err(ReplayFault::Write {
+            done: count_of(written),
+        })
+    } else {
+        Ok(WON)
     }
-    bytes.len() == written
 }
 
 /// Replays to a writer that takes at most `most` bytes in a write, and whose write number `left` fails.
@@ -87,20 +66,15 @@ fn assert_told(
         most,
         bytes: &mut bytes,
     });
-    let result = battle.replay(&PAIRS, &mut sink);
-    let done = played(written);
-    assert_same(rt, result, told(written, done));
-    assert_same(rt, is_front(&bytes, written), true);
-    assert_same(rt, bytes_of(&battle), bytes_of(&after(done)?));
+    let found = battle.replay(&PAIRS, &mut sink);
+    assert_same(rt, found, told(written));
+    assert_same(
+        rt,
+        (bytes.len(), LOG.starts_with(bytes.as_slice())),
+        (written, true),
+    );
+    assert_same(rt, bytes_of(&battle), bytes_of(&played(count_of(written))?));
     Ok(())
-}
-
-fn told(written: usize, done: usize) -> Result<BattleResult, ReplayFault> {
-    if written < ENDS[2] {
-        Err(ReplayFault::Write { done })
-    } else {
-        Ok(WON)
-    }
 }
 
 // Three writes, one for each pair.

@@ -330,8 +330,8 @@ fn bytes_of(battle: &Packed) -> [u8; 384] {
     bytes
 }
 
-// These bytes with some blocks replaced.
-fn with(mut bytes: [u8; 384], blocks: &[Block]) -> [u8; 384] {
+/// These bytes with some blocks replaced.
+pub(crate) fn with(mut bytes: [u8; 384], blocks: &[Block]) -> [u8; 384] {
     for (start, block) in blocks {
         for (place, byte) in bytes.iter_mut().skip(*start).zip(*block) {
             *place = *byte;
