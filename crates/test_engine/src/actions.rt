@@ -394,17 +394,17 @@ static CONTINUED: [Row; 5] = [
 
 #[test]
 fn actions(rt: HostRuntime) -> Result<(), Fail> {
-    play(&rt, &ACTIONS)
+    play(&rt, rt.alloc(), &ACTIONS)
 }
 
 #[test]
 fn faults(rt: HostRuntime) -> Result<(), Fail> {
-    play(&rt, &FAULTS)
+    play(&rt, rt.alloc(), &FAULTS)
 }
 
 #[test]
 fn moves_that_go_on(rt: HostRuntime) -> Result<(), Fail> {
-    play(&rt, &CONTINUED)
+    play(&rt, rt.alloc(), &CONTINUED)
 }
 
 // Ten link numbers of 217: not critical, since 206 isn't below 55, then the factor 236, and then below 255.

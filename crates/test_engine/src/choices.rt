@@ -189,5 +189,5 @@ static OFFERS: [Row; 18] = [
 
 #[test]
 fn offered_choices(rt: HostRuntime) -> Result<(), Fail> {
-    play(&rt, &OFFERS)
+    play(&rt, rt.alloc(), &OFFERS)
 }

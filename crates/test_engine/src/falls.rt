@@ -217,10 +217,10 @@ static LAST_TURNS: [Row; 3] = [
 
 #[test]
 fn falls_and_requests(rt: HostRuntime) -> Result<(), Fail> {
-    play(&rt, &FALLS)
+    play(&rt, rt.alloc(), &FALLS)
 }
 
 #[test]
 fn the_turn_limit(rt: HostRuntime) -> Result<(), Fail> {
-    play(&rt, &LAST_TURNS)
+    play(&rt, rt.alloc(), &LAST_TURNS)
 }

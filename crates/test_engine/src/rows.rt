@@ -17,6 +17,7 @@ use gen1_stats::{MemberSpec, Status, Team};
 use gen1_switching::{close, close_uncut, replace, send_both_first, send_out, start};
 use gen1_tables::{Element, MoveId, Species, Stat};
 use gen1_turn::{act, turn};
+use std::alloc::Global;
 use std::process::Abort;
 use std::test::Fail;
 
@@ -134,6 +135,7 @@ pub(crate) enum Fact {
 /// A battle that is played, and what the last call left.
 #[derive(Drop)]
 struct Game {
+    alloc: Global,
     battle: Packed,
     marked: [u8; 384],
     events: EventList,
@@ -143,9 +145,10 @@ struct Game {
 }
 
 /// Plays rows. A failure names the row and the number of the step, from 0.
-pub(crate) fn play(rt: &(impl AllocGlobal + Abort), rows: &[Row]) -> Result<(), Fail> {
+pub(crate) fn play(rt: &impl Abort, alloc: Global, rows: &[Row]) -> Result<(), Fail> {
     for row in rows {
         let mut game = Game {
+            alloc,
             battle: unstarted(row.teams)?,
             marked: [0; 384],
             events: EventList::new(),
@@ -160,12 +163,7 @@ pub(crate) fn play(rt: &(impl AllocGlobal + Abort), rows: &[Row]) -> Result<(), 
     Ok(())
 }
 
-fn take(
-    rt: &(impl AllocGlobal + Abort),
-    game: &mut Game,
-    step: Step,
-    at: (&str, usize),
-) -> Result<(), Fail> {
+fn take(rt: &impl Abort, game: &mut Game, step: Step, at: (&str, usize)) -> Result<(), Fail> {
     match step {
         Step::Put(fact) => put(&mut game.battle, fact),
         Step::Load(blocks) => {
@@ -234,12 +232,7 @@ fn draw(game: &mut Game, step: Step) -> Result<(), Fail> {
 }
 
 // Asserts what a step expects.
-fn expect(
-    rt: &(impl AllocGlobal + Abort),
-    game: &Game,
-    step: Step,
-    at: (&str, usize),
-) -> Result<(), Fail> {
+fn expect(rt: &impl Abort, game: &Game, step: Step, at: (&str, usize)) -> Result<(), Fail> {
     match step {
         Step::Is(fact) => assert_eq!(rt; found(&game.battle, fact), fact, "in {at:?}"),
         Step::Told(lines) => {
@@ -277,37 +270,37 @@ fn expect(
 }
 
 fn expect_line(
-    rt: &(impl AllocGlobal + Abort),
+    rt: &impl Abort,
     game: &Game,
     expected: (usize, &str),
     at: (&str, usize),
 ) -> Result<(), Fail> {
     let (place, line) = expected;
     let event = game.events.get(place).ok_or("no such event")?;
-    let text = line_of(rt, event)?;
+    let text = line_of(game.alloc, event)?;
     assert_eq!(rt; text.as_str(), line, "event {place} in {at:?}");
     Ok(())
 }
 
 // The line of an event, with what the program's line leaves out.
-fn line_of(rt: &impl AllocGlobal, event: &Event) -> Result<String, Fail> {
+fn line_of(alloc: Global, event: &Event) -> Result<String, Fail> {
     let mut log = LogBuf::new();
     write(event, &mut log);
-    let text = print_log(rt.alloc(), log.as_slice())?;
+    let text = print_log(alloc, log.as_slice())?;
     let line = text.as_str().trim_end();
     match event {
         Event::Switch(_, place, _, _) => {
             let number = place.number();
-            Ok(format!(in rt.alloc(); "{line} at place {number}")?)
+            Ok(format!(in alloc; "{line} at place {number}")?)
         }
         Event::Damage(_, health, _) if health.hp() == 0 => {
             let max = health.max();
             match health.kind() {
-                Some(kind) => Ok(format!(in rt.alloc(); "{line} of {max}, {kind:?}")?),
-                None => Ok(format!(in rt.alloc(); "{line} of {max}")?),
+                Some(kind) => Ok(format!(in alloc; "{line} of {max}, {kind:?}")?),
+                None => Ok(format!(in alloc; "{line} of {max}")?),
             }
         }
-        _ => Ok(format!(in rt.alloc(); "{line}")?),
+        _ => Ok(format!(in alloc; "{line}")?),
     }
 }
 

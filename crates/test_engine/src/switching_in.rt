@@ -331,15 +331,15 @@ static PENALTIES: [Row; 6] = [
 
 #[test]
 fn the_first_update(rt: HostRuntime) -> Result<(), Fail> {
-    play(&rt, &FIRST_UPDATES)
+    play(&rt, rt.alloc(), &FIRST_UPDATES)
 }
 
 #[test]
 fn switches_and_replacements(rt: HostRuntime) -> Result<(), Fail> {
-    play(&rt, &SWITCHES)
+    play(&rt, rt.alloc(), &SWITCHES)
 }
 
 #[test]
 fn a_status_brings_its_penalty(rt: HostRuntime) -> Result<(), Fail> {
-    play(&rt, &PENALTIES)
+    play(&rt, rt.alloc(), &PENALTIES)
 }

@@ -641,25 +641,25 @@ static STORED_RUN: [Row; 1] = [Row {
 
 #[test]
 fn who_acts_first(rt: HostRuntime) -> Result<(), Fail> {
-    play(&rt, &ORDER)
+    play(&rt, rt.alloc(), &ORDER)
 }
 
 #[test]
 fn turns_with_switches(rt: HostRuntime) -> Result<(), Fail> {
-    play(&rt, &SWITCHES)
+    play(&rt, rt.alloc(), &SWITCHES)
 }
 
 #[test]
 fn falls_and_faults_in_a_turn(rt: HostRuntime) -> Result<(), Fail> {
-    play(&rt, &ENDS)
+    play(&rt, rt.alloc(), &ENDS)
 }
 
 #[test]
 fn moves_that_go_on(rt: HostRuntime) -> Result<(), Fail> {
-    play(&rt, &CONTINUED)
+    play(&rt, rt.alloc(), &CONTINUED)
 }
 
 #[test]
 fn the_stored_run_is_told_as_it_was_printed(rt: HostRuntime) -> Result<(), Fail> {
-    play(&rt, &STORED_RUN)
+    play(&rt, rt.alloc(), &STORED_RUN)
 }

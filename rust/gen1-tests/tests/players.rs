@@ -5,18 +5,22 @@
 //! knows, and how a room passes choices on. They are in a crate of their own because a crate with tests is proved twice.
 //!
 //! - `battles`: views and bytes of whole battles
+//! - `views`: what each event changes of a spectator's view
+//! - `following`: a view that follows log bytes
 //! - `own_sides`: what a side is shown of itself
 //! - `players`: what a player knows
 //! - `rooms`: rooms
 //! - `plain_rooms`: rooms that their caller keeps, and forfeits
 //! - `teams`: the teams of these tests
+//! - `events`: events in plain numbers
 //! - `comparing`: what the tests compare
 
 #[cfg(test)]
 mod battles {
     //! Whole battles: after each update the view that followed the logs shows what the bytes of the battle say.
-    use crate::comparing::assert_same;
+    use crate::events::{ONE, TWO};
     use crate::teams::{SEED, lead_and_chansey, tauros};
+    use crate::views::{Shown, expect};
     use gen1::generated::engine::Battle;
     use gen1::generated::events::{LogBuf, LogReader};
     use gen1::generated::machine::{Choice, Kind, Outcome, Side};
@@ -144,93 +148,130 @@ mod battles {
         Ok(view)
     }
 
+    /// A battle of a Tauros that knows these moves and a Chansey on each side. The choices are bytes; where one isn't offered, the first
+    /// that is offered is taken.
+    #[derive(Clone, Copy)]
+    struct Row {
+        name: &'static str,
+        one: &'static [&'static str],
+        two: &'static [&'static str],
+        choices: &'static [(u8, u8)],
+        shown: &'static [Shown],
+    }
+
+    static BATTLES: [Row; 8] = [
+        Row {
+            name: "Haze, before it",
+            one: &["Swords Dance", "Reflect", "Haze", "Light Screen"],
+            two: &["Amnesia", "Light Screen", "Barrier", "Strength"],
+            choices: &[(0x11, 0x11), (0x12, 0x12)],
+            shown: &[
+                Shown::Stage(ONE, Stat::Attack, 2),
+                Shown::Stage(TWO, Stat::Special, 2),
+                Shown::Screens(TWO, [true, false]),
+            ],
+        },
+        Row {
+            name: "Haze, after it",
+            one: &["Swords Dance", "Reflect", "Haze", "Light Screen"],
+            two: &["Amnesia", "Light Screen", "Barrier", "Strength"],
+            choices: &[(0x11, 0x11), (0x12, 0x12), (0x13, 0x14)],
+            shown: &[
+                Shown::Stage(TWO, Stat::Special, 0),
+                Shown::Screens(TWO, [false, false]),
+            ],
+        },
+        Row {
+            name: "a substitute is made",
+            one: &["Substitute", "Recover"],
+            two: &["Strength", "Splash"],
+            choices: &[(0x11, 0x12)],
+            shown: &[Shown::Substitute(ONE, true), Shown::Hp(ONE, 1, 265)],
+        },
+        Row {
+            name: "a substitute is hit",
+            one: &["Substitute", "Recover"],
+            two: &["Strength", "Splash"],
+            choices: &[(0x11, 0x12), (0x12, 0x11), (0x12, 0x11), (0x11, 0x11)],
+            shown: &[Shown::Turn(5)],
+        },
+        Row {
+            name: "Rest",
+            one: &["Splash", "Rest"],
+            two: &["Strength", "Splash"],
+            choices: &[(0x11, 0x11), (0x12, 0x12)],
+            shown: &[
+                Shown::Status(ONE, 1, Some(Kind::Sleep)),
+                Shown::Hp(ONE, 1, 353),
+            ],
+        },
+        Row {
+            name: "switches",
+            one: &["Confuse Ray", "Thunder Wave"],
+            two: &["Double Team", "Toxic"],
+            choices: &[(0x11, 0x11), (0x12, 0x12), (0x22, 0x22), (0x11, 0x21)],
+            shown: &[
+                Shown::Place(ONE, 2),
+                Shown::Place(TWO, 1),
+                Shown::Stage(TWO, Stat::Evasion, 0),
+                Shown::Confused(TWO, false),
+            ],
+        },
+        Row {
+            name: "Explosion",
+            one: &["Explosion"],
+            two: &["Splash", "Swords Dance"],
+            choices: &[(0x11, 0x12)],
+            shown: &[Shown::Hp(ONE, 1, 0), Shown::Place(ONE, 1)],
+        },
+        Row {
+            name: "Explosion, and a replacement",
+            one: &["Explosion"],
+            two: &["Splash", "Swords Dance"],
+            choices: &[(0x11, 0x12), (0x22, 0x22), (0x11, 0x11)],
+            shown: &[Shown::Place(ONE, 2)],
+        },
+    ];
+
     #[test]
-    fn the_stored_battle() -> Result<(), Fail> { let rt = gen1_tests::testing::HostRuntime;
+    fn battles_are_shown() -> Result<(), Fail> { let rt = gen1_tests::testing::HostRuntime;
+        for row in BATTLES {
+            let view = watch(
+                &lead_and_chansey(row.one)?,
+                &lead_and_chansey(row.two)?,
+                row.choices,
+            )?;
+            for (number, shown) in row.shown.iter().enumerate() {
+                expect(&rt, &view, *shown, (row.name, number));
+            }
+        }
+        Ok(())
+    }
+
+    #[test]
+    fn the_stored_battle_is_shown() -> Result<(), Fail> { let rt = gen1_tests::testing::HostRuntime;
         let view = watch(&tauros()?, &tauros()?, &[(0x11, 0x11), (0x11, 0x11)])?;
-        assert_same(&rt, (view.place(Side::One), view.place(Side::Two)), (1, 1));
-        assert_same(
-            &rt,
-            (view.hp(Side::One, 1), view.hp(Side::Two, 1)),
-            (263, 0),
-        );
-        assert_same(&rt, (view.turn(), view.outcome()), (2, Outcome::WinOne));
+        for shown in [
+            Shown::Place(ONE, 1),
+            Shown::Place(TWO, 1),
+            Shown::Hp(ONE, 1, 263),
+            Shown::Hp(TWO, 1, 0),
+            Shown::Turn(2),
+            Shown::Outcome(Outcome::WinOne),
+        ] {
+            expect(&rt, &view, shown, ("the stored battle", 0));
+        }
         Ok(())
     }
 
-    #[test]
-    fn a_battle_with_haze() -> Result<(), Fail> { let rt = gen1_tests::testing::HostRuntime;
-        let one = lead_and_chansey(&["Swords Dance", "Reflect", "Haze", "Light Screen"])?;
-        let two = lead_and_chansey(&["Amnesia", "Light Screen", "Barrier", "Strength"])?;
-        let raised = watch(&one, &two, &[(0x11, 0x11), (0x12, 0x12)])?;
-        assert_same(&rt, raised.stage(Side::One, Stat::Attack), 2);
-        assert_same(&rt, raised.stage(Side::Two, Stat::Special), 2);
-        assert_same(&rt, raised.screens(Side::Two), [true, false]);
-        let cleared = watch(&one, &two, &[(0x11, 0x11), (0x12, 0x12), (0x13, 0x14)])?;
-        assert_same(&rt, cleared.stage(Side::Two, Stat::Special), 0);
-        assert_same(&rt, cleared.screens(Side::Two), [false, false]);
-        Ok(())
-    }
-
-    #[test]
-    fn a_battle_with_a_substitute() -> Result<(), Fail> { let rt = gen1_tests::testing::HostRuntime;
-        let one = lead_and_chansey(&["Substitute", "Recover"])?;
-        let two = lead_and_chansey(&["Strength", "Splash"])?;
-        let view = watch(&one, &two, &[(0x11, 0x12)])?;
-        assert_same(
-            &rt,
-            (view.substitute(Side::One), view.hp(Side::One, 1)),
-            (true, 265),
-        );
-        let wishes = [(0x11, 0x12), (0x12, 0x11), (0x12, 0x11), (0x11, 0x11)];
-        let later = watch(&one, &two, &wishes)?;
-        assert_same(&rt, later.turn(), 5);
-        Ok(())
-    }
-
-    #[test]
-    fn a_battle_with_rest() -> Result<(), Fail> { let rt = gen1_tests::testing::HostRuntime;
-        let one = lead_and_chansey(&["Splash", "Rest"])?;
-        let two = lead_and_chansey(&["Strength", "Splash"])?;
-        let view = watch(&one, &two, &[(0x11, 0x11), (0x12, 0x12)])?;
-        assert_same(&rt, view.status(Side::One, 1), Some(Kind::Sleep));
-        assert_same(&rt, view.hp(Side::One, 1), 353);
-        Ok(())
-    }
-
+    // Leech Seed drains some HP each turn.
     #[test]
     fn a_battle_with_leech_seed() -> Result<(), Fail> { let rt = gen1_tests::testing::HostRuntime;
         let one = lead_and_chansey(&["Leech Seed", "Strength"])?;
         let two = lead_and_chansey(&["Strength", "Splash"])?;
-        let wishes = [(0x11, 0x11), (0x11, 0x12), (0x12, 0x11), (0x12, 0x12)];
-        let view = watch(&one, &two, &wishes)?;
-        assert_same(&rt, view.hp(Side::Two, 1) < 353, true);
-        Ok(())
-    }
-
-    #[test]
-    fn a_battle_with_switches() -> Result<(), Fail> { let rt = gen1_tests::testing::HostRuntime;
-        let one = lead_and_chansey(&["Confuse Ray", "Thunder Wave"])?;
-        let two = lead_and_chansey(&["Double Team", "Toxic"])?;
-        let wishes = [(0x11, 0x11), (0x12, 0x12), (0x22, 0x22), (0x11, 0x21)];
-        let view = watch(&one, &two, &wishes)?;
-        assert_same(&rt, (view.place(Side::One), view.place(Side::Two)), (2, 1));
-        assert_same(&rt, view.stage(Side::Two, Stat::Evasion), 0);
-        assert_same(&rt, view.confused(Side::Two), false);
-        Ok(())
-    }
-
-    #[test]
-    fn a_battle_with_an_explosion() -> Result<(), Fail> { let rt = gen1_tests::testing::HostRuntime;
-        let one = lead_and_chansey(&["Explosion"])?;
-        let two = lead_and_chansey(&["Splash", "Swords Dance"])?;
-        let fallen = watch(&one, &two, &[(0x11, 0x12)])?;
-        assert_same(
-            &rt,
-            (fallen.hp(Side::One, 1), fallen.place(Side::One)),
-            (0, 1),
-        );
-        let replaced = watch(&one, &two, &[(0x11, 0x12), (0x22, 0x22), (0x11, 0x11)])?;
-        assert_same(&rt, replaced.place(Side::One), 2);
+        let choices = [(0x11, 0x11), (0x11, 0x12), (0x12, 0x11), (0x12, 0x12)];
+        let view = watch(&one, &two, &choices)?;
+        assert!(view.hp(TWO, 1) < 353);
         Ok(())
     }
 }
@@ -244,6 +285,246 @@ mod comparing {
     // Asserts that these are the same. A test calls it, since an assertion in its own body costs the proof of the test seconds.
     pub(crate) fn assert_same<T: PartialEq + Debug >(rt: &impl Abort, found: T, expected: T) {
         assert_eq!(found, expected);
+    }
+}
+
+#[cfg(test)]
+mod events {
+    //! Events in plain numbers, as rows have them. Levels are 100.
+    use gen1::generated::machine::{
+        CantReason, DamageSource, Event, FaultCode, Health, Kind, Level, Place, Side, StageCount,
+        TurnNumber, Volatile, Who,
+    };
+    use gen1::generated::tables::{MoveId, Species, Stat};
+    use gen1_tests::testing::Fail;
+
+    pub(crate) const ONE: Side = Side::One;
+
+    pub(crate) const TWO: Side = Side::Two;
+
+    pub(crate) const TAUROS: u8 = 128;
+
+    pub(crate) const STARMIE: u8 = 121;
+
+    pub(crate) const CHANSEY: u8 = 113;
+
+    /// An event. A member that is out is named by its side.
+    #[derive(Clone, Copy)]
+    pub(crate) enum Tell {
+        /// The species and the place of who comes out, its HP and greatest HP, and its status.
+        Switch(Side, u8, u8, u16, u16, Option<Kind>),
+        Move(Side, u8),
+        Cant(Side, CantReason),
+        /// HP and greatest HP.
+        Damage(Side, u16, u16, DamageSource),
+        Heal(Side, u16, u16, Option<Kind>),
+        Status(Side, Kind),
+        Cure(Side, Kind),
+        Boost(Side, Stat, u8),
+        Unboost(Side, Stat, u8),
+        ClearAll,
+        Start(Side, Volatile),
+        End(Side, Volatile),
+        Activate(Side, Volatile),
+        Prepare(Side, u8),
+        MustRecharge(Side),
+        Faint(Side),
+        Turn(u16),
+        Win(Side),
+        Tie,
+        Fault(u8),
+    }
+
+    /// The event, where these species are out.
+    pub(crate) fn event(tell: Tell, out: [u8; 2]) -> Result<Event, Fail> {
+        match tell {
+            Tell::Switch(side, species, place, hp, max, kind) => {
+                let place = Place::new(place).ok_or("no such place")?;
+                let level = Level::new(100).ok_or("no such level")?;
+                Ok(Event::Switch(who(side, species)?, place, level, health(hp, max, kind)?))
+            }
+            Tell::Move(side, id) => {
+                let foe = active(side.other(), out)?;
+                Ok(Event::Move(active(side, out)?, move_of(id)?, foe))
+            }
+            Tell::Damage(side, hp, max, source) => {
+                Ok(Event::Damage(active(side, out)?, health(hp, max, None)?, source))
+            }
+            Tell::Heal(side, hp, max, kind) => {
+                Ok(Event::Heal(active(side, out)?, health(hp, max, kind)?))
+            }
+            Tell::ClearAll => Ok(Event::ClearAll),
+            Tell::Turn(number) => Ok(Event::Turn(TurnNumber::new(number).ok_or("no such turn")?)),
+            Tell::Win(side) => Ok(Event::Win(side)),
+            Tell::Tie => Ok(Event::Tie),
+            Tell::Fault(code) => Ok(Event::Fault(FaultCode::new(code).ok_or("no such fault")?)),
+            _ => event_of_one(tell, out),
+        }
+    }
+
+    // An event of one member that is out.
+    fn event_of_one(tell: Tell, out: [u8; 2]) -> Result<Event, Fail> {
+        match tell {
+            Tell::Cant(side, why) => Ok(Event::Cant(active(side, out)?, why)),
+            Tell::Status(side, kind) => Ok(Event::Status(active(side, out)?, kind)),
+            Tell::Cure(side, kind) => Ok(Event::Cure(active(side, out)?, kind)),
+            Tell::Boost(side, stat, count) => {
+                Ok(Event::Boost(active(side, out)?, stat, stages(count)?))
+            }
+            Tell::Unboost(side, stat, count) => {
+                Ok(Event::Unboost(active(side, out)?, stat, stages(count)?))
+            }
+            Tell::Start(side, what) => Ok(Event::Start(active(side, out)?, what)),
+            Tell::End(side, what) => Ok(Event::End(active(side, out)?, what)),
+            Tell::Activate(side, what) => Ok(Event::Activate(active(side, out)?, what)),
+            Tell::Prepare(side, id) => Ok(Event::Prepare(active(side, out)?, move_of(id)?)),
+            Tell::MustRecharge(side) => Ok(Event::MustRecharge(active(side, out)?)),
+            Tell::Faint(side) => Ok(Event::Faint(active(side, out)?)),
+            _ => Ok(Event::Tie),
+        }
+    }
+
+    fn who(side: Side, species: u8) -> Result<Who, Fail> {
+        let species = Species::new(species).ok_or("no such species")?;
+        Ok(Who { side, species })
+    }
+
+    fn active(side: Side, out: [u8; 2]) -> Result<Who, Fail> {
+        match side {
+            Side::One => who(side, out[0]),
+            Side::Two => who(side, out[1]),
+        }
+    }
+
+    fn health(hp: u16, max: u16, kind: Option<Kind>) -> Result<Health, Fail> {
+        Ok(Health::new(hp, max, kind).ok_or("no such health")?)
+    }
+
+    fn move_of(id: u8) -> Result<MoveId, Fail> {
+        Ok(MoveId::new(id).ok_or("no such move")?)
+    }
+
+    fn stages(count: u8) -> Result<StageCount, Fail> {
+        Ok(StageCount::new(count).ok_or("no such count")?)
+    }
+}
+
+#[cfg(test)]
+mod following {
+    //! A view that follows log bytes ([docs/MECHANICS.md, "Log bytes"](https://hibsuloy.example/gen1/blob/main/docs/MECHANICS.md#log-bytes), "Spectator's view").
+    use crate::comparing::assert_same;
+    use crate::teams::tauros;
+    use gen1::generated::events::{LogFault, LogReader};
+    use gen1::generated::machine::{Outcome, Side};
+    use gen1::generated::spectator::View;
+    use gen1_tests::testing::Fail;
+
+    // The log of the battle that is stored in crates/battle_tool (stdin, stdout): both come out, the first turn hits
+    // each, and the second makes side 2 fall.
+    static LOG: [u8; 82] = [
+        0x02, 1, 128, 1, 100, 97, 1, 97, 1, 0, 0x02, 2, 128, 1, 100, 97, 1, 97, 1, 0, 0x01, 1, 0, 0x03,
+        1, 128, 70, 2, 128, 0x07, 2, 128, 0x05, 2, 128, 149, 0, 97, 1, 0, 0, 0x03, 2, 128, 70, 1, 128,
+        0x05, 1, 128, 7, 1, 97, 1, 0, 0, 0x01, 2, 0, 0x03, 1, 128, 70, 2, 128, 0x07, 2, 128, 0x05, 2,
+        128, 0, 0, 97, 1, 0, 0, 0x19, 2, 128, 0x1A, 1,
+    ];
+
+    fn new_view() -> Result<View, Fail> {
+        let team = tauros()?;
+        Ok(View::new(&team, &team))
+    }
+
+    // Whether the view shows the end of that battle.
+    fn shows_the_end(view: &View) -> bool {
+        view.place(Side::One) == 1
+            && view.place(Side::Two) == 1
+            && view.hp(Side::One, 1) == 263
+            && view.hp(Side::Two, 1) == 0
+            && view.turn() == 2
+            && view.outcome() == Outcome::WinOne
+    }
+
+    #[test]
+    fn the_stored_battle_is_seen_to_its_end() -> Result<(), Fail> { let rt = gen1_tests::testing::HostRuntime;
+        let mut view = new_view()?;
+        let mut reader = LogReader::new();
+        assert_same(&rt, view.follow(&mut reader, &LOG), Ok(()));
+        assert_same(&rt, shows_the_end(&view), true);
+        assert_same(&rt, reader.finish(), Ok(()));
+        Ok(())
+    }
+
+    #[test]
+    fn each_update_is_seen_by_itself() -> Result<(), Fail> { let rt = gen1_tests::testing::HostRuntime;
+        let mut view = new_view()?;
+        let mut reader = LogReader::new();
+        assert_same(&rt, view.follow(&mut reader, &LOG[..23]), Ok(()));
+        assert_same(&rt, (view.turn(), view.hp(Side::Two, 1)), (1, 353));
+        assert_same(&rt, view.follow(&mut reader, &LOG[23..59]), Ok(()));
+        assert_same(&rt, (view.turn(), view.hp(Side::Two, 1)), (2, 149));
+        assert_same(&rt, view.follow(&mut reader, &LOG[59..]), Ok(()));
+        assert_same(&rt, shows_the_end(&view), true);
+        Ok(())
+    }
+
+    #[test]
+    fn a_log_is_followed_byte_by_byte() -> Result<(), Fail> { let rt = gen1_tests::testing::HostRuntime;
+        let mut view = new_view()?;
+        let mut reader = LogReader::new();
+        for byte in LOG {
+            assert_same(&rt, view.follow(&mut reader, &[byte]), Ok(()));
+        }
+        assert_same(&rt, shows_the_end(&view), true);
+        Ok(())
+    }
+
+    #[test]
+    fn a_log_is_followed_however_it_is_cut() -> Result<(), Fail> { let rt = gen1_tests::testing::HostRuntime;
+        for cut in 0..=LOG.len() {
+            let mut view = new_view()?;
+            let mut reader = LogReader::new();
+            assert_same(&rt, view.follow(&mut reader, &LOG[..cut]), Ok(()));
+            assert_same(&rt, view.follow(&mut reader, &LOG[cut..]), Ok(()));
+            assert_same(&rt, (cut, shows_the_end(&view)), (cut, true));
+        }
+        Ok(())
+    }
+
+    #[test]
+    fn an_event_that_waits_is_taken_in_first() -> Result<(), Fail> { let rt = gen1_tests::testing::HostRuntime;
+        let mut view = new_view()?;
+        let mut reader = LogReader::new();
+        assert_same(&rt, reader.feed(&LOG), Ok(10));
+        assert_same(&rt, view.follow(&mut reader, &[]), Ok(()));
+        assert_same(&rt, (view.place(Side::One), view.place(Side::Two)), (1, 0));
+        assert_same(&rt, view.follow(&mut reader, &LOG[10..]), Ok(()));
+        assert_same(&rt, shows_the_end(&view), true);
+        Ok(())
+    }
+
+    #[test]
+    fn what_comes_before_a_fault_is_taken_in() -> Result<(), Fail> { let rt = gen1_tests::testing::HostRuntime;
+        let mut view = new_view()?;
+        let mut reader = LogReader::new();
+        assert_same(&rt, view.follow(&mut reader, &LOG[..20]), Ok(()));
+        assert_same(
+            &rt,
+            view.follow(&mut reader, &[0x01, 7, 0, 0xFF]),
+            Err(LogFault::UnknownTag),
+        );
+        assert_same(&rt, view.turn(), 7);
+        assert_same(
+            &rt,
+            view.follow(&mut reader, &LOG[20..]),
+            Err(LogFault::UnknownTag),
+        );
+        assert_same(&rt, view.turn(), 7);
+        Ok(())
+    }
+
+    #[test]
+    fn the_laws_can_be_cited() -> Result<(), Fail> { let rt = gen1_tests::testing::HostRuntime;
+
+        Ok(())
     }
 }
 
@@ -394,17 +675,16 @@ mod own_sides {
 mod plain_rooms {
     //! Rooms that their caller keeps, and forfeits ([docs/MECHANICS.md, "Rooms"](https://hibsuloy.example/gen1/blob/main/docs/MECHANICS.md#rooms)).
     use crate::comparing::assert_same;
+    use crate::events::{ONE, TWO};
+    use crate::rooms::{Answer, GOES_ON, answer};
     use crate::teams::{SEED, tauros};
     use gen1::generated::engine::BattleResult;
     use gen1::generated::layout::Packed;
     use gen1::generated::machine::{Outcome, Request, Side};
+    use gen1::generated::room::RoomRefusal;
     use gen1::generated::room::plain::{PlainRoom, begin, choices, forfeit, result, submit};
-    use gen1::generated::room::{RoomRefusal, Submitted};
+    use gen1_tests::testing::Abort;
     use gen1_tests::testing::Fail;
-
-    const ONE: Side = Side::One;
-
-    const TWO: Side = Side::Two;
 
     // A room with an old log, choices and a forfeit, which are gone once it begins.
     fn two_tauros() -> Result<PlainRoom, Fail> {
@@ -423,13 +703,64 @@ mod plain_rooms {
         Ok(room)
     }
 
+    /// A step of a room, and its answer.
+    #[derive(Clone, Copy)]
+    enum Step {
+        /// The side, the number of the pair, and the choice as a byte.
+        Submits(Side, u32, u8, Answer),
+        Forfeits(Side, Answer),
+    }
+
+    const OVER: Answer = Answer::Refuses(RoomRefusal::Over);
+
     // How a battle ends that a side has won.
-    fn won(outcome: Outcome) -> BattleResult {
-        BattleResult {
-            outcome,
-            request_one: Request::Pass,
-            request_two: Request::Pass,
+    const ONE_HAS_WON: Answer = Answer::Advances(Outcome::WinOne, Request::Pass, Request::Pass);
+
+    const TWO_HAS_WON: Answer = Answer::Advances(Outcome::WinTwo, Request::Pass, Request::Pass);
+
+    // Side 2's choice, which was there, is gone.
+    static FORFEIT: [Step; 2] = [
+        Step::Submits(TWO, 0, 17, Answer::Waits),
+        Step::Forfeits(ONE, TWO_HAS_WON),
+    ];
+
+    static AFTER_A_FORFEIT: [Step; 5] = [
+        Step::Forfeits(TWO, ONE_HAS_WON),
+        Step::Submits(ONE, 1, 17, OVER),
+        Step::Submits(ONE, 0, 17, OVER),
+        Step::Forfeits(TWO, OVER),
+        Step::Forfeits(ONE, OVER),
+    ];
+
+    // Side 1 wins in the second turn (README.md, "The example").
+    static AFTER_THE_END: [Step; 5] = [
+        Step::Submits(ONE, 0, 17, Answer::Waits),
+        Step::Submits(TWO, 0, 17, GOES_ON),
+        Step::Submits(ONE, 1, 17, Answer::Waits),
+        Step::Submits(TWO, 1, 17, ONE_HAS_WON),
+        Step::Forfeits(ONE, OVER),
+    ];
+
+    // Plays the steps from the start, and asserts each answer. Returns the room.
+    fn play(rt: &impl Abort, steps: &[Step]) -> Result<PlainRoom, Fail> {
+        let mut room = two_tauros()?;
+        for (at, step) in steps.iter().enumerate() {
+            let (found, expected) = match *step {
+                Step::Submits(side, number, byte, expected) => {
+                    (answer(&submit(&mut room, side, number, byte)), expected)
+                }
+                Step::Forfeits(side, expected) => match forfeit(&mut room, side) {
+                    Ok(result) => (result_of(&result), expected),
+                    Err(refusal) => (Answer::Refuses(refusal), expected),
+                },
+            };
+            assert_eq!(found, expected, "at {at}");
         }
+        Ok(room)
+    }
+
+    fn result_of(it: &BattleResult) -> Answer {
+        Answer::Advances(it.outcome, it.request_one, it.request_two)
     }
 
     #[test]
@@ -445,49 +776,41 @@ mod plain_rooms {
         Ok(())
     }
 
-    // The log of a win is the byte 26 and the side. Side 2's choice, which was there, is gone.
+    // The log of a win is the byte 26 and the side.
     #[test]
     fn the_other_side_of_a_forfeit_wins() -> Result<(), Fail> { let rt = gen1_tests::testing::HostRuntime;
-        let mut room = two_tauros()?;
-        assert_same(&rt, submit(&mut room, TWO, 0, 17), Ok(Submitted::Waiting));
-        let turn = room.battle.turn();
-        assert_same(&rt, forfeit(&mut room, ONE), Ok(won(Outcome::WinTwo)));
-        assert_same(&rt, result(&room), won(Outcome::WinTwo));
+        let turn = two_tauros()?.battle.turn();
+        let room = play(&rt, &FORFEIT)?;
+        assert_same(&rt, result_of(&result(&room)), TWO_HAS_WON);
         assert_same(&rt, (room.number, room.forfeit), (1, 1));
         assert_same(&rt, room.log_length, 2);
         assert_same(&rt, &room.log[..3], [26, 2, 128].as_slice());
-        assert_same(&rt, room.battle.turn(), turn);
-        assert_same(&rt, room.battle.outcome(), Outcome::Ongoing);
+        assert_same(
+            &rt,
+            (room.battle.turn(), room.battle.outcome()),
+            (turn, Outcome::Ongoing),
+        );
         Ok(())
     }
 
     #[test]
     fn a_forfeit_ends_the_room() -> Result<(), Fail> { let rt = gen1_tests::testing::HostRuntime;
-        let mut room = two_tauros()?;
-        assert_same(&rt, forfeit(&mut room, TWO), Ok(won(Outcome::WinOne)));
-        assert_same(&rt, submit(&mut room, ONE, 1, 17), Err(RoomRefusal::Over));
-        assert_same(&rt, submit(&mut room, ONE, 0, 17), Err(RoomRefusal::Over));
-        assert_same(&rt, forfeit(&mut room, TWO), Err(RoomRefusal::Over));
-        assert_same(&rt, forfeit(&mut room, ONE), Err(RoomRefusal::Over));
-        assert_same(&rt, choices(&room, ONE).len(), 0);
-        assert_same(&rt, choices(&room, TWO).len(), 0);
+        let room = play(&rt, &AFTER_A_FORFEIT)?;
+        assert_same(
+            &rt,
+            (choices(&room, ONE).len(), choices(&room, TWO).len()),
+            (0, 0),
+        );
         assert_same(&rt, (room.number, room.forfeit), (1, 2));
-        assert_same(&rt, result(&room), won(Outcome::WinOne));
+        assert_same(&rt, result_of(&result(&room)), ONE_HAS_WON);
         Ok(())
     }
 
-    // Side 1 wins in the second turn (README.md, "The example").
     #[test]
     fn a_battle_that_is_over_is_not_forfeited() -> Result<(), Fail> { let rt = gen1_tests::testing::HostRuntime;
-        let mut room = two_tauros()?;
-        for pair in 0..2 {
-            let _ = submit(&mut room, ONE, pair, 17);
-            let _ = submit(&mut room, TWO, pair, 17);
-        }
-        assert_same(&rt, result(&room), won(Outcome::WinOne));
-        assert_same(&rt, forfeit(&mut room, ONE), Err(RoomRefusal::Over));
+        let room = play(&rt, &AFTER_THE_END)?;
         assert_same(&rt, (room.number, room.forfeit), (2, 0));
-        assert_same(&rt, result(&room), won(Outcome::WinOne));
+        assert_same(&rt, result_of(&result(&room)), ONE_HAS_WON);
         Ok(())
     }
 }
@@ -498,405 +821,549 @@ mod players {
     //! public, what a side is told, and a player that is fed log bytes. Side 1 sends out Tauros (128, Normal), side 2 Starmie (121, Water and
     //! Psychic).
     use crate::comparing::assert_same;
+    use crate::events::Tell::{
+        Boost, Cant, ClearAll, Cure, Damage, End, Faint, Fault, Heal, Move, MustRecharge, Prepare,
+        Start, Status, Switch, Tie, Turn, Unboost, Win,
+    };
+    use crate::events::{CHANSEY, ONE, STARMIE, TAUROS, TWO, Tell, event};
     use crate::teams::lead_and_chansey;
     use gen1::generated::events::{LogBuf, LogFault, write};
-    use gen1::generated::machine::{
-        CantReason, DamageSource, Event, FaultCode, Health, Kind, Level, Place, Side, StageCount,
-        TurnNumber, Volatile, Who,
-    };
-    use gen1::generated::player::{Player, Public, Seen, SeenMove, Teller};
-    use gen1::generated::tables::{MoveId, Species, Stat};
+    use gen1::generated::machine::{CantReason, DamageSource, Kind, Side, Volatile};
+    use gen1::generated::player::{Player, Public, PublicSide, Seen, Teller};
+    use gen1::generated::tables::Stat;
+    use gen1_tests::testing::Abort;
     use gen1_tests::testing::Fail;
 
-    const ONE: Side = Side::One;
+    // The species that are out.
+    const OUT: [u8; 2] = [TAUROS, STARMIE];
 
-    const TWO: Side = Side::Two;
-
-    const TAUROS: u8 = 128;
-
-    const STARMIE: u8 = 121;
-
-    const CHANSEY: u8 = 113;
-
-    fn who(side: Side, species: u8) -> Result<Who, Fail> {
-        let species = Species::new(species).ok_or("no such species")?;
-        Ok(Who { side, species })
+    /// A name, and events with what is public after them.
+    #[derive(Clone, Copy)]
+    struct Row {
+        name: &'static str,
+        steps: &'static [Step],
     }
 
-    fn active(side: Side) -> Result<Who, Fail> {
+    #[derive(Clone, Copy)]
+    enum Step {
+        /// Tauros with 353 HP comes out at place 1, and Starmie with 323 HP at place 3.
+        Begin,
+        Tells(Tell),
+        /// An event this many times.
+        Repeats(u16, Tell),
+        Is(Fact),
+        /// The conditions that are announced of a side, and no others are.
+        Announced(Side, &'static [&'static str]),
+        /// Nothing is public.
+        Nothing,
+    }
+
+    #[derive(Clone, Copy, Debug, PartialEq)]
+    enum Fact {
+        Turn(u16),
+        Outcome(u8),
+        Place(Side, u8),
+        Types(Side, u8, u8),
+        LastMove(Side, u8),
+        Attack(Side, u8),
+        Evasion(Side, u8),
+        /// Facts of the member at a place.
+        Species(Side, u8, u8),
+        Level(Side, u8, u8),
+        Hp(Side, u8, u16),
+        Max(Side, u8, u16),
+        Status(Side, u8, u8),
+        /// The move at an index from 0, and how often it was used.
+        Used(Side, u8, usize, u8, u8),
+    }
+
+    static PUBLIC: [Row; 12] = [
+        Row {
+            name: "before the first event nothing is public",
+            steps: &[
+                Step::Is(Fact::Place(ONE, 0)),
+                Step::Is(Fact::Place(TWO, 0)),
+                Step::Is(Fact::Turn(0)),
+                Step::Is(Fact::Species(TWO, 1, 0)),
+                Step::Tells(Damage(TWO, 12, 323, DamageSource::Direct)),
+                Step::Tells(Move(TWO, 57)),
+                Step::Nothing,
+            ],
+        },
+        Row {
+            name: "a switch makes the member public",
+            steps: &[
+                Step::Begin,
+                Step::Is(Fact::Place(TWO, 3)),
+                Step::Is(Fact::Species(TWO, 1, 0)),
+                Step::Is(Fact::Species(TWO, 3, STARMIE)),
+                Step::Is(Fact::Level(TWO, 3, 100)),
+                Step::Is(Fact::Hp(TWO, 3, 323)),
+                Step::Is(Fact::Max(TWO, 3, 323)),
+                Step::Is(Fact::Status(TWO, 3, 0)),
+                // Water is 9, Psychic 12.
+                Step::Is(Fact::Types(TWO, 9, 12)),
+                Step::Is(Fact::Types(ONE, 0, 0)),
+            ],
+        },
+        Row {
+            name: "moves are counted",
+            steps: &[
+                Step::Begin,
+                Step::Tells(Move(TWO, 57)),
+                Step::Tells(Move(TWO, 85)),
+                Step::Tells(Move(TWO, 57)),
+                Step::Is(Fact::Used(TWO, 3, 0, 57, 2)),
+                Step::Is(Fact::Used(TWO, 3, 1, 85, 1)),
+                Step::Is(Fact::Used(TWO, 3, 2, 0, 0)),
+                Step::Is(Fact::LastMove(TWO, 57)),
+                Step::Repeats(300, Move(TWO, 57)),
+                Step::Is(Fact::Used(TWO, 3, 0, 57, 255)),
+            ],
+        },
+        Row {
+            name: "a sixth move is not kept",
+            steps: &[
+                Step::Begin,
+                Step::Tells(Move(ONE, 1)),
+                Step::Tells(Move(ONE, 2)),
+                Step::Tells(Move(ONE, 3)),
+                Step::Tells(Move(ONE, 4)),
+                Step::Tells(Move(ONE, 5)),
+                Step::Tells(Move(ONE, 6)),
+                Step::Is(Fact::Used(ONE, 1, 4, 5, 1)),
+                Step::Is(Fact::LastMove(ONE, 6)),
+            ],
+        },
+        Row {
+            name: "HP and status are the last that were shown",
+            steps: &[
+                Step::Begin,
+                Step::Tells(Damage(TWO, 100, 323, DamageSource::Direct)),
+                Step::Is(Fact::Hp(TWO, 3, 100)),
+                Step::Tells(Heal(TWO, 261, 323, None)),
+                Step::Is(Fact::Hp(TWO, 3, 261)),
+                Step::Tells(Status(TWO, Kind::Paralysis)),
+                Step::Is(Fact::Status(TWO, 3, 5)),
+                Step::Tells(Cure(TWO, Kind::Paralysis)),
+                Step::Is(Fact::Status(TWO, 3, 0)),
+                Step::Tells(Status(TWO, Kind::Burn)),
+                Step::Tells(Faint(TWO)),
+                Step::Is(Fact::Hp(TWO, 3, 0)),
+                Step::Is(Fact::Status(TWO, 3, 0)),
+            ],
+        },
+        Row {
+            name: "stages rise and fall",
+            steps: &[
+                Step::Begin,
+                Step::Repeats(4, Boost(ONE, Stat::Attack, 2)),
+                Step::Repeats(4, Unboost(ONE, Stat::Evasion, 2)),
+                Step::Is(Fact::Attack(ONE, 12)),
+                Step::Is(Fact::Evasion(ONE, 0)),
+                Step::Tells(ClearAll),
+                Step::Is(Fact::Attack(ONE, 6)),
+                Step::Is(Fact::Evasion(ONE, 6)),
+            ],
+        },
+        Row {
+            name: "each volatile is announced and ended",
+            steps: &[
+                Step::Begin,
+                Step::Tells(Start(ONE, Volatile::Confusion)),
+                Step::Tells(Start(ONE, Volatile::Bide)),
+                Step::Tells(Start(ONE, Volatile::Substitute)),
+                Step::Tells(Start(ONE, Volatile::LeechSeed)),
+                Step::Tells(Start(ONE, Volatile::Mist)),
+                Step::Tells(Start(ONE, Volatile::FocusEnergy)),
+                Step::Tells(Start(ONE, Volatile::LightScreen)),
+                Step::Tells(Start(ONE, Volatile::Reflect)),
+                Step::Tells(Start(ONE, Volatile::Disable)),
+                Step::Tells(Start(ONE, Volatile::Rage)),
+                Step::Announced(
+                    ONE,
+                    &[
+                        "confused",
+                        "bide",
+                        "substitute",
+                        "seeded",
+                        "mist",
+                        "focus energy",
+                        "light screen",
+                        "reflect",
+                        "disabled",
+                        "rage",
+                    ],
+                ),
+                Step::Announced(TWO, &[]),
+                Step::Tells(ClearAll),
+                Step::Announced(ONE, &["bide", "substitute", "rage"]),
+                Step::Tells(End(ONE, Volatile::Substitute)),
+                Step::Tells(End(ONE, Volatile::Bide)),
+                Step::Announced(ONE, &["rage"]),
+                Step::Tells(Switch(ONE, CHANSEY, 2, 703, 703, None)),
+                Step::Announced(ONE, &[]),
+            ],
+        },
+        Row {
+            name: "Conversion copies types",
+            steps: &[
+                Step::Begin,
+                Step::Tells(Start(ONE, Volatile::TypeChange)),
+                Step::Is(Fact::Types(ONE, 9, 12)),
+            ],
+        },
+        Row {
+            name: "poison by Toxic is bad poison",
+            steps: &[
+                Step::Begin,
+                Step::Tells(Move(TWO, 40)),
+                Step::Tells(Status(ONE, Kind::Poison)),
+                Step::Announced(ONE, &[]),
+                Step::Tells(Move(TWO, 92)),
+                Step::Tells(Status(ONE, Kind::Poison)),
+                Step::Announced(ONE, &["toxic"]),
+                Step::Announced(TWO, &[]),
+            ],
+        },
+        Row {
+            name: "recharging ends by what the log shows",
+            steps: &[
+                Step::Begin,
+                Step::Tells(MustRecharge(ONE)),
+                Step::Announced(ONE, &["recharging"]),
+                Step::Tells(Cant(ONE, CantReason::Recharging)),
+                Step::Announced(ONE, &[]),
+                Step::Tells(MustRecharge(ONE)),
+                Step::Announced(ONE, &["recharging"]),
+                Step::Tells(Cant(ONE, CantReason::Flinched)),
+                Step::Announced(ONE, &[]),
+                // Its next move.
+                Step::Tells(MustRecharge(ONE)),
+                Step::Announced(ONE, &["recharging"]),
+                Step::Tells(Move(ONE, 63)),
+                Step::Announced(ONE, &[]),
+                // Sleep Powder and Wrap of the foe.
+                Step::Tells(MustRecharge(ONE)),
+                Step::Announced(ONE, &["recharging"]),
+                Step::Tells(Move(TWO, 79)),
+                Step::Announced(ONE, &[]),
+                Step::Tells(MustRecharge(ONE)),
+                Step::Announced(ONE, &["recharging"]),
+                Step::Tells(Move(TWO, 35)),
+                Step::Announced(ONE, &[]),
+                Step::Tells(MustRecharge(ONE)),
+                Step::Announced(ONE, &["recharging"]),
+                Step::Tells(Status(ONE, Kind::Freeze)),
+                Step::Announced(ONE, &[]),
+                // Thunder Wave doesn't end it.
+                Step::Tells(MustRecharge(ONE)),
+                Step::Tells(Move(TWO, 86)),
+                Step::Announced(ONE, &["recharging"]),
+            ],
+        },
+        Row {
+            name: "charging ends by what the log shows",
+            steps: &[
+                Step::Begin,
+                Step::Tells(Prepare(ONE, 91)),
+                Step::Announced(ONE, &["charging"]),
+                Step::Tells(Move(ONE, 91)),
+                Step::Announced(ONE, &[]),
+                Step::Tells(Prepare(ONE, 91)),
+                Step::Announced(ONE, &["charging"]),
+                Step::Tells(Cant(ONE, CantReason::Disabled)),
+                Step::Announced(ONE, &[]),
+                Step::Tells(Prepare(ONE, 91)),
+                Step::Announced(ONE, &["charging"]),
+                Step::Tells(Cant(ONE, CantReason::Paralysed)),
+                Step::Announced(ONE, &[]),
+                Step::Tells(Prepare(ONE, 91)),
+                Step::Announced(ONE, &["charging"]),
+                Step::Tells(Damage(ONE, 300, 353, DamageSource::Confusion)),
+                Step::Announced(ONE, &[]),
+                Step::Tells(Prepare(ONE, 91)),
+                Step::Tells(Damage(ONE, 290, 353, DamageSource::Direct)),
+                Step::Announced(ONE, &["charging"]),
+            ],
+        },
+        Row {
+            name: "turn and outcome are public",
+            steps: &[
+                Step::Begin,
+                Step::Tells(Turn(7)),
+                Step::Is(Fact::Turn(7)),
+                Step::Is(Fact::Outcome(0)),
+                Step::Tells(Win(TWO)),
+                Step::Is(Fact::Outcome(2)),
+                Step::Tells(Tie),
+                Step::Is(Fact::Outcome(3)),
+                Step::Tells(Fault(2)),
+                Step::Is(Fact::Outcome(5)),
+            ],
+        },
+    ];
+
+    #[test]
+    fn what_is_public() -> Result<(), Fail> { let rt = gen1_tests::testing::HostRuntime;
+        for row in PUBLIC {
+            let mut public = Public::new();
+            for (number, step) in row.steps.iter().enumerate() {
+                take(&rt, &mut public, *step, (row.name, number))?;
+            }
+        }
+        Ok(())
+    }
+
+    fn take(rt: &impl Abort, public: &mut Public, step: Step, at: (&str, usize)) -> Result<(), Fail> {
+        match step {
+            Step::Begin => {
+                public.apply(&event(Switch(ONE, TAUROS, 1, 353, 353, None), OUT)?);
+                public.apply(&event(Switch(TWO, STARMIE, 3, 323, 323, None), OUT)?);
+            }
+            Step::Tells(tell) => public.apply(&event(tell, OUT)?),
+            Step::Repeats(times, tell) => {
+                let event = event(tell, OUT)?;
+                for _ in 0..times {
+                    public.apply(&event);
+                }
+            }
+            Step::Is(fact) => assert_eq!(found(public, fact), fact, "in {at:?}"),
+            Step::Announced(side, names) => {
+                for (name, is_on) in announced(side_of(public, side)) {
+                    let expected = if is_in(names, name) { 1u8 } else { 0 };
+                    assert_eq!(is_on, expected, "{name} in {at:?}");
+                }
+            }
+            Step::Nothing => assert_eq!(*public, Public::new(), "in {at:?}"),
+        }
+        Ok(())
+    }
+
+    fn side_of(public: &Public, side: Side) -> &PublicSide {
         match side {
-            Side::One => who(ONE, TAUROS),
-            Side::Two => who(TWO, STARMIE),
+            Side::One => &public.one,
+            Side::Two => &public.two,
         }
     }
 
-    fn health(hp: u16, max: u16, kind: Option<Kind>) -> Result<Health, Fail> {
-        Ok(Health::new(hp, max, kind).ok_or("no such health")?)
-    }
-
-    fn switch(side: Side, species: u8, place: u8, health: Health) -> Result<Event, Fail> {
-        let place = Place::new(place).ok_or("no such place")?;
-        let level = Level::new(100).ok_or("no such level")?;
-        Ok(Event::Switch(who(side, species)?, place, level, health))
-    }
-
-    fn uses(side: Side, id: u8) -> Result<Event, Fail> {
-        let id = MoveId::new(id).ok_or("no such move")?;
-        Ok(Event::Move(active(side)?, id, active(side.other())?))
-    }
-
-    fn damage(side: Side, hp: u16, max: u16, source: DamageSource) -> Result<Event, Fail> {
-        Ok(Event::Damage(active(side)?, health(hp, max, None)?, source))
-    }
-
-    fn starts(side: Side, what: Volatile) -> Result<Event, Fail> {
-        Ok(Event::Start(active(side)?, what))
-    }
-
-    fn cant(side: Side, why: CantReason) -> Result<Event, Fail> {
-        Ok(Event::Cant(active(side)?, why))
-    }
-
-    // After both sides have sent out their first members: Tauros with 353 HP at place 1, Starmie with 323 HP at place 3.
-    fn begun() -> Result<Public, Fail> {
-        let mut public = Public::new();
-        public.apply(&switch(ONE, TAUROS, 1, health(353, 353, None)?)?);
-        public.apply(&switch(TWO, STARMIE, 3, health(323, 323, None)?)?);
-        Ok(public)
-    }
-
-    #[test]
-    fn before_the_first_event_nothing_is_public() -> Result<(), Fail> { let rt = gen1_tests::testing::HostRuntime;
-        let public = Public::new();
-        assert_same(
-            &rt,
-            (public.one.place, public.two.place, public.turn),
-            (0, 0, 0),
-        );
-        assert_same(&rt, public.two.member(1).species, 0);
-        let mut other = public;
-        other.apply(&damage(TWO, 12, 323, DamageSource::Direct)?);
-        other.apply(&uses(TWO, 57)?);
-        assert_same(&rt, other, public);
-        Ok(())
-    }
-
-    #[test]
-    fn a_switch_makes_the_member_public() -> Result<(), Fail> { let rt = gen1_tests::testing::HostRuntime;
-        let public = begun()?;
-        let seen = public.two.member(3);
-        assert_same(
-            &rt,
-            (public.two.place, public.two.member(1).species),
-            (3, 0),
-        );
-        assert_same(
-            &rt,
-            (seen.species, seen.level, seen.hp),
-            (STARMIE, 100, 323),
-        );
-        assert_same(&rt, (seen.max, seen.status), (323, 0));
-        // Water is 9, Psychic 12.
-        assert_same(
-            &rt,
-            (public.two.first_type, public.two.second_type),
-            (9, 12),
-        );
-        assert_same(&rt, (public.one.first_type, public.one.second_type), (0, 0));
-        Ok(())
-    }
-
-    #[test]
-    fn moves_are_counted() -> Result<(), Fail> { let rt = gen1_tests::testing::HostRuntime;
-        let mut public = begun()?;
-        for id in [57, 85, 57] {
-            public.apply(&uses(TWO, id)?);
+    // The same fact with the values that are public.
+    fn found(public: &Public, fact: Fact) -> Fact {
+        match fact {
+            Fact::Turn(_) => Fact::Turn(public.turn),
+            Fact::Outcome(_) => Fact::Outcome(public.outcome),
+            Fact::Place(side, _) => Fact::Place(side, side_of(public, side).place),
+            Fact::Types(side, ..) => {
+                let it = side_of(public, side);
+                Fact::Types(side, it.first_type, it.second_type)
+            }
+            Fact::LastMove(side, _) => Fact::LastMove(side, side_of(public, side).last_move),
+            Fact::Attack(side, _) => Fact::Attack(side, side_of(public, side).stages.attack),
+            Fact::Evasion(side, _) => Fact::Evasion(side, side_of(public, side).stages.evasion),
+            _ => found_member(public, fact),
         }
-        let seen = public.two.member(3);
-        assert_same(&rt, seen.moves[0], SeenMove { id: 57, uses: 2 });
-        assert_same(&rt, seen.moves[1], SeenMove { id: 85, uses: 1 });
-        assert_same(&rt, seen.moves[2], SeenMove { id: 0, uses: 0 });
-        assert_same(&rt, public.two.last_move, 57);
-        for _ in 0..300 {
-            public.apply(&uses(TWO, 57)?);
+    }
+
+    fn seen(public: &Public, side: Side, place: u8) -> Seen {
+        side_of(public, side).member(place)
+    }
+
+    fn found_member(public: &Public, fact: Fact) -> Fact {
+        match fact {
+            Fact::Species(side, place, _) => {
+                Fact::Species(side, place, seen(public, side, place).species)
+            }
+            Fact::Level(side, place, _) => Fact::Level(side, place, seen(public, side, place).level),
+            Fact::Hp(side, place, _) => Fact::Hp(side, place, seen(public, side, place).hp),
+            Fact::Max(side, place, _) => Fact::Max(side, place, seen(public, side, place).max),
+            Fact::Status(side, place, _) => Fact::Status(side, place, seen(public, side, place).status),
+            Fact::Used(side, place, index, ..) => match seen(public, side, place).moves.get(index) {
+                Some(it) => Fact::Used(side, place, index, it.id, it.uses),
+                None => Fact::Turn(0),
+            },
+            other => other,
         }
-        assert_same(&rt, public.two.member(3).moves[0].uses, 255);
-        Ok(())
     }
 
-    #[test]
-    fn a_sixth_move_is_not_kept() -> Result<(), Fail> { let rt = gen1_tests::testing::HostRuntime;
-        let mut public = begun()?;
-        for id in 1..=6 {
-            public.apply(&uses(ONE, id)?);
+    // Each condition by its name.
+    fn announced(side: &PublicSide) -> [(&'static str, u8); 13] {
+        let on = side.announced;
+        [
+            ("substitute", on.substitute),
+            ("confused", on.confused),
+            ("mist", on.mist),
+            ("focus energy", on.focus_energy),
+            ("light screen", on.light_screen),
+            ("reflect", on.reflect),
+            ("seeded", on.seeded),
+            ("toxic", on.toxic),
+            ("disabled", on.disabled),
+            ("rage", on.rage),
+            ("bide", on.bide),
+            ("charging", on.charging),
+            ("recharging", on.recharging),
+        ]
+    }
+
+    fn is_in(names: &[&'static str], name: &'static str) -> bool {
+        for other in names {
+            if *other == name {
+                return true;
+            }
         }
-        let seen = public.one.member(1);
-        assert_same(&rt, seen.moves[4], SeenMove { id: 5, uses: 1 });
-        assert_same(&rt, public.one.last_move, 6);
-        Ok(())
+        false
     }
 
-    #[test]
-    fn hp_and_status_are_the_last_that_were_shown() -> Result<(), Fail> { let rt = gen1_tests::testing::HostRuntime;
-        let mut public = begun()?;
-        public.apply(&damage(TWO, 100, 323, DamageSource::Direct)?);
-        assert_same(&rt, public.two.member(3).hp, 100);
-        public.apply(&Event::Heal(active(TWO)?, health(261, 323, None)?));
-        assert_same(&rt, public.two.member(3).hp, 261);
-        public.apply(&Event::Status(active(TWO)?, Kind::Paralysis));
-        assert_same(&rt, public.two.member(3).status, 5);
-        public.apply(&Event::Cure(active(TWO)?, Kind::Paralysis));
-        assert_same(&rt, public.two.member(3).status, 0);
-        public.apply(&Event::Status(active(TWO)?, Kind::Burn));
-        public.apply(&Event::Faint(active(TWO)?));
-        assert_same(
-            &rt,
-            (public.two.member(3).hp, public.two.member(3).status),
-            (0, 0),
-        );
-        Ok(())
-    }
+    /// An event, and what a side is told of it.
+    type Telling = (Tell, Tell);
 
-    #[test]
-    fn stages_rise_and_fall() -> Result<(), Fail> { let rt = gen1_tests::testing::HostRuntime;
-        let mut public = begun()?;
-        let two = StageCount::new(2).ok_or("no such count")?;
-        for _ in 0..4 {
-            public.apply(&Event::Boost(active(ONE)?, Stat::Attack, two));
-            public.apply(&Event::Unboost(active(ONE)?, Stat::Evasion, two));
+    // Side 1 is told the places of side 2 in the order in which they appear.
+    static BY_APPEARANCE: [Telling; 10] = [
+        (
+            Switch(TWO, STARMIE, 3, 323, 323, None),
+            Switch(TWO, STARMIE, 1, 323, 323, None),
+        ),
+        (
+            Switch(TWO, STARMIE, 5, 323, 323, None),
+            Switch(TWO, STARMIE, 2, 323, 323, None),
+        ),
+        (
+            Switch(TWO, STARMIE, 3, 323, 323, None),
+            Switch(TWO, STARMIE, 1, 323, 323, None),
+        ),
+        (
+            Switch(TWO, STARMIE, 1, 323, 323, None),
+            Switch(TWO, STARMIE, 3, 323, 323, None),
+        ),
+        (
+            Switch(TWO, STARMIE, 5, 323, 323, None),
+            Switch(TWO, STARMIE, 2, 323, 323, None),
+        ),
+        (
+            Switch(TWO, STARMIE, 6, 323, 323, None),
+            Switch(TWO, STARMIE, 4, 323, 323, None),
+        ),
+        (
+            Switch(TWO, STARMIE, 2, 323, 323, None),
+            Switch(TWO, STARMIE, 5, 323, 323, None),
+        ),
+        (
+            Switch(TWO, STARMIE, 4, 323, 323, None),
+            Switch(TWO, STARMIE, 6, 323, 323, None),
+        ),
+        (
+            Switch(TWO, STARMIE, 1, 323, 323, None),
+            Switch(TWO, STARMIE, 3, 323, 323, None),
+        ),
+        (
+            Switch(ONE, TAUROS, 4, 323, 323, None),
+            Switch(ONE, TAUROS, 4, 323, 323, None),
+        ),
+    ];
+
+    // 48 * 323 / 323 is 48, 48 * 322 / 323 is 47.8, 48 * 6 / 323 is 0.9.
+    static IN_48THS: [Telling; 10] = [
+        (
+            Damage(TWO, 323, 323, DamageSource::Direct),
+            Damage(TWO, 48, 48, DamageSource::Direct),
+        ),
+        (
+            Damage(TWO, 322, 323, DamageSource::Direct),
+            Damage(TWO, 47, 48, DamageSource::Direct),
+        ),
+        (
+            Damage(TWO, 162, 323, DamageSource::Direct),
+            Damage(TWO, 24, 48, DamageSource::Direct),
+        ),
+        (
+            Damage(TWO, 7, 323, DamageSource::Direct),
+            Damage(TWO, 1, 48, DamageSource::Direct),
+        ),
+        (
+            Damage(TWO, 6, 323, DamageSource::Direct),
+            Damage(TWO, 1, 48, DamageSource::Direct),
+        ),
+        (
+            Damage(TWO, 1, 323, DamageSource::Direct),
+            Damage(TWO, 1, 48, DamageSource::Direct),
+        ),
+        (
+            Damage(TWO, 0, 323, DamageSource::Direct),
+            Damage(TWO, 0, 48, DamageSource::Direct),
+        ),
+        (
+            Damage(ONE, 100, 353, DamageSource::Direct),
+            Damage(ONE, 100, 353, DamageSource::Direct),
+        ),
+        (
+            Heal(TWO, 161, 323, Some(Kind::Sleep)),
+            Heal(TWO, 23, 48, Some(Kind::Sleep)),
+        ),
+        (
+            Switch(TWO, STARMIE, 6, 7, 703, None),
+            Switch(TWO, STARMIE, 1, 1, 48, None),
+        ),
+    ];
+
+    // Tells each event, and returns the places that have appeared.
+    fn tell(rt: &impl Abort, in_48ths: bool, rows: &[Telling]) -> Result<[u8; 6], Fail> {
+        let mut teller = Teller::new(ONE, in_48ths);
+        for (number, (whole, told)) in rows.iter().enumerate() {
+            let found = teller.tell(&event(*whole, OUT)?);
+            assert_eq!(found, event(*told, OUT)?, "at {number}");
         }
-        assert_same(
-            &rt,
-            (public.one.stages.attack, public.one.stages.evasion),
-            (12, 0),
-        );
-        public.apply(&Event::ClearAll);
-        assert_same(
-            &rt,
-            (public.one.stages.attack, public.one.stages.evasion),
-            (6, 6),
-        );
-        Ok(())
+        Ok(teller.places)
     }
 
     #[test]
-    fn each_volatile_is_announced_and_ended() -> Result<(), Fail> { let rt = gen1_tests::testing::HostRuntime;
-        let mut public = begun()?;
-        for what in [
-            Volatile::Confusion,
-            Volatile::Bide,
-            Volatile::Substitute,
-            Volatile::LeechSeed,
-            Volatile::Mist,
-            Volatile::FocusEnergy,
-            Volatile::LightScreen,
-            Volatile::Reflect,
-            Volatile::Disable,
-            Volatile::Rage,
-        ] {
-            public.apply(&starts(ONE, what)?);
-        }
-        let on = public.one.announced;
-        assert_same(
-            &rt,
-            (on.confused, on.bide, on.substitute, on.seeded),
-            (1, 1, 1, 1),
-        );
-        assert_same(
-            &rt,
-            (on.mist, on.focus_energy, on.light_screen, on.reflect),
-            (1, 1, 1, 1),
-        );
-        assert_same(
-            &rt,
-            (on.disabled, on.rage, on.toxic, on.charging),
-            (1, 1, 0, 0),
-        );
-        assert_same(&rt, public.two.announced.confused, 0);
-        public.apply(&Event::ClearAll);
-        let on = public.one.announced;
-        assert_same(
-            &rt,
-            (on.confused, on.bide, on.substitute, on.seeded),
-            (0, 1, 1, 0),
-        );
-        assert_same(
-            &rt,
-            (on.mist, on.focus_energy, on.light_screen, on.reflect),
-            (0, 0, 0, 0),
-        );
-        assert_same(&rt, (on.disabled, on.rage), (0, 1));
-        public.apply(&Event::End(active(ONE)?, Volatile::Substitute));
-        public.apply(&Event::End(active(ONE)?, Volatile::Bide));
-        let on = public.one.announced;
-        assert_same(&rt, (on.bide, on.substitute, on.rage), (0, 0, 1));
-        public.apply(&switch(ONE, CHANSEY, 2, health(703, 703, None)?)?);
-        assert_same(&rt, public.one.announced.rage, 0);
-        Ok(())
-    }
-
-    #[test]
-    fn conversion_copies_types() -> Result<(), Fail> { let rt = gen1_tests::testing::HostRuntime;
-        let mut public = begun()?;
-        public.apply(&starts(ONE, Volatile::TypeChange)?);
-        assert_same(
-            &rt,
-            (public.one.first_type, public.one.second_type),
-            (9, 12),
-        );
-        Ok(())
-    }
-
-    #[test]
-    fn poison_by_toxic_is_bad_poison() -> Result<(), Fail> { let rt = gen1_tests::testing::HostRuntime;
-        let mut public = begun()?;
-        public.apply(&uses(TWO, 40)?);
-        public.apply(&Event::Status(active(ONE)?, Kind::Poison));
-        assert_same(&rt, public.one.announced.toxic, 0);
-        public.apply(&uses(TWO, 92)?);
-        public.apply(&Event::Status(active(ONE)?, Kind::Poison));
-        assert_same(
-            &rt,
-            (public.one.announced.toxic, public.two.announced.toxic),
-            (1, 0),
-        );
-        Ok(())
-    }
-
-    #[test]
-    fn recharging_ends_by_what_the_log_shows() -> Result<(), Fail> { let rt = gen1_tests::testing::HostRuntime;
-        let mut public = begun()?;
-        let must = Event::MustRecharge(active(ONE)?);
-        // The gate; a flinch; its next move; sleep powder (79) and wrap (35) of the foe; a freeze.
-        for event in [
-            cant(ONE, CantReason::Recharging)?,
-            cant(ONE, CantReason::Flinched)?,
-            uses(ONE, 63)?,
-            uses(TWO, 79)?,
-            uses(TWO, 35)?,
-            Event::Status(active(ONE)?, Kind::Freeze),
-        ] {
-            public.apply(&must);
-            assert_same(&rt, public.one.announced.recharging, 1);
-            public.apply(&event);
-            assert_same(&rt, public.one.announced.recharging, 0);
-        }
-        // Thunder Wave (86) doesn't end it.
-        public.apply(&must);
-        public.apply(&uses(TWO, 86)?);
-        assert_same(&rt, public.one.announced.recharging, 1);
-        Ok(())
-    }
-
-    #[test]
-    fn charging_ends_by_what_the_log_shows() -> Result<(), Fail> { let rt = gen1_tests::testing::HostRuntime;
-        let mut public = begun()?;
-        let dig = MoveId::new(91).ok_or("no such move")?;
-        for event in [
-            uses(ONE, 91)?,
-            cant(ONE, CantReason::Disabled)?,
-            cant(ONE, CantReason::Paralysed)?,
-            damage(ONE, 300, 353, DamageSource::Confusion)?,
-        ] {
-            public.apply(&Event::Prepare(active(ONE)?, dig));
-            assert_same(&rt, public.one.announced.charging, 1);
-            public.apply(&event);
-            assert_same(&rt, public.one.announced.charging, 0);
-        }
-        public.apply(&Event::Prepare(active(ONE)?, dig));
-        public.apply(&damage(ONE, 290, 353, DamageSource::Direct)?);
-        assert_same(&rt, public.one.announced.charging, 1);
-        Ok(())
-    }
-
-    #[test]
-    fn turn_and_outcome_are_public() -> Result<(), Fail> { let rt = gen1_tests::testing::HostRuntime;
-        let mut public = begun()?;
-        public.apply(&Event::Turn(TurnNumber::new(7).ok_or("no such turn")?));
-        assert_same(&rt, (public.turn, public.outcome), (7, 0));
-        public.apply(&Event::Win(TWO));
-        assert_same(&rt, public.outcome, 2);
-        public.apply(&Event::Tie);
-        assert_same(&rt, public.outcome, 3);
-        public.apply(&Event::Fault(FaultCode::new(2).ok_or("no such code")?));
-        assert_same(&rt, public.outcome, 5);
-        Ok(())
-    }
-
-    #[test]
-    fn the_foe_is_told_by_order_of_appearance() -> Result<(), Fail> { let rt = gen1_tests::testing::HostRuntime;
-        let mut teller = Teller::new(ONE, false);
-        let whole = health(323, 323, None)?;
-        for (place, told) in [
-            (3, 1),
-            (5, 2),
-            (3, 1),
-            (1, 3),
-            (5, 2),
-            (6, 4),
-            (2, 5),
-            (4, 6),
-            (1, 3),
-        ] {
-            let event = switch(TWO, STARMIE, place, whole)?;
-            assert_same(&rt, teller.tell(&event), switch(TWO, STARMIE, told, whole)?);
-        }
-        let own = switch(ONE, TAUROS, 4, whole)?;
-        assert_same(&rt, teller.tell(&own), own);
-        assert_same(&rt, teller.places, [3, 5, 1, 6, 2, 4]);
-        Ok(())
-    }
-
-    #[test]
-    fn hp_is_told_in_48ths() -> Result<(), Fail> { let rt = gen1_tests::testing::HostRuntime;
-        let mut teller = Teller::new(ONE, true);
-        // 48 * 323 / 323 is 48, 48 * 322 / 323 is 47.8, 48 * 6 / 323 is 0.9.
-        for (hp, told) in [
-            (323, 48),
-            (322, 47),
-            (162, 24),
-            (7, 1),
-            (6, 1),
-            (1, 1),
-            (0, 0),
-        ] {
-            let event = damage(TWO, hp, 323, DamageSource::Direct)?;
-            assert_same(
-                &rt,
-                teller.tell(&event),
-                damage(TWO, told, 48, DamageSource::Direct)?,
-            );
-        }
-        let own = damage(ONE, 100, 353, DamageSource::Direct)?;
-        assert_same(&rt, teller.tell(&own), own);
-        let heal = Event::Heal(active(TWO)?, health(161, 323, Some(Kind::Sleep))?);
-        let told = Event::Heal(active(TWO)?, health(23, 48, Some(Kind::Sleep))?);
-        assert_same(&rt, teller.tell(&heal), told);
-        let comes = switch(TWO, STARMIE, 6, health(7, 703, None)?)?;
-        assert_same(
-            &rt,
-            teller.tell(&comes),
-            switch(TWO, STARMIE, 1, health(1, 48, None)?)?,
-        );
+    fn what_a_side_is_told() -> Result<(), Fail> { let rt = gen1_tests::testing::HostRuntime;
+        assert_same(&rt, tell(&rt, false, &BY_APPEARANCE)?, [3, 5, 1, 6, 2, 4]);
+        tell(&rt, true, &IN_48THS)?;
         Ok(())
     }
 
     // The log bytes of some events.
-    fn log_of(events: &[Event]) -> LogBuf {
+    fn log_of(tells: &[Tell]) -> Result<LogBuf, Fail> {
         let mut log = LogBuf::new();
-        for event in events {
-            let _fits = write(event, &mut log);
+        for tell in tells {
+            let _fits = write(&event(*tell, OUT)?, &mut log);
         }
-        log
+        Ok(log)
     }
 
-    fn first_events() -> Result<[Event; 4], Fail> {
-        Ok([
-            switch(ONE, TAUROS, 1, health(353, 353, None)?)?,
-            switch(TWO, STARMIE, 1, health(48, 48, None)?)?,
-            Event::Turn(TurnNumber::new(1).ok_or("no such turn")?),
-            uses(TWO, 57)?,
-        ])
+    #[test]
+    fn an_update_is_told_in_log_bytes() -> Result<(), Fail> { let rt = gen1_tests::testing::HostRuntime;
+        let mut teller = Teller::new(ONE, true);
+        let log = log_of(&[
+            Switch(ONE, TAUROS, 2, 353, 353, None),
+            Switch(TWO, STARMIE, 5, 323, 323, None),
+            Damage(TWO, 6, 323, DamageSource::Direct),
+            ClearAll,
+        ])?;
+        let told = log_of(&[
+            Switch(ONE, TAUROS, 2, 353, 353, None),
+            Switch(TWO, STARMIE, 1, 48, 48, None),
+            Damage(TWO, 1, 48, DamageSource::Direct),
+            ClearAll,
+        ])?;
+        assert_same(&rt, teller.tell_log(log.as_slice()), Ok(told));
+        assert_same(&rt, teller.places, [5, 0, 0, 0, 0, 0]);
+        Ok(())
+    }
+
+    #[test]
+    fn what_is_not_a_log_is_not_told() -> Result<(), Fail> { let rt = gen1_tests::testing::HostRuntime;
+        let mut teller = Teller::new(TWO, false);
+        // A switch of side 1 to its Tauros at place 4, level 100, with 353 of 353 HP, without the byte of its status.
+        let cut = [2, 1, 128, 4, 100, 0x61, 1, 0x61, 1];
+        assert_same(&rt, teller.tell_log(&cut), Err(LogFault::Truncated));
+        assert_same(
+            &rt,
+            teller.tell_log(&[0x1B, 0x1D]),
+            Err(LogFault::UnknownTag),
+        );
+        assert_same(&rt, teller, Teller::new(TWO, false));
+        Ok(())
     }
 
     #[test]
@@ -919,7 +1386,12 @@ mod players {
     #[test]
     fn a_player_is_fed_however_its_log_is_cut() -> Result<(), Fail> { let rt = gen1_tests::testing::HostRuntime;
         let team = lead_and_chansey(&["Strength"])?;
-        let log = log_of(&first_events()?);
+        let log = log_of(&[
+            Switch(ONE, TAUROS, 1, 353, 353, None),
+            Switch(TWO, STARMIE, 1, 48, 48, None),
+            Turn(1),
+            Move(TWO, 57),
+        ])?;
         for cut in 0..=log.len() {
             let mut player = Player::new(ONE, &team, 6);
             assert_same(&rt, player.feed(&log.as_slice()[..cut]), Ok(()));
@@ -952,56 +1424,19 @@ mod players {
         assert_same(&rt, (player.public.turn, player.held_count), (7, 0));
         Ok(())
     }
-
-    #[test]
-    fn an_update_is_told_in_log_bytes() -> Result<(), Fail> { let rt = gen1_tests::testing::HostRuntime;
-        let mut teller = Teller::new(ONE, true);
-        let log = log_of(&[
-            switch(ONE, TAUROS, 2, health(353, 353, None)?)?,
-            switch(TWO, STARMIE, 5, health(323, 323, None)?)?,
-            damage(TWO, 6, 323, DamageSource::Direct)?,
-            Event::ClearAll,
-        ]);
-        let told = log_of(&[
-            switch(ONE, TAUROS, 2, health(353, 353, None)?)?,
-            switch(TWO, STARMIE, 1, health(48, 48, None)?)?,
-            damage(TWO, 1, 48, DamageSource::Direct)?,
-            Event::ClearAll,
-        ]);
-        assert_same(&rt, teller.tell_log(log.as_slice()), Ok(told));
-        assert_same(&rt, teller.places, [5, 0, 0, 0, 0, 0]);
-        Ok(())
-    }
-
-    #[test]
-    fn what_is_not_a_log_is_not_told() -> Result<(), Fail> { let rt = gen1_tests::testing::HostRuntime;
-        let mut teller = Teller::new(TWO, false);
-        // A switch of side 1 to its Tauros at place 4, level 100, with 353 of 353 HP, without the byte of its status.
-        let cut = [2, 1, 128, 4, 100, 0x61, 1, 0x61, 1];
-        assert_same(&rt, teller.tell_log(&cut), Err(LogFault::Truncated));
-        assert_same(
-            &rt,
-            teller.tell_log(&[0x1B, 0x1D]),
-            Err(LogFault::UnknownTag),
-        );
-        assert_same(&rt, teller, Teller::new(TWO, false));
-        Ok(())
-    }
 }
 
 #[cfg(test)]
 mod rooms {
     //! Rooms, with the table and the example of [docs/MECHANICS.md, "Rooms"](https://hibsuloy.example/gen1/blob/main/docs/MECHANICS.md#rooms).
     use crate::comparing::assert_same;
+    use crate::events::{ONE, TWO};
     use crate::teams::{SEED, chansey, gengar, lead_and_chansey, tauros};
     use gen1::generated::engine::Battle;
     use gen1::generated::machine::{Outcome, Request, Side};
     use gen1::generated::room::Reply; use gen1::generated::room::Room; use gen1::generated::room::RoomRefusal; use gen1::generated::room::Submitted;
+    use gen1_tests::testing::Abort;
     use gen1_tests::testing::Fail;
-
-    const ONE: Side = Side::One;
-
-    const TWO: Side = Side::Two;
 
     // The first update of the battle that is stored in crates/battle_tool: both come out, and turn 1 begins.
     static START: [u8; 23] = [
@@ -1018,14 +1453,80 @@ mod rooms {
         Ok(Room::new(Battle::new(&team, &team, SEED)))
     }
 
-    // Whether a pair was completed, and the battle goes on with a turn.
-    fn goes_on(reply: &Reply) -> bool {
-        let Ok(Submitted::Advanced(result)) = reply else {
-            return false;
-        };
-        result.outcome == Outcome::Ongoing
-            && result.request_one == Request::Move
-            && result.request_two == Request::Move
+    /// A reply in words.
+    #[derive(Clone, Copy, Debug, PartialEq)]
+    pub(crate) enum Answer {
+        Waits,
+        /// A pair was completed: the outcome, and what each side is asked for.
+        Advances(Outcome, Request, Request),
+        Refuses(RoomRefusal),
+    }
+
+    /// A pair was completed, and the battle goes on with a turn.
+    pub(crate) const GOES_ON: Answer = Answer::Advances(Outcome::Ongoing, Request::Move, Request::Move);
+
+    pub(crate) fn answer(reply: &Reply) -> Answer {
+        match *reply {
+            Ok(Submitted::Waiting) => Answer::Waits,
+            Ok(Submitted::Advanced(result)) => {
+                Answer::Advances(result.outcome, result.request_one, result.request_two)
+            }
+            Err(refusal) => Answer::Refuses(refusal),
+        }
+    }
+
+    /// A submission and its reply: the side, the number of the pair, the choice as a byte, and the answer.
+    type Submission = (Side, u32, u8, Answer);
+
+    static BY_REASONS: [Submission; 7] = [
+        (ONE, 0, 17, Answer::Waits),
+        (ONE, 0, 17, Answer::Refuses(RoomRefusal::AlreadyChosen)),
+        (ONE, 0, 99, Answer::Refuses(RoomRefusal::AlreadyChosen)),
+        (TWO, 1, 17, Answer::Refuses(RoomRefusal::Stale(0))),
+        (TWO, 0, 17, GOES_ON),
+        (TWO, 0, 17, Answer::Refuses(RoomRefusal::Stale(1))),
+        (ONE, 1, 0x14, Answer::Refuses(RoomRefusal::NotOffered)),
+    ];
+
+    static TO_THE_END: [Submission; 6] = [
+        (ONE, 0, 17, Answer::Waits),
+        (TWO, 0, 17, GOES_ON),
+        (ONE, 1, 17, Answer::Waits),
+        (
+            TWO,
+            1,
+            17,
+            Answer::Advances(Outcome::WinOne, Request::Pass, Request::Pass),
+        ),
+        (ONE, 2, 17, Answer::Refuses(RoomRefusal::Over)),
+        (TWO, 0, 0, Answer::Refuses(RoomRefusal::Over)),
+    ];
+
+    // Gengar is immune to Explosion, so only the user falls, and only its side is asked for something.
+    static EXPLOSION: [Submission; 5] = [
+        (ONE, 0, 17, Answer::Waits),
+        (
+            TWO,
+            0,
+            17,
+            Answer::Advances(Outcome::Ongoing, Request::Switch, Request::Pass),
+        ),
+        (TWO, 1, 0, Answer::Refuses(RoomRefusal::AlreadyChosen)),
+        (ONE, 1, 17, Answer::Refuses(RoomRefusal::NotOffered)),
+        (ONE, 1, 0x22, GOES_ON),
+    ];
+
+    static ONE_FIRST: [Submission; 2] = [(ONE, 0, 17, Answer::Waits), (TWO, 0, 17, GOES_ON)];
+
+    static TWO_FIRST: [Submission; 2] = [(TWO, 0, 17, Answer::Waits), (ONE, 0, 17, GOES_ON)];
+
+    // Makes the submissions, and asserts each reply. Returns the room.
+    fn play(rt: &impl Abort, mut room: Room, submissions: &[Submission]) -> Room {
+        for (at, (side, number, byte, expected)) in submissions.iter().enumerate() {
+            let reply = room.submit(*side, *number, *byte);
+            assert_eq!(answer(&reply), *expected, "at {at}");
+        }
+        room
     }
 
     #[test]
@@ -1039,23 +1540,40 @@ mod rooms {
 
     #[test]
     fn submissions_are_answered_in_the_order_of_the_reasons() -> Result<(), Fail> { let rt = gen1_tests::testing::HostRuntime;
-        let mut room = two_tauros()?;
-        assert_same(&rt, room.submit(ONE, 0, 17), Ok(Submitted::Waiting));
-        assert_same(
-            &rt,
-            room.submit(ONE, 0, 17),
-            Err(RoomRefusal::AlreadyChosen),
-        );
-        assert_same(
-            &rt,
-            room.submit(ONE, 0, 99),
-            Err(RoomRefusal::AlreadyChosen),
-        );
-        assert_same(&rt, room.submit(TWO, 1, 17), Err(RoomRefusal::Stale(0)));
-        assert_same(&rt, goes_on(&room.submit(TWO, 0, 17)), true);
-        assert_same(&rt, room.submit(TWO, 0, 17), Err(RoomRefusal::Stale(1)));
-        assert_same(&rt, room.submit(ONE, 1, 0x14), Err(RoomRefusal::NotOffered));
+        let room = play(&rt, two_tauros()?, &BY_REASONS);
         assert_same(&rt, room.number(), 1);
+        Ok(())
+    }
+
+    #[test]
+    fn a_battle_that_is_over_takes_nothing() -> Result<(), Fail> { let rt = gen1_tests::testing::HostRuntime;
+        let room = play(&rt, two_tauros()?, &TO_THE_END);
+        assert_same(
+            &rt,
+            (room.number(), room.log().last().copied()),
+            (2, Some(1)),
+        );
+        Ok(())
+    }
+
+    #[test]
+    fn a_side_of_which_nothing_is_asked_passes_by_itself() -> Result<(), Fail> { let rt = gen1_tests::testing::HostRuntime;
+        let one = lead_and_chansey(&["Explosion"])?;
+        let room = play(
+            &rt,
+            Room::new(Battle::new(&one, &gengar()?, SEED)),
+            &EXPLOSION,
+        );
+        assert_same(&rt, room.number(), 2);
+        Ok(())
+    }
+
+    #[test]
+    fn who_submits_first_changes_nothing() -> Result<(), Fail> { let rt = gen1_tests::testing::HostRuntime;
+        let first = play(&rt, two_tauros()?, &ONE_FIRST);
+        let second = play(&rt, two_tauros()?, &TWO_FIRST);
+        assert_same(&rt, first.battle().bytes(), second.battle().bytes());
+        assert_same(&rt, first.log(), second.log());
         Ok(())
     }
 
@@ -1065,34 +1583,6 @@ mod rooms {
         assert_same(&rt, RoomRefusal::Stale(7).number(), 2);
         assert_same(&rt, RoomRefusal::AlreadyChosen.number(), 3);
         assert_same(&rt, RoomRefusal::NotOffered.number(), 4);
-        Ok(())
-    }
-
-    #[test]
-    fn a_battle_that_is_over_takes_nothing() -> Result<(), Fail> { let rt = gen1_tests::testing::HostRuntime;
-        let mut room = two_tauros()?;
-        for pair in 0..2 {
-            let _ = room.submit(ONE, pair, 17);
-            let _ = room.submit(TWO, pair, 17);
-        }
-        assert_same(&rt, room.battle().result().outcome, Outcome::WinOne);
-        assert_same(&rt, room.number(), 2);
-        assert_same(&rt, room.submit(ONE, 2, 17), Err(RoomRefusal::Over));
-        assert_same(&rt, room.submit(TWO, 0, 0), Err(RoomRefusal::Over));
-        assert_same(&rt, room.log().last().copied(), Some(1));
-        Ok(())
-    }
-
-    #[test]
-    fn who_submits_first_changes_nothing() -> Result<(), Fail> { let rt = gen1_tests::testing::HostRuntime;
-        let mut first = two_tauros()?;
-        assert_same(&rt, first.submit(ONE, 0, 17), Ok(Submitted::Waiting));
-        assert_same(&rt, goes_on(&first.submit(TWO, 0, 17)), true);
-        let mut second = two_tauros()?;
-        assert_same(&rt, second.submit(TWO, 0, 17), Ok(Submitted::Waiting));
-        assert_same(&rt, goes_on(&second.submit(ONE, 0, 17)), true);
-        assert_same(&rt, first.battle().bytes(), second.battle().bytes());
-        assert_same(&rt, first.log(), second.log());
         Ok(())
     }
 
@@ -1129,21 +1619,6 @@ mod rooms {
         Ok(())
     }
 
-    // Gengar is immune to Explosion, so only the user falls, and only its side is asked for something.
-    #[test]
-    fn a_side_of_which_nothing_is_asked_passes_by_itself() -> Result<(), Fail> { let rt = gen1_tests::testing::HostRuntime;
-        let one = lead_and_chansey(&["Explosion"])?;
-        let mut room = Room::new(Battle::new(&one, &gengar()?, SEED));
-        let _ = room.submit(ONE, 0, 17);
-        let _ = room.submit(TWO, 0, 17);
-        assert_same(&rt, room.battle().result().request_one, Request::Switch);
-        assert_same(&rt, room.submit(TWO, 1, 0), Err(RoomRefusal::AlreadyChosen));
-        assert_same(&rt, room.submit(ONE, 1, 17), Err(RoomRefusal::NotOffered));
-        assert_same(&rt, goes_on(&room.submit(ONE, 1, 0x22)), true);
-        assert_same(&rt, room.number(), 2);
-        Ok(())
-    }
-
     #[test]
     fn a_run_is_submission_after_submission() -> Result<(), Fail> { let rt = gen1_tests::testing::HostRuntime;
         let team = tauros()?;
@@ -1157,11 +1632,14 @@ mod rooms {
         let mut replies = [Ok(Submitted::Waiting); 5];
         let room = Room::run(Battle::new(&team, &team, SEED), &submissions, &mut replies);
         assert_same(&rt, room.number(), 1);
-        assert_same(&rt, replies[0], Ok(Submitted::Waiting));
-        assert_same(&rt, replies[1], Err(RoomRefusal::AlreadyChosen));
-        assert_same(&rt, replies[2], Err(RoomRefusal::Stale(0)));
-        assert_same(&rt, goes_on(&replies[3]), true);
-        assert_same(&rt, replies[4], Err(RoomRefusal::Stale(1)));
+        let expected = [
+            Answer::Waits,
+            Answer::Refuses(RoomRefusal::AlreadyChosen),
+            Answer::Refuses(RoomRefusal::Stale(0)),
+            GOES_ON,
+            Answer::Refuses(RoomRefusal::Stale(1)),
+        ];
+        assert_same(&rt, replies.map(|reply| answer(&reply)), expected);
         Ok(())
     }
 
@@ -1215,5 +1693,355 @@ mod teams {
         let lead = member("Tauros", moves)?;
         let other = member("Chansey", &["Strength"])?;
         Ok(Team::new(&[lead, other])?)
+    }
+}
+
+#[cfg(test)]
+mod views {
+    //! What each event changes, by the table of [docs/MECHANICS.md, "Spectator's view"](https://hibsuloy.example/gen1/blob/main/docs/MECHANICS.md#spectators-view). Each side has a Tauros of 353 HP at place 1
+    //! and a Chansey of 703 at place 2.
+    use crate::events::Tell::{
+        Activate, Boost, ClearAll, Cure, Damage, End, Faint, Fault, Heal, Start, Status, Switch, Tie,
+        Turn, Unboost, Win,
+    };
+    use crate::events::{ONE, TAUROS, TWO, Tell, event};
+    use crate::teams::lead_and_chansey;
+    use gen1::generated::machine::{DamageSource, Kind, Outcome, Side, Volatile};
+    use gen1::generated::spectator::View;
+    use gen1::generated::tables::Stat;
+    use gen1_tests::testing::Abort;
+    use gen1_tests::testing::Fail;
+
+    // Which member is named doesn't depend on the species.
+    const OUT: [u8; 2] = [TAUROS, TAUROS];
+
+    /// A name, and events with what is shown after them.
+    #[derive(Clone, Copy)]
+    struct Row {
+        name: &'static str,
+        steps: &'static [Step],
+    }
+
+    #[derive(Clone, Copy)]
+    enum Step {
+        /// Each side's place 1 comes out.
+        Begin,
+        Tells(Tell),
+        Shows(Shown),
+    }
+
+    /// What a view shows.
+    #[derive(Clone, Copy, Debug, PartialEq)]
+    pub(crate) enum Shown {
+        Turn(u16),
+        Outcome(Outcome),
+        Place(Side, u8),
+        Hp(Side, u8, u16),
+        Status(Side, u8, Option<Kind>),
+        Stage(Side, Stat, i8),
+        Substitute(Side, bool),
+        Confused(Side, bool),
+        Screens(Side, [bool; 2]),
+    }
+
+    /// The same with the values that the view shows.
+    fn found(view: &View, shown: Shown) -> Shown {
+        match shown {
+            Shown::Turn(_) => Shown::Turn(view.turn()),
+            Shown::Outcome(_) => Shown::Outcome(view.outcome()),
+            Shown::Place(side, _) => Shown::Place(side, view.place(side)),
+            Shown::Hp(side, place, _) => Shown::Hp(side, place, view.hp(side, place)),
+            Shown::Status(side, place, _) => Shown::Status(side, place, view.status(side, place)),
+            Shown::Stage(side, stat, _) => Shown::Stage(side, stat, view.stage(side, stat)),
+            Shown::Substitute(side, _) => Shown::Substitute(side, view.substitute(side)),
+            Shown::Confused(side, _) => Shown::Confused(side, view.confused(side)),
+            Shown::Screens(side, _) => Shown::Screens(side, view.screens(side)),
+        }
+    }
+
+    static EVENTS: [Row; 17] = [
+        Row {
+            name: "before the start all are unhurt and nobody is out",
+            steps: &[
+                Step::Shows(Shown::Place(ONE, 0)),
+                Step::Shows(Shown::Hp(ONE, 1, 353)),
+                Step::Shows(Shown::Hp(ONE, 2, 703)),
+                Step::Shows(Shown::Status(ONE, 2, None)),
+                Step::Shows(Shown::Stage(ONE, Stat::Speed, 0)),
+                Step::Shows(Shown::Screens(ONE, [false, false])),
+                Step::Shows(Shown::Place(TWO, 0)),
+                Step::Shows(Shown::Hp(TWO, 1, 353)),
+                Step::Shows(Shown::Hp(TWO, 2, 703)),
+                Step::Shows(Shown::Status(TWO, 2, None)),
+                Step::Shows(Shown::Stage(TWO, Stat::Speed, 0)),
+                Step::Shows(Shown::Screens(TWO, [false, false])),
+                Step::Shows(Shown::Turn(0)),
+                Step::Shows(Shown::Outcome(Outcome::Ongoing)),
+            ],
+        },
+        Row {
+            name: "there is nobody at place 0 and past the last",
+            steps: &[
+                Step::Begin,
+                Step::Shows(Shown::Hp(ONE, 0, 0)),
+                Step::Shows(Shown::Status(ONE, 0, None)),
+                Step::Shows(Shown::Hp(ONE, 3, 0)),
+                Step::Shows(Shown::Status(ONE, 3, None)),
+                Step::Shows(Shown::Hp(ONE, 6, 0)),
+                Step::Shows(Shown::Status(ONE, 6, None)),
+                Step::Shows(Shown::Hp(ONE, 255, 0)),
+                Step::Shows(Shown::Status(ONE, 255, None)),
+            ],
+        },
+        Row {
+            name: "nothing but a switch changes a side with nobody out",
+            steps: &[
+                Step::Tells(Damage(ONE, 12, 353, DamageSource::Direct)),
+                Step::Tells(Boost(ONE, Stat::Attack, 2)),
+                Step::Tells(Start(ONE, Volatile::Substitute)),
+                Step::Shows(Shown::Hp(ONE, 1, 353)),
+                Step::Shows(Shown::Stage(ONE, Stat::Attack, 0)),
+                Step::Shows(Shown::Substitute(ONE, false)),
+            ],
+        },
+        Row {
+            name: "a switch shows who comes out",
+            steps: &[
+                Step::Begin,
+                Step::Tells(Switch(ONE, TAUROS, 2, 500, 703, Some(Kind::Paralysis))),
+                Step::Shows(Shown::Place(ONE, 2)),
+                Step::Shows(Shown::Place(TWO, 1)),
+                Step::Shows(Shown::Hp(ONE, 1, 353)),
+                Step::Shows(Shown::Hp(ONE, 2, 500)),
+                Step::Shows(Shown::Status(ONE, 2, Some(Kind::Paralysis))),
+                Step::Shows(Shown::Status(ONE, 1, None)),
+            ],
+        },
+        Row {
+            name: "a switch clears stages and conditions",
+            steps: &[
+                Step::Begin,
+                Step::Tells(Boost(ONE, Stat::Attack, 2)),
+                Step::Tells(Start(ONE, Volatile::Substitute)),
+                Step::Tells(Start(ONE, Volatile::Confusion)),
+                Step::Tells(Start(ONE, Volatile::Reflect)),
+                Step::Tells(Switch(ONE, TAUROS, 2, 703, 703, None)),
+                Step::Shows(Shown::Stage(ONE, Stat::Attack, 0)),
+                Step::Shows(Shown::Substitute(ONE, false)),
+                Step::Shows(Shown::Confused(ONE, false)),
+                Step::Shows(Shown::Screens(ONE, [false, false])),
+            ],
+        },
+        Row {
+            name: "a switch to a place without a member changes nothing",
+            steps: &[
+                Step::Begin,
+                Step::Tells(Boost(ONE, Stat::Attack, 1)),
+                Step::Tells(Switch(ONE, TAUROS, 3, 11, 11, None)),
+                Step::Shows(Shown::Place(ONE, 1)),
+                Step::Shows(Shown::Hp(ONE, 1, 353)),
+                Step::Shows(Shown::Hp(ONE, 3, 0)),
+                Step::Shows(Shown::Stage(ONE, Stat::Attack, 1)),
+            ],
+        },
+        Row {
+            name: "Damage and Heal change HP alone",
+            steps: &[
+                Step::Begin,
+                Step::Tells(Status(TWO, Kind::Burn)),
+                Step::Tells(Damage(TWO, 12, 353, DamageSource::Direct)),
+                Step::Shows(Shown::Hp(TWO, 1, 12)),
+                Step::Shows(Shown::Hp(ONE, 1, 353)),
+                Step::Shows(Shown::Status(TWO, 1, Some(Kind::Burn))),
+                Step::Tells(Heal(TWO, 188, 353, None)),
+                Step::Shows(Shown::Hp(TWO, 1, 188)),
+                Step::Shows(Shown::Status(TWO, 1, Some(Kind::Burn))),
+            ],
+        },
+        Row {
+            name: "a status comes and is cured",
+            steps: &[
+                Step::Begin,
+                Step::Tells(Status(ONE, Kind::Freeze)),
+                Step::Shows(Shown::Status(ONE, 1, Some(Kind::Freeze))),
+                Step::Shows(Shown::Status(TWO, 1, None)),
+                Step::Tells(Cure(ONE, Kind::Freeze)),
+                Step::Shows(Shown::Status(ONE, 1, None)),
+            ],
+        },
+        Row {
+            name: "Rest is sleep at full HP: it writes Status, then Heal",
+            steps: &[
+                Step::Begin,
+                Step::Tells(Status(ONE, Kind::Poison)),
+                Step::Tells(Damage(ONE, 40, 353, DamageSource::Direct)),
+                Step::Tells(Status(ONE, Kind::Sleep)),
+                Step::Tells(Heal(ONE, 353, 353, Some(Kind::Sleep))),
+                Step::Shows(Shown::Hp(ONE, 1, 353)),
+                Step::Shows(Shown::Status(ONE, 1, Some(Kind::Sleep))),
+            ],
+        },
+        Row {
+            name: "who faints has no HP and no status",
+            steps: &[
+                Step::Begin,
+                Step::Tells(Status(TWO, Kind::Paralysis)),
+                Step::Tells(Faint(TWO)),
+                Step::Shows(Shown::Place(TWO, 1)),
+                Step::Shows(Shown::Hp(TWO, 1, 0)),
+                Step::Shows(Shown::Status(TWO, 1, None)),
+            ],
+        },
+        Row {
+            name: "stages are cut at six",
+            steps: &[
+                Step::Begin,
+                Step::Tells(Boost(ONE, Stat::Evasion, 2)),
+                Step::Shows(Shown::Stage(ONE, Stat::Evasion, 2)),
+                Step::Tells(Boost(ONE, Stat::Evasion, 2)),
+                Step::Shows(Shown::Stage(ONE, Stat::Evasion, 4)),
+                Step::Tells(Boost(ONE, Stat::Evasion, 2)),
+                Step::Shows(Shown::Stage(ONE, Stat::Evasion, 6)),
+                Step::Tells(Boost(ONE, Stat::Evasion, 2)),
+                Step::Shows(Shown::Stage(ONE, Stat::Evasion, 6)),
+                Step::Tells(Unboost(TWO, Stat::Special, 1)),
+                Step::Shows(Shown::Stage(TWO, Stat::Special, -1)),
+                Step::Tells(Unboost(TWO, Stat::Special, 1)),
+                Step::Shows(Shown::Stage(TWO, Stat::Special, -2)),
+                Step::Tells(Unboost(TWO, Stat::Special, 2)),
+                Step::Shows(Shown::Stage(TWO, Stat::Special, -4)),
+                Step::Tells(Unboost(TWO, Stat::Special, 2)),
+                Step::Shows(Shown::Stage(TWO, Stat::Special, -6)),
+                Step::Tells(Unboost(TWO, Stat::Special, 2)),
+                Step::Shows(Shown::Stage(TWO, Stat::Special, -6)),
+                Step::Shows(Shown::Stage(ONE, Stat::Accuracy, 0)),
+                Step::Shows(Shown::Stage(TWO, Stat::Evasion, 0)),
+            ],
+        },
+        Row {
+            name: "Haze clears both sides",
+            steps: &[
+                // Haze writes ClearAll for both sides. It ends no substitute, and a separate Cure reports the foe's status.
+                Step::Begin,
+                Step::Tells(Start(ONE, Volatile::Confusion)),
+                Step::Tells(Start(ONE, Volatile::LightScreen)),
+                Step::Tells(Start(ONE, Volatile::Substitute)),
+                Step::Tells(Status(ONE, Kind::Burn)),
+                Step::Tells(Unboost(ONE, Stat::Defense, 1)),
+                Step::Tells(Start(TWO, Volatile::Confusion)),
+                Step::Tells(Start(TWO, Volatile::LightScreen)),
+                Step::Tells(Start(TWO, Volatile::Substitute)),
+                Step::Tells(Status(TWO, Kind::Burn)),
+                Step::Tells(Unboost(TWO, Stat::Defense, 1)),
+                Step::Tells(ClearAll),
+                Step::Shows(Shown::Confused(ONE, false)),
+                Step::Shows(Shown::Substitute(ONE, true)),
+                Step::Shows(Shown::Screens(ONE, [false, false])),
+                Step::Shows(Shown::Stage(ONE, Stat::Defense, 0)),
+                Step::Shows(Shown::Status(ONE, 1, Some(Kind::Burn))),
+                Step::Shows(Shown::Confused(TWO, false)),
+                Step::Shows(Shown::Substitute(TWO, true)),
+                Step::Shows(Shown::Screens(TWO, [false, false])),
+                Step::Shows(Shown::Stage(TWO, Stat::Defense, 0)),
+                Step::Shows(Shown::Status(TWO, 1, Some(Kind::Burn))),
+            ],
+        },
+        Row {
+            name: "a substitute starts and ends",
+            steps: &[
+                Step::Begin,
+                Step::Tells(Start(ONE, Volatile::Substitute)),
+                Step::Tells(Damage(ONE, 265, 353, DamageSource::Direct)),
+                Step::Shows(Shown::Substitute(ONE, true)),
+                Step::Shows(Shown::Substitute(TWO, false)),
+                Step::Shows(Shown::Hp(ONE, 1, 265)),
+                Step::Tells(Activate(ONE, Volatile::Substitute)),
+                Step::Shows(Shown::Substitute(ONE, true)),
+                Step::Tells(End(ONE, Volatile::Substitute)),
+                Step::Shows(Shown::Substitute(ONE, false)),
+            ],
+        },
+        Row {
+            name: "confusion starts and ends",
+            steps: &[
+                Step::Begin,
+                Step::Tells(Start(TWO, Volatile::Confusion)),
+                Step::Shows(Shown::Confused(TWO, true)),
+                Step::Shows(Shown::Confused(ONE, false)),
+                Step::Tells(End(TWO, Volatile::Confusion)),
+                Step::Shows(Shown::Confused(TWO, false)),
+            ],
+        },
+        Row {
+            name: "screens are told apart",
+            steps: &[
+                Step::Begin,
+                Step::Tells(Start(ONE, Volatile::LightScreen)),
+                Step::Tells(Start(TWO, Volatile::Reflect)),
+                Step::Shows(Shown::Screens(ONE, [true, false])),
+                Step::Shows(Shown::Screens(TWO, [false, true])),
+            ],
+        },
+        Row {
+            name: "Leech Seed shows in HP alone",
+            steps: &[
+                Step::Begin,
+                Step::Tells(Damage(ONE, 300, 353, DamageSource::Direct)),
+                Step::Tells(Start(TWO, Volatile::LeechSeed)),
+                Step::Shows(Shown::Substitute(TWO, false)),
+                Step::Shows(Shown::Confused(TWO, false)),
+                Step::Shows(Shown::Screens(TWO, [false, false])),
+                Step::Tells(Damage(TWO, 331, 353, DamageSource::LeechSeed)),
+                Step::Tells(Heal(ONE, 322, 353, None)),
+                Step::Shows(Shown::Hp(TWO, 1, 331)),
+                Step::Shows(Shown::Hp(ONE, 1, 322)),
+            ],
+        },
+        Row {
+            name: "turns and ends are those that they name",
+            steps: &[
+                Step::Begin,
+                Step::Tells(Turn(9999)),
+                Step::Shows(Shown::Turn(9999)),
+                Step::Shows(Shown::Outcome(Outcome::Ongoing)),
+                Step::Tells(Win(ONE)),
+                Step::Shows(Shown::Outcome(Outcome::WinOne)),
+                Step::Tells(Win(TWO)),
+                Step::Shows(Shown::Outcome(Outcome::WinTwo)),
+                Step::Tells(Tie),
+                Step::Shows(Shown::Outcome(Outcome::Tie)),
+                Step::Tells(Fault(2)),
+                Step::Shows(Shown::Outcome(Outcome::Fault(2))),
+            ],
+        },
+    ];
+
+    #[test]
+    fn what_each_event_shows() -> Result<(), Fail> { let rt = gen1_tests::testing::HostRuntime;
+        let team = lead_and_chansey(&["Strength", "Wrap"])?;
+        for row in EVENTS {
+            let mut view = View::new(&team, &team);
+            for (number, step) in row.steps.iter().enumerate() {
+                take(&rt, &mut view, *step, (row.name, number))?;
+            }
+        }
+        Ok(())
+    }
+
+    fn take(rt: &impl Abort, view: &mut View, step: Step, at: (&str, usize)) -> Result<(), Fail> {
+        match step {
+            Step::Begin => {
+                view.apply(&event(Switch(ONE, TAUROS, 1, 353, 353, None), OUT)?);
+                view.apply(&event(Switch(TWO, TAUROS, 1, 353, 353, None), OUT)?);
+            }
+            Step::Tells(tell) => view.apply(&event(tell, OUT)?),
+            Step::Shows(shown) => expect(rt, view, shown, at),
+        }
+        Ok(())
+    }
+
+    /// Asserts that the view shows this. A failure names the row and the number of the step, from 0.
+    pub(crate) fn expect(rt: &impl Abort, view: &View, shown: Shown, at: (&str, usize)) {
+        assert_eq!(found(view, shown), shown, "in {at:?}");
     }
 }
