@@ -39,19 +39,21 @@ fn the_most_hp(rt: HostRuntime) {
     assert_same(&rt, hp_stat(chansey, 15, 65535, 100), 703);
 }
 
+static ROOTS: [(u16, u16); 8] = [
+    (0, 5),
+    (1, 5),
+    (9, 5),
+    (10, 6),
+    (16, 6),
+    (49, 6),
+    (50, 7),
+    (65535, 68),
+];
+
 // Only experience: a quarter of its root, which is rounded up before, plus 5 (docs/MECHANICS.md, "Stats").
 #[test]
 fn roots_are_rounded_up(rt: HostRuntime) {
-    for (exp, want) in [
-        (0, 5),
-        (1, 5),
-        (9, 5),
-        (10, 6),
-        (16, 6),
-        (49, 6),
-        (50, 7),
-        (65535, 68),
-    ] {
+    for (exp, want) in ROOTS {
         assert_same(&rt, (exp, stat(0, 0, exp, 100)), (exp, want));
     }
 }
@@ -112,50 +114,52 @@ fn refusals_of_members(rt: HostRuntime) -> Result<(), Fail> {
     Ok(())
 }
 
+static REFUSALS: [(TeamRefusal, u8, u8, &str); 9] = [
+    (TeamRefusal::Empty, 1, 0, "the team has no member"),
+    (
+        TeamRefusal::TooMany,
+        2,
+        0,
+        "the team has more than six members",
+    ),
+    (
+        TeamRefusal::Level(1),
+        3,
+        1,
+        "member 1: the level is not 1 to 100",
+    ),
+    (TeamRefusal::Dv(2), 4, 2, "member 2: a DV is above 15"),
+    (TeamRefusal::NoMove(3), 5, 3, "member 3: there is no move"),
+    (
+        TeamRefusal::MoveLeftOut(4),
+        6,
+        4,
+        "member 4: a move is left out of the engine",
+    ),
+    (
+        TeamRefusal::StruggleChosen(5),
+        7,
+        5,
+        "member 5: Struggle can't be chosen",
+    ),
+    (
+        TeamRefusal::RepeatedMove(6),
+        8,
+        6,
+        "member 6: a move stands twice",
+    ),
+    (
+        TeamRefusal::PpUps(1),
+        9,
+        1,
+        "member 1: a move has more than three PP ups",
+    ),
+];
+
 // Number, place and text of each refusal (docs/MECHANICS.md, "Teams").
 #[test]
 fn refusals_in_numbers_and_words(rt: HostRuntime) -> Result<(), Fail> {
-    for (refusal, number, place, text) in [
-        (TeamRefusal::Empty, 1, 0, "the team has no member"),
-        (
-            TeamRefusal::TooMany,
-            2,
-            0,
-            "the team has more than six members",
-        ),
-        (
-            TeamRefusal::Level(1),
-            3,
-            1,
-            "member 1: the level is not 1 to 100",
-        ),
-        (TeamRefusal::Dv(2), 4, 2, "member 2: a DV is above 15"),
-        (TeamRefusal::NoMove(3), 5, 3, "member 3: there is no move"),
-        (
-            TeamRefusal::MoveLeftOut(4),
-            6,
-            4,
-            "member 4: a move is left out of the engine",
-        ),
-        (
-            TeamRefusal::StruggleChosen(5),
-            7,
-            5,
-            "member 5: Struggle can't be chosen",
-        ),
-        (
-            TeamRefusal::RepeatedMove(6),
-            8,
-            6,
-            "member 6: a move stands twice",
-        ),
-        (
-            TeamRefusal::PpUps(1),
-            9,
-            1,
-            "member 1: a move has more than three PP ups",
-        ),
-    ] {
+    for (refusal, number, place, text) in REFUSALS {
         assert_same(&rt, refusal.number(), number);
         assert_same(&rt, refusal.place(), place);
         let printed = format!(in rt.alloc(); "{refusal}")?;
@@ -164,20 +168,25 @@ fn refusals_in_numbers_and_words(rt: HostRuntime) -> Result<(), Fail> {
     Ok(())
 }
 
+static STATUSES: [(Status, bool, bool); 6] = [
+    (Status::Healthy, true, false),
+    (
+        Status::Asleep {
+            turns: 2,
+            marked: false,
+        },
+        false,
+        true,
+    ),
+    (Status::Poisoned, false, false),
+    (Status::Burned, false, false),
+    (Status::Frozen, false, true),
+    (Status::Paralysed, false, false),
+];
+
 #[test]
 fn what_ails_a_member(rt: HostRuntime) {
-    let asleep = Status::Asleep {
-        turns: 2,
-        marked: false,
-    };
-    for (status, healthy, kept_from_acting) in [
-        (Status::Healthy, true, false),
-        (asleep, false, true),
-        (Status::Poisoned, false, false),
-        (Status::Burned, false, false),
-        (Status::Frozen, false, true),
-        (Status::Paralysed, false, false),
-    ] {
+    for (status, healthy, kept_from_acting) in STATUSES {
         assert_same(
             &rt,
             (status.is_healthy(), status.sleeps_or_freezes()),

@@ -11,9 +11,23 @@ use linked_list_allocator::LocalHeap;
 use std::test::Fail;
 use test_support::{Broken, Failing};
 
+static TURNS: [(u16, bool); 4] = [(0, false), (1, true), (9999, true), (10000, false)];
+
+static NUMBERS: [(u8, bool, bool, bool, bool, bool); 9] = [
+    (0, true, false, false, false, false),
+    (1, true, true, true, true, true),
+    (2, true, true, true, true, true),
+    (3, true, false, true, true, true),
+    (5, false, false, true, true, true),
+    (6, false, false, false, true, true),
+    (7, false, false, false, false, true),
+    (100, false, false, false, false, true),
+    (101, false, false, false, false, false),
+];
+
 #[test]
 fn ranges_end_where_they_should(rt: HostRuntime) {
-    for (number, known) in [(0, false), (1, true), (9999, true), (10000, false)] {
+    for (number, known) in TURNS {
         assert_same(
             &rt,
             TurnLimit::new(number).map(TurnLimit::number),
@@ -26,17 +40,7 @@ fn ranges_end_where_they_should(rt: HostRuntime) {
         );
     }
     assert_same(&rt, TurnLimit::default().number(), 1000);
-    for (number, slot, stages, hits, place, level) in [
-        (0, true, false, false, false, false),
-        (1, true, true, true, true, true),
-        (2, true, true, true, true, true),
-        (3, true, false, true, true, true),
-        (5, false, false, true, true, true),
-        (6, false, false, false, true, true),
-        (7, false, false, false, false, true),
-        (100, false, false, false, false, true),
-        (101, false, false, false, false, false),
-    ] {
+    for (number, slot, stages, hits, place, level) in NUMBERS {
         assert_same(&rt, MoveSlot::new(number).is_some(), slot);
         assert_same(&rt, StageCount::new(number).is_some(), stages);
         assert_same(&rt, FaultCode::new(number).is_some(), stages);
@@ -50,27 +54,31 @@ fn ranges_end_where_they_should(rt: HostRuntime) {
     }
 }
 
+static OUTCOMES: [(Outcome, bool); 5] = [
+    (Outcome::Ongoing, false),
+    (Outcome::WinOne, true),
+    (Outcome::WinTwo, true),
+    (Outcome::Tie, true),
+    (Outcome::Fault(1), true),
+];
+
 #[test]
 fn what_ends_a_battle(rt: HostRuntime) {
-    for (outcome, over) in [
-        (Outcome::Ongoing, false),
-        (Outcome::WinOne, true),
-        (Outcome::WinTwo, true),
-        (Outcome::Tie, true),
-        (Outcome::Fault(1), true),
-    ] {
+    for (outcome, over) in OUTCOMES {
         assert_same(&rt, (outcome, outcome.is_over()), (outcome, over));
     }
 }
 
+static HEALTHS: [(u16, u16, bool); 4] = [
+    (0, 11, true),
+    (999, 999, true),
+    (12, 11, false),
+    (9, 10, false),
+];
+
 #[test]
 fn health_is_within_its_maximum(rt: HostRuntime) {
-    for (hp, max, known) in [
-        (0, 11, true),
-        (999, 999, true),
-        (12, 11, false),
-        (9, 10, false),
-    ] {
+    for (hp, max, known) in HEALTHS {
         let health = Health::new(hp, max, Some(Kind::Burn));
         assert_same(&rt, health.is_some(), known);
         if let Some(health) = health {
@@ -83,15 +91,17 @@ fn health_is_within_its_maximum(rt: HostRuntime) {
     }
 }
 
+static RULES: [(u8, bool, bool); 4] = [
+    (0, false, false),
+    (1, true, false),
+    (2, false, true),
+    (3, true, true),
+];
+
 // The rules' two bits (docs/MECHANICS.md, "Rules (sleep clause, freeze clause)").
 #[test]
 fn rules_are_two_bits(rt: HostRuntime) -> Result<(), Fail> {
-    for (bits, sleep, freeze) in [
-        (0, false, false),
-        (1, true, false),
-        (2, false, true),
-        (3, true, true),
-    ] {
+    for (bits, sleep, freeze) in RULES {
         let rules = Rules::new(bits).ok_or("at most 3")?;
         assert_same(&rt, rules.bits(), bits);
         assert_same(
@@ -165,21 +175,23 @@ fn link_numbers(rt: HostRuntime) {
     }
 }
 
+static STAGES: [(u16, i8, Stat, u8, u16); 10] = [
+    (298, 0, Stat::Attack, 1, 149),
+    (298, -1, Stat::Attack, 0, 196),
+    (298, -1, Stat::Attack, 1, 98),
+    (298, -1, Stat::Attack, 2, 49),
+    (318, 0, Stat::Speed, 1, 79),
+    (3, 0, Stat::Speed, 1, 1),
+    (288, 0, Stat::Defense, 1, 288),
+    (298, 6, Stat::Attack, 0, 999),
+    (298, 127, Stat::Special, 0, 999),
+    (5, -6, Stat::Special, 0, 1),
+];
+
 // Worked stats (docs/MECHANICS.md, "Stages", "Penalties").
 #[test]
 fn stats_at_stages(rt: HostRuntime) {
-    for (unmodified, stage, stat, penalties, want) in [
-        (298, 0, Stat::Attack, 1, 149),
-        (298, -1, Stat::Attack, 0, 196),
-        (298, -1, Stat::Attack, 1, 98),
-        (298, -1, Stat::Attack, 2, 49),
-        (318, 0, Stat::Speed, 1, 79),
-        (3, 0, Stat::Speed, 1, 1),
-        (288, 0, Stat::Defense, 1, 288),
-        (298, 6, Stat::Attack, 0, 999),
-        (298, 127, Stat::Special, 0, 999),
-        (5, -6, Stat::Special, 0, 1),
-    ] {
+    for (unmodified, stage, stat, penalties, want) in STAGES {
         assert_same(&rt, now(unmodified, stage, stat, penalties), want);
     }
 }
