@@ -98,21 +98,36 @@ mod draws {
     use gen1::generated::rolls::{LinkRandom, Rolls, Sweep, renew, until};
     use core::cell::Cell;
 
+    /// Twelve draws.
+    fn twelve<R: Rolls>(r: &mut R) -> [u8; 12] {
+        let mut drawn = [0; 12];
+        for place in drawn.iter_mut() {
+            *place = r.draw();
+        }
+        drawn
+    }
+
+    /// The index and the numbers.
+    fn parts(random: &LinkRandom) -> (u8, [u8; 10]) {
+        (random.index(), random.numbers())
+    }
+
     #[test]
     fn nine_numbers_are_drawn_and_then_renewed() { let rt = gen1_tests::testing::HostRuntime;
         let mut random = LinkRandom::new([1, 2, 3, 4, 5, 6, 7, 8, 9, 10]);
-        for want in [1, 2, 3, 4, 5, 6, 7, 8, 9, 6, 11, 16] {
-            assert_same(&rt, random.draw(), want);
-        }
-        assert_same(&rt, [renew(1), renew(2), renew(3)], [6, 11, 16]);
-        assert_same(&rt, random.index(), 3);
         assert_same(
             &rt,
-            random.numbers(),
-            [6, 11, 16, 21, 26, 31, 36, 41, 46, 10],
+            twelve(&mut random),
+            [1, 2, 3, 4, 5, 6, 7, 8, 9, 6, 11, 16],
         );
-        let same = LinkRandom::from_parts(3, random.numbers());
-        assert_same(&rt, same, Some(random));
+        assert_same(&rt, [renew(1), renew(2), renew(3)], [6, 11, 16]);
+        let (index, numbers) = parts(&random);
+        assert_same(
+            &rt,
+            (index, numbers),
+            (3, [6, 11, 16, 21, 26, 31, 36, 41, 46, 10]),
+        );
+        assert_same(&rt, LinkRandom::from_parts(3, numbers), Some(random));
         assert_same(&rt, LinkRandom::from_parts(9, [0; 10]), None);
     }
 
@@ -133,21 +148,12 @@ mod draws {
         assert_same(&rt, sweep, Sweep::new(7));
         assert_same(&rt, found(&mut sweep, 256), (None, 256));
         let mut random = LinkRandom::new([0; 10]);
+        let after = (1, [51, 51, 51, 51, 51, 51, 51, 51, 51, 0]);
         assert_same(&rt, found(&mut random, 51), (Some(51), 2296));
-        assert_same(&rt, random.index(), 1);
-        assert_same(
-            &rt,
-            random.numbers(),
-            [51, 51, 51, 51, 51, 51, 51, 51, 51, 0],
-        );
+        assert_same(&rt, parts(&random), after);
         // It stands where 2,304 draws lead. The last of these is not tested, since 256 rounds are over.
         assert_same(&rt, found(&mut random, 256), (None, 2303));
-        assert_same(&rt, random.index(), 1);
-        assert_same(
-            &rt,
-            random.numbers(),
-            [51, 51, 51, 51, 51, 51, 51, 51, 51, 0],
-        );
+        assert_same(&rt, parts(&random), after);
     }
 
     /// Draws a count from 1 to 7: the lowest three bits of the first draw in which they aren't 0. Like the engine, it
@@ -1829,21 +1835,23 @@ mod tables {
     use gen1::generated::tables::{COUNTER, Effect, Element, MoveId, STRUGGLE, Species, effectiveness, type_rows};
     use gen1_tests::testing::Abort;
 
+    static SPECIES: [(u8, &str, [Element; 2], [u8; 5]); 10] = [
+        (1, "Bulbasaur", [Grass, Poison], [45, 49, 49, 45, 65]),
+        (6, "Charizard", [Fire, Flying], [78, 84, 78, 100, 85]),
+        (25, "Pikachu", [Electric, Electric], [35, 55, 30, 90, 50]),
+        (29, "Nidoran-F", [Poison, Poison], [55, 47, 52, 41, 40]),
+        (62, "Poliwrath", [Water, Fighting], [90, 85, 95, 70, 70]),
+        (83, "Farfetchd", [Normal, Flying], [52, 65, 55, 60, 58]),
+        (113, "Chansey", [Normal, Normal], [250, 5, 5, 50, 105]),
+        (122, "Mr. Mime", [Psychic, Psychic], [40, 45, 65, 90, 100]),
+        (128, "Tauros", [Normal, Normal], [75, 100, 95, 110, 70]),
+        (151, "Mew", [Psychic, Psychic], [100, 100, 100, 100, 100]),
+    ];
+
     // Rows of species (docs/TABLES.md, "Species").
     #[test]
     fn ten_species() { let rt = gen1_tests::testing::HostRuntime;
-        for (number, name, types, base) in [
-            (1, "Bulbasaur", [Grass, Poison], [45, 49, 49, 45, 65]),
-            (6, "Charizard", [Fire, Flying], [78, 84, 78, 100, 85]),
-            (25, "Pikachu", [Electric, Electric], [35, 55, 30, 90, 50]),
-            (29, "Nidoran-F", [Poison, Poison], [55, 47, 52, 41, 40]),
-            (62, "Poliwrath", [Water, Fighting], [90, 85, 95, 70, 70]),
-            (83, "Farfetchd", [Normal, Flying], [52, 65, 55, 60, 58]),
-            (113, "Chansey", [Normal, Normal], [250, 5, 5, 50, 105]),
-            (122, "Mr. Mime", [Psychic, Psychic], [40, 45, 65, 90, 100]),
-            (128, "Tauros", [Normal, Normal], [75, 100, 95, 110, 70]),
-            (151, "Mew", [Psychic, Psychic], [100, 100, 100, 100, 100]),
-        ] {
+        for (number, name, types, base) in SPECIES {
             check_species(&rt, number, name, types, base);
         }
         assert_same(&rt, Species::default().name(), "Bulbasaur");
@@ -1858,21 +1866,23 @@ mod tables {
         assert_same(rt, (name, species.base()), (name, base));
     }
 
+    static MOVES: [(u8, &str, Element, u8, u8, u8, Effect); 10] = [
+        (1, "Pound", Normal, 40, 255, 35, DamageOnly),
+        (12, "Guillotine", Normal, 1, 76, 5, OneHitKnockOut),
+        (14, "Swords Dance", Normal, 0, 255, 30, StatUp(Attack, 2)),
+        (19, "Fly", Flying, 70, 242, 15, ChargeInvulnerable),
+        (51, "Acid", Poison, 40, 255, 30, StatDownChance(Defense)),
+        (101, "Night Shade", Ghost, 0, 255, 15, FixedDamage),
+        (103, "Screech", Normal, 0, 216, 40, StatDown(Defense, 2)),
+        (122, "Lick", Ghost, 20, 255, 30, ParalysisChance(77)),
+        (124, "Sludge", Poison, 65, 255, 20, PoisonChance(103)),
+        (165, "Struggle", Normal, 50, 255, 10, Recoil),
+    ];
+
     // Rows of moves, with their effects (docs/TABLES.md, "Moves", "Effects").
     #[test]
     fn ten_moves() { let rt = gen1_tests::testing::HostRuntime;
-        for (number, name, kind, power, accuracy, pp, effect) in [
-            (1, "Pound", Normal, 40, 255, 35, DamageOnly),
-            (12, "Guillotine", Normal, 1, 76, 5, OneHitKnockOut),
-            (14, "Swords Dance", Normal, 0, 255, 30, StatUp(Attack, 2)),
-            (19, "Fly", Flying, 70, 242, 15, ChargeInvulnerable),
-            (51, "Acid", Poison, 40, 255, 30, StatDownChance(Defense)),
-            (101, "Night Shade", Ghost, 0, 255, 15, FixedDamage),
-            (103, "Screech", Normal, 0, 216, 40, StatDown(Defense, 2)),
-            (122, "Lick", Ghost, 20, 255, 30, ParalysisChance(77)),
-            (124, "Sludge", Poison, 65, 255, 20, PoisonChance(103)),
-            (165, "Struggle", Normal, 50, 255, 10, Recoil),
-        ] {
+        for (number, name, kind, power, accuracy, pp, effect) in MOVES {
             check_name(&rt, number, name);
             let id = MoveId::new(number).expect("no move has the number");
             assert_same(
@@ -1892,39 +1902,43 @@ mod tables {
         assert_same(rt, (name, MoveId::from_name(name)), (name, Some(id)));
     }
 
+    static TYPE_ROWS: [(usize, (Element, Element, u8)); 10] = [
+        (0, (Water, Fire, 20)),
+        (6, (Ground, Flying, 0)),
+        (12, (Psychic, Psychic, 5)),
+        (18, (Normal, Ghost, 0)),
+        (23, (Electric, Ground, 0)),
+        (41, (Fighting, Ghost, 0)),
+        (45, (Poison, Bug, 20)),
+        (67, (Bug, Poison, 20)),
+        (75, (Ghost, Psychic, 0)),
+        (81, (Dragon, Dragon, 20)),
+    ];
+
     // Rows of the type chart (docs/TABLES.md, "Type rows").
     #[test]
     fn ten_type_rows() { let rt = gen1_tests::testing::HostRuntime;
-        for (place, row) in [
-            (0, (Water, Fire, 20)),
-            (6, (Ground, Flying, 0)),
-            (12, (Psychic, Psychic, 5)),
-            (18, (Normal, Ghost, 0)),
-            (23, (Electric, Ground, 0)),
-            (41, (Fighting, Ghost, 0)),
-            (45, (Poison, Bug, 20)),
-            (67, (Bug, Poison, 20)),
-            (75, (Ghost, Psychic, 0)),
-            (81, (Dragon, Dragon, 20)),
-        ] {
+        for (place, row) in TYPE_ROWS {
             assert_same(&rt, (place, type_rows().get(place)), (place, Some(&row)));
         }
     }
 
+    static AGAINST_A_FOE: [(Element, Element, Element, (u8, u8)); 9] = [
+        (Ice, Water, Flying, (5, 20)),
+        (Ice, Flying, Water, (5, 20)),
+        (Grass, Water, Flying, (20, 5)),
+        (Ghost, Ghost, Psychic, (20, 0)),
+        (Rock, Fire, Flying, (20, 20)),
+        (Electric, Ground, Flying, (0, 20)),
+        (Fire, Fire, Fire, (5, 10)),
+        (Normal, Normal, Flying, (10, 10)),
+        (Dragon, Dragon, Flying, (20, 10)),
+    ];
+
     // The first and the last physical and special type (docs/TABLES.md, "Types").
     #[test]
     fn rows_against_a_foe() { let rt = gen1_tests::testing::HostRuntime;
-        for (kind, first, second, tenths) in [
-            (Ice, Water, Flying, (5, 20)),
-            (Ice, Flying, Water, (5, 20)),
-            (Grass, Water, Flying, (20, 5)),
-            (Ghost, Ghost, Psychic, (20, 0)),
-            (Rock, Fire, Flying, (20, 20)),
-            (Electric, Ground, Flying, (0, 20)),
-            (Fire, Fire, Fire, (5, 10)),
-            (Normal, Normal, Flying, (10, 10)),
-            (Dragon, Dragon, Flying, (20, 10)),
-        ] {
+        for (kind, first, second, tenths) in AGAINST_A_FOE {
             let found = effectiveness(kind, first, second);
             assert_same(&rt, (kind, found), (kind, tenths));
         }
@@ -1949,34 +1963,40 @@ mod tables {
         check_name(&rt, STRUGGLE, "Struggle");
     }
 
+    static TYPES: [(Element, u8, bool); 4] = [
+        (Normal, 0, false),
+        (Ghost, 7, false),
+        (Fire, 8, true),
+        (Dragon, 14, true),
+    ];
+
     #[test]
     fn types() { let rt = gen1_tests::testing::HostRuntime;
-        for (kind, number, special) in [
-            (Normal, 0, false),
-            (Ghost, 7, false),
-            (Fire, 8, true),
-            (Dragon, 14, true),
-        ] {
+        for (kind, number, special) in TYPES {
             assert_same(&rt, kind.number(), number);
             assert_same(&rt, kind.is_special(), special);
         }
     }
 
+    static NO_NAMES: [&str; 7] = ["", "Poun", "Pound ", "pound", "Tauro", "Tauros ", "tauros"];
+
+    static NUMBERS: [(u8, bool, bool); 6] = [
+        (0, false, false),
+        (151, true, true),
+        (152, false, true),
+        (165, false, true),
+        (166, false, false),
+        (255, false, false),
+    ];
+
     // Names and numbers of no species or move, one letter or one number off (docs/TABLES.md, "Species", "Moves").
     #[test]
     fn refused_names_and_numbers() { let rt = gen1_tests::testing::HostRuntime;
-        for text in ["", "Poun", "Pound ", "pound", "Tauro", "Tauros ", "tauros"] {
+        for text in NO_NAMES {
             assert_same(&rt, (text, MoveId::from_name(text)), (text, None));
             assert_same(&rt, (text, Species::from_name(text)), (text, None));
         }
-        for (number, species, id) in [
-            (0, false, false),
-            (151, true, true),
-            (152, false, true),
-            (165, false, true),
-            (166, false, false),
-            (255, false, false),
-        ] {
+        for (number, species, id) in NUMBERS {
             assert_same(
                 &rt,
                 (number, Species::new(number).is_some()),
@@ -2047,19 +2067,21 @@ mod teams {
         assert_same(&rt, hp_stat(chansey, 15, 65535, 100), 703);
     }
 
+    static ROOTS: [(u16, u16); 8] = [
+        (0, 5),
+        (1, 5),
+        (9, 5),
+        (10, 6),
+        (16, 6),
+        (49, 6),
+        (50, 7),
+        (65535, 68),
+    ];
+
     // Only experience: a quarter of its root, which is rounded up before, plus 5 (docs/MECHANICS.md, "Stats").
     #[test]
     fn roots_are_rounded_up() { let rt = gen1_tests::testing::HostRuntime;
-        for (exp, want) in [
-            (0, 5),
-            (1, 5),
-            (9, 5),
-            (10, 6),
-            (16, 6),
-            (49, 6),
-            (50, 7),
-            (65535, 68),
-        ] {
+        for (exp, want) in ROOTS {
             assert_same(&rt, (exp, stat(0, 0, exp, 100)), (exp, want));
         }
     }
@@ -2120,50 +2142,52 @@ mod teams {
         Ok(())
     }
 
+    static REFUSALS: [(TeamRefusal, u8, u8, &str); 9] = [
+        (TeamRefusal::Empty, 1, 0, "the team has no member"),
+        (
+            TeamRefusal::TooMany,
+            2,
+            0,
+            "the team has more than six members",
+        ),
+        (
+            TeamRefusal::Level(1),
+            3,
+            1,
+            "member 1: the level is not 1 to 100",
+        ),
+        (TeamRefusal::Dv(2), 4, 2, "member 2: a DV is above 15"),
+        (TeamRefusal::NoMove(3), 5, 3, "member 3: there is no move"),
+        (
+            TeamRefusal::MoveLeftOut(4),
+            6,
+            4,
+            "member 4: a move is left out of the engine",
+        ),
+        (
+            TeamRefusal::StruggleChosen(5),
+            7,
+            5,
+            "member 5: Struggle can't be chosen",
+        ),
+        (
+            TeamRefusal::RepeatedMove(6),
+            8,
+            6,
+            "member 6: a move stands twice",
+        ),
+        (
+            TeamRefusal::PpUps(1),
+            9,
+            1,
+            "member 1: a move has more than three PP ups",
+        ),
+    ];
+
     // Number, place and text of each refusal (docs/MECHANICS.md, "Teams").
     #[test]
     fn refusals_in_numbers_and_words() -> Result<(), Fail> { let rt = gen1_tests::testing::HostRuntime;
-        for (refusal, number, place, text) in [
-            (TeamRefusal::Empty, 1, 0, "the team has no member"),
-            (
-                TeamRefusal::TooMany,
-                2,
-                0,
-                "the team has more than six members",
-            ),
-            (
-                TeamRefusal::Level(1),
-                3,
-                1,
-                "member 1: the level is not 1 to 100",
-            ),
-            (TeamRefusal::Dv(2), 4, 2, "member 2: a DV is above 15"),
-            (TeamRefusal::NoMove(3), 5, 3, "member 3: there is no move"),
-            (
-                TeamRefusal::MoveLeftOut(4),
-                6,
-                4,
-                "member 4: a move is left out of the engine",
-            ),
-            (
-                TeamRefusal::StruggleChosen(5),
-                7,
-                5,
-                "member 5: Struggle can't be chosen",
-            ),
-            (
-                TeamRefusal::RepeatedMove(6),
-                8,
-                6,
-                "member 6: a move stands twice",
-            ),
-            (
-                TeamRefusal::PpUps(1),
-                9,
-                1,
-                "member 1: a move has more than three PP ups",
-            ),
-        ] {
+        for (refusal, number, place, text) in REFUSALS {
             assert_same(&rt, refusal.number(), number);
             assert_same(&rt, refusal.place(), place);
             let printed = gen1_tests::format_in!( rt.alloc(); "{refusal}")?;
@@ -2172,20 +2196,25 @@ mod teams {
         Ok(())
     }
 
+    static STATUSES: [(Status, bool, bool); 6] = [
+        (Status::Healthy, true, false),
+        (
+            Status::Asleep {
+                turns: 2,
+                marked: false,
+            },
+            false,
+            true,
+        ),
+        (Status::Poisoned, false, false),
+        (Status::Burned, false, false),
+        (Status::Frozen, false, true),
+        (Status::Paralysed, false, false),
+    ];
+
     #[test]
     fn what_ails_a_member() { let rt = gen1_tests::testing::HostRuntime;
-        let asleep = Status::Asleep {
-            turns: 2,
-            marked: false,
-        };
-        for (status, healthy, kept_from_acting) in [
-            (Status::Healthy, true, false),
-            (asleep, false, true),
-            (Status::Poisoned, false, false),
-            (Status::Burned, false, false),
-            (Status::Frozen, false, true),
-            (Status::Paralysed, false, false),
-        ] {
+        for (status, healthy, kept_from_acting) in STATUSES {
             assert_same(
                 &rt,
                 (status.is_healthy(), status.sleeps_or_freezes()),
