@@ -165,7 +165,7 @@ pub(crate) fn play(rt: &impl Abort, alloc: Global, rows: &[Row]) -> Result<(), F
 
 fn take(rt: &impl Abort, game: &mut Game, step: Step, at: (&str, usize)) -> Result<(), Fail> {
     match step {
-        Step::Put(fact) => put(&mut game.battle, fact),
+        Step::Put(fact) => put(&mut game.battle, fact)?,
         Step::Load(blocks) => {
             game.battle = Packed::read(&with(bytes_of(&game.battle), blocks))?;
         }
@@ -234,7 +234,7 @@ fn draw(game: &mut Game, step: Step) -> Result<(), Fail> {
 // Asserts what a step expects.
 fn expect(rt: &impl Abort, game: &Game, step: Step, at: (&str, usize)) -> Result<(), Fail> {
     match step {
-        Step::Is(fact) => assert_eq!(rt; found(&game.battle, fact), fact, "in {at:?}"),
+        Step::Is(fact) => assert_eq!(rt; found(&game.battle, fact), Some(fact), "in {at:?}"),
         Step::Told(lines) => {
             assert_eq!(rt; game.events.len(), lines.len(), "events in {at:?}");
             for (place, line) in lines.iter().enumerate() {
@@ -414,8 +414,8 @@ pub(crate) fn member_of(
     })
 }
 
-/// Makes a fact true.
-fn put(battle: &mut Packed, fact: Fact) {
+/// Makes a fact true. Some facts are only expected.
+fn put(battle: &mut Packed, fact: Fact) -> Result<(), Fail> {
     match fact {
         Fact::LastDamage(damage) => battle.put_last_damage(damage),
         Fact::Outcome(outcome) => battle.put_outcome(outcome),
@@ -425,8 +425,9 @@ fn put(battle: &mut Packed, fact: Fact) {
         Fact::Fallen(side) => battle.put_fallen(side),
         Fact::Pp(side, slot, pp) => put_pp(battle, side, slot, pp),
         Fact::Status(side, status) => battle.put_status(side, status),
-        _ => put_active(battle, fact),
+        _ => return put_active(battle, fact),
     }
+    Ok(())
 }
 
 fn put_turn(battle: &mut Packed, turn: u16) {
@@ -441,7 +442,7 @@ fn put_pp(battle: &mut Packed, side: Side, slot: u8, pp: u8) {
     }
 }
 
-fn put_active(battle: &mut Packed, fact: Fact) {
+fn put_active(battle: &mut Packed, fact: Fact) -> Result<(), Fail> {
     match fact {
         Fact::Types(side, first, second) => battle.put_types(side, first, second),
         Fact::Attack(side, stage, value) => battle.put_attack(side, stage, value),
@@ -451,11 +452,12 @@ fn put_active(battle: &mut Packed, fact: Fact) {
         Fact::CurrentMove(side, used) => battle.put_current_move(side, used),
         Fact::PickedMove(side, used) => battle.put_picked_move(side, used),
         Fact::KeptAccuracy(side, byte) => battle.put_kept_accuracy(side, byte),
-        _ => put_condition(battle, fact),
+        _ => return put_condition(battle, fact),
     }
+    Ok(())
 }
 
-fn put_condition(battle: &mut Packed, fact: Fact) {
+fn put_condition(battle: &mut Packed, fact: Fact) -> Result<(), Fail> {
     match fact {
         Fact::Condition(side, which, on) => battle.put_flag(side, which, on),
         Fact::Substitute(side, hp) => battle.put_substitute(side, hp),
@@ -464,13 +466,14 @@ fn put_condition(battle: &mut Packed, fact: Fact) {
         Fact::Disabled(side, disabled) => battle.put_disabled(side, disabled),
         Fact::Thrash(side, Some(turns)) => battle.put_thrash(side, turns),
         Fact::Trapping(side, Some(turns)) => battle.put_trapping(side, turns),
-        _ => {}
+        _ => return Err(Fail::from("a fact that is only expected")),
     }
+    Ok(())
 }
 
-/// The same fact with the battle's own values.
-fn found(battle: &Packed, fact: Fact) -> Fact {
-    match fact {
+/// The same fact with the battle's own values. Some facts are only set.
+fn found(battle: &Packed, fact: Fact) -> Option<Fact> {
+    Some(match fact {
         Fact::LastDamage(_) => Fact::LastDamage(battle.last_damage()),
         Fact::Outcome(_) => Fact::Outcome(battle.outcome()),
         Fact::Requests(..) => {
@@ -481,8 +484,8 @@ fn found(battle: &Packed, fact: Fact) -> Fact {
         Fact::Hp(side, _) => Fact::Hp(side, battle.hp(side)),
         Fact::Pp(side, slot, _) => Fact::Pp(side, slot, pp(battle, side, slot)),
         Fact::Status(side, _) => Fact::Status(side, battle.status(side)),
-        _ => found_active(battle, fact),
-    }
+        _ => return found_active(battle, fact),
+    })
 }
 
 fn pp(battle: &Packed, side: Side, slot: u8) -> u8 {
@@ -493,8 +496,8 @@ fn pp(battle: &Packed, side: Side, slot: u8) -> u8 {
     }
 }
 
-fn found_active(battle: &Packed, fact: Fact) -> Fact {
-    match fact {
+fn found_active(battle: &Packed, fact: Fact) -> Option<Fact> {
+    Some(match fact {
         Fact::Types(side, ..) => {
             Fact::Types(side, battle.first_type(side), battle.second_type(side))
         }
@@ -512,12 +515,12 @@ fn found_active(battle: &Packed, fact: Fact) -> Fact {
         Fact::CurrentMove(side, _) => Fact::CurrentMove(side, battle.current_move(side)),
         Fact::PickedMove(side, _) => Fact::PickedMove(side, battle.picked_move(side)),
         Fact::KeptAccuracy(side, _) => Fact::KeptAccuracy(side, battle.kept_accuracy(side)),
-        _ => found_condition(battle, fact),
-    }
+        _ => return found_condition(battle, fact),
+    })
 }
 
-fn found_condition(battle: &Packed, fact: Fact) -> Fact {
-    match fact {
+fn found_condition(battle: &Packed, fact: Fact) -> Option<Fact> {
+    Some(match fact {
         Fact::Condition(side, which, _) => {
             Fact::Condition(side, which, battle.is_on(side, which))
         }
@@ -527,6 +530,6 @@ fn found_condition(battle: &Packed, fact: Fact) -> Fact {
         Fact::Disabled(side, _) => Fact::Disabled(side, battle.disabled(side)),
         Fact::Thrash(side, _) => Fact::Thrash(side, battle.thrash(side)),
         Fact::Trapping(side, _) => Fact::Trapping(side, battle.trapping(side)),
-        other => other,
-    }
+        _ => return None,
+    })
 }
