@@ -19,7 +19,7 @@ pub(crate) const CHANSEY: u8 = 113;
 /// An event. A member that is out is named by its side.
 #[derive(Clone, Copy, Drop)]
 pub(crate) enum Tell {
-    /// The species and the place of who comes out, its HP and greatest HP, and its status.
+    /// A member comes out: its species, its place, its HP and greatest HP, and its status.
     Switch(Side, u8, u8, u16, u16, Option<Kind>),
     Move(Side, u8),
     Cant(Side, CantReason),

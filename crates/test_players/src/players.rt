@@ -328,7 +328,7 @@ fn side_of(public: &Public, side: Side) -> &PublicSide {
     }
 }
 
-// The same fact with the values that are public.
+// The fact with the values that are public.
 fn found(public: &Public, fact: Fact) -> Fact {
     match fact {
         Fact::Turn(_) => Fact::Turn(public.turn),
@@ -395,10 +395,10 @@ fn is_in(names: &[&'static str], name: &'static str) -> bool {
     false
 }
 
-/// An event, and what a side is told of it.
+/// An event, and the event that is reported to side 1.
 type Telling = (Tell, Tell);
 
-// Side 1 is told the places of side 2 in the order in which they appear.
+// The places of side 2 are counted in the order in which they appear.
 static BY_APPEARANCE: [Telling; 10] = [
     (
         Switch(TWO, STARMIE, 3, 323, 323, None),

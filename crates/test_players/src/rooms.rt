@@ -32,7 +32,7 @@ pub(crate) enum Answer {
     Refuses(RoomRefusal),
 }
 
-/// A pair was completed, and the battle goes on with a turn.
+/// A pair was completed, and the battle continues with a turn.
 pub(crate) const GOES_ON: Answer = Answer::Advances(Outcome::Ongoing, Request::Move, Request::Move);
 
 pub(crate) fn answer(reply: &Reply) -> Answer {

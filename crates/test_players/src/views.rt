@@ -44,7 +44,7 @@ pub(crate) enum Shown {
     Screens(Side, [bool; 2]),
 }
 
-/// The same with the values that the view shows.
+/// The fact with the values that the view shows.
 fn found(view: &View, shown: Shown) -> Shown {
     match shown {
         Shown::Turn(_) => Shown::Turn(view.turn()),
