@@ -2,21 +2,19 @@
 //! docs/LAYOUT.md and the rows of docs/TABLES.md.
 //!
 //! Each side has a Tauros out, of 353 HP. At level 100 a move of power P without a critical hit deals `42 * P * 74 /
-//! 72 / 50 + 2`, and half as much again if it is Normal. Draws from 178 on are no critical hit, the factor 217, and
-//! then 180. Draws from 253 on are no critical hit either. They pass 254, and are the factor 255, and then 0.
-use crate::rows::Step::{Act, Changed, Is, Mark, Next, Over, Put, Start, Told, ToldSome};
+//! 72 / 50 + 2`, and half as much again if it is Normal. A sweep from 178 draws no critical hit, the factor 217, and
+//! then 180. A sweep from 253 draws no critical hit either. It passes 254 and draws the factor 255, and then 0.
+use crate::rows::Step::{
+    Act, Changed, Is, Link, LinkAct, Mark, Next, NextLink, Over, Put, Start, Tested, Told, ToldSome,
+};
 use crate::rows::Teams::Alone;
-use crate::rows::{FOE, Fact, Row, SLOT, USER, play, unstarted};
-use gen1_hits::Known;
+use crate::rows::{FOE, Fact, Row, SLOT, USER, play};
 use gen1_layout::Conditions;
-use gen1_machine::{EventList, Outcome, Pick, UsedMove};
-use gen1_rolls::LinkRandom;
-use gen1_switching::start;
+use gen1_machine::{Outcome, Pick, UsedMove};
 use gen1_tables::{Element, Stat};
-use gen1_turn::act;
 use std::test::Fail;
 
-static ACTIONS: [Row; 11] = [
+static ACTIONS: [Row; 12] = [
     Row {
         name: "Dig is prepared, and costs PP as it strikes",
         teams: Alone("Dig", 100),
@@ -90,6 +88,21 @@ static ACTIONS: [Row; 11] = [
                 "|move|p1a: Tauros|Strength|p2a: Tauros",
                 "|-damage|p2a: Tauros|263/353",
             ]),
+        ],
+    },
+    // Ten link numbers of 217: not critical, since 206 isn't below 55, then the factor 236, and then below 255.
+    Row {
+        name: "an action draws with any generator",
+        teams: Alone("Strength", 100),
+        steps: &[
+            Start,
+            Link([217; 10]),
+            LinkAct(SLOT),
+            Over(false),
+            // 106 * 236 / 255 is 98.
+            Is(Fact::Hp(FOE, 255)),
+            NextLink(3),
+            Tested(255),
         ],
     },
     Row {
@@ -328,7 +341,7 @@ static CONTINUED: [Row; 5] = [
         teams: Alone("Wrap", 100),
         steps: &[
             Start,
-            // It was to go on, and the member that it trapped has left.
+            // It was to continue, and the member that it trapped has left.
             Put(Fact::CurrentMove(USER, UsedMove::Slot(1))),
             Put(Fact::Pp(USER, 1, 0)),
             Act(Pick::Continue, 252),
@@ -405,19 +418,4 @@ fn faults(rt: HostRuntime) -> Result<(), Fail> {
 #[test]
 fn moves_that_go_on(rt: HostRuntime) -> Result<(), Fail> {
     play(&rt, rt.alloc(), &CONTINUED)
-}
-
-// Ten link numbers of 217: not critical, since 206 isn't below 55, then the factor 236, and then below 255.
-#[test]
-fn an_action_draws_with_any_generator(rt: HostRuntime) -> Result<(), Fail> {
-    let mut battle = unstarted(Alone("Strength", 100))?;
-    start(&mut battle, &mut EventList::new());
-    let mut known = Known::new();
-    let mut link = LinkRandom::new([217; 10]);
-    let mut events = EventList::new();
-    let over = act(&mut battle, USER, SLOT, &mut known, &mut link, &mut events);
-    // 106 * 236 / 255 is 98.
-    assert_eq!(rt; (over, battle.hp(FOE), link.index()), (false, 255, 3));
-    assert_eq!(rt; known.accuracy_tested, Some(255));
-    Ok(())
 }

@@ -61,12 +61,14 @@ pub(crate) enum Step {
     /// The end of an update in which this side acted last.
     Close(Side),
     CloseUncut,
-    /// A turn by both choices, whose draws are this byte, the next greater one, and so on.
+    /// A turn by both choices, which draws from a sweep: this byte, the next greater one, and so on.
     Turn(u8, u8, u8),
     /// A turn that draws from link numbers.
     LinkTurn(u8, u8),
-    /// The user's action, with draws from this byte on.
+    /// The user's action, which draws from a sweep from this byte on.
     Act(Pick, u8),
+    /// The user's action, which draws from link numbers.
+    LinkAct(Pick),
 
     Is(Fact),
     /// The events of the last call: the lines of the program, with the places of members that come out, and the
@@ -74,10 +76,12 @@ pub(crate) enum Step {
     Told(&'static [&'static str]),
     /// How many events the last call has, and some of them by their places from 0.
     ToldSome(usize, &'static [(usize, &'static str)]),
-    /// The byte that would be drawn next.
+    /// The next byte of the sweep.
     Next(u8),
-    /// The index of the link number that would be drawn next.
+    /// The index of the next link number.
     NextLink(u8),
+    /// The accuracy that the action tested.
+    Tested(u8),
     /// Whether the action ended the battle.
     Over(bool),
     Offered(Side, &'static [u8]),
@@ -141,6 +145,7 @@ struct Game {
     events: EventList,
     sweep: Sweep,
     link: LinkRandom,
+    tested: Option<u8>,
     is_over: bool,
 }
 
@@ -154,6 +159,7 @@ pub(crate) fn play(rt: &impl Abort, alloc: Global, rows: &[Row]) -> Result<(), F
             events: EventList::new(),
             sweep: Sweep::new(0),
             link: LinkRandom::new(SEED),
+            tested: None,
             is_over: false,
         };
         for (number, step) in row.steps.iter().enumerate() {
@@ -177,7 +183,8 @@ fn take(rt: &impl Abort, game: &mut Game, step: Step, at: (&str, usize)) -> Resu
         | Step::Replace(..)
         | Step::Close(_)
         | Step::CloseUncut => switch(game, step)?,
-        Step::Turn(..) | Step::LinkTurn(..) | Step::Act(..) => draw(game, step)?,
+        Step::Turn(..) | Step::LinkTurn(..) => take_turn(game, step)?,
+        Step::Act(..) | Step::LinkAct(_) => take_action(game, step),
         _ => expect(rt, game, step, at)?,
     }
     Ok(())
@@ -207,8 +214,7 @@ fn switch(game: &mut Game, step: Step) -> Result<(), Fail> {
     Ok(())
 }
 
-// Makes a call that may draw.
-fn draw(game: &mut Game, step: Step) -> Result<(), Fail> {
+fn take_turn(game: &mut Game, step: Step) -> Result<(), Fail> {
     let mut events = EventList::new();
     let battle = &mut game.battle;
     match step {
@@ -220,15 +226,26 @@ fn draw(game: &mut Game, step: Step) -> Result<(), Fail> {
             let (one, two) = (choice(one)?, choice(two)?);
             game.link = turn(battle, one, two, game.link, &mut events);
         }
-        Step::Act(pick, from) => {
-            game.sweep = Sweep::new(from);
-            let mut known = Known::new();
-            game.is_over = act(battle, USER, pick, &mut known, &mut game.sweep, &mut events);
-        }
         _ => {}
     }
     game.events = events;
     Ok(())
+}
+
+fn take_action(game: &mut Game, step: Step) {
+    let mut events = EventList::new();
+    let mut known = Known::new();
+    let battle = &mut game.battle;
+    game.is_over = match step {
+        Step::Act(pick, from) => {
+            game.sweep = Sweep::new(from);
+            act(battle, USER, pick, &mut known, &mut game.sweep, &mut events)
+        }
+        Step::LinkAct(pick) => act(battle, USER, pick, &mut known, &mut game.link, &mut events),
+        _ => false,
+    };
+    game.tested = known.accuracy_tested;
+    game.events = events;
 }
 
 // Asserts what a step expects.
@@ -252,6 +269,7 @@ fn expect(rt: &impl Abort, game: &Game, step: Step, at: (&str, usize)) -> Result
             assert_eq!(rt; sweep.draw(), byte, "next in {at:?}");
         }
         Step::NextLink(index) => assert_eq!(rt; game.link.index(), index, "next in {at:?}"),
+        Step::Tested(byte) => assert_eq!(rt; game.tested, Some(byte), "tested in {at:?}"),
         Step::Over(over) => assert_eq!(rt; game.is_over, over, "over in {at:?}"),
         Step::Offered(side, bytes) => {
             assert_eq!(rt;
@@ -317,9 +335,7 @@ fn offered_bytes(battle: &Packed, side: Side) -> Result<ArrayVec<u8, 9>, Fail> {
 
 fn bytes_of(battle: &Packed) -> [u8; 384] {
     let mut bytes = [0; 384];
-    for (place, byte) in bytes.iter_mut().zip(battle.as_bytes()) {
-        *place = *byte;
-    }
+    bytes.copy_from_slice(battle.as_bytes());
     bytes
 }
 
@@ -471,7 +487,7 @@ fn put_condition(battle: &mut Packed, fact: Fact) -> Result<(), Fail> {
     Ok(())
 }
 
-/// The same fact with the battle's own values. Some facts are only set.
+/// The fact with the battle's own values, or `None` if it is only set.
 fn found(battle: &Packed, fact: Fact) -> Option<Fact> {
     Some(match fact {
         Fact::LastDamage(_) => Fact::LastDamage(battle.last_damage()),
