@@ -1011,7 +1011,7 @@ mod loading {
         ),
     ];
 
-    // Numbers of a move that goes on (docs/LAYOUT.md, "Active block").
+    // Numbers of a move that continues (docs/LAYOUT.md, "Active block").
     static UNDERWAY: [Case; 8] = [
         // turns of Bide 0 and 4, of trapping 5, of nothing 1
         (&[(LOW, 1), (MOVE, 117), (CURRENT, 1)], 5),
@@ -1086,7 +1086,7 @@ mod loading {
         (&[(28, 0), (29, 0), (17, 0), (18, 0), (16, 5)], 0),
     ];
 
-    // The same with a second member of side 1 (docs/LAYOUT.md, "Member", "Turn, outcome and requests").
+    // Changes where side 1 has a second member (docs/LAYOUT.md, "Member", "Turn, outcome and requests").
     static WITH_A_SECOND_MEMBER: [Case; 22] = [
         // stats 5, 4, 999 and 1,000 at place 2, whose member isn't out (docs/LAYOUT.md, "Member")
         (&[(54, 5), (55, 0)], 0),
@@ -1115,10 +1115,10 @@ mod loading {
         (&[(28, 0), (29, 0), (17, 2), (18, 2), (1, 232), (2, 3)], 7),
     ];
 
-    // The same at turn 0, with nobody out (docs/LAYOUT.md, "Turn, outcome and requests").
+    // Changes at turn 0, with nobody out (docs/LAYOUT.md, "Turn, outcome and requests").
     static BEFORE_THE_FIRST_TURN: [Case; 3] = [(&[], 0), (&[(16, 4)], 7), (&[(28, 0), (29, 0)], 7)];
 
-    // The same at turn 0, with nobody out.
+    // Two Tauros at turn 0, with nobody out.
     pub(crate) fn unstarted() -> [u8; 384] {
         let mut form = two_tauros();
         put(&mut form, &[(1, 0), (17, 0), (18, 0)]);

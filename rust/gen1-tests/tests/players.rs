@@ -235,7 +235,7 @@ mod battles {
 
     #[test]
     fn battles_are_shown() -> Result<(), Fail> { let rt = gen1_tests::testing::HostRuntime;
-        for row in BATTLES {
+        for row in BATTLES.iter() {
             let view = watch(
                 &lead_and_chansey(row.one)?,
                 &lead_and_chansey(row.two)?,
@@ -311,7 +311,7 @@ mod events {
     /// An event. A member that is out is named by its side.
     #[derive(Clone, Copy)]
     pub(crate) enum Tell {
-        /// The species and the place of who comes out, its HP and greatest HP, and its status.
+        /// A member comes out: its species, its place, its HP and greatest HP, and its status.
         Switch(Side, u8, u8, u16, u16, Option<Kind>),
         Move(Side, u8),
         Cant(Side, CantReason),
@@ -1106,7 +1106,7 @@ mod players {
 
     #[test]
     fn what_is_public() -> Result<(), Fail> { let rt = gen1_tests::testing::HostRuntime;
-        for row in PUBLIC {
+        for row in PUBLIC.iter() {
             let mut public = Public::new();
             for (number, step) in row.steps.iter().enumerate() {
                 take(&rt, &mut public, *step, (row.name, number))?;
@@ -1147,7 +1147,7 @@ mod players {
         }
     }
 
-    // The same fact with the values that are public.
+    // The fact with the values that are public.
     fn found(public: &Public, fact: Fact) -> Fact {
         match fact {
             Fact::Turn(_) => Fact::Turn(public.turn),
@@ -1214,10 +1214,10 @@ mod players {
         false
     }
 
-    /// An event, and what a side is told of it.
+    /// An event, and the event that is reported to side 1.
     type Telling = (Tell, Tell);
 
-    // Side 1 is told the places of side 2 in the order in which they appear.
+    // The places of side 2 are counted in the order in which they appear.
     static BY_APPEARANCE: [Telling; 10] = [
         (
             Switch(TWO, STARMIE, 3, 323, 323, None),
@@ -1462,7 +1462,7 @@ mod rooms {
         Refuses(RoomRefusal),
     }
 
-    /// A pair was completed, and the battle goes on with a turn.
+    /// A pair was completed, and the battle continues with a turn.
     pub(crate) const GOES_ON: Answer = Answer::Advances(Outcome::Ongoing, Request::Move, Request::Move);
 
     pub(crate) fn answer(reply: &Reply) -> Answer {
@@ -1744,7 +1744,7 @@ mod views {
         Screens(Side, [bool; 2]),
     }
 
-    /// The same with the values that the view shows.
+    /// The fact with the values that the view shows.
     fn found(view: &View, shown: Shown) -> Shown {
         match shown {
             Shown::Turn(_) => Shown::Turn(view.turn()),
@@ -2019,7 +2019,7 @@ mod views {
     #[test]
     fn what_each_event_shows() -> Result<(), Fail> { let rt = gen1_tests::testing::HostRuntime;
         let team = lead_and_chansey(&["Strength", "Wrap"])?;
-        for row in EVENTS {
+        for row in EVENTS.iter() {
             let mut view = View::new(&team, &team);
             for (number, step) in row.steps.iter().enumerate() {
                 take(&rt, &mut view, *step, (row.name, number))?;
