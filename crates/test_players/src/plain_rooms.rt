@@ -1,7 +1,7 @@
 //! Rooms that their caller keeps, and forfeits (docs/MECHANICS.md, "Rooms").
 use crate::comparing::assert_same;
 use crate::events::{ONE, TWO};
-use crate::rooms::{Answer, GOES_ON, answer};
+use crate::rooms::{Answer, GOES_ON, answer_to};
 use crate::teams::{SEED, tauros};
 use gen1_engine::BattleResult;
 use gen1_layout::Packed;
@@ -72,7 +72,7 @@ fn play(rt: &impl Abort, steps: &[Step]) -> Result<PlainRoom, Fail> {
     for (at, step) in steps.iter().enumerate() {
         let (found, expected) = match *step {
             Step::Submits(side, number, byte, expected) => {
-                (answer(&submit(&mut room, side, number, byte)), expected)
+                (answer_to(&submit(&mut room, side, number, byte)), expected)
             }
             Step::Forfeits(side, expected) => match forfeit(&mut room, side) {
                 Ok(result) => (result_of(&result), expected),

@@ -35,7 +35,7 @@ pub(crate) enum Answer {
 /// A pair was completed, and the battle continues with a turn.
 pub(crate) const GOES_ON: Answer = Answer::Advances(Outcome::Ongoing, Request::Move, Request::Move);
 
-pub(crate) fn answer(reply: &Reply) -> Answer {
+pub(crate) fn answer_to(reply: &Reply) -> Answer {
     match *reply {
         Ok(Submitted::Waiting) => Answer::Waits,
         Ok(Submitted::Advanced(result)) => {
@@ -94,7 +94,7 @@ static TWO_FIRST: [Submission; 2] = [(TWO, 0, 17, Answer::Waits), (ONE, 0, 17, G
 fn play(rt: &impl Abort, mut room: Room, submissions: &[Submission]) -> Room {
     for (at, (side, number, byte, expected)) in submissions.iter().enumerate() {
         let reply = room.submit(*side, *number, *byte);
-        assert_eq!(rt; answer(&reply), *expected, "at {at}");
+        assert_eq!(rt; answer_to(&reply), *expected, "at {at}");
     }
     room
 }
@@ -209,7 +209,7 @@ fn a_run_is_submission_after_submission(rt: HostRuntime) -> Result<(), Fail> {
         GOES_ON,
         Answer::Refuses(RoomRefusal::Stale(1)),
     ];
-    assert_same(&rt, replies.map(|reply| answer(&reply)), expected);
+    assert_same(&rt, replies.map(|reply| answer_to(&reply)), expected);
     Ok(())
 }
 

@@ -676,7 +676,7 @@ mod plain_rooms {
     //! Rooms that their caller keeps, and forfeits ([docs/MECHANICS.md, "Rooms"](https://hibsuloy.example/gen1/blob/main/docs/MECHANICS.md#rooms)).
     use crate::comparing::assert_same;
     use crate::events::{ONE, TWO};
-    use crate::rooms::{Answer, GOES_ON, answer};
+    use crate::rooms::{Answer, GOES_ON, answer_to};
     use crate::teams::{SEED, tauros};
     use gen1::generated::engine::BattleResult;
     use gen1::generated::layout::Packed;
@@ -747,7 +747,7 @@ mod plain_rooms {
         for (at, step) in steps.iter().enumerate() {
             let (found, expected) = match *step {
                 Step::Submits(side, number, byte, expected) => {
-                    (answer(&submit(&mut room, side, number, byte)), expected)
+                    (answer_to(&submit(&mut room, side, number, byte)), expected)
                 }
                 Step::Forfeits(side, expected) => match forfeit(&mut room, side) {
                     Ok(result) => (result_of(&result), expected),
@@ -1465,7 +1465,7 @@ mod rooms {
     /// A pair was completed, and the battle continues with a turn.
     pub(crate) const GOES_ON: Answer = Answer::Advances(Outcome::Ongoing, Request::Move, Request::Move);
 
-    pub(crate) fn answer(reply: &Reply) -> Answer {
+    pub(crate) fn answer_to(reply: &Reply) -> Answer {
         match *reply {
             Ok(Submitted::Waiting) => Answer::Waits,
             Ok(Submitted::Advanced(result)) => {
@@ -1524,7 +1524,7 @@ mod rooms {
     fn play(rt: &impl Abort, mut room: Room, submissions: &[Submission]) -> Room {
         for (at, (side, number, byte, expected)) in submissions.iter().enumerate() {
             let reply = room.submit(*side, *number, *byte);
-            assert_eq!(answer(&reply), *expected, "at {at}");
+            assert_eq!(answer_to(&reply), *expected, "at {at}");
         }
         room
     }
@@ -1639,7 +1639,7 @@ mod rooms {
             GOES_ON,
             Answer::Refuses(RoomRefusal::Stale(1)),
         ];
-        assert_same(&rt, replies.map(|reply| answer(&reply)), expected);
+        assert_same(&rt, replies.map(|reply| answer_to(&reply)), expected);
         Ok(())
     }
 
