@@ -40,8 +40,8 @@ pub(crate) struct Update {
 
 #[test]
 fn battles_are_played_as_they_were_recorded(rt: HostRuntime) -> Result<(), Fail> {
-    for recorded in BATTLES.iter() {
-        let as_recorded = played(recorded)?;
+    for recorded in BATTLES {
+        let as_recorded = played(&recorded)?;
         assert_eq!(rt;
             (recorded.name, as_recorded),
             (recorded.name, recorded.updates.len())

@@ -216,7 +216,7 @@ static BATTLES: [Row; 8] = [
 
 #[test]
 fn battles_are_shown(rt: HostRuntime) -> Result<(), Fail> {
-    for row in BATTLES.iter() {
+    for row in BATTLES {
         let view = watch(
             &lead_and_chansey(row.one)?,
             &lead_and_chansey(row.two)?,

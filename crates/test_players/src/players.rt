@@ -287,7 +287,7 @@ static PUBLIC: [Row; 12] = [
 
 #[test]
 fn what_is_public(rt: HostRuntime) -> Result<(), Fail> {
-    for row in PUBLIC.iter() {
+    for row in PUBLIC {
         let mut public = Public::new();
         for (number, step) in row.steps.iter().enumerate() {
             take(&rt, &mut public, *step, (row.name, number))?;

@@ -319,7 +319,7 @@ static EVENTS: [Row; 17] = [
 #[test]
 fn what_each_event_shows(rt: HostRuntime) -> Result<(), Fail> {
     let team = lead_and_chansey(&["Strength", "Wrap"])?;
-    for row in EVENTS.iter() {
+    for row in EVENTS {
         let mut view = View::new(&team, &team);
         for (number, step) in row.steps.iter().enumerate() {
             take(&rt, &mut view, *step, (row.name, number))?;

@@ -235,7 +235,7 @@ mod battles {
 
     #[test]
     fn battles_are_shown() -> Result<(), Fail> { let rt = gen1_tests::testing::HostRuntime;
-        for row in BATTLES.iter() {
+        for row in BATTLES {
             let view = watch(
                 &lead_and_chansey(row.one)?,
                 &lead_and_chansey(row.two)?,
@@ -1106,7 +1106,7 @@ mod players {
 
     #[test]
     fn what_is_public() -> Result<(), Fail> { let rt = gen1_tests::testing::HostRuntime;
-        for row in PUBLIC.iter() {
+        for row in PUBLIC {
             let mut public = Public::new();
             for (number, step) in row.steps.iter().enumerate() {
                 take(&rt, &mut public, *step, (row.name, number))?;
@@ -2019,7 +2019,7 @@ mod views {
     #[test]
     fn what_each_event_shows() -> Result<(), Fail> { let rt = gen1_tests::testing::HostRuntime;
         let team = lead_and_chansey(&["Strength", "Wrap"])?;
-        for row in EVENTS.iter() {
+        for row in EVENTS {
             let mut view = View::new(&team, &team);
             for (number, step) in row.steps.iter().enumerate() {
                 take(&rt, &mut view, *step, (row.name, number))?;
