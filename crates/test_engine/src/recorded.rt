@@ -1,5 +1,5 @@
 //! Whole battles that an independent program recorded, played by `start`, `turn` and `replace`. After each update all
-//! 384 bytes and the log are as recorded. `tools/recorded.py` writes them.
+//! 384 bytes and the log are as recorded. `tools/gen` writes them.
 use crate::recorded_battles::BATTLES;
 use crate::rows::member_of;
 use arrayvec::ArrayVec;

@@ -1,4 +1,4 @@
-//! Recorded battles. Made by tools/recorded.py.
+//! Recorded battles. Made by tools/gen.
 use crate::recorded::{Recorded, Update};
 
 pub(crate) static BATTLES: [Recorded; 3] = [
