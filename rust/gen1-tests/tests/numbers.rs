@@ -98,36 +98,21 @@ mod draws {
     use gen1::generated::rolls::{LinkRandom, Rolls, Sweep, renew, until};
     use core::cell::Cell;
 
-    /// Twelve draws.
-    fn twelve<R: Rolls>(r: &mut R) -> [u8; 12] {
-        let mut drawn = [0; 12];
-        for place in drawn.iter_mut() {
-            *place = r.draw();
-        }
-        drawn
-    }
-
-    /// The index and the numbers.
-    fn parts(random: &LinkRandom) -> (u8, [u8; 10]) {
-        (random.index(), random.numbers())
-    }
-
     #[test]
     fn nine_numbers_are_drawn_and_then_renewed() { let rt = gen1_tests::testing::HostRuntime;
         let mut random = LinkRandom::new([1, 2, 3, 4, 5, 6, 7, 8, 9, 10]);
-        assert_same(
-            &rt,
-            twelve(&mut random),
-            [1, 2, 3, 4, 5, 6, 7, 8, 9, 6, 11, 16],
-        );
+        for want in [1, 2, 3, 4, 5, 6, 7, 8, 9, 6, 11, 16] {
+            assert_same(&rt, random.draw(), want);
+        }
         assert_same(&rt, [renew(1), renew(2), renew(3)], [6, 11, 16]);
-        let (index, numbers) = parts(&random);
+        assert_same(&rt, random.index(), 3);
         assert_same(
             &rt,
-            (index, numbers),
-            (3, [6, 11, 16, 21, 26, 31, 36, 41, 46, 10]),
+            random.numbers(),
+            [6, 11, 16, 21, 26, 31, 36, 41, 46, 10],
         );
-        assert_same(&rt, LinkRandom::from_parts(3, numbers), Some(random));
+        let same = LinkRandom::from_parts(3, random.numbers());
+        assert_same(&rt, same, Some(random));
         assert_same(&rt, LinkRandom::from_parts(9, [0; 10]), None);
     }
 
@@ -148,12 +133,21 @@ mod draws {
         assert_same(&rt, sweep, Sweep::new(7));
         assert_same(&rt, found(&mut sweep, 256), (None, 256));
         let mut random = LinkRandom::new([0; 10]);
-        let after = (1, [51, 51, 51, 51, 51, 51, 51, 51, 51, 0]);
         assert_same(&rt, found(&mut random, 51), (Some(51), 2296));
-        assert_same(&rt, parts(&random), after);
+        assert_same(&rt, random.index(), 1);
+        assert_same(
+            &rt,
+            random.numbers(),
+            [51, 51, 51, 51, 51, 51, 51, 51, 51, 0],
+        );
         // It stands where 2,304 draws lead. The last of these is not tested, since 256 rounds are over.
         assert_same(&rt, found(&mut random, 256), (None, 2303));
-        assert_same(&rt, parts(&random), after);
+        assert_same(&rt, random.index(), 1);
+        assert_same(
+            &rt,
+            random.numbers(),
+            [51, 51, 51, 51, 51, 51, 51, 51, 51, 0],
+        );
     }
 
     /// Draws a count from 1 to 7: the lowest three bits of the first draw in which they aren't 0. Like the engine, it
