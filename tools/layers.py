@@ -1,7 +1,7 @@
 """The table of the crates of crates.txt in their layers, between the two marks of docs/ARCHITECTURE.md.
 
-This file says which layer a crate belongs to, and what the layer knows. A crate may depend on crates of its own layer and of those
-below; one that depends on a crate above, or that is in no layer, is an error. The row of a crate has the beginning of its head.
+This file says which layer a crate belongs to, and what the layer knows. A crate may depend on crates of its own layer and of
+those below; one that depends on a crate above, or that is in no layer, is an error. A row has the beginning of the crate's head.
 """
 
 import re
@@ -32,12 +32,12 @@ LAYERS = (
     ),
     (
         "Operations",
-        "one phase of the machine each, by the readers and writers of gen1_layout; no offsets, no log bytes, any generator",
+        "one phase of the machine each, over gen1_layout; no offsets, no log bytes, any generator",
         ("gen1_switching", "gen1_offers", "gen1_multiturn", "gen1_effects", "gen1_status", "gen1_odds", "gen1_hits"),
     ),
     (
         "Representations",
-        "where a field is in the 384 bytes, and which are valid; events as bytes, lines, a view; not what an update does",
+        "where fields are in the 384 bytes, and which are valid; events as bytes, lines, a view; not what an update does",
         ("gen1_states", "gen1_layout", "gen1_spectator", "gen1_printer", "gen1_events"),
     ),
     (
