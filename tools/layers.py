@@ -73,7 +73,7 @@ def rows():
         yield f"| **{title}** | *{knows}* |\n"
         for name in names:
             file, text = purpose(name)
-            text = re.match(r"[^:.]*?(?=[:.]|, through their public)", text)[0]
+            text = re.match(r".*?(?=: |\.(?: |$)|, through their public)", text)[0]
             yield f"| [{name}]({link(file.parents[1], DOCUMENT.parent)}) | {text} |\n"
 
 
