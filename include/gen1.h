@@ -1057,7 +1057,7 @@ typedef struct gen1_member_state {
 
 /* The active member of a side. Before the first update there is none, and all fields are 0. */
 typedef struct gen1_active_state {
-    uint32_t conditions;    /* the sum of its GEN1_CONDITION_.. */
+    uint32_t conditions;    /* GEN1_CONDITION_.., added up for all that are on */
     uint16_t stats[4];      /* 1 to 999: Attack, Defense, Speed and Special with stages and penalties */
     uint16_t energy;        /* Bide: the stored damage, 0 to 65,535; else 0 */
     uint8_t place;          /* 1 to 6: its place in the team */
@@ -1397,7 +1397,7 @@ typedef struct gen1_own_member {
  */
 typedef struct gen1_own_side {
     gen1_own_member members[6]; /* by place; those after `count` are zeros */
-    uint32_t conditions;        /* the sum of its GEN1_CONDITION_..; never GEN1_CONDITION_FLINCH */
+    uint32_t conditions;        /* GEN1_CONDITION_.., added up for all that are on; never GEN1_CONDITION_FLINCH */
     uint16_t stats[4];          /* Attack, Defense, Speed and Special as they are now, 1 to 999 */
     uint16_t turn;              /* 0 before the first turn, then 1 up to the limit */
     uint8_t place;              /* of the active member, 1 to 6 */
