@@ -258,10 +258,10 @@ enum {
     /* Loading: the first test that bytes fail (docs/LAYOUT.md, "Loading"). */
     GEN1_ERROR_LOAD_LENGTH = 16,    /* there are not 384 bytes */
     GEN1_ERROR_LOAD_VERSION = 17,   /* the version, byte 0, is not 1, 2 or 3 */
-    GEN1_ERROR_LOAD_HEADER = 18,    /* a field of the header is out of range */
-    GEN1_ERROR_LOAD_MEMBER = 19,    /* a field of a member is out of range, or a member comes after an empty place */
-    GEN1_ERROR_LOAD_ACTIVE = 20,    /* a field of an active block is out of range, or does not fit the current move */
-    GEN1_ERROR_LOAD_STAT = 21,      /* a current stat does not follow from the member's own stat, its stage and its penalties */
+    GEN1_ERROR_LOAD_HEADER = 18,    /* a field of the header is out of its range */
+    GEN1_ERROR_LOAD_MEMBER = 19,    /* a member is out of its ranges, or stands behind an empty place */
+    GEN1_ERROR_LOAD_ACTIVE = 20,    /* an active block is out of its ranges, or does not fit its current move */
+    GEN1_ERROR_LOAD_STAT = 21,      /* a current stat is not what stage and penalties make of the member's own */
     GEN1_ERROR_LOAD_REQUEST = 22,   /* turn, outcome, requests and living members do not fit together */
     GEN1_ERROR_STATE = 23,          /* a field of a state is wrong: its gen1_state_fault says which */
 
