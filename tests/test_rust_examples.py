@@ -110,7 +110,7 @@ def one_wrong(number, rows, dice, file, checks):
     file.write_text("".join(json.dumps(row) + "\n" for row in rows))
     status, told, _ = run("referee", file)
     named = re.match(r".*: line (\d+).*?: pair (\d+) \[(\d+), (\d+)\]: (\w+)", told)
-    what = {"refused": "answer", "offered": "what"}.get(key, key)
+    what = {"refused": "answer", "offered": "choices"}.get(key, key)
     wanted = ("2", str(at), *map(str, updates[at]["pair"]), what)
     checks.same(f"{key} of pair {at}", (status, named and named.groups()), (1, wanted))
 
