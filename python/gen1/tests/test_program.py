@@ -145,7 +145,7 @@ def test_sentences_for_every_event():
 def test_play(monkeypatch, capsys):
     """A battle from the keyboard: the program asks again after a wrong choice, and the end of the input ends the battle."""
     out, status, err = ran(monkeypatch, capsys, b"1\n0\nx\n99\n1\n", "play", "--seed", "3")
-    assert (status, err) == (0, "") and out.count("is not 1 to") == 3 and "choose 1 to 6" in out
+    assert (status, err) == (0, "") and out.count("is neither 1 to") == 3 and "choose 1 to 6" in out
     again = ran(monkeypatch, capsys, b"1\n0\nx\n99\n1\n", "play", "--seed", "3")
     assert again[0] == out
     out, status, err = ran(monkeypatch, capsys, b"1\n" * 2000, "play", "--seed", "5", "--against", "random")

@@ -124,8 +124,8 @@ class BadState(BadArgument):
 class BadLog(BadArgument):
     """The bytes are not a log (docs/MECHANICS.md, "Log bytes").
 
-    `at` is the offset of the wrong event, from 0; it is below 0 if the event
-    began in bytes that a spectator was fed before.
+    `at` is the offset of the wrong event, from 0. It is below 0 if the
+    event began in bytes that a spectator was fed before.
     """
 
     def __init__(self, code: LogFault, at: int) -> None:
