@@ -181,11 +181,11 @@ class Battle:
         the base of a search that doesn't cheat.
 
         `foes` is the guess of the foe's team: first the members that have
-        appeared, in the order in which they did, then the others. `seed` has
-        the numbers to draw; `rules` and `limit` are as in `Battle(..)`. The
-        player's own side is as it was shown. The foe's members have the HP,
-        status and stages that were reported, and the moves and stats of the
-        guess; their PP are those left after the uses that were seen. A
+        appeared, in the order in which they did, then the others. `seed`
+        has the numbers to draw; `rules` and `limit` are as in `Battle(..)`.
+        The player's own side is as it was shown. The foe's members have the
+        HP, status and stages that were reported, and the moves and stats of
+        the guess; their PP are those left after the uses that were seen. A
         condition that was announced is on if a move of the guess explains
         it. Hidden counts have middle values: three turns of sleep and
         confusion, four of Disable, two of Bide, thrashing and trapping, a
@@ -396,9 +396,9 @@ class Battle:
         >>> battle.playout(7, 100, weights=weights).rounds
         100
 
-        A second suffices for about ten thousand whole battles. Other threads
-        run meanwhile, and `KeyboardInterrupt` ends the call after at most a
-        thousand battles. Raises `BadArgument`, `BadType`.
+        A second suffices for about ten thousand whole battles. Other
+        threads run meanwhile, and `KeyboardInterrupt` ends the call after
+        at most a thousand battles. Raises `BadArgument`, `BadType`.
         """
         number, left = within(seed, "seed", 0, (1 << 64) - 1), within(rounds, "rounds", 0, (1 << 32) - 1)
         updates = 0 if depth is None else within(depth, "depth", 1, (1 << 32) - 1)

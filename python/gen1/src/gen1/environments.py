@@ -217,7 +217,8 @@ class BattleEnv(_Environment, _Base):  # type: ignore[misc, valid-type]
 
     def step(self, action: int) -> tuple[Rows, float, bool, bool, dict[str, Any]]:
         """Updates the battle with side 1's action and the opponent's. Returns
-        the observation, the reward, whether it is over, False, and the mask.
+        the observation, the reward, whether it is over, False, and the
+        mask.
 
         Raises `ResetNeeded` before the first reset, `Refused`,
         `BadArgument`, `BadType`.

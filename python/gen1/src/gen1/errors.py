@@ -98,8 +98,8 @@ class BadState(BadArgument):
     for a field of an active member or of the whole battle. `index` is the
     index in a field with several values, from 0; otherwise None. `value` is
     the value of the field, and `low` and `high` are the least and the
-    greatest valid value. A value from `low` to `high` does not fit the other
-    fields.
+    greatest valid value. A value from `low` to `high` does not fit the
+    other fields.
     """
 
     def __init__(

@@ -92,9 +92,10 @@ class PlayerArray:
         """Begins `n` battles of two teams, which draw the numbers of `seeds`,
         (n, 10) bytes, or all zeros.
 
-        `rules` and `limit` are those of `Battle`. With `pixels` the foe's HP
-        is reported in 48ths. `threads`, 1 to 256, is how many threads `step`
-        and `observe` use. Raises `BadTeam`, `BadArgument`, `BadType`.
+        `rules` and `limit` are those of `Battle`. With `pixels` the foe's
+        HP is reported in 48ths. `threads`, 1 to 256, is how many threads
+        `step` and `observe` use. Raises `BadTeam`, `BadArgument`,
+        `BadType`.
         """
         self._terms = rules, limit, pixels
         start = start_of(one, two, *self._terms)

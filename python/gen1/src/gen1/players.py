@@ -127,8 +127,9 @@ class Player:
         """Creates the player of a side before the first update. It knows its
         own team, at full HP, and nothing about the foe.
 
-        `foes` is how many members the foe has, 1 to 6, or None if the player
-        should not know it. Raises `BadTeam`, `BadArgument`, `BadType`.
+        `foes` is how many members the foe has, 1 to 6, or None if the
+        player should not know it. Raises `BadTeam`, `BadArgument`,
+        `BadType`.
         """
         known, own = a_side(side), as_team(team)
         count = 0 if foes is None else within(foes, "foes", 1, 6)

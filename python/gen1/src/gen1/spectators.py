@@ -33,7 +33,8 @@ class ShownMember:
 @dataclass(frozen=True)
 class ShownSide:
     """A spectator's knowledge of a side: its members in the order of their
-    places, and the place of the active member, 0 before the first comes out.
+    places, and the place of the active member, 0 before the first comes
+    out.
 
     All other fields belong to the active member. `stages` are -6 to 6:
     Attack, Defense, Speed, Special, accuracy, evasion.

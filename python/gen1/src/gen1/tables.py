@@ -70,8 +70,8 @@ def effectiveness(attack: Type | int, foe: Type | int) -> Fraction:
     """The factor of the damage of a move of one type to a foe of one type: 2,
     1, 1/2 or 0.
 
-    For a foe of two different types both factors apply, one after the other.
-    Raises `BadArgument`, `BadType`.
+    For a foe of two different types both factors apply, one after the
+    other. Raises `BadArgument`, `BadType`.
     """
     tenths = c_uint8(0)
     _library.effectiveness(within(attack, "attack", 0, 14), within(foe, "foe", 0, 14), byref(tenths))
