@@ -43,7 +43,7 @@ NEEDS = {
     "documents": ["plain"],
 }
 MOST_LINES = 10
-SECONDS = 900
+SECONDS = 2400
 PRINTS = ("prints", "prints in the end")
 SHOWS = re.compile(r"shows: (\S+), after a press of (.+)")
 
