@@ -1,5 +1,5 @@
 -- What is replied to words that ask for nothing to run, and that other words ask for a subcommand.
-use Rattle.std.proofs.Common.{Bool, List, None, Option, Some, [], ap, codes, false, inl, inr, refl, subst, sym, true, ℕ, ◌∙◌, ◌∷◌, ◌≡◌}
+use Rattle.std.proofs.Common.{Bool, List, None, Option, Result, Some, [], ap, arith, codes, false, inl, inr, length, refl, subst, sym, true, ℕ, ◌<◌, ◌∙◌, ◌∷◌, ◌≡◌}
 use Rattle.std.specs.Prelude.{Box, is_some, ◌≢◌, ◌⊎◌}
 use Rattle.clap.proofs.WalkLemmas.{first_value-rows}
 use Rattle.clap.specs.Faults.{check_fault, defaults_fault, entered_fault, level_fault, settle_fault, walk_fault}
@@ -13,9 +13,11 @@ use Rattle.clap.specs.declared.error.kind.ErrorKind.TheVariants.{DisplayHelp, Di
 use Rattle.clap.specs.declared.parser.matches.ArgMatches.{ArgMatches}
 use Rattle.clap.specs.declared.parser.matches.ArgMatches.TheViews.{out-ArgMatches}
 use Rattle.clap.specs.declared.parser.matches.SubCommand.{SubCommand}
-use Rattle.battle_commands.specs.Answers.{Sent}
+use Rattle.gen1_devices.specs.Output.{Sends}
+use Rattle.gen1_devices.specs.declared.io.DeviceFault.{DeviceFault}
+use Rattle.battle_commands.specs.Answers.{Sent, Tells}
 use Rattle.battle_commands.specs.CommandLine.{faults, names_file, tool_app}
-use Rattle.battle_commands.specs.Replies.{IsHelp, IsRefusal, IsReply, Replies, RepliesTo}
+use Rattle.battle_commands.specs.Replies.{IsHelp, IsRefusal, IsReply, Replies, RepliesTo, Says, said_or_usage, usage}
 use Rattle.battle_commands.specs.Served.{IsUnheld}
 use Rattle.battle_commands.proofs.Asking.{rows_found}
 
@@ -30,6 +32,25 @@ refuses kind out err status mistaken r = record { asked = asks; refused = λ a b
 -- help is asked for
 pub helps : (kind : ErrorKind) (out err : Sent) (status : ℕ) → ((kind ≢ DisplayHelp) × (kind ≢ DisplayVersion) → ⊥) → IsHelp out err status → IsReply kind out err status
 helps kind out err status asked r = record { asked = λ e. r; refused = λ a b. absurd (asked (a, b)) }
+
+-- the text that is said
+pub said_is : (text result : List ℕ) → (0 < length text → result ≡ text) → (length text ≡ 0 → result ≡ usage) → result ≡ said_or_usage text
+said_is [] result same value = value refl
+said_is (x ∷ xs) result same value = same (omega arith)
+
+pub says_refused : (said text : List ℕ) (kind : ErrorKind) (out err : Sent) → text ≡ said → (kind ≢ DisplayHelp) × (kind ≢ DisplayVersion) → Tells err text → Says said kind out err
+says_refused said text kind out err is mistaken told = record { asked = asks; refused = λ a b. subst (Tells err) is told }
+  where
+    asks : (kind ≡ DisplayHelp) ⊎ (kind ≡ DisplayVersion) → (result : Result (Unit {0}) DeviceFault) × Sends out.held out.holds out.failed out.fails said result
+    asks (inl e) = absurd (mistaken.0 e)
+    asks (inr e) = absurd (mistaken.1 e)
+
+pub says_asked : (said text : List ℕ) (kind : ErrorKind) (out err : Sent) → text ≡ said → ((kind ≢ DisplayHelp) × (kind ≢ DisplayVersion) → ⊥)
+    → (result : Result (Unit {0}) DeviceFault) → Sends out.held out.holds out.failed out.fails text result → Says said kind out err
+says_asked said text kind out err is asked result sent = record {
+  asked = λ e. (result, subst (λ (t : List ℕ). Sends out.held out.holds out.failed out.fails t result) is sent);
+  refused = λ a b. absurd (asked (a, b));
+}
 
 pub not_both : (b : Bool) → b ≡ true → b ≡ false → ⊥
 not_both b t f = let x : true ≡ false = sym t ∙ f in cc

@@ -1,5 +1,7 @@
 -- The help of each subcommand (docs/PROGRAM.md, "The program battle_tool").
 use Rattle.std.specs.Prelude.{IsSomeAnd, List, codes, ℕ, ◌≡◌}
+use Rattle.clap.specs.Built.{AddsSubcommand}
+use Rattle.clap.specs.declared.builder.arg.Arg.{Arg}
 use Rattle.clap.specs.declared.builder.command.Command.{Command}
 use Rattle.clap.specs.declared.builder.command.Command.TheViews.{out-Command as fields_of}
 
@@ -19,3 +21,28 @@ pub record Describes (name about input : List ℕ) : Type 0 where
 -- the help of a command begins with what the subcommand of this name does, and ends with what it reads and prints
 abbrev pub Helps : List ℕ → Command → Type 0
 Helps name c = IsSomeAnd (fields_of c).about (λ about. IsSomeAnd (fields_of c).after_help (λ input. Describes name about.now input.now))
+
+-- the help of an argument is this text
+abbrev pub HelpsArg : List ℕ → Arg → Type 0
+HelpsArg text a = IsSomeAnd a.help (λ help. help.now ≡ text)
+
+-- one more subcommand, of which the help is that of its name
+abbrev pub AddsHelped : List ℕ → Command → Command → Type 0
+AddsHelped name old new = (sub : Command) × Helps name sub × AddsSubcommand old sub new
+
+-- the help of the program: it begins and ends with these texts, and five subcommands were added
+pub record HelpsAll (c : Command) : Type 0 where
+  pub top : Command
+  pub with_run : Command
+  pub with_log : Command
+  pub with_print : Command
+  pub with_calc : Command
+  pub with_room : Command
+  pub run : AddsHelped (codes "run") top with_run
+  pub log : AddsHelped (codes "log") with_run with_log
+  pub print : AddsHelped (codes "print") with_log with_print
+  pub calc : AddsHelped (codes "calc") with_print with_calc
+  pub room : AddsHelped (codes "room") with_calc with_room
+  pub subcommands : (fields_of c).subcommands ≡ (fields_of with_room).subcommands
+  pub about : IsSomeAnd (fields_of c).about (λ text. text.now ≡ codes "Runs link battles of the first generation")
+  pub statuses : IsSomeAnd (fields_of c).after_help (λ text. text.now ≡ codes "Status: 0 all was printed, 1 the input was refused, 2 the command line was refused, 3 a read or a write failed, 4 out of memory. Standard error says why.")

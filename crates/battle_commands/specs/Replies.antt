@@ -1,5 +1,5 @@
 -- What the program replies to words that ask for nothing to run (docs/PROGRAM.md, "Faults and statuses").
-use Rattle.std.specs.Prelude.{Err, List, Ok, Result, [], false, length, ℕ, ⊤, ◌<◌, ◌≡◌, ◌≢◌, ◌⊎◌, ◌∷◌}
+use Rattle.std.specs.Prelude.{Err, List, Ok, Result, [], codes, false, length, ℕ, ⊤, ◌<◌, ◌≡◌, ◌≢◌, ◌⊎◌, ◌∷◌}
 use Rattle.clap.specs.Words.{IsAmong, Kinds}
 use Rattle.clap.specs.declared.error.kind.ErrorKind.{ErrorKind}
 use Rattle.clap.specs.declared.error.kind.ErrorKind.TheVariants.{DisplayHelp, DisplayVersion}
@@ -9,6 +9,14 @@ use Rattle.battle_commands.specs.Answers.{IsQuiet, Sent, Tells}
 use Rattle.battle_commands.specs.Served.{IsUnheld, TellsEnd, status_after}
 use Rattle.battle_commands.specs.declared.fault.ToolFault.{ToolFault}
 use Rattle.battle_commands.specs.declared.fault.ToolFault.TheVariants.{Write}
+
+-- what is said in place of an empty text
+abbrev pub usage : List ℕ
+usage = codes "usage: battle_tool SUBCOMMAND [--explain] [FILE]\n"
+
+abbrev pub said_or_usage : List ℕ → List ℕ
+said_or_usage [] = usage
+said_or_usage text = text
 
 -- the words are refused with status 2: a text on standard error says why, and nothing is printed
 pub record IsRefusal (out err : Sent) (status : ℕ) : Type 0 where
@@ -36,6 +44,11 @@ pub record IsHelp (out err : Sent) (status : ℕ) : Type 0 where
 pub record IsReply (kind : ErrorKind) (out err : Sent) (status : ℕ) : Type 0 where
   pub asked : (kind ≡ DisplayHelp) ⊎ (kind ≡ DisplayVersion) → IsHelp out err status
   pub refused : kind ≢ DisplayHelp → kind ≢ DisplayVersion → IsRefusal out err status
+
+-- the reply says this text: on standard output where help or the version is asked for, and else on standard error
+pub record Says (text : List ℕ) (kind : ErrorKind) (out err : Sent) : Type 0 where
+  pub asked : (kind ≡ DisplayHelp) ⊎ (kind ≡ DisplayVersion) → (result : Result (Unit {0}) DeviceFault) × Sends out.held out.holds out.failed out.fails text result
+  pub refused : kind ≢ DisplayHelp → kind ≢ DisplayVersion → Tells err text
 
 -- the reply to an error of this kind, unless memory ran out
 abbrev pub RepliesTo : ErrorKind → Sent → Sent → ℕ → Type 0

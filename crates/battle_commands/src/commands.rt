@@ -3,17 +3,17 @@ ghost use Rattle.std.specs.Prelude.{◌<◌, ◌≡◌, ◌≢◌, ◌≤◌, �
 ghost use Rattle.gen1_devices.specs.Output.{Sends};
 ghost use Rattle.clap.specs.Matches.{first_value, found_of};
 ghost use Rattle.clap.specs.Values.{kind_of};
-ghost use Rattle.clap.specs.Words.{Row, app_of, with_subcommand};
+ghost use Rattle.clap.specs.Words.{Row, app_of, rule_of, with_subcommand};
 ghost use Rattle.clap.specs.declared.builder.command.Command.TheViews.{out-Command as fields_of};
-ghost use Rattle.battle_commands.specs.CommandLine.{AskFor, faults, names_file, reading, tool_app};
+ghost use Rattle.battle_commands.specs.CommandLine.{AskFor, explain_rule, faults, file_rule, names_file, reading, tool_app};
 ghost use Rattle.battle_commands.specs.Answers.{Answers, Tells, is_read_fault, is_write_fault, sent_to};
 ghost use Rattle.battle_commands.specs.Calc.{PrintsDamages, damages_due};
 ghost use Rattle.battle_commands.specs.Due.{log_due, run_due};
 ghost use Rattle.battle_commands.specs.Explanations.{told_of};
 ghost use Rattle.battle_commands.specs.Faults.{status_of};
-ghost use Rattle.battle_commands.specs.Help.{Helps};
+ghost use Rattle.battle_commands.specs.Help.{AddsHelped, Helps, HelpsAll, HelpsArg};
 ghost use Rattle.battle_commands.specs.Logs.{PrintsLog};
-ghost use Rattle.battle_commands.specs.Replies.{Replies, RepliesTo};
+ghost use Rattle.battle_commands.specs.Replies.{IsReply, Replies, RepliesTo, Says, said_or_usage, usage};
 ghost use Rattle.battle_commands.specs.Rooms.{room_due};
 ghost use Rattle.battle_commands.specs.Served.{Ends, IsServed, IsUnheld, Serves, given};
 
@@ -45,20 +45,36 @@ const FILE_HELP: &str = "The input (default: standard input)";
 /// What is written if clap's text is empty, which its contracts don't rule out.
 const USAGE: &str = "usage: battle_tool SUBCOMMAND [--explain] [FILE]\n";
 
+/// The argument FILE.
+fn file_arg<'a>(alloc: Global) -> Arg<'a>
+    ensures rule { rule_of result ≡ file_rule }
+    ensures local { result.global ≡ false }
+    ensures help { HelpsArg (codes "The input (default: standard input)") result }
+{
+    Arg::new(alloc, "FILE")
+        .help(FILE_HELP)
+        .action(ArgAction::Set)
+}
+
+/// The option `--explain`.
+fn explain_arg<'a>(alloc: Global) -> Arg<'a>
+    ensures rule { rule_of result ≡ explain_rule }
+    ensures local { result.global ≡ false }
+    ensures help { HelpsArg (codes "Says where the error is and what was expected, after its line") result }
+{
+    Arg::new(alloc, "explain")
+        .long("explain")
+        .help(EXPLAIN_HELP)
+        .action(ArgAction::SetTrue)
+}
+
 /// A subcommand that reads a FILE, or standard input if none is named.
 fn reading<'a>(alloc: Global, name: &'a str) -> Result<Command<'a>, AllocError>
     ensures { IfOk result (λ command. (app_of command ≡ reading name.now)
         × ((fields_of command).has_globals ≡ false) × Helps name.now command) }
 {
-    let file = Arg::new(alloc, "FILE")
-        .help(FILE_HELP)
-        .action(ArgAction::Set);
-    let explain = Arg::new(alloc, "explain")
-        .long("explain")
-        .help(EXPLAIN_HELP)
-        .action(ArgAction::SetTrue);
-    let explained = Command::new(alloc, name).arg(explain)?;
-    let filed = explained.arg(file)?;
+    let explained = Command::new(alloc, name).arg(explain_arg(alloc))?;
+    let filed = explained.arg(file_arg(alloc))?;
     let (about, input) = help_of(name);
     Ok(filed.about(about).after_help(input))
 }
@@ -69,7 +85,8 @@ fn with_reading<'a>(
     command: Command<'a>,
     name: &'a str,
 ) -> Result<Command<'a>, AllocError>
-    ensures { IfOk result (λ more. app_of more ≡ with_subcommand (app_of command.entry) (reading name.now).top) }
+    ensures app { IfOk result (λ more. app_of more ≡ with_subcommand (app_of command.entry) (reading name.now).top) }
+    ensures helps { IfOk result (AddsHelped name.now command.entry) }
 {
     let subcommand = reading(alloc, name)?;
     command.subcommand(subcommand)
@@ -77,17 +94,16 @@ fn with_reading<'a>(
 
 /// The command line.
 fn command<'a>(alloc: Global) -> Result<Command<'a>, AllocError>
-    ensures { IfOk result (λ command. app_of command ≡ tool_app) }
+    ensures app { IfOk result (λ command. app_of command ≡ tool_app) }
+    ensures helps { IfOk result HelpsAll }
 {
-    let top = Command::new(alloc, "battle_tool")
-        .about(ABOUT)
-        .after_help(STATUSES)
-        .subcommand_required(true);
+    let top = Command::new(alloc, "battle_tool").subcommand_required(true);
     let with_run = with_reading(alloc, top, "run")?;
     let with_log = with_reading(alloc, with_run, "log")?;
     let with_print = with_reading(alloc, with_log, "print")?;
     let with_calc = with_reading(alloc, with_print, "calc")?;
-    with_reading(alloc, with_calc, "room")
+    let with_room = with_reading(alloc, with_calc, "room")?;
+    Ok(with_room.about(ABOUT).after_help(STATUSES))
 }
 
 /// Writes an error to standard error, with its explanation if `explains`, and returns its status, 1 to 4. If that stream fails,
@@ -118,6 +134,7 @@ fn tell<E: Sink>(fault: &ToolFault, explains: bool, err: &mut E) -> Result<(), D
 fn text_or_usage(text: &str) -> &str
     ensures some { 0 < length result.now }
     ensures same { 0 < length text.now → result.now ≡ text.now }
+    ensures value { length text.now ≡ 0 → result.now ≡ usage }
 {
     if text.is_empty() { USAGE } else { text }
 }
@@ -139,7 +156,20 @@ fn answer_words<O: Sink, E: Sink>(alloc: Global, error: &Error, out: &mut O, err
     let Ok(said) = error.to_string(alloc) else {
         return report(&ToolFault::Memory, false, err);
     };
-    let text = text_or_usage(said.as_str());
+    reply(error, said.as_str(), out, err)
+}
+
+/// Writes clap's text, or `USAGE` if that is empty, where the error belongs.
+fn reply<O: Sink, E: Sink>(error: &Error, said: &str, out: &mut O, err: &mut E) -> u8
+    ensures most { result ≤ 4 }
+    ensures says { Says (said_or_usage said.now) (kind_of error.now)
+        (sent_to O.contents O.has_failed out) (sent_to E.contents E.has_failed err) }
+    ensures replies { IsReply (kind_of error.now) (sent_to O.contents O.has_failed out)
+        (sent_to E.contents E.has_failed err) result }
+    ensures written { result ≡ 0 → O.has_failed out.new ≡ O.has_failed out.old }
+    ensures untold { result ≡ 0 → err.new ≡ err.old }
+{
+    let text = text_or_usage(said);
     if error.use_stderr() {
         let _ = send(err, text.as_bytes());
         return COMMAND_LINE_REFUSED;

@@ -1,6 +1,6 @@
 //! Inputs that are opened by name (docs/PROGRAM.md, "What is tested, in this order").
 ghost use Rattle.std.specs.Prelude.{IfSome, List, None, OnOk, Option, Some, false, is_err, ◌||◌, ◌≡◌, ℕ};
-ghost use Rattle.battle_commands.specs.Folders.{disk_failed};
+ghost use Rattle.battle_commands.specs.Folders.{disk_failed, disk_remaining};
 
 use gen1_machine::{Device, DeviceFault, Source};
 use std::fs;
@@ -22,7 +22,7 @@ pub trait Folder: Source {
         ensures fails { Self.has_failed self.new ≡ (Self.has_failed self.old || is_err result) };
 }
 
-/// The file system of a runtime. It reports no bytes, as no contract can say what a file contains.
+/// The file system of a runtime. It delivers the bytes that an opened file reports. No contract says what a named file contains.
 #[derive(Drop)]
 pub struct Disk<'a, R, F> {
     files: &'a R,
@@ -44,6 +44,8 @@ impl<'a, R: Files> Disk<'a, R, R::File> {
 }
 
 impl<R: Files> Source for Disk<'_, R, R::File> {
+    ghost remaining = { disk_remaining R.File.remaining };
+
     ghost has_failed = { disk_failed };
 
     fn read(&mut self, bytes: &mut [u8]) -> Result<usize, DeviceFault> {

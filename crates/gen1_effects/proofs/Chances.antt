@@ -1,7 +1,8 @@
--- How shown facts pass through a draw by chance, and through draws until a byte passes a test.
+-- How shown facts pass through a draw by chance, through draws until a byte passes a test, and through the end of an action.
 use Rattle.std.proofs.Common.{◌+◌, ◌≡◌}
-use Rattle.gen1_layout.proofs.Words.{Bool, Frame, None, Option, Parts, Phase, Progress, ShowsDrawn, Some, Telling, ap, choose-false, drawing, drawn_if_not, drawn_if_so, drawn_stays, false, nat_lt, refl, stay, sym, then-goes, true, ℕ, ◌∙◌, ◌▸◌}
-use Rattle.gen1_rolls.specs.Draws.{Drawing, FindsDraw, FindsNone}
+use Rattle.gen1_layout.proofs.Words.{Bool, Frame, None, Option, Parts, Phase, Progress, ShowsDrawn, Some, Telling, ap, choose-false, drawing, drawn_goes, drawn_if_not, drawn_if_so, drawn_stays, drawn_stops, false, halted, nat_lt, refl, stay, still, stop, sym, then-goes, true, ℕ, ◌∙◌, ◌▸◌}
+use Rattle.gen1_rolls.specs.declared.look.Look.{Look}
+use Rattle.gen1_rolls.specs.Draws.{Drawing, FindsLike, FindsNone}
 use Rattle.gen1_rolls.specs.Streams.{Stream, byte_at, first, span}
 use Rattle.gen1_rolls.proofs.Standing.{byte_found, first-found, first-none, stands_after_found, stands_after_none, stands_there}
 use Rattle.gen1_machine.specs.Progress.{draw_until, when}
@@ -54,13 +55,15 @@ module _ {A : Type 0} {d : Drawing A} {origin : A} {g : Frame} {parts : Parts} {
       drawing (happens_below bound f) {drawn = d.byte old} h refl left (λ a. drawn_if_not (λ q. nat_lt (d.byte old) bound) f stay (sym is ∙ e) (drawn_stays a))
 
   -- A byte passed the test.
-  pub finding : {g' : Frame} {parts' : Parts} {events' : Telling} {now : A} {b' : Bool} {x : ℕ} (test : ℕ → Bool) (f : ℕ → Phase)
-      → ShowsDrawn d origin g parts events old b p → FindsDraw d test old x new
+  pub finding : {g' : Frame} {parts' : Parts} {events' : Telling} {now : A} {b' : Bool} {look : Look} {x : ℕ} (test : ℕ → Bool) (f : ℕ → Phase)
+      → ShowsDrawn d origin g parts events old b p → (like : FindsLike d test look old x new)
+      → ((q : Progress) → f x q ≡ f like.byte q)
       → ((m : ℕ) → test x ≡ true → ShowsDrawn d origin g parts events new b (record p { drawn = m + 1 })
       → ShowsDrawn d origin g' parts' events' now b' (f x (record p { drawn = m + 1 })))
       → ShowsDrawn d origin g' parts' events' now b' (draw_until test f p)
-  finding test f a finds then =
+  finding test f a like same then =
       let h = a.shows in
+      let finds = like.finds in
       let m = p.drawn + finds.passed in
       let at = ap (λ (s : Stream). first s p.drawn test) h.stream ∙ first-found a.stands finds in
       let is = byte_found a.stands finds ∙ ap (λ (s : Stream). byte_at s m) (sym h.stream) in
@@ -68,7 +71,7 @@ module _ {A : Type 0} {d : Drawing A} {origin : A} {g : Frame} {parts : Parts} {
         shows = record { within = h.within; written = h.written; ends = h.ends; stream = h.stream; drawn = refl; skips = h.skips; action = h.action };
         stands = stands_after_found a.stands finds;
       } in
-      rw (found-is test f p m at, ← is) (then m (ap test finds.is ∙ finds.first.meets) found)
+      rw (found-is test f p m at, ← is, ← same (record p { drawn = m + 1 })) (then m like.meets found)
 
   -- No byte passed the test.
   pub finding_none : (test : ℕ → Bool) (f : ℕ → Phase) → ShowsDrawn d origin g parts events old b p → FindsNone d test old new
@@ -80,3 +83,11 @@ module _ {A : Type 0} {d : Drawing A} {origin : A} {g : Frame} {parts : Parts} {
         shows = record { within = h.within; written = h.written; ends = h.ends; stream = h.stream; drawn = refl; skips = h.skips; action = h.action };
         stands = stands_there (stands_after_none a.stands finds) (ap (λ (s : Stream). p.drawn + span s) (sym h.stream));
       })
+
+-- An action ends, whether or not it stopped before
+
+module _ {A : Type 0} {d : Drawing A} {origin : A} {parts : Parts} {events : Telling} {now : A} {p : Progress} where
+  pub ended : (g : Frame) (b : Bool) (f : Phase) → ShowsDrawn d origin g parts events now b (f p)
+      → ShowsDrawn d origin g parts events now true ((f ▸ stop) p)
+  ended g true f a = drawn_stops f stop a
+  ended g false f a = drawn_goes f stop a (still {g' = g} a (halted a.shows) refl)

@@ -1,10 +1,17 @@
 -- The slots that Disable may draw. The first four of a list are all there are, and a slot holds a move if it has a
--- number.
-use Rattle.gen1_layout.proofs.Words.{Bool, IsBetween, List, [], ap, arith, false, inl, inr, known_in, length, nat_lt, nat_tests, refl, suc, sym, true, zero, ℕ, ◌∙◌}
-use Rattle.std.proofs.Common.{All, add-zero, get_or, ◌%◌, ◌&&◌, ◌+◌, ◌-◌, ◌<◌, ◌||◌, ◌∷◌, ◌≡◌, ◌≤◌, ◌⊎◌}
+-- number. Two bytes that are alike under the look of a slot lead to the same.
+use Rattle.gen1_layout.proofs.Words.{Bool, IsBetween, List, Progress, Side, [], ap, arith, choose-true, draw, false, inl, inr, known_in, length, nat_lt, nat_tests, refl, stay, stop, suc, sym, then-stops, true, zero, ℕ, ◌∙◌, ◌▸◌}
+use Rattle.std.proofs.Common.{All, add-zero, get_or, if◌then◌else◌, not, ◌%◌, ◌&&◌, ◌+◌, ◌-◌, ◌<◌, ◌||◌, ◌∷◌, ◌≡◌, ◌≤◌, ◌⊎◌}
 use Rattle.gen1_stats.specs.declared.known_move.KnownMove.{KnownMove}
 use Rattle.gen1_stats.specs.Members.{nothing_known}
-use Rattle.gen1_machine.specs.SideEffects.{has_pp, names_slot}
+use Rattle.gen1_rolls.specs.declared.look.Look.TheVariants.{Remainder}
+use Rattle.gen1_rolls.specs.Looks.{sees}
+use Rattle.gen1_machine.specs.declared.event.Volatile.TheVariants as volatiles
+use Rattle.gen1_machine.specs.Conditions.{with_disabled}
+use Rattle.gen1_machine.specs.Progress.{fail, fails_if, starts}
+use Rattle.gen1_machine.specs.Sides.{other}
+use Rattle.gen1_machine.specs.SideEffects.{disable_for, disable_slot, has_pp, names_slot}
+use Rattle.gen1_hits.proofs.Knowledge.{stops-then}
 use Rattle.gen1_status.proofs.Comparing.{below, not_below}
 
 either_pp : (a b : ℕ) → nat_lt 0 (a + b) ≡ (nat_lt 0 a || nat_lt 0 b)
@@ -58,3 +65,22 @@ named_holds moves b h = by (nat_lt (b % 4) (length moves)) _ h refl
     by : (x y : Bool) → (x && y) ≡ true → nat_lt (b % 4) (length moves) ≡ x → b % 4 < length moves
     by true y h e = grind (arith, nat_tests)
     by false y h e = cc
+
+-- Bytes that are alike
+
+fail-stops : (s : Side) (p : Progress) → (fail s p).stopped ≡ true
+unfolding fail stop
+fail-stops s p = stops-then _ stop (λ q. refl) p
+
+-- If a move has PP, only the slot is looked at. Otherwise Disable fails before anything is.
+pub slot_alike : (s : Side) (moves : List KnownMove) (any : Bool) (x y : ℕ) → any ≡ has_pp moves
+    → sees (if any then Remainder 4 else Remainder 1) x ≡ sees (if any then Remainder 4 else Remainder 1) y
+    → (p : Progress) → disable_slot s moves x p ≡ disable_slot s moves y p
+unfolding disable_slot fails_if disable_for stay
+slot_alike s moves true x y is e p =
+    ap (λ (n : ℕ). (fails_if s (λ _. not (has_pp moves)) ▸ draw (λ c. starts (other s) volatiles.Disable (with_disabled (n + 1) (c % 8 + 1)))) p) e
+slot_alike s moves false x y is e p =
+    let fails = fails_if s (λ _. not (has_pp moves)) in
+    let ends : (fails p).stopped ≡ true =
+    ap (λ (q : Progress). q.stopped) (choose-true (λ _. not (has_pp moves)) (fail s) stay p (ap not (sym is))) ∙ fail-stops s p in
+    then-stops fails (draw (disable_for (other s) x)) p ends ∙ sym (then-stops fails (draw (disable_for (other s) y)) p ends)

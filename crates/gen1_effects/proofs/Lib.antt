@@ -1,7 +1,5 @@
 -- How far moves shift a stage.
 pub mod ShiftingMoves
--- Draws until one passes a test, and the end of an action.
-pub mod Searching
 -- Late effects, by the effect of the move.
 pub mod LateEffects
 -- What a call by itself shows.
@@ -18,7 +16,7 @@ pub mod StageReset
 pub mod Skipping
 -- An early effect by its way.
 pub mod EarlyEffects
--- Effects by chance, and draws until a byte passes a test.
+-- Effects by chance, draws until a byte passes a test, and the end of an action.
 pub mod Chances
 -- What a move may do in addition to its damage.
 pub mod SideEffects

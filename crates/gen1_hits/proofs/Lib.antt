@@ -1,6 +1,5 @@
--- What an operation shows that draws a factor, and one that lands the last damage.
+-- What an operation shows that draws a factor.
 pub mod Varying
-pub mod Landings
 -- Which type rows have the factor 0.
 pub mod Immunities
 -- How shown facts, with what is known of the action, pass through phases.

@@ -1,11 +1,12 @@
 -- The machine's factor, and what is shown after `factor` has drawn and its result is the last damage.
-use Rattle.std.proofs.Common.{◌+◌, ◌≡◌}
-use Rattle.gen1_layout.proofs.Words.{Bool, Frame, None, Option, Parts, Phase, Progress, Shows, ShowsDrawn, Some, Telling, Within, ap, choose-false, choose-true, false, nat_le, on_field, put_damage, refl, set_last_damage, true, with_last_damage, ℕ, ◌∙◌}
+use Rattle.std.proofs.Common.{min, ◌*◌, ◌+◌, ◌<◌, ◌≡◌, ◌≤◌}
+use Rattle.std.proofs.Math.Nat.{mul-le-mul_left}
+use Rattle.gen1_layout.proofs.Words.{Bool, Frame, None, Option, Parts, Phase, Progress, Shows, ShowsDrawn, Some, Telling, Within, ap, arith, choose-false, choose-true, false, nat_le, on_field, put_damage, refl, set_last_damage, true, with_last_damage, ℕ, ◌∙◌}
 use Rattle.gen1_rolls.specs.Streams.{Stream, byte_at, first, span}
 use Rattle.gen1_machine.specs.Damage.{is_factor, rotated_right_1, times_factor, varied_by, vary}
 use Rattle.gen1_machine.specs.Progress.{draw_until}
 use Rattle.gen1_rolls.specs.Draws.{Drawing, StandsAt}
-use Rattle.gen1_hits.specs.Factors.{VariesFrom}
+use Rattle.gen1_hits.specs.Factors.{VariesAlike}
 
 -- The machine's factor, if none is drawn and if one is found at m
 
@@ -24,12 +25,22 @@ unfolding vary varied_by
 vary-draws d n m stream p large same at e =
     choose-false _ _ _ p large ∙ found is_factor (varied_by d) p m (rw (same, at) e) ∙ rw same refl
 
--- What is shown after a factor was drawn.
+-- A factor makes no damage larger.
+pub varied-most : (d b : ℕ) → b < 256 → times_factor (rotated_right_1 b) d ≤ d
+varied-most d b byte =
+    let factor : rotated_right_1 b ≤ 255 = omega arith in
+    let product : d * rotated_right_1 b ≤ d * 255 = search (mul-le-mul_left, factor) in
+    omega (arith, product)
+
+-- What is shown after a factor was drawn, and how far the machine's last damage may differ.
 pub varying : {A : Type 0} {d : Drawing A} {origin : A} {g : Frame} {parts parts' : Parts} {events : Telling} {old new : A} {b : Bool} {p : Progress}
-    → (damage result : ℕ) → ShowsDrawn d origin g parts events old b p → ((origin : A) (stream : Stream) (n : ℕ) → StandsAt d origin stream n old → VariesFrom d origin stream n damage result new)
-    → Within g.setting parts' (with_last_damage result p.field) → ShowsDrawn d origin g parts' events new b (vary damage p)
-unfolding set_last_damage on_field
-varying {origin = origin} {g = g} {parts = parts} {events = events} {b = b} {p = p} damage result a varies within =
+    → (limit damage result : ℕ) → ShowsDrawn d origin g parts events old b p
+    → ((origin : A) (stream : Stream) (n : ℕ) → StandsAt d origin stream n old → VariesAlike d origin stream n limit damage result new)
+    → Within g.setting parts' (with_last_damage result p.field)
+    → (n : ℕ) × ShowsDrawn d origin g parts' events new b (set_last_damage result (record p { drawn = n }))
+    × (dealt : ℕ) × (vary damage p ≡ set_last_damage dealt (set_last_damage result (record p { drawn = n }))) × (min dealt limit ≡ min result limit) × (dealt ≤ damage)
+unfolding set_last_damage on_field with_last_damage
+varying {origin = origin} {g = g} {parts = parts} {events = events} {b = b} {p = p} limit damage result a varies within =
     let v = varies origin g.stream p.drawn a.stands in
     let h = a.shows in
     let drawn : Shows (record g { drawn = v.drawn }) parts events b (record p { drawn = v.drawn }) = record {
@@ -41,4 +52,4 @@ varying {origin = origin} {g = g} {parts = parts} {events = events} {b = b} {p =
       skips = h.skips;
       action = h.action;
     } in
-    rw (v.sets p h.stream refl) (record { shows = put_damage drawn result within; stands = v.stands })
+    (v.drawn, record { shows = put_damage drawn result within; stands = v.stands }, v.dealt, v.sets p h.stream refl, v.alike, v.most)

@@ -1,8 +1,9 @@
 //! The factor of a hit's damage (docs/MECHANICS.md, "Factors"): a drawn one, and all of them.
 ghost use Rattle.std.specs.Prelude.{map, ◌≡◌, ◌≤◌};
 ghost use Rattle.std.specs.List.{range_with_len};
+ghost use Rattle.gen1_rolls.specs.Looks.{limit_of};
 ghost use Rattle.gen1_machine.specs.Damage.{is_factor, rotated_right_1, times_factor};
-ghost use Rattle.gen1_hits.specs.Factors.{Varies, damages, varied};
+ghost use Rattle.gen1_hits.specs.Factors.{Varies, VariesUpTo, damages, varied};
 
 use crate::damage_formula::{Numbers, damage};
 use crate::types::type_steps;
@@ -16,18 +17,21 @@ pub fn factor<R: Rolls>(damage: u16, random: &mut R) -> u16
     ensures varies { Varies R.drawing random damage result }
     ensures most { result ≤ damage }
 {
-    factor_up_to(damage, u16::MAX, random)
+    factor_up_to(damage, u16::MAX, false, random)
 }
 
-/// The same for a caller to whom all damage from `limit` on is alike, as it is where the foe has so many HP.
-pub fn factor_up_to<R: Rolls>(damage: u16, limit: u16, random: &mut R) -> u16
-    ensures varies { Varies R.drawing random damage result }
+/// The same for a hit that does more from `edge` on: it fells the foe, or breaks its substitute.
+///
+/// `cut`: to the caller all damage from there on is alike. So the result may be another damage that is at least `edge`,
+/// if the drawn one is.
+pub fn factor_up_to<R: Rolls>(damage: u16, edge: u16, cut: bool, random: &mut R) -> u16
+    ensures varies { VariesUpTo R.drawing random (limit_of edge cut) damage result }
     ensures most { result ≤ damage }
 {
     if damage <= 1 {
         return damage;
     }
-    match random.until_as(is_factor, Look::Factor { damage, limit }) {
+    match random.until_as(is_factor, Look::Factor { damage, edge, cut }) {
         Some(byte) => times_factor(rotated(byte), damage),
         None => unreachable!(),
     }

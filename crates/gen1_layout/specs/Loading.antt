@@ -1,6 +1,6 @@
 -- The bytes that represent a battle, and the result of reading other bytes (docs/LAYOUT.md, "Loading"). There are
 -- seven tests, and the first that fails names the error.
-use Rattle.std.specs.Prelude.{Err, List, Ok, Result, length, slice_index, ℕ, ◌<◌, ◌≡◌}
+use Rattle.std.specs.Prelude.{Err, List, Ok, Result, codes, length, slice_index, ℕ, ◌<◌, ◌≡◌}
 use Rattle.gen1_stats.specs.Members.{IsBetween}
 use Rattle.gen1_layout.specs.declared.loading.LoadFault.{LoadFault}
 use Rattle.gen1_layout.specs.declared.loading.LoadFault.TheVariants as faults
@@ -36,6 +36,16 @@ number_of faults.Member = 4
 number_of faults.Active = 5
 number_of faults.Stat = 6
 number_of faults.Request = 7
+
+-- What is wrong, in words.
+abbrev pub words_of : LoadFault → List ℕ
+words_of faults.Length = codes "a battle has 384 bytes"
+words_of faults.Version = codes "the layout version is not 1, 2 or 3"
+words_of faults.Header = codes "a field of the header is out of its range"
+words_of faults.Member = codes "a place holds no valid member"
+words_of faults.Active = codes "a field of an active block is out of its range"
+words_of faults.Stat = codes "a current stat does not come from its stage"
+words_of faults.Request = codes "turn, outcome, requests and living members do not fit together"
 
 -- The seven tests. The first three are about the bytes themselves, the others about their form of version 3.
 abbrev pub PassesTest : LoadFault → List ℕ → Type 0

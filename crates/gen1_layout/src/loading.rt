@@ -1,6 +1,6 @@
 //! Reading a battle from bytes (docs/LAYOUT.md, "Loading").
-ghost use Rattle.std.specs.Prelude.{◌≡◌, ◌↔◌, IfOk, IsOk};
-ghost use Rattle.gen1_layout.specs.Loading.{number_of, IsLoadedAs, IsReadAs};
+ghost use Rattle.std.specs.Prelude.{◌≡◌, ◌↔◌, IfOk, IsOk, Some};
+ghost use Rattle.gen1_layout.specs.Loading.{number_of, words_of, IsLoadedAs, IsReadAs};
 ghost use Rattle.gen1_layout.specs.LoadingMeaning.{IsBattle, StandsForSome};
 
 mod active;
@@ -13,31 +13,25 @@ mod stats;
 
 use crate::Packed;
 use crate::offsets::VERSION;
-use thiserror::Error;
+use std::error::Error;
+use std::fmt;
 
 /// Why bytes don't represent a battle (docs/LAYOUT.md, "Loading"): the first of the seven tests that fails.
-#[derive(Clone, Copy, Debug, PartialEq, Eq, Error)]
+#[derive(Clone, Copy, Debug, PartialEq, Eq)]
 pub enum LoadFault {
     /// There aren't exactly 384 bytes.
-    #[error("a battle has 384 bytes")]
     Length,
     /// The version of the layout isn't 1, 2 or 3.
-    #[error("the layout version is not 1, 2 or 3")]
     Version,
     /// A field of the header is out of its range.
-    #[error("a field of the header is out of its range")]
     Header,
     /// A place for a member holds neither a member nor zeros, or a member comes after an empty place.
-    #[error("a place holds no valid member")]
     Member,
     /// A field of an active block is out of its range.
-    #[error("a field of an active block is out of its range")]
     Active,
     /// A current stat doesn't come from the member's own stat and its stage.
-    #[error("a current stat does not come from its stage")]
     Stat,
     /// Turn, outcome, requests and living members don't fit together.
-    #[error("turn, outcome, requests and living members do not fit together")]
     Request,
 }
 
@@ -58,6 +52,27 @@ impl LoadFault {
     }
 }
 
+impl fmt::Display for LoadFault {
+    ghost output = { λ fault. Some (words_of fault) };
+
+    fn fmt<W: fmt::Write>(&self, f: &mut fmt::Formatter<W>) -> fmt::Result {
+        match self {
+            LoadFault::Length => write!(f, "a battle has 384 bytes"),
+            LoadFault::Version => write!(f, "the layout version is not 1, 2 or 3"),
+            LoadFault::Header => write!(f, "a field of the header is out of its range"),
+            LoadFault::Member => write!(f, "a place holds no valid member"),
+            LoadFault::Active => write!(f, "a field of an active block is out of its range"),
+            LoadFault::Stat => write!(f, "a current stat does not come from its stage"),
+            LoadFault::Request => write!(
+                f,
+                "turn, outcome, requests and living members do not fit together"
+            ),
+        }
+    }
+}
+
+impl Error for LoadFault {}
+
 impl Packed {
     /// Reads a battle from bytes of any of the three versions (docs/LAYOUT.md, "Loading"). The result is in the form
     /// of version 3.
@@ -76,6 +91,7 @@ impl Packed {
 }
 
 // The form of version 3 of bytes that represent a valid state, or the first test that they fail.
+#[tactic(auto, using(crate::proofs::LoadingAnswers::read_stands))]
 fn form_of(bytes: &[u8]) -> Result<[u8; 384], LoadFault>
     ensures tests { IsReadAs result bytes.now }
     ensures battle { IsOk result ↔ IsBattle bytes.now }

@@ -5,6 +5,7 @@ ghost use Rattle.gen1_machine.specs.Spectator.{WatcherKnows};
 
 /// Once a battle is over, every pair of choices is refused, and nothing changes (docs/MECHANICS.md, "Falls and
 /// requests").
+#[tactic(auto, using(crate::proofs::Runs::over_stays_over))]
 pub fn over_stays_over()
     ensures { OverStaysOver }
 {}
@@ -16,29 +17,34 @@ pub fn refusal_changes_nothing()
 
 /// No update changes the rules, the turn limit or the seed (docs/MECHANICS.md, "Rules (sleep clause, freeze clause)", "Turn
 /// limit").
+#[tactic(auto, using(crate::proofs::Runs::terms_stay))]
 pub fn terms_stay()
     ensures { TermsStay }
 {}
 
 /// A run over one list of pairs and then another is the run over the first, followed by the run over the second
 /// (docs/MECHANICS.md, "Falls and requests").
+#[tactic(auto, using(crate::proofs::Runs::runs_append))]
 pub fn runs_append()
     ensures { RunsAppend }
 {}
 
 /// Without clauses and with a limit of 1,000 turns, a battle runs by the step that has neither clauses nor a limit to
 /// choose (docs/MECHANICS.md, "Rules (sleep clause, freeze clause)", "Turn limit").
+#[tactic(auto, using(crate::proofs::Runs::same_as_before_rules))]
 pub fn same_as_before_rules()
     ensures { SameAsBeforeRules }
 {}
 
 /// With a limit of 1,000 turns, a battle runs by the step that has no limit to choose (docs/MECHANICS.md, "Turn
 /// limit").
+#[tactic(auto, using(crate::proofs::Runs::same_as_fixed_limit))]
 pub fn same_as_fixed_limit()
     ensures { SameAsFixedLimit }
 {}
 
 /// The battle of a room is the run over the pairs that its submissions completed (docs/MECHANICS.md, "Rooms").
+#[tactic(auto, using(crate::proofs::Rooms::room_runs))]
 pub fn room_runs()
     ensures { RoomRuns }
 {}
@@ -55,12 +61,14 @@ pub fn first_exists()
 {}
 
 /// A battle of two teams is valid before its first update (docs/MECHANICS.md, "Teams").
+#[tactic(auto, using(crate::proofs::FirstStates::first_states_are_valid))]
 pub fn first_states_are_valid()
     ensures { FirstStatesAreValid }
 {}
 
 /// From any valid state, at most as many pairs are accepted as turns may still come, and eleven more. Then the battle
 /// is over (docs/MECHANICS.md, "Turn limit").
+#[tactic(auto, using(crate::proofs::RunsEnd::runs_end))]
 pub fn runs_end()
     ensures { RunsEnd }
 {}
@@ -72,11 +80,13 @@ pub fn fields_stay_valid()
 {}
 
 /// Every run from a valid state leads to a valid state (docs/LAYOUT.md, "Loading").
+#[tactic(auto, using(crate::proofs::ValidStates::states_stay_valid))]
 pub fn states_stay_valid()
     ensures { StatesStayValid }
 {}
 
 /// Each number of a valid state fits its bytes (docs/LAYOUT.md, "The 384 bytes of a battle").
+#[tactic(auto, using(crate::proofs::Fits::states_fit))]
 pub fn states_fit()
     ensures { StatesFit }
 {}
@@ -137,6 +147,7 @@ pub fn step_is_bounded()
 /// "Spectator's view").
 ///
 /// That is the active places, HP, kinds of status, stages, substitutes, confusion, screens, turn and outcome.
+#[tactic(auto, using(crate::proofs::Spectators::watcher_knows))]
 pub fn watcher_knows()
     ensures { WatcherKnows }
 {}

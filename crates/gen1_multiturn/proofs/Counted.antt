@@ -1,15 +1,16 @@
 -- A drawn count, by its one or two draws.
 use Rattle.std.proofs.Common.{◌%◌, ◌+◌, ◌≡◌}
-use Rattle.gen1_layout.proofs.Words.{Bool, Frame, Parts, Phase, Progress, ShowsDrawn, Telling, ap, choose-false, choose-true, draw, false, nat_le, refl, sym, true, ℕ, ◌∙◌}
+use Rattle.gen1_layout.proofs.Words.{Bool, Frame, Parts, Phase, Progress, ShowsDrawn, Telling, ap, choose, choose-false, choose-true, draw, false, nat_le, refl, sym, true, ℕ, ◌∙◌}
 use Rattle.gen1_rolls.specs.Draws.{Drawing}
 use Rattle.gen1_rolls.specs.Streams.{byte_at, Stream}
 use Rattle.gen1_rolls.proofs.Standing.{byte_drawn, stands_after_draw}
 use Rattle.gen1_machine.specs.GoingOn.{count_again, count_by_draw, draw_count}
 
 module _ {A : Type 0} {d : Drawing A} {origin : A} {g : Frame} {parts : Parts} {events : Telling} {old : A} {b : Bool} {p : Progress} where
-  -- The drawn byte is the stream's.
-  pub drawn_byte : (byte : ℕ) → ShowsDrawn d origin g parts events old b p → byte ≡ d.byte old → byte ≡ byte_at p.stream p.drawn
-  drawn_byte byte a e = byte_drawn a.stands e ∙ ap (λ (s : Stream). byte_at s p.drawn) (sym a.shows.stream)
+  -- The lowest bits of the drawn byte are those of the stream's.
+  pub drawn_bits : (byte : ℕ) → ShowsDrawn d origin g parts events old b p → byte % 4 ≡ d.byte old % 4 → byte % 4 ≡ byte_at p.stream p.drawn % 4
+  drawn_bits byte a e =
+      e ∙ ap (λ (n : ℕ). n % 4) (byte_drawn {b = d.byte old} a.stands refl ∙ ap (λ (s : Stream). byte_at s p.drawn) (sym a.shows.stream))
 
   -- The next place of the generator is one further.
   pub drawn_next : {new : A} → ShowsDrawn d origin g parts events old b p → new ≡ d.next old
@@ -21,16 +22,16 @@ module _ {A : Type 0} {d : Drawing A} {origin : A} {g : Frame} {parts : Parts} {
         stands = stands_after_draw a.stands left;
       }
 
-pub counted_once : (f : ℕ → Phase) (p : Progress) (d : ℕ) → d ≡ byte_at p.stream p.drawn → nat_le (d % 4) 1 ≡ true → draw_count f p ≡ f (d % 4) (record p { drawn = p.drawn + 1 })
+pub counted_once : (f : ℕ → Phase) (p : Progress) (d : ℕ) → d % 4 ≡ byte_at p.stream p.drawn % 4 → nat_le (d % 4) 1 ≡ true → draw_count f p ≡ f (d % 4) (record p { drawn = p.drawn + 1 })
 unfolding draw_count draw count_by_draw
 counted_once f p d at small =
     let q : Progress = record p { drawn = p.drawn + 1 } in
-    ap (λ (b : ℕ). count_by_draw f b q) (sym at) ∙ choose-true _ (f (d % 4)) (draw (count_again f)) q small
+    ap (λ (n : ℕ). choose (λ _. nat_le n 1) (f n) (draw (count_again f)) q) (sym at) ∙ choose-true _ (f (d % 4)) (draw (count_again f)) q small
 
-pub counted_twice : (f : ℕ → Phase) (p : Progress) (d e : ℕ) → d ≡ byte_at p.stream p.drawn → nat_le (d % 4) 1 ≡ false → e ≡ byte_at p.stream (p.drawn + 1)
+pub counted_twice : (f : ℕ → Phase) (p : Progress) (d e : ℕ) → d % 4 ≡ byte_at p.stream p.drawn % 4 → nat_le (d % 4) 1 ≡ false → e % 4 ≡ byte_at p.stream (p.drawn + 1) % 4
     → draw_count f p ≡ f (e % 4) (record p { drawn = p.drawn + 1 + 1 })
 unfolding draw_count draw count_by_draw count_again
 counted_twice f p d e at large then =
     let q : Progress = record p { drawn = p.drawn + 1 } in
     let r : Progress = record p { drawn = p.drawn + 1 + 1 } in
-    ap (λ (b : ℕ). count_by_draw f b q) (sym at) ∙ choose-false _ (f (d % 4)) (draw (count_again f)) q large ∙ ap (λ (b : ℕ). f (b % 4) r) (sym then)
+    ap (λ (n : ℕ). choose (λ _. nat_le n 1) (f n) (draw (count_again f)) q) (sym at) ∙ choose-false _ (f (d % 4)) (draw (count_again f)) q large ∙ ap (λ (n : ℕ). f n r) (sym then)

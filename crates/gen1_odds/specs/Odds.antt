@@ -1,6 +1,6 @@
 -- The odds of a use of a move, for the present state of two members (docs/MECHANICS.md, "Critical hits" to "Hit test",
 -- "Fixed damage and one-hit moves", "Many hits").
-use Rattle.std.specs.Prelude.{Bool, List, None, Option, Some, [], count_by, false, if◌then◌else◌, max, nat_lt, not, replicate, true, unwrap_or, ℕ, ◌&&◌, ◌*◌, ◌-◌, ◌/◌, ◌==◌, ◌||◌, ◌∷◌}
+use Rattle.std.specs.Prelude.{Bool, List, None, Option, Some, [], count_by, false, if◌then◌else◌, max, min, nat_lt, not, replicate, true, unwrap_or, ℕ, ◌&&◌, ◌*◌, ◌-◌, ◌/◌, ◌==◌, ◌||◌, ◌∷◌}
 use Rattle.std.specs.List.{range_with_len}
 use Rattle.gen1_tables.specs.declared.effect.Effect.{Effect}
 use Rattle.gen1_tables.specs.declared.effect.Effect.TheVariants as effects
@@ -48,12 +48,16 @@ damages_in side move critical f =
 
 -- Damage by a rule of its own: from the first number to the second
 
--- Psywave deals less than one and a half times the level. A move that isn't named here deals the level.
+-- Psywave deals at least 1, and less than one and a half times the level. At level 1 there is no such number.
+abbrev pub psywave_range : ℕ → ℕ × ℕ
+psywave_range level = (min 1 (level * 3 / 2 - 1), level * 3 / 2 - 1)
+
+-- A move that isn't named here deals the level.
 abbrev pub fixed_by : ℕ → Side → Field → ℕ × ℕ
 fixed_by move s f =
     if move == sonic_boom then (20, 20)
     else if move == dragon_rage then (40, 40)
-    else if move == psywave_move then (1, max 1 ((member_in s f).level * 3 / 2 - 1))
+    else if move == psywave_move then psywave_range (member_in s f).level
     else if move == super_fang then (half_hp (member_in (other s) f), half_hp (member_in (other s) f))
     else ((member_in s f).level, (member_in s f).level)
 

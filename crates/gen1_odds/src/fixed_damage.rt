@@ -1,8 +1,8 @@
 //! Damage by a rule of its own (docs/MECHANICS.md, "Fixed damage and one-hit moves", "Counter", "Going on").
-ghost use Rattle.std.specs.Prelude.{max, ◌*◌, ◌-◌, ◌/◌, ◌≡◌};
+ghost use Rattle.std.specs.Prelude.{◌≡◌};
 ghost use Rattle.gen1_layout.specs.Words.{Reads, member_in, move_at};
 ghost use Rattle.gen1_machine.specs.FixedDamage.{half_hp};
-ghost use Rattle.gen1_odds.specs.Odds.{fixed_by, fixed_in, fixed_of, twin};
+ghost use Rattle.gen1_odds.specs.Odds.{fixed_by, fixed_in, fixed_of, psywave_range, twin};
 
 use crate::trials::{Trial, traps_on, trial_of};
 use gen1_layout::Packed;
@@ -50,7 +50,7 @@ fn fixed_by(battle: &Packed, side: Side, number: u8) -> (u16, u16)
         return (40, 40);
     }
     if number == PSYWAVE {
-        return (1, psywave_most(battle.level(side)));
+        return psywave_range(battle.level(side));
     }
     if number == SUPER_FANG {
         return twin(half_hp(battle, side.other()));
@@ -58,10 +58,12 @@ fn fixed_by(battle: &Packed, side: Side, number: u8) -> (u16, u16)
     twin(u16::from(battle.level(side)))
 }
 
-fn psywave_most(level: u8) -> u16
-    ensures { result ≡ max 1 (level * 3 / 2 - 1) }
+// Zeros at level 1, where the battle ends with a fault.
+fn psywave_range(level: u8) -> (u16, u16)
+    ensures { result ≡ psywave_range level }
 {
-    (u16::from(level) * 3 / 2).saturating_sub(1).max(1)
+    let most = (u16::from(level) * 3 / 2).saturating_sub(1);
+    (most.min(1), most)
 }
 
 fn half_hp(battle: &Packed, side: Side) -> u16

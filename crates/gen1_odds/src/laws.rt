@@ -2,62 +2,74 @@
 ghost use Rattle.gen1_odds.specs.Laws.{BreaksIfNeeded, ConfusionCounts, CounterCounts, FixedCounts, ImmuneMisses, MustHitCounts, OneHitCounts, ParalysisCounts, PoisonCounts, SeedCounts, SlowerMisses, TestCounts};
 
 /// A move misses in the hit test exactly by the draws that the odds do not count (docs/MECHANICS.md, "Hit test").
+#[tactic(auto, using(crate::proofs::Counted::test_counts))]
 pub fn test_counts()
     ensures { TestCounts }
 {}
 
 /// A test whose miss ends the action ends it by these draws (docs/MECHANICS.md, "Early effects", "Late effects").
+#[tactic(auto, using(crate::proofs::Counted::must_hit_counts))]
 pub fn must_hit_counts()
     ensures { MustHitCounts }
 {}
 
 /// A move of fixed damage misses by these draws (docs/MECHANICS.md, "Fixed damage and one-hit moves").
+#[tactic(auto, using(crate::proofs::Dealt::fixed_counts))]
 pub fn fixed_counts()
     ensures { FixedCounts }
 {}
 
 /// Counter misses without a damage to return, or by these draws (docs/MECHANICS.md, "Counter").
+#[tactic(auto, using(crate::proofs::Dealt::counter_counts))]
 pub fn counter_counts()
     ensures { CounterCounts }
 {}
 
 /// A one-hit move of a slower user misses (docs/MECHANICS.md, "Fixed damage and one-hit moves").
+#[tactic(auto, using(crate::proofs::Dealt::slower_misses))]
 pub fn slower_misses()
     ensures { SlowerMisses }
 {}
 
 /// A one-hit move misses a foe that its type has no effect on (docs/MECHANICS.md, "Fixed damage and one-hit moves").
+#[tactic(auto, using(crate::proofs::Dealt::immune_misses))]
 pub fn immune_misses()
     ensures { ImmuneMisses }
 {}
 
 /// Any other one-hit move misses by these draws (docs/MECHANICS.md, "Fixed damage and one-hit moves").
+#[tactic(auto, using(crate::proofs::Dealt::one_hit_counts))]
 pub fn one_hit_counts()
     ensures { OneHitCounts }
 {}
 
 /// A move that poisons fails for its reason, or by these draws (docs/MECHANICS.md, "Early effects").
+#[tactic(auto, using(crate::proofs::Counted::poison_counts))]
 pub fn poison_counts()
     ensures { PoisonCounts }
 {}
 
 /// A move that paralyzes fails for its reason, or by these draws (docs/MECHANICS.md, "Early effects").
+#[tactic(auto, using(crate::proofs::Counted::paralysis_counts))]
 pub fn paralysis_counts()
     ensures { ParalysisCounts }
 {}
 
 /// Leech Seed fails for its reason, or by these draws (docs/MECHANICS.md, "Early effects").
+#[tactic(auto, using(crate::proofs::Counted::seed_counts))]
 pub fn seed_counts()
     ensures { SeedCounts }
 {}
 
 /// A move that confuses fails for its reason, or by these draws (docs/MECHANICS.md, "Early effects").
+#[tactic(auto, using(crate::proofs::Counted::confusion_counts))]
 pub fn confusion_counts()
     ensures { ConfusionCounts }
 {}
 
 /// A substitute breaks by the damage that the chances to knock out take as needed, and by no less (docs/MECHANICS.md,
 /// "Landing").
+#[tactic(auto, using(crate::proofs::Counted::breaks_if_needed))]
 pub fn breaks_if_needed()
     ensures { BreaksIfNeeded }
 {}

@@ -67,6 +67,8 @@ pub fn odds_of(battle: &Packed, side: Side, id: MoveId) -> Odds
     ensures stands { ReadsUnder battle.now result λ r. odds_in r side (move_at id) }
     ensures critical { result.critical_draws ≤ 255 }
     ensures hits { result.hit_draws ≤ 256 }
+    ensures usual_few { result.usual.count ≤ 39 }
+    ensures critical_few { result.critical.count ≤ 39 }
 {
     let reason = reason_of(battle, side, id);
     let (least, most) = fixed(battle, side, id);
@@ -91,6 +93,7 @@ pub(crate) fn flag(holds: bool) -> u8
 
 fn damages_of(battle: &Packed, side: Side, id: MoveId, critical: bool) -> Damages
     ensures stands { Reads battle.now result (damages_in side (move_at id) critical) }
+    ensures few { result.count ≤ 39 }
 {
     if !deals_usual(battle, side, id) {
         return no_damages(UNUSUAL);

@@ -128,6 +128,7 @@ fn beside(battle: &Packed, side: Side, out: u8) -> Bench
 
 // The digits, without that of a place.
 #[inline(always)]
+#[tactic(auto, using(crate::proofs::Digits::place_out))]
 fn without(digits: u32, place: u8) -> u32
     requires low { 1 ≤ place }
     requires high { place ≤ 6 }

@@ -67,6 +67,7 @@ fn offered_to_move(battle: &Packed, side: Side) -> Choices
 }
 
 // The moves, without the switches.
+#[tactic(auto, using(crate::proofs::Collecting::no_struggle))]
 fn moves_offered(battle: &Packed, side: Side) -> Choices
     ensures few { array_vec_len result ≤ 4 }
     ensures stands { Reads battle.now result.items (moves_offered side) }

@@ -1,4 +1,5 @@
 -- Lemmas.
+pub mod Apart
 pub mod Joining
 pub mod Leaving
 pub mod Lists

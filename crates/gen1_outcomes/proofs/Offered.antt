@@ -1,5 +1,6 @@
 -- A pair that is accepted was offered.
 use Rattle.std.proofs.Common.{◌≡◌, Bool, true, false, Err, Ok, Result, Some, ap, refl, subst, sym, ◌∙◌, ℕ}
+use Rattle.gen1_rolls.specs.Streams.{Stream}
 use Rattle.gen1_machine.specs.declared.choice.Choice.{Choice}
 use Rattle.gen1_machine.specs.declared.side.Side.TheVariants.{One, Two}
 use Rattle.gen1_machine.specs.Choices.{choice_at}
@@ -13,7 +14,7 @@ use Rattle.gen1_engine.specs.declared.result.Refusal.TheVariants as refusals
 use Rattle.gen1_layout.specs.Shows.{Telling}
 use Rattle.gen1_engine.specs.Replay.{both, choices_at}
 use Rattle.gen1_engine.specs.Update.{Answers, AnswersAs, AreOffered, Tests}
-use Rattle.gen1_outcomes.specs.Following.{CanFollow}
+use Rattle.gen1_outcomes.specs.Following.{CanFollow, Follows}
 
 pub accepted_offered : (s : State) (one two : Choice) (old new : Parts) (result : BattleResult) → Answers s one two old new (Ok result) → AreOffered s one two
 unfolding step step_by answered
@@ -59,6 +60,12 @@ pub follows_as : (s : State) (a b one two : Choice) (parts : Parts) (events : Te
 follows_as s a b one two parts events e f h =
     subst (λ (x : Choice). AreOffered s x two → CanFollow s x two parts events) e
     (subst (λ (y : Choice). AreOffered s a y → CanFollow s a y parts events) f h)
+
+pub follows_by : (s : State) (a b one two : Choice) (stream : Stream) (parts : Parts) (events : Telling) → a ≡ one → b ≡ two
+    → (AreOffered s a b → Follows s a b stream parts events) → AreOffered s one two → Follows s one two stream parts events
+follows_by s a b one two stream parts events e f h =
+    subst (λ (x : Choice). AreOffered s x two → Follows s x two stream parts events) e
+    (subst (λ (y : Choice). AreOffered s a y → Follows s a y stream parts events) f h)
 
 some_same : (a b : Choice × Choice) → Some a ≡ Some b → a ≡ b
 some_same a b e = cc

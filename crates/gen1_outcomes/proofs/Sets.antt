@@ -344,6 +344,39 @@ first_has words place some small =
     let digit : (64 * place + trailing_zeros w64 (get_or words place 0)) % 64 ≡ trailing_zeros w64 (get_or words place 0) = omega (arith, less) in
     rw word (rw digit found.1)
 
+-- All before it are not in the set.
+before_or : (m n : ℕ) → (m < n) ⊎ (n ≤ m)
+before_or m n = grind arith
+
+pub first_least : (words : List ℕ) (place : ℕ) → 0 < get_or words place 0 → get_or words place 0 < 18446744073709551616
+    → ((b : ℕ) → b < 64 * place → bit_in words b ≡ 0) → (b : ℕ) → b < 64 * place + trailing_zeros w64 (get_or words place 0) → bit_in words b ≡ 0
+first_least words place some small before b lt =
+    let found = bit_at-trailing_zeros w64 (get_or words place 0) some small in
+    let less : trailing_zeros w64 (get_or words place 0) < 64 = found.0 in
+    elim (before_or b (64 * place)) [
+      | inl early ↦ before b early
+      | inr more ↦
+          let word : b / 64 ≡ place = omega (arith, less, lt, more) in
+          let digit : b % 64 < trailing_zeros w64 (get_or words place 0) = omega (arith, less, lt, more) in
+          rw word (found.2 (b % 64) digit)
+    ]
+
+-- Sets of the same bytes are of the same size.
+same_sum : (f g : ℕ → ℕ) (a k : ℕ) → ((x : ℕ) → a ≤ x → x < a + k → f x ≡ g x) → sum_by f (range_with_len a k) ≡ sum_by g (range_with_len a k)
+same_sum f g a zero each = refl
+same_sum f g a (suc k) each =
+    let one : sum_by f (range_with_len a (suc k)) ≡ f a + sum_by f (range_with_len (a + 1) k) = sum_by-cons f a (range_with_len (a + 1) k) in
+    let two : sum_by g (range_with_len a (suc k)) ≡ g a + sum_by g (range_with_len (a + 1) k) = sum_by-cons g a (range_with_len (a + 1) k) in
+    let rest : sum_by f (range_with_len (a + 1) k) ≡ sum_by g (range_with_len (a + 1) k) =
+    same_sum f g (a + 1) k (λ x le lt. each x (omega (arith, le)) (omega (arith, lt)))
+    in
+    let first : f a ≡ g a = each a (omega arith) (omega arith) in
+    omega (arith, one, two, rest, first)
+
+pub same_size : (a b : ByteSet) → ((x : ℕ) → x < 256 → has a x ≡ has b x) → size a ≡ size b
+unfolding size
+same_size a b each = same_sum (has a) (has b) 0 256 (λ x le lt. each x lt)
+
 -- A set that is split in two.
 split_sum : (f g h : ℕ → ℕ) (a k : ℕ) → ((x : ℕ) → a ≤ x → x < a + k → f x + g x ≡ h x)
     → sum_by f (range_with_len a k) + sum_by g (range_with_len a k) ≡ sum_by h (range_with_len a k)
@@ -401,3 +434,36 @@ pub counted : (classes : ℕ) (look : Look) (byte : ℕ) (old class new : ByteSe
 counted classes look byte old class new n e taken left =
     ap (λ (m : ℕ). m + size new) e
     ∙ split_size class new old (λ x lt. ap (λ (m : ℕ). has class x + m) (left x lt) ∙ taken_all (alike_in classes look byte x) (has old x) (has class x) (taken x lt))
+
+-- The bytes below a bound are as many as it says.
+sum_under : (f : ℕ → ℕ) (bound a k : ℕ) → ((x : ℕ) → a ≤ x → x < a + k → f x ≡ cond (nat_lt x bound) 1 0) → sum_by f (range_with_len a k) ≡ min (bound - a) k
+sum_under f bound a zero each = omega arith
+sum_under f bound a (suc k) each =
+    let one : sum_by f (range_with_len a (suc k)) ≡ f a + sum_by f (range_with_len (a + 1) k) = sum_by-cons f a (range_with_len (a + 1) k) in
+    let rest : sum_by f (range_with_len (a + 1) k) ≡ min (bound - (a + 1)) k =
+    sum_under f bound (a + 1) k (λ x le lt. each x (omega (arith, le)) (omega (arith, lt)))
+    in
+    let here : f a ≡ cond (nat_lt a bound) 1 0 = each a (omega arith) (omega arith) in grind (arith, one, rest, here)
+
+at_most : (bound : ℕ) → bound ≤ 256 → min (bound - 0) 256 ≡ bound
+at_most bound few = omega (arith, few)
+
+pub size_under : (bytes : ByteSet) (bound : ℕ) → bound ≤ 256 → ((x : ℕ) → x < 256 → has bytes x ≡ cond (nat_lt x bound) 1 0) → size bytes ≡ bound
+unfolding size
+size_under bytes bound few each = sum_under (has bytes) bound 0 256 (λ x le lt. each x lt) ∙ at_most bound few
+
+pub size_all : (bytes : ByteSet) → ((x : ℕ) → x < 256 → has bytes x ≡ 1) → size bytes ≡ 256
+size_all bytes each = size_under bytes 256 (omega arith) (λ x lt. each x lt ∙ ap (λ (b : Bool). cond b 1 0) (sym (lt_true x 256 lt)))
+
+-- Those that are not below it are the others.
+pub size_above : (all below above : ByteSet) (bound : ℕ) → bound ≤ 256 → ((x : ℕ) → x < 256 → has all x ≡ 1) → ((x : ℕ) → x < 256 → has below x ≡ cond (nat_lt x bound) 1 0)
+    → ((x : ℕ) → x < 256 → has above x ≡ has all x - has below x) → bound + size above ≡ 256
+size_above all below above bound few each under over =
+    let known : size below ≡ bound = size_under below bound few under in
+    let whole : size all ≡ 256 = size_all all each in
+    let split : size below + size above ≡ size all = split_size below above all (λ x lt. part (nat_lt x bound) (has all x) (has below x) (has above x) (each x lt) (under x lt) (over x lt)) in
+    omega (arith, known, whole, split)
+  where
+    part : (b : Bool) (n m r : ℕ) → n ≡ 1 → m ≡ cond b 1 0 → r ≡ n - m → m + r ≡ n
+    part true n m r e f g = omega (arith, e, f, g)
+    part false n m r e f g = omega (arith, e, f, g)

@@ -1,11 +1,26 @@
--- Turns of two actions (docs/MECHANICS.md, "Order of a turn").
-use Rattle.std.specs.Prelude.{Bool, false, true, ◌&&◌}
+-- Turns of two actions, and where a turn is after the first of them (docs/MECHANICS.md, "Order of a turn").
+use Rattle.std.specs.Prelude.{Bool, [], false, true, ℕ, ◌&&◌, ◌∷◌, ◌≡◌}
+use Rattle.gen1_rolls.specs.Draws.{Drawing, Ref, StandsAt}
+use Rattle.gen1_rolls.specs.Streams.{IsStream, Stream}
 use Rattle.gen1_machine.specs.declared.choice.Choice.{Choice}
 use Rattle.gen1_machine.specs.declared.choice.Choice.TheVariants as choices
-use Rattle.gen1_machine.specs.declared.side.Side.TheVariants.{One}
+use Rattle.gen1_machine.specs.declared.picks.Pick.{Pick}
+use Rattle.gen1_machine.specs.declared.side.Side.{Side}
+use Rattle.gen1_machine.specs.declared.side.Side.TheVariants.{One, Two}
 use Rattle.gen1_machine.specs.declared.terms.Request.{Request}
 use Rattle.gen1_machine.specs.declared.terms.Request.TheVariants as requests
-use Rattle.gen1_machine.specs.State.{Field, request_of}
+use Rattle.gen1_machine.specs.Conditions.{without_flinch}
+use Rattle.gen1_machine.specs.Picks.{pick_in}
+use Rattle.gen1_machine.specs.Progress.{Phase, Progress, on_conditions}
+use Rattle.gen1_machine.specs.Ruling.{Ruling, ruling_of}
+use Rattle.gen1_machine.specs.Sides.{other}
+use Rattle.gen1_machine.specs.State.{Field, State, request_of}
+use Rattle.gen1_machine.specs.Turn.{Acts, Suffers, do_parts, is_cut, of_side, set_picked, turn}
+use Rattle.gen1_machine.specs.TurnOrder.{in_order}
+use Rattle.gen1_layout.specs.Parts.{Parts}
+use Rattle.gen1_layout.specs.Within.{Setting, Stands, Within, setting_of}
+use Rattle.gen1_switching.specs.Updates.{Plays, drawing_on}
+use Rattle.gen1_outcomes.specs.declared.beginning.Rest.{Rest}
 
 abbrev pub is_move : Choice → Bool
 is_move (choices.Move slot) = true
@@ -20,3 +35,39 @@ asks_for_move requests.Pass = false
 -- Both sides use a move, so that the update has two actions.
 abbrev pub have_two_actions : Choice → Choice → Field → Bool
 have_two_actions one two f = asks_for_move (request_of One f) && is_move one && is_move two
+
+-- A turn whose flinches have ended, and in which both sides have picked.
+abbrev pub unflinched : Progress → Progress
+unflinched p = on_conditions Two without_flinch (on_conditions One without_flinch p)
+
+abbrev pub picked : Pick → Pick → Progress → Progress
+picked one two p = set_picked Two two (set_picked One one (unflinched p))
+
+-- What is left of a turn before its second action: this action, its residual damage, and the end of spent trapping.
+abbrev pub second_action : Ruling → Side → Pick → Phase
+second_action r s pick = do_parts r (Acts s pick ∷ Suffers s ∷ [])
+
+-- A turn is played up to its second action. If it is cut, what is shown is the whole turn; else it isn't cut there, and goes on by the second action.
+pub record GoesOn (rest : Rest) (r : Ruling) (one two : Pick) (here whole : Progress) : Type 0 where
+  pub skips : here.skips ≡ rest.skips
+  pub cut : rest.is_cut ≡ true → here ≡ whole
+  pub uncut : rest.is_cut ≡ false → is_cut here ≡ false
+  pub left : rest.is_cut ≡ false → whole ≡ second_action r rest.second (of_side rest.second one two) here
+
+-- The bytes and the generator are those of a turn from p, played up to its second action. The machine's order puts the other side first.
+pub record Begins {A : Type 0} (d : Drawing A) (origin : A) (g : Setting) (parts : Parts) (now : A) (rest : Rest) (one two : Pick) (p whole : Progress) : Type 0 where
+  pub here : Progress
+  pub within : Within g parts here.field
+  pub stands : StandsAt d origin p.stream here.drawn now
+  pub drawn : ℕ
+  pub first : (begins : Side → Phase) → in_order begins (picked one two p) ≡ begins (other rest.second) (record (picked one two p) { drawn = drawn })
+  pub goes_on : GoesOn rest (ruling_of g.terms) one two here whole
+
+-- Code with draws begins such a turn, with draws from any place of any stream.
+abbrev pub BeginsTurn : {A : Type 0} → Drawing A → Ref A → Ref Parts → Choice → Choice → Rest → Type 0
+BeginsTurn {A = A} d random battle one two rest =
+    (s : State) (j k : ℕ) → Stands battle.entry.now s → Plays s requests.Move one two → one ≡ choices.Move j → two ≡ choices.Move k
+    → (origin : A) (stream : Stream) (drawn : ℕ) → IsStream stream → StandsAt d origin stream drawn random.entry.now
+    → let p = drawing_on stream drawn s in
+    Begins d origin (setting_of s) battle.exit.now random.exit.now rest (pick_in j One (unflinched p).field) (pick_in k Two (unflinched p).field) p
+    (turn (ruling_of s.terms) one two p)

@@ -4,10 +4,10 @@ pub mod Classes
 pub mod Nodes
 pub mod Script
 pub mod Chances
-pub mod Middles
 pub mod Beginning
 pub mod Following
 pub mod Listing
+pub mod Middles
 pub mod Merging
 pub mod Plain
 pub mod Faults

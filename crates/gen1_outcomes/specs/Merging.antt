@@ -1,5 +1,6 @@
 -- Where a battle is in a list, and what a list leaves out.
-use Rattle.std.specs.Prelude.{List, length, ℕ, ◌<◌, ◌≡◌}
+use Rattle.std.specs.Prelude.{List, drop, length, min, slice_index, take, ℕ, ◌%◌, ◌*◌, ◌+◌, ◌-◌, ◌/◌, ◌<◌, ◌≡◌}
+use Rattle.std.specs.Int.{from_le_bytes, w64}
 use Rattle.gen1_layout.specs.Parts.{Parts, joined}
 use Rattle.gen1_outcomes.specs.declared.merging.Place.{Place}
 use Rattle.gen1_outcomes.specs.declared.merging.Place.TheVariants as places
@@ -17,3 +18,27 @@ IsPlace xs table battle places.Full = Unit {0}
 pub record LeavesOut (old new : Tally) : Type 0 where
   pub least : new.least ≡ old.least
   pub none : old.least ≡ 0 → old.left_out ≡ 0 → new.left_out ≡ 0
+
+-- A word of eight bytes, its low byte first.
+abbrev pub word_at : List ℕ → ℕ → ℕ
+word_at bytes at = from_le_bytes w64 (take 8 (drop at bytes))
+
+-- A number and a word become another number of 64 bits.
+abbrev pub mixed : ℕ → ℕ → ℕ
+mixed hash word = (hash * 11400714819323198485 + word) % 18446744073709551616
+
+-- With the words of a member and of an active block that most updates change.
+abbrev pub with_member : ℕ → List ℕ → ℕ → ℕ
+with_member hash bytes at = mixed (mixed (mixed hash (word_at bytes at)) (word_at bytes (at + 14))) (word_at bytes (at + 16))
+
+abbrev pub with_block : ℕ → List ℕ → ℕ → ℕ
+with_block hash bytes at =
+    mixed (mixed (mixed (mixed hash (word_at bytes at)) (word_at bytes (at + 8))) (word_at bytes (at + 16))) (word_at bytes (at + 24))
+
+-- With those of a side: of the member in the place that its active block names, and of this block.
+abbrev pub with_side : ℕ → List ℕ → ℕ → ℕ
+with_side hash bytes at = with_block (with_member hash bytes (at + 24 * min (slice_index bytes (at + 144) - 1) 5)) bytes (at + 144)
+
+-- The number of a battle, by its bytes alone.
+abbrev pub hash_of : List ℕ → ℕ
+hash_of bytes = mixed (with_side (with_side (mixed (word_at bytes 0) (word_at bytes 16)) bytes 24) bytes 204) 0 / 4294967296

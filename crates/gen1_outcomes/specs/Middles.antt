@@ -1,5 +1,24 @@
--- Positions between the two actions of a turn, and when they agree (docs/MECHANICS.md, "Order of a turn").
-use Rattle.std.specs.Prelude.{ℕ, slice_index_or, ◌+◌, ◌<◌, ◌≡◌, ◌≢◌, ◌⊎◌}
+-- Positions between the two actions of a turn, when they agree, and what a way to one is played with (docs/MECHANICS.md, "Order of a turn", "Link numbers").
+use Rattle.std.specs.Prelude.{List, slice_index, slice_index_or, ℕ, ◌+◌, ◌<◌, ◌≡◌, ◌≢◌, ◌⊎◌}
+use Rattle.gen1_rolls.specs.Draws.{stream_of}
+use Rattle.gen1_machine.specs.declared.choice.Choice.TheVariants as choices
+use Rattle.gen1_machine.specs.declared.side.Side.TheVariants.{One, Two}
+use Rattle.gen1_machine.specs.declared.terms.Request.TheVariants.{Move}
+use Rattle.gen1_machine.specs.Picks.{pick_in}
+use Rattle.gen1_machine.specs.Ruling.{ruling_of}
+use Rattle.gen1_machine.specs.State.{State}
+use Rattle.gen1_machine.specs.Turn.{turn}
+use Rattle.gen1_layout.specs.Parts.{Parts, joined}
+use Rattle.gen1_layout.specs.Within.{Stands, setting_of}
+use Rattle.gen1_engine.specs.Update.{AreOffered}
+use Rattle.gen1_switching.specs.Updates.{Plays, drawing_on}
+use Rattle.gen1_outcomes.specs.declared.nodes.Node.{Node}
+use Rattle.gen1_outcomes.specs.declared.nodes.Nodes.{Nodes}
+use Rattle.gen1_outcomes.specs.declared.script.Script.{Script}
+use Rattle.gen1_outcomes.specs.Beginning.{Begins, unflinched}
+use Rattle.gen1_outcomes.specs.Following.{Follows, Walk}
+use Rattle.gen1_outcomes.specs.Listing.{untold}
+use Rattle.gen1_outcomes.specs.Script.{scripted}
 use Rattle.gen1_outcomes.specs.declared.middles.Middle.{Middle}
 use Rattle.gen1_outcomes.specs.declared.middles.Middles.{Middles}
 use Rattle.gen1_outcomes.specs.Chances.{IsSum}
@@ -39,3 +58,35 @@ pub record IsPut (added : Middle) (old new : Middles) : Type 0 where
 -- A position is merged with one that agrees with it, or put into the next place.
 abbrev pub IsAdded : Middle → Middles → Middles → Type 0
 IsAdded added old new = Joins added old new ⊎ IsPut added old new
+
+-- The generator of a path, before its first draw.
+abbrev pub script_of : List ℕ → Script
+script_of path = record { path = path; at = 0; number = 0 }
+
+-- A path has the bytes of these draws first.
+abbrev pub IsPathOf : Nodes → List ℕ → Type 0
+IsPathOf nodes path = (k : ℕ) → (past : Node) → k < nodes.len → slice_index path k ≡ (slice_index_or nodes.list k past).byte
+
+-- A path has the bytes of a way to a position first, and then those of these draws.
+pub record LeadsTo (middle : Middle) (nodes : Nodes) (path : List ℕ) : Type 0 where
+  pub first : (k : ℕ) → k < middle.draws → slice_index path k ≡ slice_index middle.path k
+  pub further : (k : ℕ) → (past : Node) → k < nodes.len → middle.draws + k < 24
+      → slice_index path (middle.draws + k) ≡ (slice_index_or nodes.list k past).byte
+
+-- The parts follow from the pair of a walk, with the draws of such a path.
+pub record PlaysOn (w : Walk) (middle : Middle) (nodes : Nodes) (parts : Parts) : Type 0 where
+  pub path : List ℕ
+  pub leads : LeadsTo middle nodes path
+  pub follows : (s : State) → Stands w.start s → AreOffered s w.one w.two → Follows s w.one w.two (stream_of scripted (script_of path)) parts untold
+
+-- A position is where a walk's turn of two moves is before its second action, with the draws of a path for these draws.
+pub record Reaches (w : Walk) (nodes : Nodes) (middle : Middle) : Type 0 where
+  pub path : List ℕ
+  pub is_path : IsPathOf nodes path
+  pub parts : Parts
+  pub bytes : middle.bytes ≡ joined parts
+  pub left : Script
+  pub begins : (s : State) → (j k : ℕ) → Stands w.start s → Plays s Move w.one w.two → w.one ≡ choices.Move j → w.two ≡ choices.Move k
+      → let p = drawing_on (stream_of scripted (script_of path)) 0 s in
+      Begins scripted (script_of path) (setting_of s) parts left middle.rest (pick_in j One (unflinched p).field) (pick_in k Two (unflinched p).field) p
+      (turn (ruling_of s.terms) w.one w.two p)

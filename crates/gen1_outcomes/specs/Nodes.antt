@@ -1,6 +1,7 @@
 -- The draws of a way, and how one way leads to the next.
-use Rattle.std.specs.Prelude.{true, ℕ, slice_index_or, ◌+◌, ◌-◌, ◌*◌, ◌<◌, ◌≡◌, ◌⊎◌, if◌then◌else◌}
+use Rattle.std.specs.Prelude.{Bool, true, ℕ, slice_index_or, ◌+◌, ◌-◌, ◌*◌, ◌/◌, ◌^◌, ◌<◌, ◌≡◌, ◌≢◌, ◌≤◌, ◌⊎◌, if◌then◌else◌}
 use Rattle.gen1_rolls.specs.declared.look.Look.{Look}
+use Rattle.gen1_rolls.specs.declared.look.Look.TheVariants.{Factor}
 use Rattle.gen1_outcomes.specs.declared.byte_set.ByteSet.{ByteSet}
 use Rattle.gen1_outcomes.specs.declared.nodes.Chance.{Chance}
 use Rattle.gen1_outcomes.specs.declared.nodes.Node.{Node}
@@ -23,6 +24,22 @@ pub record Takes (taken : ℕ) (old new : Node) : Type 0 where
 pub record GoesOn (old new : Node) : Type 0 where
   pub remained : has old.rest new.byte ≡ 1
   pub takes : Takes new.byte old new
+
+-- The middle one of so many bytes that are 2 apart, from the first on.
+abbrev pub middle_of : ℕ → ℕ → ℕ
+middle_of first count = first + (count - 1) / 2 * 2
+
+-- A class of damage: what is left of a roll that is alike to its first byte. The middle one is among what is left.
+pub record IsRun (node : Node) (first : ℕ) (class : ByteSet) : Type 0 where
+  pub damage : ℕ
+  pub edge : ℕ
+  pub cut : Bool
+  pub roll : node.look ≡ Factor damage edge cut
+  pub classes : node.damage_classes ≢ 0
+  pub members : (x : ℕ) → x < 256 → has class x ≡ (if alike_in node.damage_classes node.look first x then has node.rest x else 0)
+  pub few : size class ≤ 39
+  pub byte : middle_of first (size class) < 256
+  pub left : has node.rest (middle_of first (size class)) ≡ 1
 
 -- Nothing is left to be tried.
 abbrev pub IsDone : Node → Type 0
@@ -66,6 +83,38 @@ pub record Adds (drawn : ℕ) (seen : Look) (may : ByteSet) (old new : Nodes) : 
 abbrev pub IsLeftOut : Nodes → Type 0
 IsLeftOut nodes = (c : Chance) × IsChance nodes c × IsBelow nodes.options.least c
 
--- What becomes of a draw that no way had before: it is added, or its branch is left out, or there is no room for it.
+-- 128 bits do not hold the probability of the draws up to one.
+abbrev pub Overflows : Node → Type 0
+Overflows node = (2 ^ 128 ≤ node.above.num * node.count) ⊎ (2 ^ 128 ≤ node.above.whole * node.total)
+
+-- A way is too large if it was marked so, or if 128 bits do not hold its probability.
+abbrev pub IsTooLarge : Nodes → Type 0
+IsTooLarge nodes = (nodes.too_large ≡ true) ⊎ ((0 < nodes.len) × ((past : Node) → Overflows (slice_index_or nodes.list (nodes.len - 1) past)))
+
+-- A way is marked as too large, and else stays: 24 draws are noted, or 128 bits do not hold its probability.
+pub record IsMarked (old new : Nodes) : Type 0 where
+  pub marked : new.too_large ≡ true
+  pub list : new.list ≡ old.list
+  pub length : new.len ≡ old.len
+  pub at : new.at ≡ old.at
+  pub before : new.before ≡ old.before
+  pub options : new.options ≡ old.options
+  pub why : (old.len ≡ 24) ⊎ IsTooLarge old
+
+-- What becomes of a draw that no way had before: it is added, or its branch is left out, or the way is too large.
 abbrev pub Notes : ℕ → Look → ByteSet → Nodes → Nodes → Type 0
-Notes drawn seen may old new = Adds drawn seen may old new ⊎ ((new ≡ old) × IsLeftOut old) ⊎ (new ≡ record old { too_large = true })
+Notes drawn seen may old new = Adds drawn seen may old new ⊎ ((new ≡ old) × IsLeftOut old) ⊎ IsMarked old new
+
+-- The next draw is after those of the way, or it is one of them or its branch is left out.
+abbrev pub IsNew : Nodes → Type 0
+IsNew nodes = nodes.len ≤ nodes.at
+
+abbrev pub IsAt : Nodes → Type 0
+IsAt nodes = (nodes.at < nodes.len) ⊎ IsLeftOut nodes
+
+-- A draw after a first part of the update, of which some are still to come, is noted. One of the first part is only counted.
+pub record NotesAfter (drawn : ℕ) (seen : Look) (may : ByteSet) (left : ℕ) (old : Nodes) (left' : ℕ) (new : Nodes) : Type 0 where
+  pub counted : left ≢ 0 → (left' + 1 ≡ left) × (new ≡ old)
+  pub still : left ≡ 0 → left' ≡ 0
+  pub passed : left ≡ 0 → old.at < old.len → new ≡ record old { at = old.at + 1 }
+  pub noted : left ≡ 0 → old.len ≤ old.at → Notes drawn seen may old new

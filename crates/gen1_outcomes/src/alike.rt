@@ -44,6 +44,7 @@ fn on_one_side(among: &ByteSet, other: &ByteSet, inside: bool) -> ByteSet
 }
 
 // The bits of a word whose places leave this remainder when they are divided by 2.
+#[tactic(auto, using(crate::proofs::Repeated::second))]
 fn every_second(remainder: u8) -> u64
     requires { remainder < 2 }
     ensures { (i : ℕ) → i < 64 → bit_at result i ≡ (if remainder == i % 2 then 1 else 0) }
@@ -52,6 +53,7 @@ fn every_second(remainder: u8) -> u64
 }
 
 // The same by 4.
+#[tactic(auto, using(crate::proofs::Repeated::fourth))]
 fn every_fourth(remainder: u8) -> u64
     requires { remainder < 4 }
     ensures { (i : ℕ) → i < 64 → bit_at result i ≡ (if remainder == i % 4 then 1 else 0) }
@@ -60,6 +62,7 @@ fn every_fourth(remainder: u8) -> u64
 }
 
 // The same by 8.
+#[tactic(auto, using(crate::proofs::Repeated::eighth))]
 fn every_eighth(remainder: u8) -> u64
     requires { remainder < 8 }
     ensures { (i : ℕ) → i < 64 → bit_at result i ≡ (if remainder == i % 8 then 1 else 0) }

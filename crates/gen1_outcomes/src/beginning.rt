@@ -2,7 +2,7 @@
 
 ghost use Rattle.std.specs.Prelude.{false, ◌≡◌};
 ghost use Rattle.gen1_layout.specs.Words.{Reads};
-ghost use Rattle.gen1_outcomes.specs.Beginning.{asks_for_move, have_two_actions, is_move};
+ghost use Rattle.gen1_outcomes.specs.Beginning.{BeginsTurn, asks_for_move, have_two_actions, is_move};
 
 use gen1_events::Silent;
 use gen1_hits::Known;
@@ -63,12 +63,9 @@ impl Rest {
 }
 
 /// Plays a turn in which both sides use a move, up to the second action.
-pub(crate) fn begin<R: Rolls>(
-    battle: &mut Packed,
-    one: Choice,
-    two: Choice,
-    random: &mut R,
-) -> Rest {
+pub(crate) fn begin<R: Rolls>(battle: &mut Packed, one: Choice, two: Choice, random: &mut R) -> Rest
+    ensures begins { BeginsTurn R.drawing random battle one two result }
+{
     end_flinch(battle, Side::One);
     end_flinch(battle, Side::Two);
     let mine = pick(battle, Side::One, one);

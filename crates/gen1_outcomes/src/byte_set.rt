@@ -1,5 +1,5 @@
 //! Sets of bytes (docs/MECHANICS.md, "Link numbers").
-ghost use Rattle.std.specs.Prelude.{Bool, IfNone, IfSome, IsTrue, ℕ, min, nat_lt, ◌%◌, ◌*◌, ◌+◌, ◌-◌, ◌^◌, ◌<◌, ◌≡◌, ◌≤◌, ◌≢◌, if◌then◌else◌};
+ghost use Rattle.std.specs.Prelude.{Bool, IfNone, IfSome, IsFalse, IsTrue, ℕ, min, nat_lt, ◌%◌, ◌*◌, ◌+◌, ◌-◌, ◌^◌, ◌<◌, ◌≡◌, ◌≤◌, ◌≢◌, if◌then◌else◌};
 ghost use Rattle.std.specs.Int.{bit_at};
 ghost use Rattle.gen1_rolls.specs.Draws.{Settles};
 ghost use Rattle.gen1_rolls.specs.Looks.{rotated_left_3};
@@ -21,12 +21,20 @@ impl ByteSet {
     }
 
     /// All 256 bytes.
+    #[tactic(auto, using(crate::proofs::Sets::all_has))]
     pub fn all() -> Self
         ensures { (b : ℕ) → b < 256 → has result b ≡ 1 }
     {
         ByteSet {
             words: [u64::MAX; 4],
         }
+    }
+
+    /// Whether the set has all 256 bytes.
+    pub fn is_all(&self) -> bool
+        ensures { IsTrue result → (b : ℕ) → b < 256 → has self.now b ≡ 1 }
+    {
+        *self == ByteSet::all()
     }
 
     /// The bytes whose place among 64 neighbours is set in the word.
@@ -70,7 +78,8 @@ impl ByteSet {
 
     /// Whether the byte is in the set.
     pub fn contains(&self, byte: u8) -> bool
-        ensures { IsTrue result → has self.now byte ≡ 1 }
+        ensures there { IsTrue result → has self.now byte ≡ 1 }
+        ensures absent { IsFalse result → has self.now byte ≡ 0 }
     {
         self.words[(byte / 64) as usize] >> (byte % 64) & 1 == 1
     }
@@ -136,6 +145,7 @@ impl ByteSet {
     pub fn first(&self) -> Option<u8>
         ensures none { IfNone result ((b : ℕ) → b < 256 → has self.now b ≡ 0) }
         ensures some { IfSome result (λ first. has self.now first ≡ 1) }
+        ensures least { IfSome result (λ first. (b : ℕ) → b < first → has self.now b ≡ 0) }
     {
         'words: for place in 0..4u8 {
             let word = self.words[place as usize];
@@ -157,6 +167,7 @@ impl ByteSet {
 }
 
 // The bits of a word that the other word lacks.
+#[tactic(auto, using(crate::proofs::Sets::without_bit))]
 fn minus(one: u64, other: u64) -> u64
     ensures { (i : ℕ) → i < 64 → bit_at result i ≡ bit_at one i - bit_at other i }
 {
@@ -164,6 +175,7 @@ fn minus(one: u64, other: u64) -> u64
 }
 
 // How many bits of a word are set.
+#[tactic(auto, using(crate::proofs::Sets::count_is))]
 fn count_of(word: u64) -> u16
     ensures value { result ≡ bits_set word }
     ensures few { result ≤ 64 }

@@ -1,28 +1,36 @@
 //! Classes of damage (docs/MECHANICS.md, "Link numbers").
 ghost use Rattle.std.specs.Prelude.{◌≡◌, ◌≤◌};
-ghost use Rattle.gen1_outcomes.specs.Classes.{class_of, least_factor, told};
+ghost use Rattle.gen1_outcomes.specs.Classes.{KeepsEdgeApart, class_of, least_factor, part_told, told};
 
 use gen1_rolls::Look;
 
 /// What of the byte is told apart, as a number: what the look sees, or with classes of damage the class of the damage.
 ///
-/// There are as many classes as the first number says, or with 0 as many as there are damages. A damage from the limit
-/// on is in none of them: all of these are told apart from the others, and not from each other.
+/// There are as many classes as the first number says, or with 0 as many as there are damages. Damage below the edge and
+/// damage from it on are in different classes, so the weight of each class counts only one of them.
 pub fn told(damage_classes: u8, look: Look, byte: u8) -> u32
-    ensures { result ≡ told damage_classes look byte }
+    ensures value { result ≡ told damage_classes look byte }
+    ensures apart { KeepsEdgeApart damage_classes look }
 {
     let seen = look.sees(byte);
     match look {
-        Look::Factor { damage, limit } => {
-            if damage_classes == 0 {
-                u32::from(seen)
-            } else if seen >= limit {
-                u32::from(damage_classes)
-            } else {
-                class_of(damage_classes, damage, seen)
-            }
-        }
+        Look::Factor { damage, edge, .. } => part_told(damage_classes, damage, edge, seen),
         _ => u32::from(seen),
+    }
+}
+
+// What is told apart of a part of the damage. From the edge on the classes are numbered after those below it.
+fn part_told(damage_classes: u8, damage: u16, edge: u16, part: u16) -> u32
+    ensures { result ≡ part_told damage_classes damage edge part }
+{
+    if damage_classes == 0 {
+        return u32::from(part);
+    }
+    let class = class_of(damage_classes, damage, part);
+    if part >= edge {
+        u32::from(damage_classes) + class
+    } else {
+        class
     }
 }
 

@@ -1,7 +1,8 @@
 //! A generator that takes an update through all its ways, one after the other (docs/MECHANICS.md, "Link numbers").
-ghost use Rattle.std.specs.Prelude.{◌≡◌};
+ghost use Rattle.std.specs.Prelude.{Bool, IsFalse, IsTrue, ℕ, ◌≡◌, ◌≢◌, ◌⊎◌};
 ghost use Rattle.gen1_outcomes.specs.Script.{after_draw, next_byte, scripted};
-ghost use Rattle.gen1_rolls.specs.Draws.{stream_of};
+ghost use Rattle.gen1_outcomes.specs.Bytes.{ArePassing, IsNone};
+ghost use Rattle.gen1_rolls.specs.Draws.{Settles, stream_of};
 ghost use Rattle.gen1_rolls.specs.Streams.{IsStream};
 
 use crate::byte_set::ByteSet;
@@ -12,11 +13,25 @@ use std::marker::Model;
 
 /// What draws are noted in. Nothing but [`After`] is; a type parameter lets the explorer hold a reference.
 pub(crate) trait Notes {
+    ghost use Rattle.gen1_rolls.specs.declared.look.Look.{Look};
+    ghost use Rattle.gen1_outcomes.specs.declared.byte_set.ByteSet.{ByteSet};
+
+    // The next draw is one that no way had before, or it need not be noted.
+    ghost fresh: { Self → Type 0 };
+
+    ghost settled: { Self → Type 0 };
+
+    // What becomes of it when a draw has this byte, of those that it may have.
+    ghost noted: { ℕ → Look → ByteSet → Self → Self → Type 0 };
+
     /// Whether the next draw is one that no way had before.
-    fn is_new(&self) -> bool;
+    fn is_new(&self) -> bool
+        ensures new { IsTrue result → fresh self.now }
+        ensures other { IsFalse result → settled self.now };
 
     /// Notes that a draw has this byte, of those that it may have.
-    fn note(&mut self, byte: u8, look: Look, may_have: &ByteSet);
+    fn note(&mut self, byte: u8, look: Look, may_have: &ByteSet)
+        ensures { noted byte look may_have.now self.old self.new };
 }
 
 /// Nodes for the draws after a first part of the update, which may have no draw. The draws of the first part are not noted.
@@ -38,6 +53,15 @@ impl<'a> After<'a> {
 }
 
 impl Notes for After<'_> {
+    ghost use Rattle.gen1_outcomes.specs.Nodes.{IsAt, IsNew, NotesAfter};
+
+    ghost fresh = { λ a. (a.left ≡ 0) × IsNew a.nodes.now };
+
+    ghost settled = { λ a. (a.left ≢ 0) ⊎ IsAt a.nodes.now };
+
+    ghost noted = { λ byte look may old new.
+        NotesAfter byte look may old.left old.nodes.now new.left new.nodes.now };
+
     fn is_new(&self) -> bool {
         self.left == 0 && self.nodes.is_new()
     }
@@ -135,6 +159,8 @@ impl<N: Notes> Rolls for Explorer<N> {
 // The bytes that a search may find, if they are to be noted.
 fn may_have<N: Notes, F: Fn(u8) -> bool>(notes: &N, test: &F) -> ByteSet
     requires callable { F.IsAlwaysCallable test.now }
+    ensures { (p : ℕ → Bool) → Settles (F.post test.now) p
+        → ArePassing p result ⊎ (N.settled notes.now × IsNone result) }
 {
     if notes.is_new() {
         ByteSet::that_pass(test)

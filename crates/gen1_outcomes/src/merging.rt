@@ -3,7 +3,7 @@ ghost use Rattle.std.specs.Prelude.{IfOk, IsTrue, OnOk, length, ◌+◌, ◌<◌
 ghost use Rattle.gen1_layout.specs.Parts.{joined};
 ghost use Rattle.gen1_outcomes.specs.Chances.{IsBelow};
 ghost use Rattle.gen1_outcomes.specs.Listing.{AreThose, AreThoseOr};
-ghost use Rattle.gen1_outcomes.specs.Merging.{IsPlace, LeavesOut};
+ghost use Rattle.gen1_outcomes.specs.Merging.{IsPlace, LeavesOut, hash_of, mixed, with_block, with_member, with_side, word_at};
 
 use crate::chances::is_below;
 use crate::fault::OutcomesFault;
@@ -185,31 +185,62 @@ fn are_equal(one: &Packed, other: &Packed) -> bool
 
 /// A number of 32 bits that is equal for equal bytes.
 pub(crate) fn hash(battle: &Packed) -> u64
-    ensures { result < 4294967296 }
+    ensures value { result ≡ hash_of (joined battle.now) }
+    ensures small { result < 4294967296 }
 {
     let bytes = battle.as_bytes();
-    let mut hash: u64 = 0;
-    for word in 0..48 {
-        hash = hash
-            .wrapping_mul(0x9E37_79B9_7F4A_7C15)
-            .wrapping_add(word_at(bytes, 8 * word));
-    }
-    hash.wrapping_mul(0x9E37_79B9_7F4A_7C15) >> 32
+    let header = mixed(word_at(bytes, 0), word_at(bytes, 16));
+    let one = with_side(header, bytes, 24);
+    mixed(with_side(one, bytes, 204), 0) / 0x1_0000_0000
+}
+
+// With the words of a side that most updates change: its active member and its active block.
+fn with_side(hash: u64, bytes: &[u8], at: usize) -> u64
+    requires { at + 180 ≤ length bytes.now }
+    ensures { result ≡ with_side hash bytes.now at }
+{
+    let place = usize::from(bytes[at + 144]).saturating_sub(1).min(5);
+    with_block(with_member(hash, bytes, at + 24 * place), bytes, at + 144)
+}
+
+// Its level, HP, status, moves and PP.
+fn with_member(hash: u64, bytes: &[u8], at: usize) -> u64
+    requires { at + 24 ≤ length bytes.now }
+    ensures { result ≡ with_member hash bytes.now at }
+{
+    let more = mixed(hash, word_at(bytes, at));
+    mixed(
+        mixed(more, word_at(bytes, at + 14)),
+        word_at(bytes, at + 16),
+    )
+}
+
+// All but the four bytes that are always 0.
+fn with_block(hash: u64, bytes: &[u8], at: usize) -> u64
+    requires { at + 32 ≤ length bytes.now }
+    ensures { result ≡ with_block hash bytes.now at }
+{
+    let half = mixed(mixed(hash, word_at(bytes, at)), word_at(bytes, at + 8));
+    mixed(
+        mixed(half, word_at(bytes, at + 16)),
+        word_at(bytes, at + 24),
+    )
+}
+
+fn mixed(hash: u64, word: u64) -> u64
+    ensures { result ≡ mixed hash word }
+{
+    hash.wrapping_mul(0x9E37_79B9_7F4A_7C15).wrapping_add(word)
 }
 
 fn word_at(bytes: &[u8], at: usize) -> u64
     requires { at + 8 ≤ length bytes.now }
+    ensures { result ≡ word_at bytes.now at }
 {
-    u64::from_le_bytes([
-        bytes[at],
-        bytes[at + 1],
-        bytes[at + 2],
-        bytes[at + 3],
-        bytes[at + 4],
-        bytes[at + 5],
-        bytes[at + 6],
-        bytes[at + 7],
-    ])
+    match bytes[at..].first_chunk::<8>() {
+        Some(word) => u64::from_le_bytes(*word),
+        None => 0,
+    }
 }
 
 // The probability over the common denominator, which grows where it has to.
@@ -223,6 +254,9 @@ fn scaled_weight(
     ensures battles { AreThose successors.old successors.new }
     ensures left_out { IfOk result (λ _. LeavesOut tally.old tally.new) }
 {
+    if tally.whole == chance.whole {
+        return Ok(chance.num);
+    }
     if tally.whole % chance.whole != 0 {
         let more = chance.whole / common_divisor(tally.whole, chance.whole);
         scale(successors, tally, more)?;

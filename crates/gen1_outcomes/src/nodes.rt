@@ -1,7 +1,9 @@
 //! The draws of a way, each with the bytes that are still to be tried (docs/MECHANICS.md, "Link numbers").
-ghost use Rattle.std.specs.Prelude.{IfSome, IsFalse, IsTrue, false, nat_le, slice_index, slice_index_or, true, ℕ, ◌*◌, ◌+◌, ◌<◌, ◌≡◌, ◌≤◌, ◌⊎◌, if◌then◌else◌};
+ghost use Rattle.std.specs.Prelude.{IfNone, IfSome, IsFalse, IsTrue, false, nat_le, slice_index, slice_index_or, true, ℕ, ◌*◌, ◌+◌, ◌<◌, ◌≡◌, ◌≤◌, ◌⊎◌, if◌then◌else◌};
+ghost use Rattle.gen1_rolls.specs.declared.look.Look.TheVariants.{Below};
+ghost use Rattle.gen1_rolls.specs.Looks.{alike, rotated_right_1};
 ghost use Rattle.gen1_outcomes.specs.Bytes.{has, size};
-ghost use Rattle.gen1_outcomes.specs.Classes.{alike_in};
+ghost use Rattle.gen1_outcomes.specs.Classes.{alike_in, middle_factor};
 
 use crate::alike::alike_to;
 use crate::byte_set::ByteSet;
@@ -41,9 +43,12 @@ pub struct Node {
 }
 
 impl Node {
-    ghost use Rattle.gen1_outcomes.specs.Nodes.{GoesOn, IsDone, IsThen, Takes};
+    ghost use Rattle.gen1_outcomes.specs.declared.byte_set.ByteSet.{ByteSet};
+    ghost use Rattle.gen1_outcomes.specs.Nodes.{GoesOn, IsDone, IsRun, IsThen, Overflows, Takes, middle_of};
 
-    fn none() -> Self {
+    fn none() -> Self
+        ensures { result.count ≡ 0 }
+    {
         let rest = ByteSet::none();
         Node {
             byte: 0,
@@ -58,6 +63,47 @@ impl Node {
 
     /// A draw that may have these bytes, and has this one of them.
     pub fn new(byte: u8, look: Look, damage_classes: u8, above: Chance, may_have: &ByteSet) -> Self
+        ensures byte { result.byte ≡ byte }
+        ensures look { result.look ≡ look }
+        ensures classes { result.damage_classes ≡ damage_classes }
+        ensures rest { (x : ℕ) → x < 256
+            → has result.rest x ≡ (if alike_in damage_classes look byte x then 0 else has may_have.now x) }
+        ensures above { result.above ≡ above }
+        ensures total { result.total ≡ size may_have.now }
+        ensures count { result.count + size result.rest ≡ size may_have.now }
+    {
+        match look {
+            Look::Below(bound) if may_have.is_all() => {
+                Node::of_bound(byte, bound, damage_classes, above)
+            }
+            _ => Node::of(byte, look, damage_classes, above, may_have),
+        }
+    }
+
+    // A draw of any byte, of which only is looked at whether it is below the bound. Nothing has to be counted.
+    fn of_bound(byte: u8, bound: u8, damage_classes: u8, above: Chance) -> Self
+        ensures byte { result.byte ≡ byte }
+        ensures look { result.look ≡ Below bound }
+        ensures classes { result.damage_classes ≡ damage_classes }
+        ensures rest { (x : ℕ) → x < 256
+            → has result.rest x ≡ (if alike (Below bound) byte x then 0 else 1) }
+        ensures above { result.above ≡ above }
+        ensures total { result.total ≡ 256 }
+        ensures count { result.count + size result.rest ≡ 256 }
+    {
+        let (rest, count) = other_side(byte, bound);
+        Node {
+            byte,
+            look: Look::Below(bound),
+            damage_classes,
+            above,
+            rest,
+            total: 256,
+            count,
+        }
+    }
+
+    fn of(byte: u8, look: Look, damage_classes: u8, above: Chance, may_have: &ByteSet) -> Self
         ensures byte { result.byte ≡ byte }
         ensures look { result.look ≡ look }
         ensures classes { result.damage_classes ≡ damage_classes }
@@ -110,7 +156,8 @@ impl Node {
     // else the first.
     fn one_for(&self, first: u8) -> u8
         requires { has self.now.rest first ≡ 1 }
-        ensures { has self.now.rest result ≡ 1 }
+        ensures left { has self.now.rest result ≡ 1 }
+        ensures middle { (class : ByteSet) → IsRun self.now first class → result ≡ middle_of first (size class) }
     {
         if self.damage_classes == 0 {
             return first;
@@ -120,7 +167,7 @@ impl Node {
                 let class = alike_to(self.damage_classes, self.look, first, &self.rest);
                 // The bytes that a roll of damage accepts are odd.
                 let middle = first.wrapping_add(
-                    class.count().saturating_sub(1).min(38) as u8 & 0xFE,
+                    class.count().saturating_sub(1).min(38) as u8 / 2 * 2,
                 );
                 if self.rest.contains(middle) {
                     middle
@@ -135,7 +182,8 @@ impl Node {
     // The probability of the draws up to this one. `None` if 128 bits do not hold it.
     #[tactic(auto, using(crate::proofs::Walking::then_is))]
     fn chance(&self) -> Option<Chance>
-        ensures { IfSome result (λ c. IsThen self.now c) }
+        ensures some { IfSome result (λ c. IsThen self.now c) }
+        ensures none { IfNone result (Overflows self.now) }
     {
         let (num, whole) = self.part();
         Some(Chance {
@@ -148,6 +196,8 @@ impl Node {
     fn part(&self) -> (u16, u16)
         ensures positive { 0 < result.1 }
         ensures exact { result.0 * self.now.total ≡ result.1 * self.now.count }
+        ensures num { (result.0 ≤ 1) ⊎ (result.0 ≤ self.now.count) }
+        ensures whole { (result.1 ≤ 1) ⊎ (result.1 ≤ self.now.total) }
     {
         if self.count >= self.total {
             return (1, 1);
@@ -163,10 +213,26 @@ impl Node {
     }
 }
 
+// The bytes on the other side of the bound, and how many are on the side of this byte.
+fn other_side(byte: u8, bound: u8) -> (ByteSet, u16)
+    ensures rest { (x : ℕ) → x < 256
+        → has result.0 x ≡ (if alike (Below bound) byte x then 0 else 1) }
+    ensures count { result.1 + size result.0 ≡ 256 }
+{
+    let below = ByteSet::below(bound);
+    if byte < bound {
+        (ByteSet::all().without(&below), u16::from(bound))
+    } else {
+        (below, 256 - u16::from(bound))
+    }
+}
+
 // Half of both, if both are even.
 #[tactic(auto, using(crate::proofs::Walking::halved))]
 fn halved(num: u16, whole: u16) -> (u16, u16)
     requires { 0 < whole }
+    ensures num { result.0 ≤ num }
+    ensures whole { result.1 ≤ whole }
     ensures positive { 0 < result.1 }
     ensures exact { (t : ℕ) → (c : ℕ) → num * t ≡ whole * c → result.0 * t ≡ result.1 * c }
 {
@@ -196,7 +262,7 @@ pub struct Nodes {
 }
 
 impl Nodes {
-    ghost use Rattle.gen1_outcomes.specs.Nodes.{AllDone, IsChance, IsLeftOut, LeadsOn, Notes};
+    ghost use Rattle.gen1_outcomes.specs.Nodes.{AllDone, IsChance, IsLeftOut, IsTooLarge, LeadsOn, Notes};
 
     /// No draw yet, and nothing before it.
     pub fn new(options: OutcomeOptions) -> Self
@@ -295,12 +361,12 @@ impl Nodes {
         false
     }
 
-    /// The bytes of the way. The places after them have the byte of the middle factor of the last class of damage.
+    /// The bytes of the way. The places after them have those of draws that are not known yet.
     pub fn path(&self) -> [u8; DEPTH]
         ensures { (k : ℕ) → (none : Node) → k < self.now.len
             → slice_index result k ≡ (slice_index_or self.now.list k none).byte }
     {
-        let mut path = [middle_of_last(self.options.damage_classes); DEPTH];
+        let mut path = not_known(middle_of_last(self.options.damage_classes));
         'places: for place in 0..self.len {
             path[place] = self.list[place].byte;
         }
@@ -309,7 +375,8 @@ impl Nodes {
 
     /// The probability of the way, with what comes before it. `None` if it has too many draws, or if 128 bits do not hold it.
     pub fn chance(&self) -> Option<Chance>
-        ensures { IfSome result (λ c. IsChance self.now c) }
+        ensures some { IfSome result (λ c. IsChance self.now c) }
+        ensures none { IfNone result (IsTooLarge self.now) }
     {
         if self.too_large {
             None
@@ -321,12 +388,25 @@ impl Nodes {
     }
 }
 
+// The bytes of draws that are not known yet: the one that a roll of damage is to have. A search that does not accept it
+// finds one of the small numbers near the end, and a roll of damage after it still finds its byte.
+fn not_known(damage: u8) -> [u8; DEPTH]
+    ensures { slice_index result 0 ≡ damage }
+{
+    let it = damage;
+    [
+        it, it, it, it, it, it, it, it, it, it, it, it, 0, it, 1, it, 2, it, 3, it, 4, it, 5, it,
+    ]
+}
+
 // The byte whose factor is the middle one of the last class of damage. Without classes it is 255, whose factor is the
 // last. Bytes of two neighbouring factors are 2 apart.
-fn middle_of_last(damage_classes: u8) -> u8 {
+fn middle_of_last(damage_classes: u8) -> u8
+    ensures { rotated_right_1 result ≡ middle_factor damage_classes }
+{
     if damage_classes == 0 {
         255
     } else {
-        255 - (39 / damage_classes & 0xFE)
+        255 - 39 / damage_classes / 2 * 2
     }
 }

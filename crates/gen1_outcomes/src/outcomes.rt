@@ -1,5 +1,5 @@
 //! All battles that an update can lead to (docs/MECHANICS.md, "Link numbers").
-ghost use Rattle.std.specs.Prelude.{IfOk, IsTrue, OnOk, length, ◌+◌, ◌<◌, ◌≡◌, ◌≤◌};
+ghost use Rattle.std.specs.Prelude.{IfOk, IsTrue, OnOk, length, replicate, ◌+◌, ◌<◌, ◌≡◌, ◌≤◌};
 ghost use Rattle.gen1_machine.specs.State.{State};
 ghost use Rattle.gen1_layout.specs.Within.{Stands};
 ghost use Rattle.gen1_engine.specs.Update.{AreOffered};
@@ -62,30 +62,29 @@ pub fn list_outcomes(
         Err(why) => Err(OutcomesFault::Refused(why)),
         Ok(ways) => {
             clear(table);
-            let mut ways = ways;
-            list_ways(&mut ways, successors, table)
+            list_ways(&ways, successors, table)
         }
     }
 }
 
-fn clear(table: &mut [u32]) {
-    for number in table.iter_mut() {
-        *number = 0;
-    }
+fn clear(table: &mut [u32])
+    ensures { table.new ≡ replicate (length table.old) 0 }
+{
+    table.fill(0);
 }
 
 // The same for the ways of an update, with an empty table.
 fn list_ways(
-    ways: &mut Ways,
+    ways: &Ways,
     successors: &mut [Successor],
     table: &mut [u32],
 ) -> Result<Outcomes, OutcomesFault>
-    ensures follow { (s : State) → Stands ways.old.start s
-        → AreOffered s ways.old.one ways.old.two
-        → IfOk result (λ o. EachFollows s ways.old.one ways.old.two o.count successors.new) }
+    ensures follow { (s : State) → Stands ways.now.start s
+        → AreOffered s ways.now.one ways.now.two
+        → IfOk result (λ o. EachFollows s ways.now.one ways.now.two o.count successors.new) }
     ensures sum { IfOk result (λ o. sum_of o.count successors.new + o.left_out ≡ o.whole) }
     ensures within { IfOk result (λ o. o.count ≤ length successors.new) }
-    ensures all { ways.old.options.least ≡ 0 → IfOk result (λ o. o.left_out ≡ 0) }
+    ensures all { ways.now.options.least ≡ 0 → IfOk result (λ o. o.left_out ≡ 0) }
 {
     let mut tally = Tally {
         count: 0,
@@ -99,14 +98,15 @@ fn list_ways(
 }
 
 fn add_all(
-    ways: &mut Ways,
+    ways: &Ways,
     successors: &mut [Successor],
     table: &mut [u32],
     tally: &mut Tally,
 ) -> Result<(), OutcomesFault>
+    requires least { tally.old.least ≡ ways.now.options.least }
     requires within { tally.old.count ≤ length successors.old }
     ensures within { tally.new.count ≤ length successors.new }
-    ensures follow { OnOk result (StillFollow ways.old tally.old.count successors.old
+    ensures follow { OnOk result (StillFollow ways.now tally.old.count successors.old
         tally.new.count successors.new) }
     ensures left_out { OnOk result (LeavesOut tally.old tally.new) }
 {
@@ -118,14 +118,14 @@ fn add_all(
 
 // First, the ways up to the second action. Ways that reach the same position are played on once.
 fn add_in_parts(
-    ways: &mut Ways,
+    ways: &Ways,
     successors: &mut [Successor],
     table: &mut [u32],
     tally: &mut Tally,
 ) -> Result<(), OutcomesFault>
     requires within { tally.old.count ≤ length successors.old }
     ensures within { tally.new.count ≤ length successors.new }
-    ensures follow { OnOk result (StillFollow ways.old tally.old.count successors.old
+    ensures follow { OnOk result (StillFollow ways.now tally.old.count successors.old
         tally.new.count successors.new) }
     ensures left_out { OnOk result (LeavesOut tally.old tally.new) }
 {
@@ -166,17 +166,16 @@ fn keep(
 
 // If no place is left, adds what each position leads to, and removes them.
 fn make_room(
-    ways: &mut Ways,
+    ways: &Ways,
     middles: &mut Middles,
     successors: &mut [Successor],
     table: &mut [u32],
     tally: &mut Tally,
 ) -> Result<(), OutcomesFault>
     requires within { tally.old.count ≤ length successors.old }
-    ensures same { ways.new ≡ ways.old }
     ensures room { OnOk result (middles.new.len < 16) }
     ensures within { tally.new.count ≤ length successors.new }
-    ensures follow { OnOk result (StillFollow ways.old tally.old.count successors.old
+    ensures follow { OnOk result (StillFollow ways.now tally.old.count successors.old
         tally.new.count successors.new) }
     ensures left_out { OnOk result (LeavesOut tally.old tally.new) }
 {
@@ -189,16 +188,15 @@ fn make_room(
 
 // Adds what each position leads to.
 fn go_on_from(
-    ways: &mut Ways,
+    ways: &Ways,
     middles: &Middles,
     successors: &mut [Successor],
     table: &mut [u32],
     tally: &mut Tally,
 ) -> Result<(), OutcomesFault>
     requires within { tally.old.count ≤ length successors.old }
-    ensures same { ways.new ≡ ways.old }
     ensures within { tally.new.count ≤ length successors.new }
-    ensures follow { OnOk result (StillFollow ways.old tally.old.count successors.old
+    ensures follow { OnOk result (StillFollow ways.now tally.old.count successors.old
         tally.new.count successors.new) }
     ensures left_out { OnOk result (LeavesOut tally.old tally.new) }
 {
@@ -210,26 +208,25 @@ fn go_on_from(
 
 // Adds what one position leads to.
 fn finish(
-    ways: &mut Ways,
+    ways: &Ways,
     middle: &Middle,
     successors: &mut [Successor],
     table: &mut [u32],
     tally: &mut Tally,
 ) -> Result<(), OutcomesFault>
     requires within { tally.old.count ≤ length successors.old }
-    ensures same { ways.new ≡ ways.old }
     ensures within { tally.new.count ≤ length successors.new }
-    ensures follow { OnOk result (StillFollow ways.old tally.old.count successors.old
+    ensures follow { OnOk result (StillFollow ways.now tally.old.count successors.old
         tally.new.count successors.new) }
     ensures left_out { OnOk result (LeavesOut tally.old tally.new) }
 {
-    ways.restart(middle);
+    let mut nodes = ways.restart(middle);
     let mut next = copy_of(ways.start());
     'walk: for _ in 0..u32::MAX {
-        let chance = ways.go_on(middle, &mut next)?;
+        let chance = ways.go_on(&mut nodes, middle, &mut next)?;
         add(successors, table, tally, &next, chance)?;
         tally.count_ways(middle.ways)?;
-        if !ways.advance() {
+        if !nodes.advance() {
             return Ok(());
         }
     }

@@ -1,6 +1,7 @@
 //! The ways of an update as a plain struct that its caller keeps, as callers of the C library do (docs/MECHANICS.md, "Link numbers").
 //! The calls take any bytes. [`Ways`](crate::Ways) is for callers that want its type to guarantee them.
-ghost use Rattle.std.specs.Prelude.{IfOk, IfSome, None, Ok, OnErr, Some, [], ◌≡◌, ◌≢◌};
+ghost use Rattle.std.specs.Prelude.{IfNone, IfOk, IfSome, IsFalse, IsTrue, None, Ok, OnErr, Some, [], replicate, slice_index, ◌*◌, ◌+◌, ◌≡◌, ◌≢◌, ◌≤◌, ◌⊎◌};
+ghost use Rattle.gen1_rolls.specs.declared.look.Look.TheVariants.{Factor};
 ghost use Rattle.gen1_machine.specs.declared.choice.Choice.{Choice};
 ghost use Rattle.gen1_machine.specs.State.{State};
 ghost use Rattle.gen1_layout.specs.Within.{Stands};
@@ -8,7 +9,7 @@ ghost use Rattle.gen1_layout.specs.Words.{HasRoom};
 ghost use Rattle.gen1_engine.specs.Replay.{choices_at};
 ghost use Rattle.gen1_engine.specs.Update.{AreOffered};
 ghost use Rattle.gen1_outcomes.specs.Following.{CanFollow};
-ghost use Rattle.gen1_outcomes.specs.Plain.{KeepsUpdate, walk_before};
+ghost use Rattle.gen1_outcomes.specs.Plain.{ArePlain, HasDraws, IsDraw, IsPlain, IsUnderway, KeepsUnused, KeepsUpdate, look_at, number_of, walk_before};
 
 use crate::byte_set::ByteSet;
 use crate::explorer::{After, Explorer};
@@ -36,9 +37,9 @@ pub struct PlainDraw {
     pub total: u16,
     /// How many of them are alike to `byte`.
     pub count: u16,
-    /// The numbers of what is looked at: the bound or the divisor; or the damage, and its limit.
+    /// The numbers of what is looked at: the bound or the divisor; or the damage, and its edge.
     pub look: [u16; 2],
-    /// What is looked at: 0 `Below`, 1 `RotatedBelow`, 2 `Remainder`, 3 `Factor`.
+    /// What is looked at: 0 `Below`, 1 `RotatedBelow`, 2 `Remainder`; `Factor`: 3 where it is cut, and else 4.
     pub kind: u8,
     /// The byte that it has on the next way.
     pub byte: u8,
@@ -122,6 +123,11 @@ pub fn next<S: EventSink>(
         → IfOk result (λ way. IfSome way (λ _.
         CanFollow s pair.0 pair.1 battle.new (S.tells events.new))) }
     ensures update { KeepsUpdate walk.old walk.new }
+    ensures unused { KeepsUnused walk.old.draws walk.new.draws }
+    ensures over { IfOk result (λ way. IfSome way (λ _. (walk.new.over ≡ 0) ⊎ (walk.new.over ≡ 1))) }
+    ensures count { IfOk result (λ way. IfSome way (λ _. walk.new.count ≤ 24)) }
+    ensures underway { result ≢ Ok None → IsUnderway walk.old }
+    ensures way { IsUnderway walk.old → result ≢ Ok None }
     ensures ended { walk.old.over ≢ 0 → result ≡ Ok None }
     ensures still { result ≡ Ok None → walk.new ≡ walk.old }
     ensures size { OnErr result (walk.new ≡ walk.old) }
@@ -163,7 +169,15 @@ pub fn next<S: EventSink>(
 }
 
 // Reads the draws of a walk. Returns false if the bytes are not a walk.
-fn read_nodes(walk: &PlainWalk, nodes: &mut Nodes) -> bool {
+fn read_nodes(walk: &PlainWalk, nodes: &mut Nodes) -> bool
+    requires classes { nodes.old.options.damage_classes ≡ walk.now.damage_classes }
+    requires all { nodes.old.options.least ≡ 0 }
+    ensures options { nodes.new.options ≡ nodes.old.options }
+    ensures length { IsTrue result → nodes.new.len ≡ walk.now.count }
+    ensures draws { IsTrue result → ArePlain walk.now.count nodes.new.list walk.now.draws }
+    ensures reads { IsTrue result → HasDraws walk.now }
+    ensures no_walk { IsFalse result → HasDraws walk.now → ⊥ }
+{
     let count = usize::from(walk.count);
     if count > DEPTH {
         return false;
@@ -178,13 +192,21 @@ fn read_nodes(walk: &PlainWalk, nodes: &mut Nodes) -> bool {
     true
 }
 
-fn write_nodes(nodes: &Nodes, written: &mut [PlainDraw; 24]) {
+fn write_nodes(nodes: &Nodes, written: &mut [PlainDraw; 24])
+    ensures draws { ArePlain nodes.now.len nodes.now.list written.new }
+    ensures unused { KeepsUnused written.old written.new }
+{
     'places: for place in 0..nodes.len {
         written[place] = plain_of(&nodes.list[place]);
     }
 }
 
-fn node_of(plain: &PlainDraw, damage_classes: u8) -> Option<Node> {
+fn node_of(plain: &PlainDraw, damage_classes: u8) -> Option<Node>
+    ensures draw { IfSome result (λ node. IsPlain node plain.now) }
+    ensures classes { IfSome result (λ node. node.damage_classes ≡ damage_classes) }
+    ensures reads { IfSome result (λ _. IsDraw plain.now) }
+    ensures no_draw { IfNone result (IsDraw plain.now → ⊥) }
+{
     let rest = ByteSet { words: plain.rest };
     let whole = joined(plain.whole);
     if whole == 0 || u32::from(plain.count) + u32::from(rest.count()) > u32::from(plain.total) {
@@ -204,7 +226,10 @@ fn node_of(plain: &PlainDraw, damage_classes: u8) -> Option<Node> {
     })
 }
 
-fn plain_of(node: &Node) -> PlainDraw {
+fn plain_of(node: &Node) -> PlainDraw
+    ensures draw { IsPlain node.now result }
+    ensures unused { result.unused ≡ replicate 6 0 }
+{
     let (kind, look) = numbers_of(node.look);
     PlainDraw {
         num: words_of(node.above.num),
@@ -219,34 +244,61 @@ fn plain_of(node: &Node) -> PlainDraw {
     }
 }
 
-fn look_of(kind: u8, look: [u16; 2]) -> Option<Look> {
+fn look_of(kind: u8, look: [u16; 2]) -> Option<Look>
+    ensures value { result ≡ look_at kind look }
+    ensures none { IfNone result (5 ≤ kind) }
+    ensures some { IfSome result (λ _. kind ≤ 4) }
+{
     match kind {
         0 => Some(Look::Below(look[0].min(255) as u8)),
         1 => Some(Look::RotatedBelow(look[0].min(255) as u8)),
         2 => Some(Look::Remainder(look[0])),
-        3 => Some(Look::Factor {
-            damage: look[0],
-            limit: look[1],
-        }),
+        3 => Some(factor_of(look, true)),
+        4 => Some(factor_of(look, false)),
         _ => None,
     }
 }
 
-fn numbers_of(look: Look) -> (u8, [u16; 2]) {
+fn factor_of(look: [u16; 2], cut: bool) -> Look
+    ensures { result ≡ Factor (slice_index look 0) (slice_index look 1) cut }
+{
+    Look::Factor {
+        damage: look[0],
+        edge: look[1],
+        cut,
+    }
+}
+
+fn numbers_of(look: Look) -> (u8, [u16; 2])
+    ensures { look_at result.0 result.1 ≡ Some look }
+{
     match look {
         Look::Below(bound) => (0, [u16::from(bound), 0]),
         Look::RotatedBelow(bound) => (1, [u16::from(bound), 0]),
         Look::Remainder(divisor) => (2, [divisor, 0]),
-        Look::Factor { damage, limit } => (3, [damage, limit]),
+        Look::Factor {
+            damage,
+            edge,
+            cut: true,
+        } => (3, [damage, edge]),
+        Look::Factor {
+            damage,
+            edge,
+            cut: false,
+        } => (4, [damage, edge]),
     }
 }
 
 // The number of two words, its low 64 bits first.
-fn joined(words: [u64; 2]) -> u128 {
+fn joined(words: [u64; 2]) -> u128
+    ensures { result ≡ number_of words }
+{
     words[1] as u128 * 0x1_0000_0000_0000_0000 + words[0] as u128
 }
 
-fn words_of(number: u128) -> [u64; 2] {
+fn words_of(number: u128) -> [u64; 2]
+    ensures { number_of result ≡ number }
+{
     [
         (number % 0x1_0000_0000_0000_0000) as u64,
         (number / 0x1_0000_0000_0000_0000) as u64,

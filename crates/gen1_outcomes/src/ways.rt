@@ -5,9 +5,12 @@ ghost use Rattle.gen1_layout.specs.Within.{Stands};
 ghost use Rattle.gen1_layout.specs.Words.{AddsAtMost, HasRoom, Reads};
 ghost use Rattle.gen1_engine.specs.Update.{AreOffered, Tests};
 ghost use Rattle.gen1_outcomes.specs.Beginning.{have_two_actions};
-ghost use Rattle.gen1_outcomes.specs.Following.{CanFollow};
+ghost use Rattle.gen1_rolls.specs.Draws.{stream_of};
+ghost use Rattle.gen1_outcomes.specs.Following.{CanFollow, Follows};
 ghost use Rattle.gen1_outcomes.specs.Listing.{untold};
 ghost use Rattle.gen1_outcomes.specs.Nodes.{IsChance};
+ghost use Rattle.gen1_outcomes.specs.Middles.{PlaysOn, Reaches};
+ghost use Rattle.gen1_outcomes.specs.Script.{scripted};
 
 use crate::beginning::{begin, have_two_actions};
 use crate::explorer::{After, Explorer, Notes};
@@ -128,12 +131,14 @@ impl Ways {
         ensures draws { IfSome result (λ middle. middle.draws ≡ nodes.new.len) }
         ensures chance { IfSome result (λ middle. IsChance nodes.new middle.chance) }
         ensures one { IfSome result (λ middle. middle.ways ≡ 1) }
+        ensures reaches { IfSome result (λ middle. Reaches self.now nodes.old middle) }
     {
         let mut battle = copy_of(&self.start);
         let path = nodes.path();
         let mut explorer = Explorer::new(path, After::of(&mut *nodes));
         let one = copied(&self.one);
         let two = copied(&self.two);
+        explorer.draws_a_stream();
         let rest = begin(&mut battle, one, two, &mut explorer);
         match nodes.chance() {
             Some(chance) => Some(Middle::new(&battle, rest, nodes, chance)),
@@ -141,46 +146,45 @@ impl Ways {
         }
     }
 
-    /// Begins with the first of the ways that lead there and go on.
-    pub(crate) fn restart(&mut self, middle: &Middle)
-        ensures same { self.new ≡ self.old }
+    /// No draw yet of the ways that lead there and go on.
+    pub(crate) fn restart(&self, middle: &Middle) -> Nodes
+        ensures options { result.options ≡ self.now.options }
+        ensures empty { result.len ≡ 0 }
+        ensures before { result.before ≡ middle.now.chance }
     {
-        self.nodes.clear(middle.chance);
+        let mut nodes = Nodes::new(self.options);
+        nodes.clear(middle.chance);
+        nodes
     }
 
-    /// Plays the update in a way that leads there and then goes on, and returns its probability.
+    /// Plays the update in the way that leads there and then has these draws, and returns its probability.
     ///
     /// # Errors
     ///
     /// `Size`, if the way has too many draws, or if 128 bits do not hold the probability.
     pub(crate) fn go_on(
-        &mut self,
+        &self,
+        nodes: &mut Nodes,
         middle: &Middle,
         battle: &mut Packed,
     ) -> Result<Chance, OutcomesFault>
-        ensures follows { (s : State) → Stands self.old.start s
-            → AreOffered s self.old.one self.old.two
-            → CanFollow s self.old.one self.old.two battle.new untold }
-        ensures same { self.new ≡ self.old }
+        ensures plays { PlaysOn self.now middle.now nodes.old battle.new }
+        ensures follows { (s : State) → Stands self.now.start s
+            → AreOffered s self.now.one self.now.two
+            → CanFollow s self.now.one self.now.two battle.new untold }
+        ensures chance { IfOk result (λ c. IsChance nodes.new c) }
     {
         *battle = copy_of(&self.start);
-        let path = middle.path_to(&self.nodes.path());
+        let path = middle.path_to(&nodes.path());
         let notes = After {
             left: middle.draws,
-            nodes: &mut self.nodes,
+            nodes: &mut *nodes,
         };
         let explorer = Explorer::new(path, notes);
         let one = copied(&self.one);
         let two = copied(&self.two);
         play_way(battle, one, two, explorer, &mut Silent);
-        middle.chance_with(&self.nodes)
-    }
-
-    /// Goes to the next of these ways. Returns whether there is one.
-    pub(crate) fn advance(&mut self) -> bool
-        ensures same { self.new ≡ self.old }
-    {
-        self.nodes.advance()
+        middle.chance_with(nodes)
     }
 
     /// Whether both sides use a move, so that the update has two actions.
@@ -215,6 +219,8 @@ pub(crate) fn play_way<N: Notes + Drop, S: EventSink>(
 )
     requires empty { S.tells events.old [] }
     requires room { HasRoom S.room 51 events.old }
+    ensures plays { (s : State) → Stands battle.old s → AreOffered s one two
+        → Follows s one two (stream_of scripted explorer) battle.new (S.tells events.new) }
     ensures follows { (s : State) → Stands battle.old s → AreOffered s one two
         → CanFollow s one two battle.new (S.tells events.new) }
     ensures room { AddsAtMost S.room 51 events.old events.new }

@@ -1,6 +1,9 @@
 -- The place of a generator in a stream, after draws and searches.
-use Rattle.std.proofs.Common.{◌≡◌, ℕ, suc, ◌⊎◌, inl, inr, subst, ◌+◌, ◌<◌, ◌≤◌, Bool, IsFalse, Some, None, refl, sym, ap, ◌∙◌, arith}
-use Rattle.gen1_rolls.specs.Draws.{Drawing, draws_of, stream_of, FindsDraw, FindsNone, StandsAt}
+use Rattle.std.proofs.Common.{◌≡◌, ℕ, suc, ◌⊎◌, inl, inr, subst, ◌+◌, ◌<◌, ◌≤◌, Bool, IsFalse, Option, Some, None, IfSome, refl, sym, ap, ◌∙◌, arith, true, false, nat_le, nat_lt, if◌then◌else◌}
+use Rattle.std.proofs.lemmas.Bool.Decides.{nat_tests}
+use Rattle.gen1_rolls.specs.declared.look.Look.{Look}
+use Rattle.gen1_rolls.specs.declared.look.Look.TheVariants.{Remainder}
+use Rattle.gen1_rolls.specs.Draws.{Drawing, draws_of, stream_of, FindsDraw, FindsLike, FindsNone, StandsAt}
 use Rattle.gen1_rolls.specs.Streams.{iterate, Stream, byte_at, span, first, IsStream, HoldsEveryByte}
 use Rattle.gen1_rolls.proofs.First.{first_within-is, first_within-none}
 use Rattle.gen1_rolls.proofs.Period.{iterate-add, byte-small, every_byte}
@@ -111,6 +114,43 @@ pub none_then : {A : Type 0} {d : Drawing A} {origin : A} {s : Stream} {n : ℕ}
     → StandsAt d origin s n now → FindsNone d test now new
     → (first s n test ≡ None → StandsAt d origin s (n + span s) new → G) → G
 none_then a f goal = goal (first-none a f) (stands_after_none a f)
+
+-- A byte that a search drew is alike to itself.
+pub like_itself : {A : Type 0} {d : Drawing A} {test : ℕ → Bool} {old : A} {b : ℕ} {new : A} (look : Look)
+    → b < 256 → FindsDraw d test old b new → FindsLike d test look old b new
+like_itself {test = test} {b = b} look small f =
+    record { byte = b; finds = f; fits = small; result_fits = small; meets = ap test f.is ∙ f.first.meets; alike = refl }
+
+pub some_like : {A : Type 0} (d : Drawing A) (test : ℕ → Bool) (old new : A) (look : Look) (o : Option ℕ) → IfSome o (λ b. b < 256)
+    → IfSome o (λ b. FindsDraw d test old b new) → IfSome o (λ c. FindsLike d test look old c new)
+some_like d test old new look (Some b) small f = like_itself look small f
+some_like d test old new look None small f = tt
+
+-- A byte of which all was looked at is the drawn one.
+pub exact_byte : {A : Type 0} {d : Drawing A} {test : ℕ → Bool} {old : A} {c : ℕ} {new : A}
+    → (f : FindsLike d test (Remainder 256) old c new) → c ≡ f.byte
+exact_byte f = omega (arith, f.fits, f.result_fits, f.alike)
+
+pub exactly : {A : Type 0} {d : Drawing A} {test : ℕ → Bool} {old : A} {c : ℕ} {new : A}
+    → FindsLike d test (Remainder 256) old c new → FindsDraw d test old c new
+exactly {d = d} {test = test} {old = old} {new = new} f = subst (λ b. FindsDraw d test old b new) (sym (exact_byte f)) f.finds
+
+-- Two tests are equal if the numbers that stand for them are.
+abbrev pub as_number : Bool → ℕ
+as_number b = if b then 1 else 0
+
+pub same_test : (p q : Bool) → as_number p ≡ as_number q → p ≡ q
+same_test true true e = refl
+same_test false false e = refl
+same_test true false e = absurd (omega (arith, e))
+same_test false true e = absurd (omega (arith, e))
+
+-- Of two bytes that are alike, both are below the bound or neither is.
+pub alike_below : (x y bound : ℕ) → as_number (nat_lt x bound) ≡ as_number (nat_lt y bound) → nat_lt x bound ≡ nat_lt y bound
+alike_below x y bound e = same_test (nat_lt x bound) (nat_lt y bound) e
+
+pub alike_at_least : (x y bound : ℕ) → as_number (nat_lt x bound) ≡ as_number (nat_lt y bound) → nat_le bound x ≡ nat_le bound y
+alike_at_least x y bound e = let same = alike_below x y bound e in grind (same, arith, nat_tests)
 
 -- If a whole span fails the test, every byte fails it.
 pub none_meets : (bytes : ℕ → ℕ) (p : ℕ → Bool) (span n : ℕ) → span ≤ n → HoldsEveryByte bytes span → ((k : ℕ) → k < n → IsFalse (p (bytes k)))

@@ -2,9 +2,11 @@
 -- "Link numbers").
 --
 -- A generator of any type is described by its `Drawing`. Under a bound `R: Rolls` this is `R.drawing`.
-use Rattle.std.specs.Prelude.{◌≡◌, ℕ, ◌+◌, ◌<◌, Bool, IsFalse}
+use Rattle.std.specs.Prelude.{◌≡◌, ℕ, ◌+◌, ◌<◌, Bool, IsFalse, IsTrue}
 use Rattle.std.specs.Borrow.{MutBor}
 use denote.Triple.Both.{Both}
+use Rattle.gen1_rolls.specs.declared.look.Look.{Look}
+use Rattle.gen1_rolls.specs.Looks.{sees}
 use Rattle.gen1_rolls.specs.Streams.{iterate, Stream, byte_at, span, IsFirstOf, Drawn}
 
 -- A parameter `&mut T`, as an `ensures` has it: its value at the call and its value at the return.
@@ -37,6 +39,15 @@ pub record FindsDraw {A : Type 0} (d : Drawing A) (test : ℕ → Bool) (old : A
   pub is : b ≡ draws_of d old passed
   pub left : new ≡ iterate (passed + 1) d.next old
 
+-- A search finds a draw, and returns a byte c that also passes the test. The look sees the same of it as of the drawn one.
+pub record FindsLike {A : Type 0} (d : Drawing A) (test : ℕ → Bool) (look : Look) (old : A) (c : ℕ) (new : A) : Type 0 where
+  pub byte : ℕ
+  pub finds : FindsDraw d test old byte new
+  pub fits : byte < 256
+  pub result_fits : c < 256
+  pub meets : IsTrue (test c)
+  pub alike : sees look c ≡ sees look byte
+
 -- No byte passes the test, so a whole span of draws from old on fails it. They leave new.
 pub record FindsNone {A : Type 0} (d : Drawing A) (test : ℕ → Bool) (old new : A) : Type 0 where
   pub none_meets : (b : ℕ) → b < 256 → IsFalse (test b)
@@ -49,12 +60,14 @@ pub record FindsNone {A : Type 0} (d : Drawing A) (test : ℕ → Bool) (old new
 -- origin s n r.old` holds, the same holds of r.new with its own count of draws. It gives its result by
 -- `byte_at s` and `first s`. Its proof uses the lemmas of proofs/Standing.antt, where a is the fact about the place
 -- of r:
---     r.draw_as(look)  `byte_drawn a c.draw_as.ensures.drawn` : the byte is `byte_at s n`
---                      `stands_after_draw a c.draw_as.ensures.left` : r is at n + 1
+--     r.draw()         `byte_drawn a c.draw.ensures.drawn` : the byte is `byte_at s n`
+--                      `stands_after_draw a c.draw.ensures.left` : r is at n + 1
+--     r.draw_as(look)  the same, but `drawn` only says that the look sees the same of both bytes
 --     r.until_as(test, look)
 --                      is used at a test p of numbers, with `settles`: the closure returns `p x` for x
---       Some(b)        `found_then a (c.in-Some.ensures.found p settles) (λ m at byte stands. ..)`, where
---                      at : `first s n p ≡ Some m`, byte : `b ≡ byte_at s m`, stands : r is at m + 1
+--       Some(b)        `let like = c.in-Some.ensures.found p settles`. The search drew `like.byte`, of which the look
+--                      sees the same as of b. `found_then a like.finds (λ m at byte stands. ..)`, where
+--                      at : `first s n p ≡ Some m`, byte : `like.byte ≡ byte_at s m`, stands : r is at m + 1
 --       None           `none_then a (c.in-None.ensures.none p settles) (λ none stands. ..)`, where
 --                      none : `first s n p ≡ None`, stands : r is at n + span s
 -- `stands_there a e` renames n.
@@ -72,9 +85,12 @@ pub record StandsAt {A : Type 0} (d : Drawing A) (origin : A) (s : Stream) (n : 
   pub bytes : (k : ℕ) → draws_of d origin k ≡ byte_at s k
   pub spans : d.width ≡ span s
 
--- The same for a parameter, as a clause names it: a search with this generator finds this byte, or none.
+-- The same for a parameter, as a clause names it: a search with this generator finds this byte, one alike to it, or none.
 abbrev pub Finds : {A : Type 0} → Drawing A → (ℕ → Bool) → Ref A → ℕ → Type 0
 Finds d test r b = FindsDraw d test r.entry.now b r.exit.now
+
+abbrev pub FindsAlike : {A : Type 0} → Drawing A → (ℕ → Bool) → Look → Ref A → ℕ → Type 0
+FindsAlike d test look r c = FindsLike d test look r.entry.now c r.exit.now
 
 abbrev pub FindsNoDraw : {A : Type 0} → Drawing A → (ℕ → Bool) → Ref A → Type 0
 FindsNoDraw d test r = FindsNone d test r.entry.now r.exit.now

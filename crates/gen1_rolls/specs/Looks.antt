@@ -9,12 +9,16 @@ rotated_left_3 b = b * 8 % 256 + b / 32
 abbrev pub rotated_right_1 : ℕ → ℕ
 rotated_right_1 b = b / 2 + b % 2 * 128
 
+-- Where all damage from the edge on is alike, it is cut there.
+abbrev pub limit_of : ℕ → Bool → ℕ
+limit_of edge cut = if cut then edge else 65535
+
 -- What a look sees of a byte.
 abbrev pub sees : Look → ℕ → ℕ
 sees (Below bound) b = if nat_lt b bound then 1 else 0
 sees (RotatedBelow bound) b = if nat_lt (rotated_left_3 b) bound then 1 else 0
 sees (Remainder divisor) b = b % divisor
-sees (Factor damage limit) b = min (damage * rotated_right_1 b / 255) limit
+sees (Factor damage edge cut) b = min (damage * rotated_right_1 b / 255) (limit_of edge cut)
 
 -- Two bytes are alike under a look that sees the same of both.
 abbrev pub alike : Look → ℕ → ℕ → Bool

@@ -81,6 +81,7 @@ impl LinkRandom {
         requires stream { IsStream (Link self.old.numbers) }
         ensures found { (p : ℕ → Bool) → Settles (F.post test) p → FailsFrom self.old.index self.old.numbers p
             → IfSome result (λ b. Finds link p self b) }
+        ensures fits { IfSome result (λ b. b < 256) }
         ensures none { (p : ℕ → Bool) → Settles (F.post test) p → FailsFrom self.old.index self.old.numbers p
             → IfNone result (FindsNoDraw link p self) }
     {

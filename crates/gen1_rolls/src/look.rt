@@ -15,8 +15,9 @@ pub enum Look {
     RotatedBelow(u8),
     /// The remainder of the byte by a number: by 2, 4 and 8 its lowest bits, by 256 the whole byte, by 1 nothing of it.
     Remainder(u16),
-    /// The damage times the byte, rotated right by 1 bit, in 255ths, up to the limit. From there on all damage is alike.
-    Factor { damage: u16, limit: u16 },
+    /// The damage times the byte, rotated right by 1 bit, in 255ths. From the edge on it fells the foe, or breaks its
+    /// substitute. `cut`: all damage from there on is alike.
+    Factor { damage: u16, edge: u16, cut: bool },
 }
 
 impl Look {
@@ -31,7 +32,10 @@ impl Look {
             Look::RotatedBelow(bound) => u16::from(rotated_left_3(byte) < bound),
             Look::Remainder(0) => u16::from(byte),
             Look::Remainder(divisor) => u16::from(byte) % divisor,
-            Look::Factor { damage, limit } => scaled(damage, rotated_right_1(byte)).min(limit),
+            Look::Factor { damage, edge, cut } => {
+                let limit = if cut { edge } else { u16::MAX };
+                scaled(damage, rotated_right_1(byte)).min(limit)
+            }
         }
     }
 

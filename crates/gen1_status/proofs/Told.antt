@@ -134,21 +134,21 @@ module _ {A : Type 0} {d : Drawing A} {origin : A} {g : Frame} {parts : Parts} {
   unfolding given
   tells_seeing read f e h = rw (← e) h
 
-  -- A draw.
-  pub tells_drawing : {g' : Frame} {parts' : Parts} {events' : Telling} {old now' : A} {b : Bool} {answer : Gate} (f : ℕ → Phase) {drawn : ℕ}
-      → ShowsDrawn d origin g parts events old b p → drawn ≡ d.byte old → now ≡ d.next old
+  -- A draw of a byte with which the phase does the same as with the drawn one.
+  pub tells_drawing : {g' : Frame} {parts' : Parts} {events' : Telling} {old now' : A} {b : Bool} {answer : Gate} (f : ℕ → Phase) (drawn : ℕ)
+      → ShowsDrawn d origin g parts events old b p → f drawn ≡ f (d.byte old) → now ≡ d.next old
       → (ShowsDrawn d origin g parts events now b (record p { drawn = p.drawn + 1 })
       → TellsDrawn d origin g' parts' events' now' answer (record p { drawn = p.drawn + 1 }) (f drawn (record p { drawn = p.drawn + 1 })))
       → TellsDrawn d origin g' parts' events' now' answer p (draw f p)
   unfolding draw
-  tells_drawing f a e left then =
-      let at = byte_drawn a.stands e ∙ ap (λ (s : Stream). byte_at s p.drawn) (sym a.shows.stream) in
+  tells_drawing {old = old} f drawn a same left then =
+      let at = byte_drawn {b = d.byte old} a.stands refl ∙ ap (λ (s : Stream). byte_at s p.drawn) (sym a.shows.stream) in
       let h = a.shows in
       let told = then (record {
         shows = record { within = h.within; written = h.written; ends = h.ends; stream = h.stream; drawn = refl; skips = h.skips; action = h.action };
         stands = stands_after_draw a.stands left;
       }) in
-      rw (← at) (record { shows = told.shows; outcome = told.outcome })
+      rw (← at, ← same) (record { shows = told.shows; outcome = told.outcome })
 
   -- A result that doesn't stop is Go.
   pub went : {answer : Gate} {q : Progress} → stopped_by answer ≡ false

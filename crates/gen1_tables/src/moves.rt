@@ -254,6 +254,7 @@ impl MoveId {
     }
 
     /// The move's name.
+    #[tactic(auto, unfolding(crate::specs::Names::move_name))]
     pub fn name(self) -> &'static str
         ensures { result.now ≡ move_name self }
     {

@@ -324,12 +324,14 @@ static MOVE_NAMES: [&str; 165] = [
     "Struggle",
 ];
 
+#[tactic(auto, unfolding(crate::specs::Names::species_names))]
 pub(crate) fn species_names() -> &'static [&'static str; 151]
     ensures { map (λ name. name.now) result.now ≡ species_names }
 {
     &SPECIES_NAMES
 }
 
+#[tactic(auto, unfolding(crate::specs::Names::move_names))]
 pub(crate) fn move_names() -> &'static [&'static str; 165]
     ensures { map (λ name. name.now) result.now ≡ move_names }
 {

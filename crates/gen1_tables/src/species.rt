@@ -224,6 +224,7 @@ impl Species {
     }
 
     /// The species' name.
+    #[tactic(auto, unfolding(crate::specs::Names::species_name))]
     pub fn name(self) -> &'static str
         ensures { result.now ≡ species_name self }
     {

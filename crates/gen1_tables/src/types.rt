@@ -328,6 +328,7 @@ static FACTORS: [u8; 3375] = [
 
 /// The rows of the table of types, in the order in which they apply. A pair without a row leaves the damage as it is
 /// (docs/TABLES.md, "Type rows").
+#[tactic(auto, unfolding(crate::specs::Types::type_rows))]
 pub fn type_rows() -> &'static [TypeRow; 82]
     ensures { map row_of result.now ≡ type_rows }
 {

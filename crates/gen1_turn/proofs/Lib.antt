@@ -1,7 +1,7 @@
 -- How an action begins and ends.
 pub mod Acted
--- Which effects are early and late, and how the damage of a move is found.
-pub mod ByEffect
+-- How the damage of a move is found, and which damage is alike.
+pub mod Damage
 -- The number of a move, and PP.
 pub mod Used
 -- Who lives in a turn.

@@ -96,9 +96,11 @@ module _ {A : Type 0} {d : Drawing A} {origin : A} where
 
   -- A draw
 
-  pub drawn_byte : {g : Frame} {parts : Parts} {events : Telling} {old : A} {b : Bool} {p : Progress} (byte : ℕ)
-      → ShowsDrawn d origin g parts events old b p → byte ≡ d.byte old → byte ≡ byte_at p.stream p.drawn
-  drawn_byte {p = p} byte a e = byte_drawn a.stands e ∙ ap (λ (s : Stream). byte_at s p.drawn) (sym a.shows.stream)
+  -- The drawn byte passes a test as the stream's does.
+  pub drawn_side : {g : Frame} {parts : Parts} {events : Telling} {old : A} {b : Bool} {p : Progress} (byte : ℕ)
+      → ShowsDrawn d origin g parts events old b p → nat_lt byte 128 ≡ nat_lt (d.byte old) 128 → nat_lt byte 128 ≡ nat_lt (byte_at p.stream p.drawn) 128
+  drawn_side {old = old} {p = p} byte a e =
+      e ∙ ap (λ (n : ℕ). nat_lt n 128) (byte_drawn {b = d.byte old} a.stands refl ∙ ap (λ (s : Stream). byte_at s p.drawn) (sym a.shows.stream))
 
   pub drawn_next : {g : Frame} {parts : Parts} {events : Telling} {old new : A} {b : Bool} {p : Progress}
       → ShowsDrawn d origin g parts events old b p → new ≡ d.next old → ShowsDrawn d origin g parts events new b (record p { drawn = p.drawn + 1 })
@@ -156,13 +158,13 @@ begins-in_range s t place p h = h
 
 -- A draw for equal Speeds
 
-pub tossed_one : (begins : Side → Phase) (p : Progress) (d : ℕ) → d ≡ byte_at p.stream p.drawn → nat_lt d 128 ≡ true → draw (toss begins) p ≡ begins One (record p { drawn = p.drawn + 1 })
+pub tossed_one : (begins : Side → Phase) (p : Progress) (d : ℕ) → nat_lt d 128 ≡ nat_lt (byte_at p.stream p.drawn) 128 → nat_lt d 128 ≡ true → draw (toss begins) p ≡ begins One (record p { drawn = p.drawn + 1 })
 unfolding draw toss
-tossed_one begins p d at small = choose-true _ (begins One) (begins Two) (record p { drawn = p.drawn + 1 }) (ap (λ (n : ℕ). nat_lt n 128) (sym at) ∙ small)
+tossed_one begins p d at small = choose-true _ (begins One) (begins Two) (record p { drawn = p.drawn + 1 }) (sym at ∙ small)
 
-pub tossed_two : (begins : Side → Phase) (p : Progress) (d : ℕ) → d ≡ byte_at p.stream p.drawn → nat_lt d 128 ≡ false → draw (toss begins) p ≡ begins Two (record p { drawn = p.drawn + 1 })
+pub tossed_two : (begins : Side → Phase) (p : Progress) (d : ℕ) → nat_lt d 128 ≡ nat_lt (byte_at p.stream p.drawn) 128 → nat_lt d 128 ≡ false → draw (toss begins) p ≡ begins Two (record p { drawn = p.drawn + 1 })
 unfolding draw toss
-tossed_two begins p d at large = choose-false _ (begins One) (begins Two) (record p { drawn = p.drawn + 1 }) (ap (λ (n : ℕ). nat_lt n 128) (sym at) ∙ large)
+tossed_two begins p d at large = choose-false _ (begins One) (begins Two) (record p { drawn = p.drawn + 1 }) (sym at ∙ large)
 
 -- The order by ranks that were found as each pick was written down
 

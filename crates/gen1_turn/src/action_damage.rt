@@ -1,13 +1,12 @@
 //! The damage of an action (docs/MECHANICS.md, "Action", step 7).
 ghost use Rattle.std.specs.Prelude.{◌≡◌};
-ghost use Rattle.gen1_layout.specs.Operations.{Draws, quiet};
-ghost use Rattle.gen1_layout.specs.Words.{Event, List, Reads, conditions_in, member_in, move_at, nat_lt};
+ghost use Rattle.gen1_layout.specs.Operations.{quiet};
+ghost use Rattle.gen1_layout.specs.Words.{Event, List, Reads, move_at, nat_lt};
 ghost use Rattle.gen1_machine.specs.Action.{damage_of, usual_damage};
 ghost use Rattle.gen1_machine.specs.Damage.{roll_damage};
 ghost use Rattle.gen1_machine.specs.Progress.{choose, set_last_damage};
 ghost use Rattle.gen1_hits.specs.Knowing.{IsUncounted, aware};
-ghost use Rattle.gen1_turn.specs.ByEffect.{way_of};
-ghost use Rattle.gen1_turn.specs.DamageLimit.{damage_limit};
+ghost use Rattle.gen1_turn.specs.Damage.{DrawsLike, LikeDamage, LikeUsual, cuts_in, edge_in, way_of};
 
 use gen1_hits::{Known, critical, damage, factor_up_to, hit_or_miss, numbers, type_steps};
 use gen1_layout::Packed;
@@ -36,7 +35,8 @@ fn way_of(effect: Effect) -> Way
     }
 }
 
-// Finds the damage of a move, and whether it hits. Returns whether a fault ended the battle.
+// Finds the damage of a move, and whether it hits. Returns whether a fault ended the battle. The last damage may be
+// another one than the machine's that does the same to the foe.
 pub(crate) fn damage_of<R: Rolls>(
     battle: &mut Packed,
     side: Side,
@@ -44,8 +44,8 @@ pub(crate) fn damage_of<R: Rolls>(
     known: &mut Known,
     random: &mut R,
 ) -> bool
-    ensures shown { (told : List Event) → Draws R.drawing random (aware known (quiet told battle))
-        result (damage_of side (move_at id) (move_at id).effect) }
+    ensures shown { (told : List Event) → DrawsLike R.drawing random (aware known (quiet told battle))
+        result (LikeUsual side (move_at id)) (damage_of side (move_at id) (move_at id).effect) }
     ensures counts { IsUncounted known.old → IsUncounted known.new }
 {
     match way_of(id.effect()) {
@@ -69,9 +69,9 @@ fn damage_by_power<R: Rolls>(
     known: &mut Known,
     random: &mut R,
 ) -> bool
-    ensures shown { (told : List Event) → Draws R.drawing random (aware known (quiet told battle))
-        result (choose (λ _. nat_lt 0 (move_at id).power) (usual_damage side (move_at id))
-        (set_last_damage 0)) }
+    ensures shown { (told : List Event) → DrawsLike R.drawing random (aware known (quiet told battle))
+        result (LikeUsual side (move_at id)) (choose (λ _. nat_lt 0 (move_at id).power)
+        (usual_damage side (move_at id)) (set_last_damage 0)) }
     ensures counts { IsUncounted known.old → IsUncounted known.new }
 {
     battle.put_last_damage(0);
@@ -94,8 +94,8 @@ fn roll_damage<R: Rolls>(
     known: &mut Known,
     random: &mut R,
 ) -> bool
-    ensures shown { (told : List Event) → Draws R.drawing random (aware known (quiet told battle))
-        result (roll_damage side (move_at id)) }
+    ensures shown { (told : List Event) → DrawsLike R.drawing random (aware known (quiet told battle))
+        result (LikeDamage side) (roll_damage side (move_at id)) }
     ensures counts { IsUncounted known.old → IsUncounted known.new }
 {
     let numbers = numbers(battle, side, id, known.critical);
@@ -106,19 +106,20 @@ fn roll_damage<R: Rolls>(
     let after = type_steps(before, &numbers);
     known.through_types = true;
     known.missed = after == 0;
-    let limit = damage_limit(battle, side.other());
-    let varied = factor_up_to(after, limit, random);
+    let (edge, cut) = damage_edge(battle, side.other());
+    let varied = factor_up_to(after, edge, cut, random);
     battle.put_last_damage(varied);
     false
 }
 
-// All damage from here on is alike: it fells the foe. A Substitute takes damage uncut.
-fn damage_limit(battle: &Packed, foe: Side) -> u16
-    ensures stands { Reads battle.now result λ f.
-        damage_limit (conditions_in foe f).substitute (member_in foe f).hp }
+// The damage from which on a hit fells the foe, or breaks its Substitute, and whether all damage from there on is alike.
+// A Substitute takes damage uncut.
+fn damage_edge(battle: &Packed, foe: Side) -> (u16, bool)
+    ensures edge { Reads battle.now result.0 (edge_in foe) }
+    ensures cut { Reads battle.now result.1 (cuts_in foe) }
 {
     match battle.substitute(foe) {
-        Some(_) => u16::MAX,
-        None => battle.hp(foe),
+        Some(left) => (u16::from(left) + 1, false),
+        None => (battle.hp(foe), true),
     }
 }

@@ -1,6 +1,6 @@
 //! An action after its move is settled (docs/MECHANICS.md, "Action", from step 2 on).
 ghost use Rattle.std.specs.Prelude.{◌&&◌, ◌||◌, ◌≡◌};
-ghost use Rattle.gen1_layout.specs.Operations.{Draws, DrawsWhere, quiet, scene};
+ghost use Rattle.gen1_layout.specs.Operations.{DrawsWhere, quiet, scene};
 ghost use Rattle.gen1_layout.specs.Words.{AddsAtMost, AddsNone, Event, HasRoom, List, false, move_at, stop, ◌▸◌};
 ghost use Rattle.gen1_machine.specs.Action.{carry_out, damage_of, lands_at_once, lead_up, lets_energy_go};
 ghost use Rattle.gen1_machine.specs.LateEffects.{is_late, late_effect};
@@ -9,6 +9,7 @@ ghost use Rattle.gen1_machine.specs.Progress.{only, unless};
 ghost use Rattle.gen1_hits.specs.Knowing.{IsUncounted, aware};
 ghost use Rattle.gen1_hits.specs.Planned.{taking, using};
 ghost use Rattle.gen1_turn.specs.ActionSteps.{late_part, damage_and_strike};
+ghost use Rattle.gen1_turn.specs.Damage.{DrawsLike, LikeUsual};
 
 use crate::action_damage::damage_of;
 use crate::lead_up::lead_up;
@@ -102,8 +103,9 @@ fn damage_unless_landing<R: Rolls>(
     known: &mut Known,
     random: &mut R,
 ) -> bool
-    ensures shown { (told : List Event) → Draws R.drawing random (aware known (quiet told battle))
-        result (unless (lands_at_once (move_at id)) (damage_of side (move_at id) (move_at id).effect)) }
+    ensures shown { (told : List Event) → DrawsLike R.drawing random (aware known (quiet told battle))
+        result (LikeUsual side (move_at id)) (unless (lands_at_once (move_at id))
+        (damage_of side (move_at id) (move_at id).effect)) }
     ensures counts { IsUncounted known.old → IsUncounted known.new }
 {
     if lands_at_once(known, id.effect()) {

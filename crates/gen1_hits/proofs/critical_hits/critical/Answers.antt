@@ -1,5 +1,6 @@
 use Rattle.std.proofs.Common.{◌≡◌}
 use Rattle.gen1_layout.proofs.Words.{Action, acted, drawing, drawn_seeing, nat_lt, refl, still, ℕ}
+use Rattle.gen1_rolls.proofs.Standing.{alike_below}
 use Rattle.gen1_machine.specs.Moves.{move_at}
 use Rattle.gen1_machine.specs.CriticalHits.{critical_bound_in, critical_by, roll_critical, rotated_left_3, set_critical}
 use Rattle.gen1_hits.proofs.critical_hits.critical.Goals as goal
@@ -12,8 +13,10 @@ returns t c =
           let w = h.shows.within in
           let bound : c.critical_bound-bound.result ≡ critical_bound_in c.args.side (move_at c.args.id) p.field =
           rw (c.species.ensures.stands _ _ w, c.is_on-focused.ensures.stands 8 refl _ _ w) at c.critical_bound-bound.ensures in
-          rw c.rotated_left_3.ensures
-          (drawing (critical_by c.args.side (move_at c.args.id)) h c.draw_as.ensures.drawn c.draw_as.ensures.left (λ a.
-          drawn_seeing _ (λ (b : ℕ). set_critical (nat_lt (rotated_left_3 c.draw_as.result) b)) bound
-          (still a (acted (λ (x : Action). record x { critical = nat_lt (rotated_left_3 c.draw_as.result) c.critical_bound-bound.result }) a.shows) refl)));
+          let byte = t.R.Rolls.drawing.byte c.args.random.now in
+          let same = alike_below (rotated_left_3 c.draw_as.result) (rotated_left_3 byte) c.critical_bound-bound.result c.draw_as.ensures.drawn in
+          rw (c.rotated_left_3.ensures, same)
+          (drawing (critical_by c.args.side (move_at c.args.id)) {drawn = byte} h refl c.draw_as.ensures.left (λ a.
+          drawn_seeing _ (λ (b : ℕ). set_critical (nat_lt (rotated_left_3 byte) b)) bound
+          (still a (acted (λ (x : Action). record x { critical = nat_lt (rotated_left_3 byte) c.critical_bound-bound.result }) a.shows) refl)));
     }

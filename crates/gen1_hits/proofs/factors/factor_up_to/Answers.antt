@@ -1,14 +1,14 @@
 use Rattle.std.proofs.Common.{◌+◌, ◌≡◌}
-use Rattle.gen1_layout.proofs.Words.{arith, false, lit<, nat_le, nat_tests, refl, rules, true, ◌∙◌}
+use Rattle.gen1_layout.proofs.Words.{arith, false, lit<, nat_le, nat_tests, refl, rules, sym, true, ◌∙◌}
 use Rattle.gen1_rolls.proofs.Standing.{found_then}
-use Rattle.gen1_machine.specs.Damage.{is_factor}
-use Rattle.gen1_hits.proofs.Varying.{vary-draws, vary-keeps}
+use Rattle.gen1_machine.specs.Damage.{is_factor, rotated_right_1, times_factor}
+use Rattle.gen1_hits.proofs.Varying.{varied-most, vary-draws, vary-keeps}
 use Rattle.gen1_hits.proofs.factors.factor_up_to.Goals as goal
 
 pub returns-then-damage-le1-clause-varies : goal.returns-then-damage-le1-clause-varies
 returns-then-damage-le1-clause-varies g c origin stream n a =
     let small : nat_le c.args.damage 1 ≡ true = grind (arith, nat_tests) in
-    record { drawn = n; stands = a; sets = λ p same at. vary-keeps c.args.damage n p small at }
+    record { drawn = n; stands = a; dealt = c.args.damage; sets = λ p same at. vary-keeps c.args.damage n p small at; alike = refl; most = omega arith }
 
 -- 255 is a factor's byte, and each byte is drawn.
 pub unreachable-requires : goal.unreachable-requires
@@ -18,9 +18,12 @@ unreachable-requires g c =
 pub returns-clause-varies : goal.returns-clause-varies
 returns-clause-varies g c origin stream n a =
     let large : nat_le c.args.damage 1 ≡ false = grind (arith, nat_tests) in
-    found_then a (c.in-Some.ensures.found is_factor (λ x answer lt post. search rules)) (λ m found byte stands. record {
+    let like = c.in-Some.ensures.found is_factor (λ x answer lt post. search rules) in
+    found_then a like.finds (λ m found byte stands. record {
       drawn = m + 1;
       stands = stands;
-      sets = λ p same at. vary-draws c.args.damage n m stream p large same at found
-          ∙ rw (c.times_factor.ensures.is, c.rotated.ensures, byte) refl;
+      dealt = times_factor (rotated_right_1 like.byte) c.args.damage;
+      sets = λ p same at. vary-draws c.args.damage n m stream p large same at found ∙ rw byte refl;
+      alike = rw (c.times_factor.ensures.is, c.rotated.ensures) (sym like.alike);
+      most = varied-most c.args.damage like.byte like.fits;
     })

@@ -19,7 +19,7 @@ bits-preserved c =
           (c.bits.invariant.above c.bits.place (omega arith) (omega arith) ∙ sym (shr_and_one c.args.word c.bits.place) ∙ w.if-word-place-eq0.true)
       | else-word-place-eq0 w ↦
           ap (λ (b : Bool). cond b kept 0)
-          (w.stays-is ∙ ap (λ (n : ℕ). n == w.told.result) c.told-seen.ensures ∙ ap (λ (n : ℕ). told c.args.damage_classes c.args.look c.args.byte == n) w.told.ensures)
+          (w.stays-is ∙ ap (λ (n : ℕ). n == w.told.result) c.told-seen.ensures.value ∙ ap (λ (n : ℕ). told c.args.damage_classes c.args.look c.args.byte == n) w.told.ensures.value)
     ]
     in
     keeps_more c.args.damage_classes c.args.look c.args.byte c.args.base c.args.word c.bits.place c.bits.kept c.kept_if-kept.result c.bits.invariant (omega arith)

@@ -1,32 +1,31 @@
-use Rattle.std.proofs.Common.{arith, refl, ◌∙◌}
+use Rattle.std.proofs.Common.{arith, refl}
 use Rattle.gen1_outcomes.proofs.Leaving.{leaves_then, on_ok_leaves}
 use Rattle.gen1_outcomes.proofs.Lists.{on_ok_then, still_then, still_those}
 use Rattle.gen1_outcomes.proofs.outcomes.add_in_parts.Goals as goal
 
 pub walk-init : goal.walk-init
-walk-init c = record { same = refl; within = omega arith; left_out = record { least = refl; none = λ l z. z }; follow = λ s h o each. each }
+walk-init c = record { within = omega arith; left_out = record { least = refl; none = λ l z. z }; follow = λ s h o each. each }
 
 pub walk-preserved : goal.walk-preserved
 walk-preserved c =
     record {
-      same = c.in_ok-make_room.ensures.same ∙ c.walk.invariant.same;
       within = omega arith;
       left_out = leaves_then _ _ _ (leaves_then _ _ _ c.walk.invariant.left_out c.in_ok-make_room.ensures.left_out) c.in_ok-keep.ensures.left_out;
       follow = still_those c.args.ways.now c.args.tally.now.count c.make_room.new.tally.count c.keep.new.tally.count
           c.args.successors.now c.make_room.new.successors c.keep.new.successors
-          (still_then c.args.ways.now c.walk.ways c.args.tally.now.count c.walk.tally.count c.make_room.new.tally.count
-          c.args.successors.now c.walk.successors c.make_room.new.successors c.walk.invariant.same c.walk.invariant.follow c.in_ok-make_room.ensures.follow)
+          (still_then c.args.ways.now c.args.ways.now c.args.tally.now.count c.walk.tally.count c.make_room.new.tally.count
+          c.args.successors.now c.walk.successors c.make_room.new.successors refl c.walk.invariant.follow c.in_ok-make_room.ensures.follow)
           c.in_ok-keep.ensures.battles c.in_ok-keep.ensures.count;
     }
 
 pub returns-then-not-advance-clause-follow : goal.returns-then-not-advance-clause-follow
 returns-then-not-advance-clause-follow c =
-    on_ok_then c.args.ways.now c.make_room.new.ways c.args.tally.now.count c.keep.new.tally.count c.go_on_from.new.tally.count
-    c.args.successors.now c.keep.new.successors c.go_on_from.new.successors c.go_on_from.result (c.in_ok-make_room.ensures.same ∙ c.walk.invariant.same)
+    on_ok_then c.args.ways.now c.args.ways.now c.args.tally.now.count c.keep.new.tally.count c.go_on_from.new.tally.count
+    c.args.successors.now c.keep.new.successors c.go_on_from.new.successors c.go_on_from.result refl
     (still_those c.args.ways.now c.args.tally.now.count c.make_room.new.tally.count c.keep.new.tally.count
     c.args.successors.now c.make_room.new.successors c.keep.new.successors
-    (still_then c.args.ways.now c.walk.ways c.args.tally.now.count c.walk.tally.count c.make_room.new.tally.count
-    c.args.successors.now c.walk.successors c.make_room.new.successors c.walk.invariant.same c.walk.invariant.follow c.in_ok-make_room.ensures.follow)
+    (still_then c.args.ways.now c.args.ways.now c.args.tally.now.count c.walk.tally.count c.make_room.new.tally.count
+    c.args.successors.now c.walk.successors c.make_room.new.successors refl c.walk.invariant.follow c.in_ok-make_room.ensures.follow)
     c.in_ok-keep.ensures.battles c.in_ok-keep.ensures.count)
     c.go_on_from.ensures.follow
 

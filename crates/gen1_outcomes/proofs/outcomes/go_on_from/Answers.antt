@@ -1,17 +1,16 @@
-use Rattle.std.proofs.Common.{arith, refl, ◌∙◌}
+use Rattle.std.proofs.Common.{arith, refl}
 use Rattle.gen1_outcomes.proofs.Leaving.{leaves_then}
 use Rattle.gen1_outcomes.proofs.Lists.{still_then}
 use Rattle.gen1_outcomes.proofs.outcomes.go_on_from.Goals as goal
 
 pub places-init : goal.places-init
-places-init c = record { same = refl; within = omega arith; left_out = record { least = refl; none = λ l z. z }; follow = λ s h o each. each }
+places-init c = record { within = omega arith; left_out = record { least = refl; none = λ l z. z }; follow = λ s h o each. each }
 
 pub places-preserved : goal.places-preserved
 places-preserved c =
     record {
-      same = c.in_ok-finish.ensures.same ∙ c.places.invariant.same;
       within = omega arith;
       left_out = leaves_then _ _ _ c.places.invariant.left_out c.in_ok-finish.ensures.left_out;
-      follow = still_then c.args.ways.now c.places.ways c.args.tally.now.count c.places.tally.count c.finish.new.tally.count
-          c.args.successors.now c.places.successors c.finish.new.successors c.places.invariant.same c.places.invariant.follow c.in_ok-finish.ensures.follow;
+      follow = still_then c.args.ways.now c.args.ways.now c.args.tally.now.count c.places.tally.count c.finish.new.tally.count
+          c.args.successors.now c.places.successors c.finish.new.successors refl c.places.invariant.follow c.in_ok-finish.ensures.follow;
     }

@@ -1,4 +1,4 @@
-use Rattle.std.proofs.Common.{subst, sym}
+use Rattle.std.proofs.Common.{refl, subst, sym}
 use Rattle.gen1_layout.specs.Parts.{Parts}
 use Rattle.gen1_layout.specs.Within.{Stands}
 use Rattle.gen1_outcomes.proofs.Offered.{follows_pair}
@@ -9,3 +9,21 @@ returns-in-Some-chance-clause-follows g c s h pair is offered =
     follows_pair s (c.args.walk.now.one, c.args.walk.now.two) c.in-Some.one c.in-Some-from_byte.two pair c.play_way.new.battle (g.S.EventSink.tells c.play_way.new.events)
     c.in-Some.ensures.value c.in-Some-from_byte.ensures.value is
     (c.play_way.ensures.follows s (subst (λ (p : Parts). Stands p s) (sym c.copy_of.ensures) h)) offered
+
+pub returns-in-Some-chance-clause-underway : goal.returns-in-Some-chance-clause-underway
+returns-in-Some-chance-clause-underway g c ne =
+    record {
+      going = c.if-walk-ne0.false;
+      pair = (c.in-Some.one, c.in-Some-from_byte.two);
+      choices = rw (sym c.in-Some.ensures.value, sym c.in-Some-from_byte.ensures.value) refl;
+      has_draws = c.if-not-read_nodes.ensures.reads refl;
+    }
+
+pub returns-in-None-clause-underway : goal.returns-in-None-clause-underway
+returns-in-None-clause-underway g c ne =
+    record {
+      going = c.if-walk-ne0.false;
+      pair = (c.in-Some.one, c.in-Some-from_byte.two);
+      choices = rw (sym c.in-Some.ensures.value, sym c.in-Some-from_byte.ensures.value) refl;
+      has_draws = c.if-not-read_nodes.ensures.reads refl;
+    }

@@ -1,8 +1,14 @@
-use Rattle.gen1_layout.proofs.Words.{drawing, refl, still}
+use Rattle.std.proofs.Common.{◌+◌}
+use Rattle.gen1_layout.proofs.Words.{ap, refl, still, ℕ}
+use Rattle.gen1_machine.specs.declared.event.Volatile.TheVariants as volatiles
+use Rattle.gen1_machine.specs.Conditions.{with_confusion}
 use Rattle.gen1_machine.specs.EarlyEffects.{confuse, confused_by}
+use Rattle.gen1_machine.specs.Progress.{starts}
+use Rattle.gen1_hits.proofs.Searching.{drawing_like}
 use Rattle.gen1_status.proofs.confusion.confuse.Goals as goal
 
 pub returns-clause-shown : goal.returns-clause-shown
-unfolding confuse
+unfolding confuse confused_by
 returns-clause-shown t c origin g p h =
-    drawing (confused_by c.args.side) h c.draw_as-byte.ensures.drawn c.draw_as-byte.ensures.left (λ d. still d (c.confuse_by.ensures.shown _ _ d.shows) refl)
+    let same = ap (λ (n : ℕ). starts c.args.side volatiles.Confusion (with_confusion (n + 2))) c.draw_as-byte.ensures.drawn in
+    drawing_like (confused_by c.args.side) c.draw_as-byte.result h same c.draw_as-byte.ensures.left (λ d. still d (c.confuse_by.ensures.shown _ _ d.shows) refl)

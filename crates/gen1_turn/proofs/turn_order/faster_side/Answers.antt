@@ -1,11 +1,12 @@
 use Rattle.std.proofs.Common.{◌+◌, ◌≡◌}
 use Rattle.gen1_layout.proofs.Words.{choose-false, choose-true, false, nat_lt, refl, true, ◌∙◌}
+use Rattle.gen1_rolls.proofs.Standing.{alike_below}
 use Rattle.gen1_tables.specs.declared.effect.Stat.TheVariants.{Speed}
 use Rattle.gen1_machine.specs.declared.side.Side.TheVariants.{One, Two}
 use Rattle.gen1_machine.specs.CurrentStats.{now_in}
 use Rattle.gen1_machine.specs.TurnOrder.{in_order_of_speed}
 use Rattle.gen1_status.proofs.Comparing.{below, not_below}
-use Rattle.gen1_turn.proofs.Turns.{drawn_byte, drawn_next, tossed_one, tossed_two}
+use Rattle.gen1_turn.proofs.Turns.{drawn_next, drawn_side, tossed_one, tossed_two}
 use Rattle.gen1_turn.proofs.turn_order.faster_side.Goals as goal
 
 pub returns-then-two-one : goal.returns-then-two-one
@@ -40,7 +41,7 @@ returns-then-draw_as-lt-SIDE_1_BELOW t c = record {
         p.drawn + 1,
         drawn_next h c.draw_as.ensures.left,
         λ begins. choose-false _ _ _ p e ∙ choose-false _ _ _ p e'
-            ∙ tossed_one begins p c.draw_as.result (drawn_byte c.draw_as.result h c.draw_as.ensures.drawn) (below _ _ c.if-draw_as-lt-SIDE_1_BELOW.true),
+            ∙ tossed_one begins p c.draw_as.result (drawn_side c.draw_as.result h (alike_below _ _ 128 c.draw_as.ensures.drawn)) (below _ _ c.if-draw_as-lt-SIDE_1_BELOW.true),
       );
 }
 
@@ -55,6 +56,6 @@ returns t c = record {
         p.drawn + 1,
         drawn_next h c.draw_as.ensures.left,
         λ begins. choose-false _ _ _ p e ∙ choose-false _ _ _ p e'
-            ∙ tossed_two begins p c.draw_as.result (drawn_byte c.draw_as.result h c.draw_as.ensures.drawn) (not_below _ _ c.if-draw_as-lt-SIDE_1_BELOW.false),
+            ∙ tossed_two begins p c.draw_as.result (drawn_side c.draw_as.result h (alike_below _ _ 128 c.draw_as.ensures.drawn)) (not_below _ _ c.if-draw_as-lt-SIDE_1_BELOW.false),
       );
 }

@@ -1,7 +1,10 @@
 use Rattle.std.proofs.Common.{◌≡◌}
-use Rattle.gen1_layout.proofs.Words.{ap, arith, false, lit<, nat_tests, refl, still, true, ◌∙◌}
+use Rattle.gen1_layout.proofs.Words.{ap, arith, false, lit<, nat_tests, refl, still, true, ℕ}
+use Rattle.gen1_stats.specs.declared.status.Status.TheVariants.{Asleep}
+use Rattle.gen1_machine.specs.declared.health.Kind.TheVariants as kinds
+use Rattle.gen1_machine.specs.Progress.{inflict}
 use Rattle.gen1_machine.specs.Ruling.{fall_asleep, is_sleep_count, sleep_for}
-use Rattle.gen1_effects.proofs.Searching.{drawn_until}
+use Rattle.gen1_hits.proofs.Searching.{drawn_until}
 use Rattle.gen1_effects.proofs.late_effects.sleep_moves.fall_asleep.Goals as goal
 
 -- 1 gives a count, and each byte is drawn.
@@ -10,8 +13,9 @@ unreachable-requires t c =
     let none : true ≡ false = (c.in_default.ensures.none is_sleep_count (λ x answer lt post. grind (post, arith, nat_tests))).none_meets 1 (lit< tt) in cc
 
 pub returns-clause-shown : goal.returns-clause-shown
-unfolding fall_asleep
+unfolding fall_asleep sleep_for
 returns-clause-shown t c origin g p clause h =
-    let finds = c.in-Some.ensures.found is_sleep_count (λ x answer lt post. grind (post, arith, nat_tests)) in
-    drawn_until is_sleep_count (sleep_for c.args.marked c.args.side) h finds
-    (λ q a. still {g' = g} a (c.sleep_for.ensures.shown (ap is_sleep_count finds.is ∙ finds.first.meets) _ q clause a.shows) refl)
+    let like = c.in-Some.ensures.found is_sleep_count (λ x answer lt post. grind (post, arith, nat_tests)) in
+    let same = ap (λ (n : ℕ). inflict c.args.side (Asleep n c.args.marked) kinds.Sleep) like.alike in
+    drawn_until is_sleep_count (sleep_for c.args.marked c.args.side) h like same
+    (λ q a. still {g' = g} a (c.sleep_for.ensures.shown like.meets _ q clause a.shows) refl)

@@ -1,8 +1,12 @@
-use Rattle.gen1_layout.proofs.Words.{Progress, Side, ap, drawn_seeing, rules}
+use Rattle.std.proofs.Common.{◌≡◌}
+use Rattle.gen1_layout.proofs.Words.{Progress, Side, ap, drawn_seeing, rules, subst}
+use Rattle.gen1_rolls.specs.declared.look.Look.{Look}
+use Rattle.gen1_rolls.specs.Looks.{sees}
 use Rattle.gen1_machine.specs.Progress.{draw_until, member}
 use Rattle.gen1_machine.specs.Sides.{other}
 use Rattle.gen1_machine.specs.SideEffects.{disable_slot, names_slot}
 use Rattle.gen1_effects.proofs.Chances.{finding, finding_none}
+use Rattle.gen1_effects.proofs.DisabledSlots.{slot_alike}
 use Rattle.gen1_effects.proofs.side_effects.disable.draw_slot.Goals as goal
 
 pub returns-in-Some-clause-shown : goal.returns-in-Some-clause-shown
@@ -11,8 +15,10 @@ returns-in-Some-clause-shown t c origin g p h =
     let moves = (member c.other-foe.result p).moves in
     let within = h.shows.within in
     let any = c.has_pp-any_pp.ensures.stands _ _ within in
+    let like = c.in-Some.ensures.found (names_slot moves) (λ x answer lt post. search rules) in
+    let same = slot_alike s moves c.has_pp-any_pp.result _ _ any (subst (λ (look : Look). sees look c.in-Some.byte ≡ sees look like.byte) c.slot_look.ensures like.alike) in
     drawn_seeing (λ (q : Progress). (member (other s) q).moves) (λ ms. draw_until (names_slot ms) (disable_slot s ms)) (ap (λ (x : Side). (member x p).moves) c.other-foe.ensures)
-    (finding (names_slot moves) (disable_slot s moves) h (c.in-Some.ensures.found (names_slot moves) (λ x answer lt post. search rules))
+    (finding (names_slot moves) (disable_slot s moves) h like same
     (λ m named d. rw c.other-foe.ensures (c.disable_slot.ensures.shown origin g _ (rw c.other-foe.ensures at any) (rw c.other-foe.ensures at named) d)))
 
 pub returns-in-None-clause-shown : goal.returns-in-None-clause-shown

@@ -1,5 +1,6 @@
 use Rattle.std.proofs.Common.{◌≡◌}
-use Rattle.gen1_layout.proofs.Words.{arith, false, lit<, nat_le, nat_tests, rules, true, ◌∙◌}
+use Rattle.gen1_layout.proofs.Words.{ap, arith, false, lit<, nat_le, nat_tests, rules, true, ◌∙◌}
+use Rattle.gen1_rolls.proofs.Standing.{exact_byte}
 use Rattle.gen1_machine.specs.FixedDamage.{is_psywave}
 use Rattle.gen1_machine.specs.Progress.{set_last_damage}
 use Rattle.gen1_hits.proofs.Searching.{found_by_drawing}
@@ -23,6 +24,7 @@ pub returns : goal.returns
 returns t c = record {
   deals = λ parts origin g events p h.
       let large : nat_le c.args.level 1 ≡ false = grind (arith, nat_tests) in
-      let found = found_by_drawing (is_psywave c.args.level) set_last_damage h (c.in-Some.ensures.found (is_psywave c.args.level) (λ x answer lt post. search rules)) in
+      let like = c.in-Some.ensures.found (is_psywave c.args.level) (λ x answer lt post. search rules) in
+      let found = found_by_drawing (is_psywave c.args.level) set_last_damage h like (ap set_last_damage (exact_byte like)) in
       rw c.from.ensures (found.0, found.1, above_level_one c.args.level p large ∙ found.2);
 }

@@ -14,6 +14,6 @@ pub returns : goal.returns
 unfolding deal_everything
 returns t c = record {
   shown = λ events origin g p h.
-      drawn_until is_factor deal_everything h (c.in-Some.ensures.found is_factor (λ x answer lt post. search rules))
+      drawn_until is_factor deal_everything h (c.in-Some.ensures.found is_factor (λ x answer lt post. search rules)) refl
       (λ q a. still {g' = g} a (put_damage a.shows 65535 (c.put_last_damage.ensures.stands _ _ a.shows.within)) refl);
 }

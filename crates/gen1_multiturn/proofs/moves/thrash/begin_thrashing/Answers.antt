@@ -1,9 +1,10 @@
 use Rattle.std.proofs.Common.{◌%◌, ◌+◌}
-use Rattle.gen1_layout.proofs.Words.{active_in, ap, arith, drawing, drawn_goes, on_conditions, on_field, put_on_active, put_on_conditions, refl, still, ℕ}
+use Rattle.gen1_layout.proofs.Words.{active_in, ap, arith, drawn_goes, on_active, on_conditions, on_field, put_on_active, put_on_conditions, refl, still, ℕ, ◌▸◌}
 use Rattle.gen1_machine.specs.Conditions.{with_thrash}
 use Rattle.gen1_machine.specs.GoingOn.{thrash_for}
 use Rattle.gen1_machine.specs.Moves.{accuracy_byte}
 use Rattle.gen1_machine.specs.State.{with_kept_accuracy}
+use Rattle.gen1_hits.proofs.Searching.{drawing_like}
 use Rattle.gen1_multiturn.proofs.moves.thrash.begin_thrashing.Goals as goal
 
 pub returns : goal.returns
@@ -12,7 +13,8 @@ returns t c = record {
   shown = λ told move is origin g p bide trapping h.
       let s = c.args.side in
       let byte = c.draw_as-byte.result in
-      drawing (thrash_for s move) h c.draw_as-byte.ensures.drawn c.draw_as-byte.ensures.left (λ d.
+      let same = ap (λ (n : ℕ). on_conditions s (with_thrash (n + 2)) ▸ on_active s (with_kept_accuracy (accuracy_byte move))) c.draw_as-byte.ensures.drawn in
+      drawing_like (thrash_for s move) byte h same c.draw_as-byte.ensures.left (λ d.
       let w = c.put_thrash.ensures.stands _ _ (with_thrash (byte % 2 + 2)) d.shows.within refl (omega arith) bide trapping in
       let a = still {g' = g} d (put_on_conditions d.shows s (with_thrash (byte % 2 + 2)) w) refl in
       let v = c.put_kept_accuracy.ensures.stands _ _ (with_kept_accuracy (accuracy_byte move)) a.shows.within

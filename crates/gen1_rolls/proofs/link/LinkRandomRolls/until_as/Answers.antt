@@ -1,13 +1,15 @@
 use Rattle.std.proofs.Common.{ℕ, ◌<◌, ◌≤◌, List, length, ap, arith, refl, subst, sym, ◌∙◌}
 use Rattle.std.specs.Prelude.{slice_index}
-use Rattle.gen1_rolls.specs.Link.{FailsFrom, Ring, byte_of, after_draw, turned}
+use Rattle.gen1_rolls.specs.Link.{FailsFrom, Ring, byte_of, after_draw, link, turned}
 use Rattle.gen1_rolls.specs.Streams.{IsFirstOf}
 use Rattle.gen1_rolls.proofs.Rings.{same_ring, turned-none}
 use Rattle.gen1_rolls.proofs.Rounds.{finds_in_round}
+use Rattle.gen1_rolls.proofs.Standing.{like_itself, some_like}
 use Rattle.gen1_rolls.proofs.link.LinkRandomRolls.until_as.Goals as goal
 
 pub returns-in-Some-clause-found : goal.returns-in-Some-clause-found
 returns-in-Some-clause-found g c p settles =
+    like_itself c.args._look (omega arith) (
     let old = c.args.self.now in
     let place = c.in-Some.place in
     let in_ring : old.index < 9 = subst (λ (ring : Ring). ring.index < 9) c.self.view_is c.self.invariant in
@@ -19,12 +21,12 @@ returns-in-Some-clause-found g c p settles =
     (omega arith) c.in-Some.ensures.below (omega (arith, index))
     (λ m low high. absurd (omega (arith, index, low, high)))
     (subst (λ (xs : List ℕ). IsFirstOf (slice_index xs) c.self.inside.index p place) numbers (c.in-Some.ensures.found p settles))
-    (c.draw.ensures.drawn ∙ ap byte_of here) (c.draw.ensures.left ∙ ap after_draw here)
+    (c.draw.ensures.drawn ∙ ap byte_of here) (c.draw.ensures.left ∙ ap after_draw here))
 
 pub returns-in-None-clause-found : goal.returns-in-None-clause-found
 returns-in-None-clause-found g c p settles =
-    c.until_later.ensures.found p settles
-    (subst (λ (ring : Ring). FailsFrom ring.index ring.numbers p) c.self.view_is (c.in-None.ensures.none p settles))
+    some_like link p c.args.self.now _ c.args._look c.until_later.result c.until_later.ensures.fits (c.until_later.ensures.found p settles
+    (subst (λ (ring : Ring). FailsFrom ring.index ring.numbers p) c.self.view_is (c.in-None.ensures.none p settles)))
 
 pub returns-in-None-clause-none : goal.returns-in-None-clause-none
 returns-in-None-clause-none g c p settles =

@@ -2,13 +2,13 @@ use Rattle.std.proofs.Common.{◌≡◌, ◌<◌, true, false, ap, sym, ◌∙�
 use borrow.Author.Count.{below_more}
 use Rattle.gen1_rolls.specs.Draws.{draws_of}
 use Rattle.gen1_rolls.specs.Streams.{iterate}
-use Rattle.gen1_rolls.proofs.Standing.{draws_of-full, iterate-more, none_meets, full_from, stands_at_itself}
+use Rattle.gen1_rolls.proofs.Standing.{draws_of-full, iterate-more, like_itself, none_meets, full_from, stands_at_itself}
 use Rattle.gen1_rolls.proofs.rolls.Rolls.until_as.Goals as goal
 
 pub returns-then-test-clause-found : goal.returns-then-test-clause-found
 returns-then-test-clause-found g c p settles =
     let drawn = c.draw-byte.ensures.drawn ∙ ap g.Self.Rolls.drawing.byte c.draws.invariant.drawn in
-    record {
+    like_itself c.args._look (omega arith) (record {
       passed = c.draws.counter;
       first =
           record {
@@ -19,7 +19,7 @@ returns-then-test-clause-found g c p settles =
       within = omega (arith, c.SPAN-end.ensures, c.draws-test.true, g.met.Self.Rolls.spans);
       is = drawn;
       left = c.draw-byte.ensures.left ∙ ap g.Self.Rolls.drawing.next c.draws.invariant.drawn ∙ sym (iterate-more g.Self.Rolls.drawing.next c.draws.counter c.args.self.now);
-    }
+    })
 
 pub draws-preserved : goal.draws-preserved
 draws-preserved g c =

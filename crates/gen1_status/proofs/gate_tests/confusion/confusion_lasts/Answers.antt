@@ -1,8 +1,10 @@
-use Rattle.gen1_layout.proofs.Words.{Field, Option, Some, Who, active_ok, ap, arith, changed_conditions, conditions_in, refl, stay, stays, still, subst, sym, told_so, who_in, ℕ, ◌∙◌}
+use Rattle.gen1_layout.proofs.Words.{Bool, Field, Option, Some, Who, active_ok, ap, arith, changed_conditions, choose, conditions_in, refl, stay, stays, still, subst, sym, told_so, who_in, ℕ, ◌∙◌}
+use Rattle.gen1_rolls.proofs.Standing.{alike_at_least}
 use Rattle.gen1_machine.specs.declared.event.Event.TheVariants as events
 use Rattle.gen1_machine.specs.declared.event.Volatile.TheVariants as volatiles
 use Rattle.gen1_machine.specs.Conditions.{with_confusion_one_less}
 use Rattle.gen1_machine.specs.Progress.{lasts}
+use Rattle.gen1_machine.specs.HitOnItself.{hurt_itself}
 use Rattle.gen1_machine.specs.Gate.{may_hurt_itself}
 use Rattle.gen1_machine.specs.Valid.{IsCount}
 use Rattle.gen1_machine.proofs.Keeps.{lasts-keeps, stay-keeps}
@@ -22,7 +24,8 @@ returns-then-draw_as-lt-HITS_ITSELF_FROM-clause-shown t c origin g p is h =
     let a = told_so h.shows {events' = t.S.EventSink.tells c.push.new.self} (changed_conditions c.args.side with_confusion_one_less) (λ (f : Field). events.Activate (who_in c.args.side f) volatiles.Confusion) w c.push.ensures.told
     (ap (λ (who : Who). events.Activate who volatiles.Confusion) (c.who.ensures.stands _ _ w)) in
     let b = still_tells h (tells Go (lasts c.args.side volatiles.Confusion with_confusion_one_less) refl (lasts-keeps c.args.side volatiles.Confusion with_confusion_one_less (conditions-spare _ c.args.side with_confusion_one_less)) a) in
-    tells_goes _ _ b (tells_drawing (may_hurt_itself c.args.side) b.shows c.draw_as.ensures.drawn c.draw_as.ensures.left
+    let same = ap (λ (x : Bool). choose (λ _. x) (hurt_itself c.args.side) stay) (alike_at_least _ _ 128 c.draw_as.ensures.drawn) in
+    tells_goes _ _ b (tells_drawing (may_hurt_itself c.args.side) c.draw_as.result b.shows same c.draw_as.ensures.left
     (λ d. tells_if_not _ _ _ (not_at_most 128 _ c.if-draw_as-lt-HITS_ITSELF_FROM.true) (drawn_tells Go stay refl stay-keeps (still d (stays d.shows) refl))))
 
 pub returns-clause-shown : goal.returns-clause-shown
@@ -35,5 +38,6 @@ returns-clause-shown t c origin g p is h =
     let a = told_so h.shows {events' = t.S.EventSink.tells c.push.new.self} (changed_conditions c.args.side with_confusion_one_less) (λ (f : Field). events.Activate (who_in c.args.side f) volatiles.Confusion) w c.push.ensures.told
     (ap (λ (who : Who). events.Activate who volatiles.Confusion) (c.who.ensures.stands _ _ w)) in
     let b = still_tells h (tells Go (lasts c.args.side volatiles.Confusion with_confusion_one_less) refl (lasts-keeps c.args.side volatiles.Confusion with_confusion_one_less (conditions-spare _ c.args.side with_confusion_one_less)) a) in
-    tells_goes _ _ b (tells_drawing (may_hurt_itself c.args.side) b.shows c.draw_as.ensures.drawn c.draw_as.ensures.left
+    let same = ap (λ (x : Bool). choose (λ _. x) (hurt_itself c.args.side) stay) (alike_at_least _ _ 128 c.draw_as.ensures.drawn) in
+    tells_goes _ _ b (tells_drawing (may_hurt_itself c.args.side) c.draw_as.result b.shows same c.draw_as.ensures.left
     (λ d. tells_if_so _ _ _ (at_most 128 _ c.if-draw_as-lt-HITS_ITSELF_FROM.false) (still_tells d (c.hurt_itself.ensures.shown _ _ d.shows))))

@@ -1,1 +1,0 @@
--- The landing of the last damage, for callers that pass it to `land`.
