@@ -31,7 +31,7 @@ use Rattle.gen1_machine.specs.View.{cleared, first_side_view, first_view, if_out
 use Rattle.gen1_player.specs.declared.public.Public.{Public}
 use Rattle.gen1_player.specs.declared.public_side.PublicSide.{PublicSide}
 use Rattle.gen1_player.specs.declared.seen.Seen.{Seen}
-use Rattle.gen1_player.specs.Public.{begins, comes_out, drops, ends_recharging, first_public, first_public_side, gets_status, hears, hears_all, if_seen_out, is_cleared, is_hurt_by, is_kept_by, not_seen, on_announced, on_out, on_public_side, on_seen, public_side, rises, seen_at, set_volatile, suffers_move, takes_types, uses_move}
+use Rattle.gen1_player.specs.Public.{acting, begins, broken_off_if, comes_out, drops, ends_recharging, first_public, first_public_side, gets_status, has_hit_itself, hears, hears_all, if_seen_out, is_cleared, is_kept_by, not_seen, on_announced, on_out, on_public_side, on_seen, prepares, public_side, rises, seen_at, set_volatile, settled, suffers_move, takes_damage, takes_in, takes_types, uses_move}
 use Rattle.gen1_player.specs.True.{AgreesWith, SideAgrees}
 use Rattle.gen1_player.proofs.Facts.{side_out, Sizes, size_of, Fits}
 
@@ -193,7 +193,7 @@ kept-essence reasons.Disabled y = refl
 kept-essence reasons.Paralysed y = refl
 kept-essence _ y = refl
 
-hurt-essence : (source : DamageSource) (y : PublicSide) → essence (on_announced (is_hurt_by source) y) ≡ essence y
+hurt-essence : (source : DamageSource) (y : PublicSide) → essence (takes_damage source y) ≡ essence y
 hurt-essence sources.Confusion y = refl
 hurt-essence _ y = refl
 
@@ -212,6 +212,13 @@ suffers-essence false y = refl
 
 uses-essence : (move : ℕ) (y : PublicSide) → essence (uses_move move y) ≡ essence y
 uses-essence move y = ap (λ (l : List Brief). record (essence y) { members = l }) (map-set_same brief y.members (y.place - 1) _ not_seen refl)
+
+prepares-essence : (move : ℕ) (y : PublicSide) → essence (prepares move y) ≡ essence y
+prepares-essence move y = ap (λ (l : List Brief). record (essence y) { members = l }) (map-set_same brief y.members (y.place - 1) _ not_seen refl)
+
+broken-meets : (k : ℕ) (b : Bool) (x : SideView) (y : PublicSide) → Meets k x y → Meets k x (broken_off_if b y)
+broken-meets k true x y m = m
+broken-meets k false x y m = m
 
 volatile-meets : (what : Volatile) (on : Bool) (k : ℕ) (x : SideView) (y : PublicSide) → 1 ≤ x.place → Meets k x y
     → Meets k (sees_volatile what on x) (on_announced (set_volatile what (bit_of on)) y)
@@ -389,8 +396,8 @@ module _ {n : Sizes} {v : View} {p : Public} where
   starts-meet s volatiles.Splash m = named s (sees_volatile volatiles.Splash true) (on_announced (set_volatile volatiles.Splash 1)) (volatile-meets volatiles.Splash true) m
 
   hits-meet : (s : Side) (h : ℕ) (source : DamageSource) → Both n v p
-      → Both n (on_side_view s (if_out (on_shown (λ x. record x { hp = h }))) v) (on_out s (λ y. on_announced (is_hurt_by source) (on_seen (λ z. record z { hp = h }) y)) p)
-  hits-meet s h source m = named s (on_shown (λ x. record x { hp = h })) (λ y. on_announced (is_hurt_by source) (on_seen (λ z. record z { hp = h }) y))
+      → Both n (on_side_view s (if_out (on_shown (λ x. record x { hp = h }))) v) (on_out s (λ y. takes_damage source (on_seen (λ z. record z { hp = h }) y)) p)
+  hits-meet s h source m = named s (on_shown (λ x. record x { hp = h })) (λ y. takes_damage source (on_seen (λ z. record z { hp = h }) y))
       (λ k x y o q. subst (Pairs k (on_shown (λ z. record z { hp = h }) x)) (sym (hurt-essence source (on_seen (λ z. record z { hp = h }) y)))
       (member-meets (λ z. record z { hp = h }) (λ z. record z { hp = h }) (λ z. record z { hp = h }) (λ z. refl) (λ z b l e. (refl, (l e).1)) k x y o q)) m
 
@@ -409,34 +416,48 @@ module _ {n : Sizes} {v : View} {p : Public} where
   unfolding on_out
   clears-meet m = record { one = haze-meets n.one v.one p.one m.one; two = haze-meets n.two v.two p.two m.two; turn = m.turn; outcome = m.outcome }
 
-  event-meets : (e : Event) → EventFits n e → Both n v p → Both n (sees e v) (hears e p)
-  unfolding sees hears on_named on_active_shown
-  event-meets (events.Turn i) f m = record { one = m.one; two = m.two; turn = refl; outcome = m.outcome }
-  event-meets (events.Switch w place level h) f m = side-meets w.side (sees_switch place h) (comes_out w.species place level h)
+  settled-meets : (e : Event) → Both n v p → Both n v (settled e p)
+  unfolding settled
+  settled-meets e m = record {
+    one = broken-meets n.one (has_hit_itself 1 (acting e) p.may_hit_itself) v.one p.one m.one;
+    two = broken-meets n.two (has_hit_itself 2 (acting e) p.may_hit_itself) v.two p.two m.two;
+    turn = m.turn;
+    outcome = m.outcome;
+  }
+
+  takes-meets : (e : Event) → EventFits n e → Both n v p → Both n (sees e v) (takes_in e p)
+  unfolding sees takes_in on_named on_active_shown
+  takes-meets (events.Turn i) f m = record { one = m.one; two = m.two; turn = refl; outcome = m.outcome }
+  takes-meets (events.Switch w place level h) f m = side-meets w.side (sees_switch place h) (comes_out w.species place level h)
       (switched-meets w.species place level h (size_of w.side n) (side_view w.side v) (public_side w.side p) f.0 f.1) m
-  event-meets (events.Move w move foe) f m = moves-meet w.side (other w.side) move m
-  event-meets (events.Cant w why) f m = quiet w.side (on_announced (is_kept_by why)) (kept-essence why) m
-  event-meets (events.Damage w h source) f m = hits-meet w.side h.hp source m
-  event-meets (events.Heal w h) f m = named w.side (on_shown (λ x. record x { hp = h.hp })) (on_seen (λ z. record z { hp = h.hp }))
+  takes-meets (events.Move w move foe) f m = moves-meet w.side (other w.side) move m
+  takes-meets (events.Cant w why) f m = quiet w.side (on_announced (is_kept_by why)) (kept-essence why) m
+  takes-meets (events.Damage w h source) f m = hits-meet w.side h.hp source m
+  takes-meets (events.Heal w h) f m = named w.side (on_shown (λ x. record x { hp = h.hp })) (on_seen (λ z. record z { hp = h.hp }))
       (member-meets (λ z. record z { hp = h.hp }) (λ z. record z { hp = h.hp }) (λ z. record z { hp = h.hp }) (λ z. refl) (λ z b l e. (refl, (l e).1))) m
-  event-meets (events.Status w kind) f m = gets-meet w.side kind (public_side (other w.side) p).last_move m
-  event-meets (events.Cure w kind) f m = named w.side (on_shown (λ x. record x { kind = None })) (on_seen (λ z. record z { status = 0 }))
+  takes-meets (events.Status w kind) f m = gets-meet w.side kind (public_side (other w.side) p).last_move m
+  takes-meets (events.Cure w kind) f m = named w.side (on_shown (λ x. record x { kind = None })) (on_seen (λ z. record z { status = 0 }))
       (member-meets (λ z. record z { kind = None }) (λ z. record z { status = 0 }) (λ z. record z { status = 0 }) (λ z. refl) (λ z b l e. ((l e).0, refl))) m
-  event-meets (events.Faint w) f m = named w.side (on_shown (λ x. not_shown)) (on_seen (λ z. record z { hp = 0; status = 0 }))
+  takes-meets (events.Faint w) f m = named w.side (on_shown (λ x. not_shown)) (on_seen (λ z. record z { hp = 0; status = 0 }))
       (member-meets (λ z. not_shown) (λ z. record z { hp = 0; status = 0 }) (λ z. record z { hp = 0; status = 0 }) (λ z. refl) (λ z b l e. (refl, refl))) m
-  event-meets (events.Boost w stat i) f m = named w.side (sees_rise stat i) (rises stat i)
+  takes-meets (events.Boost w stat i) f m = named w.side (sees_rise stat i) (rises stat i)
       (stages-meet (sees_rise stat i) (rises stat i) (λ z. with_stage stat (min 12 (stage_of stat z + i)) z) (λ x. refl) (λ y. refl)) m
-  event-meets (events.Unboost w stat i) f m = named w.side (sees_drop stat i) (drops stat i)
+  takes-meets (events.Unboost w stat i) f m = named w.side (sees_drop stat i) (drops stat i)
       (stages-meet (sees_drop stat i) (drops stat i) (λ z. with_stage stat (stage_of stat z - i) z) (λ x. refl) (λ y. refl)) m
-  event-meets events.ClearAll f m = clears-meet m
-  event-meets (events.Start w what) f m = starts-meet w.side what m
-  event-meets (events.End w what) f m = named w.side (sees_volatile what false) (on_announced (set_volatile what 0)) (volatile-meets what false) m
-  event-meets (events.Prepare w move) f m = quiet w.side (on_announced (λ a. record a { charging = 1 })) (λ y. refl) m
-  event-meets (events.MustRecharge w) f m = quiet w.side (on_announced (λ a. record a { recharging = 1 })) (λ y. refl) m
-  event-meets (events.Win s) f m = record { one = m.one; two = m.two; turn = m.turn; outcome = refl }
-  event-meets events.Tie f m = record { one = m.one; two = m.two; turn = m.turn; outcome = refl }
-  event-meets (events.Fault i) f m = record { one = m.one; two = m.two; turn = m.turn; outcome = refl }
-  event-meets _ f m = m
+  takes-meets events.ClearAll f m = clears-meet m
+  takes-meets (events.Start w what) f m = starts-meet w.side what m
+  takes-meets (events.End w what) f m = named w.side (sees_volatile what false) (on_announced (set_volatile what 0)) (volatile-meets what false) m
+  takes-meets (events.Prepare w move) f m = quiet w.side (prepares move) (prepares-essence move) m
+  takes-meets (events.Activate w what) f m = record { one = m.one; two = m.two; turn = m.turn; outcome = m.outcome }
+  takes-meets (events.MustRecharge w) f m = quiet w.side (on_announced (λ a. record a { recharging = 1 })) (λ y. refl) m
+  takes-meets (events.Win s) f m = record { one = m.one; two = m.two; turn = m.turn; outcome = refl }
+  takes-meets events.Tie f m = record { one = m.one; two = m.two; turn = m.turn; outcome = refl }
+  takes-meets (events.Fault i) f m = record { one = m.one; two = m.two; turn = m.turn; outcome = refl }
+  takes-meets _ f m = m
+
+event-meets : {n : Sizes} {v : View} {p : Public} (e : Event) → EventFits n e → Both n v p → Both n (sees e v) (hears e p)
+unfolding hears
+event-meets e f m = takes-meets e f (settled-meets e m)
 
 all-meet : (n : Sizes) (es : List Event) (v : View) (p : Public) → EachFits n es → Both n v p → Both n (sees_all es v) (hears_all es p)
 unfolding sees_all hears_all

@@ -27,10 +27,10 @@ use Rattle.gen1_player.specs.declared.public.Public.{Public}
 use Rattle.gen1_player.specs.declared.public_side.PublicSide.{PublicSide}
 use Rattle.gen1_player.specs.declared.seen.Seen.{Seen}
 use Rattle.gen1_player.specs.declared.seen.SeenMove.{SeenMove}
-use Rattle.gen1_player.specs.Public.{begins, comes_out, ends_recharging, gets_status, hears, is_cleared, is_hurt_by, is_kept_by, not_seen, not_used, on_announced, on_out, on_seen, public_side, seen_at, set_volatile, suffers_move, takes_types, used_in, used_once_more, uses_move}
+use Rattle.gen1_player.specs.Public.{activates, begins, comes_out, ends_recharging, gets_status, is_cleared, is_kept_by, not_seen, not_used, on_announced, on_out, on_seen, public_side, seen_at, set_volatile, settled, suffers_move, takes_damage, takes_in, takes_types, used_in, used_more}
 use Rattle.gen1_player.specs.True.{IsMoveOf, IsSeen}
 use Rattle.gen1_player.proofs.Facts.{side_out, is_noise, traits, Traits}
-use Rattle.gen1_player.proofs.HeardSides.{quiet-side, same-sides}
+use Rattle.gen1_player.proofs.HeardSides.{quiet-side, same-sides, settled-look}
 
 -- What shows of members besides HP and status
 
@@ -62,13 +62,16 @@ suffers-faces : (b : Bool) (x : PublicSide) → faces (if b then on_announced (�
 suffers-faces true x = refl
 suffers-faces false x = refl
 
-pub noise-faces : (e : Event) → is_noise e ≡ true → (u : Side) (p : Public) → faces (public_side u (hears e p)) ≡ faces (public_side u p)
-unfolding hears
+pub settled-faces : (e : Event) (u : Side) (p : Public) → faces (public_side u (settled e p)) ≡ faces (public_side u p)
+settled-faces e u p = settled-look faces e u p (λ x. refl)
+
+pub noise-faces : (e : Event) → is_noise e ≡ true → (u : Side) (p : Public) → faces (public_side u (takes_in e p)) ≡ faces (public_side u p)
+unfolding takes_in
 noise-faces (events.Turn i) h u p = same-sides faces u (record p { turn = i }) p refl refl
 noise-faces (events.Switch w place level k) h u p = absurd (true≢false (sym h))
 noise-faces (events.Move w move foe) h u p = absurd (true≢false (sym h))
 noise-faces (events.Cant w why) h u p = quiet-side faces w.side u (on_announced (is_kept_by why)) p (λ x. refl)
-noise-faces (events.Damage w k source) h u p = quiet-side faces w.side u (λ x. on_announced (is_hurt_by source) (on_seen (λ m. record m { hp = k.hp }) x)) p
+noise-faces (events.Damage w k source) h u p = quiet-side faces w.side u (λ x. takes_damage source (on_seen (λ m. record m { hp = k.hp }) x)) p
     (λ x. seen-faces (λ m. record m { hp = k.hp }) (λ s. refl) x)
 noise-faces (events.Heal w k) h u p = quiet-side faces w.side u (on_seen (λ m. record m { hp = k.hp })) p (λ x. seen-faces (λ m. record m { hp = k.hp }) (λ s. refl) x)
 noise-faces (events.Status w kind) h u p = quiet-side faces w.side u
@@ -81,11 +84,12 @@ noise-faces (events.Unboost w stat i) h u p = quiet-side faces w.side u _ p (λ 
 noise-faces events.ClearAll h u p = absurd (true≢false (sym h))
 noise-faces (events.Start w what) h u p = absurd (true≢false (sym h))
 noise-faces (events.End w what) h u p = absurd (true≢false (sym h))
-noise-faces (events.Prepare w move) h u p = quiet-side faces w.side u (on_announced (λ a. record a { charging = 1 })) p (λ x. refl)
+noise-faces (events.Prepare w move) h u p = absurd (true≢false (sym h))
+noise-faces (events.Activate w what) h u p = same-sides faces u (activates w.side what p) p refl refl
 noise-faces (events.MustRecharge w) h u p = quiet-side faces w.side u (on_announced (λ a. record a { recharging = 1 })) p (λ x. refl)
-noise-faces (events.Win s) h u p = same-sides faces u (hears (events.Win s) p) p refl refl
-noise-faces events.Tie h u p = same-sides faces u (hears events.Tie p) p refl refl
-noise-faces (events.Fault i) h u p = same-sides faces u (hears (events.Fault i) p) p refl refl
+noise-faces (events.Win s) h u p = same-sides faces u (takes_in (events.Win s) p) p refl refl
+noise-faces events.Tie h u p = same-sides faces u (takes_in events.Tie p) p refl refl
+noise-faces (events.Fault i) h u p = same-sides faces u (takes_in (events.Fault i) p) p refl refl
 noise-faces _ h u p = refl
 
 pub start-faces : (s : Side) (what : Volatile) (u : Side) (p : Public) → faces (public_side u (begins s what p)) ≡ faces (public_side u p)
@@ -153,7 +157,7 @@ set-shows ss qs i s low h all j = by (eqb_tells j i)
         (subst (λ (x : Face). Shows x (get_or qs i no_traits)) (sym (get_or-set_same ss i s no_face low)) h)
     by (inr e) = subst (λ (x : Face). Shows x (get_or qs j no_traits)) (sym (get_or-set_other ss i j s no_face e.1)) (all j)
 
--- One more use of a move
+-- More uses of a move
 
 set-allowed : (ids : List ℕ) (slots : List SeenMove) (i : ℕ) (m : SeenMove) → Allowed ids m.id → AllAllowed ids slots → AllAllowed ids (slice_set slots i m)
 set-allowed ids [] i m h all j = all j
@@ -162,21 +166,24 @@ set-allowed ids (x ∷ xs) zero m h all (suc j) = all (suc j)
 set-allowed ids (x ∷ xs) (suc i) m h all zero = all zero
 set-allowed ids (x ∷ xs) (suc i) m h all (suc j) = set-allowed ids xs i m h (λ l. all (suc l)) j
 
-used-allowed : (ids : List ℕ) (o : Option ℕ) (move : ℕ) (slots : List SeenMove) → Allowed ids move → AllAllowed ids slots → AllAllowed ids (used_in o move slots)
-used-allowed ids None move slots h all = all
-used-allowed ids (Some k) move slots h all = set-allowed ids slots k _ h all
+used-allowed : (ids : List ℕ) (more : ℕ) (o : Option ℕ) (move : ℕ) (slots : List SeenMove) → Allowed ids move → AllAllowed ids slots → AllAllowed ids (used_in more o move slots)
+used-allowed ids more None move slots h all = all
+used-allowed ids more (Some k) move slots h all = set-allowed ids slots k _ h all
 
-pub uses-shows : (move : ℕ) (x : PublicSide) (qs : List Traits) → 1 ≤ x.place → x.place ≤ length x.members → Allowed (get_or qs (x.place - 1) no_traits).moves move
-    → AllShow (map face x.members) qs → AllShow (map face (uses_move move x).members) qs
-uses-shows move x qs low high h all =
+abbrev pub shows_use : ℕ → ℕ → PublicSide → PublicSide
+shows_use more move x = on_seen (λ m. record m { moves = used_more more move m.moves }) x
+
+pub uses-shows : (more move : ℕ) (x : PublicSide) (qs : List Traits) → 1 ≤ x.place → x.place ≤ length x.members → Allowed (get_or qs (x.place - 1) no_traits).moves move
+    → AllShow (map face x.members) qs → AllShow (map face (shows_use more move x).members) qs
+uses-shows more move x qs low high h all =
     let i = x.place - 1 in
     let old : Seen = seen_at x.place x in
     let at : get_or (map face x.members) i no_face ≡ face old = get_or-map face x.members i not_seen in
     let was : Shows (face old) (get_or qs i no_traits) = subst (λ (s : Face). Shows s (get_or qs i no_traits)) at (all i) in
     let counted : length (map face x.members) ≡ length x.members = length-map x.members face in
-    subst (λ (l : List Face). AllShow l qs) (sym (map-set face x.members i (record old { moves = used_once_more move old.moves })))
-    (set-shows (map face x.members) qs i (face (record old { moves = used_once_more move old.moves })) (omega (arith, counted, low, high))
-    (record { is = was.is; moves = used-allowed (get_or qs i no_traits).moves _ move old.moves h was.moves }) all)
+    subst (λ (l : List Face). AllShow l qs) (sym (map-set face x.members i (record old { moves = used_more more move old.moves })))
+    (set-shows (map face x.members) qs i (face (record old { moves = used_more more move old.moves })) (omega (arith, counted, low, high))
+    (record { is = was.is; moves = used-allowed (get_or qs i no_traits).moves more _ move old.moves h was.moves }) all)
 
 -- A member comes out
 
@@ -201,11 +208,11 @@ set-face xs i s low =
     let e : length (map face xs) ≡ length xs = length-map xs face in
     ap (λ (l : List Face). get_or l i no_face) (map-set face xs i s) ∙ get_or-set_same (map face xs) i (face s) no_face (omega (arith, e, low))
 
-pub uses-face : (move : ℕ) (x : PublicSide) → 1 ≤ x.place → x.place ≤ length x.members
-    → (get_or (map face (uses_move move x).members) (x.place - 1) no_face).species ≡ (get_or (map face x.members) (x.place - 1) no_face).species
-uses-face move x low high =
+pub uses-face : (more move : ℕ) (x : PublicSide) → 1 ≤ x.place → x.place ≤ length x.members
+    → (get_or (map face (shows_use more move x).members) (x.place - 1) no_face).species ≡ (get_or (map face x.members) (x.place - 1) no_face).species
+uses-face more move x low high =
     let old : Seen = seen_at x.place x in
-    ap (λ (s : Face). s.species) (set-face x.members (x.place - 1) (record old { moves = used_once_more move old.moves }) (omega (arith, low, high)))
+    ap (λ (s : Face). s.species) (set-face x.members (x.place - 1) (record old { moves = used_more more move old.moves }) (omega (arith, low, high)))
     ∙ sym (ap (λ (s : Face). s.species) (get_or-map face x.members (x.place - 1) not_seen))
 
 pub comes-face : (species place level : ℕ) (h : Health) (x : PublicSide) → 1 ≤ place → place ≤ length x.members

@@ -19,15 +19,15 @@ use Rattle.gen1_machine.specs.SwitchingIn.{switch_event, with_sent_out}
 use Rattle.gen1_machine.proofs.Showing.{member-after, BothOut, IsOut}
 use Rattle.gen1_player.specs.declared.public.Public.{Public}
 use Rattle.gen1_player.specs.declared.public_side.PublicSide.{PublicSide}
-use Rattle.gen1_player.specs.Public.{comes_out, first_public, hears, hears_all, is_cleared, on_announced, on_out, public_side, set_volatile, takes_types}
+use Rattle.gen1_player.specs.Public.{comes_out, first_public, hears_all, is_cleared, on_announced, on_out, public_side, set_volatile, settled, takes_in, takes_types}
 use Rattle.gen1_player.specs.True.{ConditionsAgree, SideIsTold}
-use Rattle.gen1_player.proofs.Facts.{sent-place, sent-standing, marked, plain, sent, standing, with_cleared, Calm, Marks, Placid, Plain, Standing}
+use Rattle.gen1_player.proofs.Facts.{noise-is, sent-place, sent-standing, is_noise, marked, plain, sent, standing, with_cleared, Calm, Marks, Placid, Plain, Standing}
 use Rattle.gen1_player.proofs.Stories.{Story, Switching}
 use Rattle.gen1_machine.specs.Ruling.{ruling_of}
 use Rattle.gen1_player.proofs.ToldEffects.{ruling_of-tells}
 use Rattle.gen1_player.proofs.ToldActions.{says-any}
 use Rattle.gen1_player.proofs.ToldRuns.{story-runs}
-use Rattle.gen1_player.proofs.HeardSides.{clear-hears, come_out, comes-heard, end-hears, foe-side, heard, hears_all-last, held, known_of, marked-known, move-hears, moves-heard, noise-heard, out-side, set-heard, start-hears, switch-hears, types-hears, with_mark, with_types, without_most, Begins, Known}
+use Rattle.gen1_player.proofs.HeardSides.{clear-hears, come_out, comes-heard, end-hears, foe-side, heard, hears-in, hears_all-last, held, known_of, marked-known, move-hears, moves-heard, noise-heard, out-side, prepare-hears, prepares-heard, set-heard, settled-heard, start-hears, switch-hears, types-hears, with_mark, with_types, without_most, Begins, Known}
 
 -- One side
 
@@ -286,7 +286,7 @@ unfolding without_trapping
 trapping-calm c = refl
 
 both-sent : (s : Side) (place : ℕ) (f : Field) (p : Public) → 1 ≤ place → place ≤ length (party s f).members → Both f p
-    → Both (sent s place f) (hears (switch_event s place (sent s place f)) p)
+    → Both (sent s place f) (takes_in (switch_event s place (sent s place f)) p)
 unfolding changed_active changed_conditions
 both-sent One place f p low high m =
     let g : Field = sent One place f in
@@ -302,7 +302,7 @@ both-sent Two place f p low high m =
     })
 
 either-sent : (s : Side) (place : ℕ) (f : Field) (p : Public) → 1 ≤ place → place ≤ length (party s f).members → Either f p
-    → Either (sent s place f) (hears (switch_event s place (sent s place f)) p)
+    → Either (sent s place f) (takes_in (switch_event s place (sent s place f)) p)
 unfolding changed_active changed_conditions
 either-sent One place f p low high m =
     let g : Field = sent One place f in
@@ -322,38 +322,69 @@ either-sent Two place f p low high m =
 abbrev told_by : List Event → Public
 told_by es = hears_all es first_public
 
-next : (K : Field → Public → Type 0) (g : Field) (es : List Event) (e : Event) → K g (hears e (told_by es)) → K g (told_by (es ++ e ∷ []))
-next K g es e m = subst (K g) (sym (hears_all-last es e first_public)) m
+-- A hit on itself that no event reports changes nothing of these.
+
+both-settled : (e : Event) (f : Field) (p : Public) → Both f p → Both f (settled e p)
+both-settled e f p m = both-heard f p (settled e p) (λ u. settled-heard e u p) m
+
+either-settled : (e : Event) (f : Field) (p : Public) → Either f p → Either f (settled e p)
+either-settled e f p m = either-heard f p (settled e p) (λ u. settled-heard e u p) m
+
+next : (K : Field → Public → Type 0) (g : Field) (es : List Event) (e : Event) → K g (takes_in e (settled e (told_by es))) → K g (told_by (es ++ e ∷ []))
+next K g es e m = subst (K g) (sym (hears_all-last es e first_public ∙ hears-in e (told_by es))) m
 
 starts-both : (s : Side) (what : Volatile) (change : ActiveConditions → ActiveConditions) → Marks what true change → (f : Field) (es : List Event)
     → BothOut f → Both f (told_by es) → let g : Field = changed_conditions s change f in Both g (told_by (es ++ events.Start (who_in s g) what ∷ []))
 starts-both s what change h f es o m =
     let g : Field = changed_conditions s change f in
-    next Both g es (events.Start (who_in s g) what)
-    (subst (Both g) (sym (start-hears (who_in s g) what (told_by es) (marks-begins what true change h))) (both-marks s what true change h f (told_by es) o m))
+    let e : Event = events.Start (who_in s g) what in
+    let p : Public = settled e (told_by es) in
+    next Both g es e (subst (Both g) (sym (start-hears (who_in s g) what p (marks-begins what true change h))) (both-marks s what true change h f p o (both-settled e f (told_by es) m)))
 
 ends-both : (s : Side) (what : Volatile) (change : ActiveConditions → ActiveConditions) → Marks what false change → (f : Field) (es : List Event)
     → BothOut f → Both f (told_by es) → let g : Field = changed_conditions s change f in Both g (told_by (es ++ events.End (who_in s g) what ∷ []))
 ends-both s what change h f es o m =
     let g : Field = changed_conditions s change f in
-    next Both g es (events.End (who_in s g) what)
-    (subst (Both g) (sym (end-hears (who_in s g) what (told_by es))) (both-marks s what false change h f (told_by es) o m))
+    let e : Event = events.End (who_in s g) what in
+    let p : Public = settled e (told_by es) in
+    next Both g es e (subst (Both g) (sym (end-hears (who_in s g) what p)) (both-marks s what false change h f p o (both-settled e f (told_by es) m)))
 
 converts-both : (s : Side) (f : Field) (es : List Event) → BothOut f → Both f (told_by es)
     → let g : Field = changed_active s (with_types_of (active_in (other s) f)) f in Both g (told_by (es ++ events.Start (who_in s g) volatiles.TypeChange ∷ []))
 converts-both s f es o m =
     let g : Field = changed_active s (with_types_of (active_in (other s) f)) f in
-    next Both g es (events.Start (who_in s g) volatiles.TypeChange) (subst (Both g) (sym (types-hears (who_in s g) (told_by es))) (both-types s f (told_by es) o m))
+    let e : Event = events.Start (who_in s g) volatiles.TypeChange in
+    let p : Public = settled e (told_by es) in
+    next Both g es e (subst (Both g) (sym (types-hears (who_in s g) p)) (both-types s f p o (both-settled e f (told_by es) m)))
 
 clears-both : (f : Field) (es : List Event) → BothOut f → Both f (told_by es) → Both (with_cleared Two (with_cleared One f)) (told_by (es ++ events.ClearAll ∷ []))
 clears-both f es o m =
     let g : Field = with_cleared Two (with_cleared One f) in
-    next Both g es events.ClearAll (subst (Both g) (sym (clear-hears (told_by es))) (both-cleared f (told_by es) o m))
+    let p : Public = settled events.ClearAll (told_by es) in
+    next Both g es events.ClearAll (subst (Both g) (sym (clear-hears p)) (both-cleared f p o (both-settled events.ClearAll f (told_by es) m)))
 
 moves-both : (s : Side) (move : Move) (f : Field) (es : List Event) → Both f (told_by es) → Both f (told_by (es ++ events.Move (who_in s f) move.number (who_in (other s) f) ∷ []))
 moves-both s move f es m =
-    next Both f es (events.Move (who_in s f) move.number (who_in (other s) f)) (subst (Both f) (sym (move-hears (who_in s f) (who_in (other s) f) move.number (told_by es)))
-    (both-heard f (told_by es) _ (λ u. moves-heard s (other s) u move.number (told_by es)) m))
+    let e : Event = events.Move (who_in s f) move.number (who_in (other s) f) in
+    let p : Public = settled e (told_by es) in
+    next Both f es e (subst (Both f) (sym (move-hears (who_in s f) (who_in (other s) f) move.number p))
+    (both-heard f p _ (λ u. moves-heard s (other s) u move.number p) (both-settled e f (told_by es) m)))
+
+prepares-both : (s : Side) (move : Move) (f : Field) (es : List Event) → Both f (told_by es) → Both f (told_by (es ++ events.Prepare (who_in s f) move.number ∷ []))
+prepares-both s move f es m =
+    let e : Event = events.Prepare (who_in s f) move.number in
+    let p : Public = settled e (told_by es) in
+    next Both f es e (subst (Both f) (sym (prepare-hears (who_in s f) move.number p)) (both-heard f p _ (λ u. prepares-heard s u move.number p) (both-settled e f (told_by es) m)))
+
+noise-both : (e : Event) → is_noise e ≡ true → (f : Field) (es : List Event) → Both f (told_by es) → Both f (told_by (es ++ e ∷ []))
+noise-both e h f es m =
+    let p : Public = settled e (told_by es) in
+    next Both f es e (both-heard f p (takes_in e p) (λ u. noise-heard e h u p) (both-settled e f (told_by es) m))
+
+noise-either : (e : Event) → is_noise e ≡ true → (f : Field) (es : List Event) → Either f (told_by es) → Either f (told_by (es ++ e ∷ []))
+noise-either e h f es m =
+    let p : Public = settled e (told_by es) in
+    next Either f es e (either-heard f p (takes_in e p) (λ u. noise-heard e h u p) (either-settled e f (told_by es) m))
 
 none-fallen : (s : Side) (f : Field) → has_fallen_in s f ≡ false → not (lives (party s f)) ≡ false
 none-fallen One f e = e
@@ -370,24 +401,29 @@ telling = record {
   active = λ s change h f es m. both-active s change h f (told_by es) m;
   conditions = λ s change h f es m. both-conditions s change h f (told_by es) m;
   apart = λ f g es a b m. both-apart f g (told_by es) a b m;
-  noise = λ e h f es m. next Both f es e (both-heard f (told_by es) (hears e (told_by es)) (λ u. noise-heard e h u (told_by es)) m);
+  noise = λ e f h es m. noise-both e (noise-is f e h) f es m;
   starts = starts-both;
   ends = ends-both;
   converts = converts-both;
   clears = clears-both;
   moves = λ s move k f es o m. moves-both s move f es m;
+  prepares = λ s move k f es o m. prepares-both s move f es m;
   explodes = λ s f es o m. exploded s f (told_by es) o m;
   loose_active = λ s change h f es m. either-active s change h f (told_by es) m;
   loose_apart = λ f g es a b m. either-apart f g (told_by es) a b m;
-  loose_noise = λ e h f es m. next Either f es e (either-heard f (told_by es) (hears e (told_by es)) (λ u. noise-heard e h u (told_by es)) m);
+  loose_noise = λ e f h es m. noise-either e (noise-is f e h) f es m;
   loose_falls = λ s f es o m. either-falls s f (told_by es) o m;
 }
 
 telling-switches : Switching telling
 unfolding telling
 telling-switches = record {
-  sends = λ s place f es low high m. next Both (sent s place f) es (switch_event s place (sent s place f)) (both-sent s place f (told_by es) low high m);
-  loose_sends = λ s place f es low high m. next Either (sent s place f) es (switch_event s place (sent s place f)) (either-sent s place f (told_by es) low high m);
+  sends = λ s place f es low high m.
+      let e : Event = switch_event s place (sent s place f) in
+      next Both (sent s place f) es e (both-sent s place f (settled e (told_by es)) low high (both-settled e f (told_by es) m));
+  loose_sends = λ s place f es low high m.
+      let e : Event = switch_event s place (sent s place f) in
+      next Either (sent s place f) es e (either-sent s place f (settled e (told_by es)) low high (either-settled e f (told_by es) m));
 }
 
 -- What is left of it

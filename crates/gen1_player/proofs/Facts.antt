@@ -1,5 +1,5 @@
 -- What changes of a field and events leave as it is, and how many members the sides have.
-use Rattle.std.proofs.Common.{ap, slice_set, ◌-◌, Bool, List, None, Option, Some, false, is_some, map, refl, true, ℕ, ◌≡◌, ◌≤◌}
+use Rattle.std.proofs.Common.{ap, slice_set, sym, ◌-◌, Bool, List, None, Option, Some, false, is_some, map, refl, true, true≢false, ℕ, ◌≡◌, ◌≤◌}
 use Rattle.gen1_tables.specs.declared.element.Element.{Element}
 use Rattle.gen1_stats.specs.declared.known_move.KnownMove.{KnownMove}
 use Rattle.gen1_stats.specs.Members.{Member}
@@ -18,7 +18,7 @@ use Rattle.gen1_machine.specs.declared.event.Event.TheVariants as events
 use Rattle.gen1_machine.specs.declared.picks.DisabledSlot.{DisabledSlot}
 use Rattle.gen1_machine.specs.Sides.{other}
 use Rattle.gen1_machine.specs.Conditions.{after_haze, one_turn_less, with_confusion_one_less, with_disable_one_less, with_substitute_hurt, without_trapping, ActiveConditions}
-use Rattle.gen1_machine.specs.State.{level_stages, nobody_out, changed_active, changed_conditions, member_at, party, Active, Field}
+use Rattle.gen1_machine.specs.State.{level_stages, nobody_out, changed_active, changed_conditions, health_in, member_at, party, Active, Field}
 use Rattle.gen1_machine.specs.EarlyEffects.{with_levelled_stats}
 use Rattle.gen1_machine.specs.CurrentStats.{with_penalty_of}
 use Rattle.gen1_machine.specs.SwitchingIn.{with_sent_out}
@@ -118,10 +118,33 @@ Tame change = (m : Member) → traits (change m) ≡ traits m
 abbrev pub is_noise : Event → Bool
 is_noise (events.Switch w place level h) = false
 is_noise (events.Move w move foe) = false
+is_noise (events.Prepare w move) = false
 is_noise (events.Start w what) = false
 is_noise (events.End w what) = false
 is_noise events.ClearAll = false
 is_noise _ = true
+
+-- Those that name no health.
+abbrev pub is_still : Event → Bool
+is_still (events.Damage w h source) = false
+is_still (events.Heal w h) = false
+is_still event = is_noise event
+
+-- They name the health of the member that is out.
+abbrev pub Noise : Field → Event → Type 0
+Noise f (events.Damage w h source) = h ≡ health_in w.side f
+Noise f (events.Heal w h) = h ≡ health_in w.side f
+Noise f event = is_noise event ≡ true
+
+pub noise-is : (f : Field) (e : Event) → Noise f e → is_noise e ≡ true
+noise-is f (events.Damage w h source) n = refl
+noise-is f (events.Heal w h) n = refl
+noise-is f _ n = n
+
+pub still-is : (f : Field) (e : Event) → is_still e ≡ true → Noise f e
+still-is f (events.Damage w h source) n = absurd (true≢false (sym n))
+still-is f (events.Heal w h) n = absurd (true≢false (sym n))
+still-is f _ n = n
 
 -- Fields after a change of both sides, or of more than one part
 
@@ -141,6 +164,7 @@ side_out species place level h x = record x {
   second_type = number_of (species_row species).second_type;
   last_move = 0;
   announced = nothing_announced;
+  invulnerable = 0;
 }
 
 -- How many members the sides have.

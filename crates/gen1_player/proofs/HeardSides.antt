@@ -25,7 +25,7 @@ use Rattle.gen1_machine.specs.Sides.{other}
 use Rattle.gen1_machine.specs.State.{Party}
 use Rattle.gen1_player.specs.declared.public.Public.{Public}
 use Rattle.gen1_player.specs.declared.public_side.PublicSide.{PublicSide}
-use Rattle.gen1_player.specs.Public.{begins, comes_out, ends_recharging, gets_status, hears, hears_all, if_seen_out, is_cleared, is_hurt_by, is_kept_by, on_announced, on_out, on_public_side, on_seen, public_side, set_volatile, suffers_move, takes_types, uses_move}
+use Rattle.gen1_player.specs.Public.{acting, activates, begins, broken_off_if, comes_out, ends_recharging, gets_status, has_hit_itself, hears, hears_all, if_seen_out, is_cleared, is_kept_by, on_announced, on_out, on_public_side, on_seen, prepares, public_side, set_volatile, settled, suffers_move, takes_damage, takes_in, takes_types, uses_move}
 use Rattle.gen1_player.proofs.Facts.{side_out, is_noise, marked, plain, standing, Plain, Standing}
 
 -- What the log tells of a side's types and conditions. A flag is 1 or 0.
@@ -82,6 +82,10 @@ without_most k = record k { mist = 0; focus_energy = 0; disabled = 0; seeded = 0
 
 -- Sides
 
+pub hears-in : (e : Event) (p : Public) → hears e p ≡ takes_in e (settled e p)
+unfolding hears
+hears-in e p = refl
+
 pub hears_all-last : (es : List Event) (e : Event) (p : Public) → hears_all (es ++ e ∷ []) p ≡ hears e (hears_all es p)
 unfolding hears_all
 hears_all-last [] e p = refl
@@ -103,6 +107,21 @@ quiet-side look Two Two h p e = quiet-out look h p.two (e p.two)
 pub same-sides : {A : Type 0} (look : PublicSide → A) (u : Side) (p q : Public) → p.one ≡ q.one → p.two ≡ q.two → look (public_side u p) ≡ look (public_side u q)
 same-sides look One p q a b = ap look a
 same-sides look Two p q a b = ap look b
+
+-- A hit on itself that no event reports
+
+broken-look : {A : Type 0} (look : PublicSide → A) (b : Bool) (x : PublicSide) → look (takes_damage sources.Confusion x) ≡ look x → look (broken_off_if b x) ≡ look x
+broken-look look true x h = h
+broken-look look false x h = refl
+
+pub settled-look : {A : Type 0} (look : PublicSide → A) (e : Event) (u : Side) (p : Public) → ((x : PublicSide) → look (takes_damage sources.Confusion x) ≡ look x)
+    → look (public_side u (settled e p)) ≡ look (public_side u p)
+unfolding settled
+settled-look look e One p h = broken-look look (has_hit_itself 1 (acting e) p.may_hit_itself) p.one (h p.one)
+settled-look look e Two p h = broken-look look (has_hit_itself 2 (acting e) p.may_hit_itself) p.two (h p.two)
+
+pub settled-heard : (e : Event) (u : Side) (p : Public) → heard (public_side u (settled e p)) ≡ heard (public_side u p)
+settled-heard e u p = settled-look heard e u p (λ x. refl)
 
 -- An event of a side that is out.
 is-out : (h : PublicSide → PublicSide) (x : PublicSide) → 1 ≤ x.place → if_seen_out h x ≡ h x
@@ -131,7 +150,7 @@ kept-heard reasons.Disabled x = refl
 kept-heard reasons.Paralysed x = refl
 kept-heard _ x = refl
 
-hurt-heard : (source : DamageSource) (x : PublicSide) → heard (on_announced (is_hurt_by source) x) ≡ heard x
+hurt-heard : (source : DamageSource) (x : PublicSide) → heard (takes_damage source x) ≡ heard x
 hurt-heard sources.Confusion x = refl
 hurt-heard _ x = refl
 
@@ -152,13 +171,16 @@ pub moves-heard : (w foe u : Side) (move : ℕ) (p : Public) → heard (public_s
 moves-heard w foe u move p = quiet-side heard foe u (suffers_move move) (on_out w (uses_move move) p) (suffers-heard (ends_recharging (move_at move).effect))
     ∙ quiet-side heard w u (uses_move move) p (λ x. refl)
 
-pub noise-heard : (e : Event) → is_noise e ≡ true → (u : Side) (p : Public) → heard (public_side u (hears e p)) ≡ heard (public_side u p)
-unfolding hears
+pub prepares-heard : (w u : Side) (move : ℕ) (p : Public) → heard (public_side u (on_out w (prepares move) p)) ≡ heard (public_side u p)
+prepares-heard w u move p = quiet-side heard w u (prepares move) p (λ x. refl)
+
+pub noise-heard : (e : Event) → is_noise e ≡ true → (u : Side) (p : Public) → heard (public_side u (takes_in e p)) ≡ heard (public_side u p)
+unfolding takes_in
 noise-heard (events.Turn i) h u p = same-sides heard u (record p { turn = i }) p refl refl
 noise-heard (events.Switch w place level k) h u p = absurd (true≢false (sym h))
 noise-heard (events.Move w move foe) h u p = absurd (true≢false (sym h))
 noise-heard (events.Cant w why) h u p = quiet-side heard w.side u (on_announced (is_kept_by why)) p (kept-heard why)
-noise-heard (events.Damage w k source) h u p = quiet-side heard w.side u (λ x. on_announced (is_hurt_by source) (on_seen (λ m. record m { hp = k.hp }) x)) p (λ x. hurt-heard source (on_seen (λ m. record m { hp = k.hp }) x))
+noise-heard (events.Damage w k source) h u p = quiet-side heard w.side u (λ x. takes_damage source (on_seen (λ m. record m { hp = k.hp }) x)) p (λ x. hurt-heard source (on_seen (λ m. record m { hp = k.hp }) x))
 noise-heard (events.Heal w k) h u p = quiet-side heard w.side u (on_seen (λ m. record m { hp = k.hp })) p (λ x. refl)
 noise-heard (events.Status w kind) h u p = quiet-side heard w.side u
     (λ x. on_announced (gets_status kind (public_side (other w.side) p).last_move) (on_seen (λ m. record m { status = kind_number kind }) x)) p
@@ -170,11 +192,12 @@ noise-heard (events.Unboost w stat i) h u p = quiet-side heard w.side u _ p (λ 
 noise-heard events.ClearAll h u p = absurd (true≢false (sym h))
 noise-heard (events.Start w what) h u p = absurd (true≢false (sym h))
 noise-heard (events.End w what) h u p = absurd (true≢false (sym h))
-noise-heard (events.Prepare w move) h u p = quiet-side heard w.side u (on_announced (λ a. record a { charging = 1 })) p (λ x. refl)
+noise-heard (events.Prepare w move) h u p = absurd (true≢false (sym h))
+noise-heard (events.Activate w what) h u p = same-sides heard u (activates w.side what p) p refl refl
 noise-heard (events.MustRecharge w) h u p = quiet-side heard w.side u (on_announced (λ a. record a { recharging = 1 })) p (λ x. refl)
-noise-heard (events.Win s) h u p = same-sides heard u (hears (events.Win s) p) p refl refl
-noise-heard events.Tie h u p = same-sides heard u (hears events.Tie p) p refl refl
-noise-heard (events.Fault i) h u p = same-sides heard u (hears (events.Fault i) p) p refl refl
+noise-heard (events.Win s) h u p = same-sides heard u (takes_in (events.Win s) p) p refl refl
+noise-heard events.Tie h u p = same-sides heard u (takes_in events.Tie p) p refl refl
+noise-heard (events.Fault i) h u p = same-sides heard u (takes_in (events.Fault i) p) p refl refl
 noise-heard _ h u p = refl
 
 -- Announcements of these
@@ -229,28 +252,32 @@ begins-out s volatiles.TypeChange p h = absurd h
 begins-out s volatiles.Trapped p h = refl
 begins-out s volatiles.Splash p h = refl
 
-pub start-hears : (w : Who) (what : Volatile) (p : Public) → Begins what → hears (events.Start w what) p ≡ on_out w.side (on_announced (set_volatile what 1)) p
-unfolding hears
+pub start-hears : (w : Who) (what : Volatile) (p : Public) → Begins what → takes_in (events.Start w what) p ≡ on_out w.side (on_announced (set_volatile what 1)) p
+unfolding takes_in
 start-hears w what p h = begins-out w.side what p h
 
-pub types-hears : (w : Who) (p : Public) → hears (events.Start w volatiles.TypeChange) p ≡ on_out w.side (takes_types (public_side (other w.side) p)) p
-unfolding hears
+pub types-hears : (w : Who) (p : Public) → takes_in (events.Start w volatiles.TypeChange) p ≡ on_out w.side (takes_types (public_side (other w.side) p)) p
+unfolding takes_in
 types-hears w p = refl
 
-pub end-hears : (w : Who) (what : Volatile) (p : Public) → hears (events.End w what) p ≡ on_out w.side (on_announced (set_volatile what 0)) p
-unfolding hears
+pub end-hears : (w : Who) (what : Volatile) (p : Public) → takes_in (events.End w what) p ≡ on_out w.side (on_announced (set_volatile what 0)) p
+unfolding takes_in
 end-hears w what p = refl
 
-pub clear-hears : (p : Public) → hears events.ClearAll p ≡ on_out Two is_cleared (on_out One is_cleared p)
-unfolding hears
+pub clear-hears : (p : Public) → takes_in events.ClearAll p ≡ on_out Two is_cleared (on_out One is_cleared p)
+unfolding takes_in
 clear-hears p = refl
 
-pub move-hears : (w foe : Who) (move : ℕ) (p : Public) → hears (events.Move w move foe) p ≡ on_out (other w.side) (suffers_move move) (on_out w.side (uses_move move) p)
-unfolding hears
+pub move-hears : (w foe : Who) (move : ℕ) (p : Public) → takes_in (events.Move w move foe) p ≡ on_out (other w.side) (suffers_move move) (on_out w.side (uses_move move) p)
+unfolding takes_in
 move-hears w foe move p = refl
 
-pub switch-hears : (w : Who) (place level : ℕ) (h : Health) (p : Public) → hears (events.Switch w place level h) p ≡ on_public_side w.side (comes_out w.species place level h) p
-unfolding hears
+pub prepare-hears : (w : Who) (move : ℕ) (p : Public) → takes_in (events.Prepare w move) p ≡ on_out w.side (prepares move) p
+unfolding takes_in
+prepare-hears w move p = refl
+
+pub switch-hears : (w : Who) (place level : ℕ) (h : Health) (p : Public) → takes_in (events.Switch w place level h) p ≡ on_public_side w.side (comes_out w.species place level h) p
+unfolding takes_in
 switch-hears w place level h p = refl
 
 -- A member that comes out

@@ -12,8 +12,6 @@ pub mod Retellings
 pub mod OwnSides
 -- Offered choices from what is shown, and what is not shown.
 pub mod Fairness
--- Worked examples.
-pub mod WorkedOwnSides
 -- What is known of a battle by its events, phase by phase.
 pub mod Facts
 pub mod Stories
@@ -29,9 +27,13 @@ pub mod Placing
 -- What is public of types and conditions agrees with the battle.
 pub mod HeardSides
 pub mod Conditions
+-- What a side hears of what it is told is what is public, as the side knows it.
+pub mod Lenses
+pub mod ToldPublic
 -- What is public of members agrees with the battle.
 pub mod Appearing
 pub mod Members
+-- Worked examples.
 pub mod WorkedPlayers
 -- The player in two battles that give a side the same.
 pub mod FairPlayers

@@ -1,5 +1,5 @@
 -- After any run, a member that has appeared is the member at its place, and it was seen to use its own moves or Struggle.
-use Rattle.std.proofs.Common.{[], List, ap, arith, get_or, length, length-set, map, refl, subst, sym, ℕ, ◌++◌, ◌-◌, ◌∙◌, ◌∷◌, ◌≡◌, ◌≢◌, ◌<◌, ◌≤◌}
+use Rattle.std.proofs.Common.{[], List, ap, arith, get_or, length, length-set, map, refl, subst, sym, ℕ, true≢false, ◌++◌, ◌-◌, ◌∙◌, ◌∷◌, ◌≡◌, ◌≢◌, ◌<◌, ◌≤◌}
 use Rattle.std.proofs.lemmas.List.{length-map}
 use Rattle.std.proofs.Math.ListN.{get_or-map}
 use Rattle.std.proofs.Math.Seq.{map-set_same}
@@ -28,15 +28,16 @@ use Rattle.gen1_machine.proofs.Showing.{BothOut, IsOut}
 use Rattle.gen1_machine.proofs.Watching.{Lands, Rests, Runs}
 use Rattle.gen1_player.specs.declared.public.Public.{Public}
 use Rattle.gen1_player.specs.declared.public_side.PublicSide.{PublicSide}
-use Rattle.gen1_player.specs.Public.{begins, comes_out, first_public, hears, hears_all, not_seen, seen_at, on_out, public_side, uses_move}
-use Rattle.gen1_player.specs.True.{public_of, MembersAgree, SideHasAppeared}
-use Rattle.gen1_player.proofs.Facts.{sent-place, sent, traits, with_cleared, Sizes, Standing, Tame, Traits}
+use Rattle.gen1_player.specs.Public.{begins, comes_out, first_public, hears_all, not_seen, seen_at, on_out, prepares, public_side, settled, takes_in, uses_move}
+use Rattle.gen1_player.specs.True.{events_in, public_of, MembersAgree, OfRuns, SideHasAppeared}
+use Rattle.gen1_player.proofs.Facts.{noise-is, sent-place, sent, traits, with_cleared, Noise, Sizes, Standing, Tame, Traits}
 use Rattle.gen1_player.proofs.Stories.{MayFall, Story, Switching}
 use Rattle.gen1_player.proofs.ToldEffects.{ruling_of-tells}
 use Rattle.gen1_player.proofs.ToldActions.{carry_out-tells, Says}
 use Rattle.gen1_player.proofs.ToldRuns.{sizes_of, story-runs}
-use Rattle.gen1_player.proofs.HeardSides.{clear-hears, end-hears, foe-side, hears_all-last, move-hears, out-side, switch-hears}
-use Rattle.gen1_player.proofs.Appearing.{clear-faces, comes-faces, comes-shows, end-faces, face, faces, no_face, no_traits, noise-faces, none-show, shows-seen, start-faces, suffers-same, used-is-allowed, uses-face, comes-face, uses-shows, AllShow, Allowed, Face, Faces, Shows}
+use Rattle.gen1_player.proofs.Lenses.{tellable-last, AllTellable, Tellable}
+use Rattle.gen1_player.proofs.HeardSides.{clear-hears, end-hears, foe-side, hears-in, hears_all-last, move-hears, out-side, prepare-hears, switch-hears}
+use Rattle.gen1_player.proofs.Appearing.{AllShow, Allowed, Face, Faces, Shows, clear-faces, comes-face, comes-faces, comes-shows, end-faces, face, faces, no_face, no_traits, noise-faces, none-show, settled-faces, shows-seen, shows_use, start-faces, suffers-same, used-is-allowed, uses-face, uses-shows}
 
 -- The members of two teams, as no battle changes them.
 record Teams : Type 0 where
@@ -120,9 +121,9 @@ counted : (ts : List Traits) (z : Faces) (t : Party) → Appeared ts z t → len
 counted ts z t m = let e : length t.members ≡ length ts = sym (length-map t.members traits) ∙ ap length m.same in omega (arith, e, m.few)
 
 -- A side whose member uses a move.
-uses-appeared : (ts : List Traits) (x : PublicSide) (t : Party) (n : ℕ) → IsOut t → Allowed (get_or ts (t.active.place - 1) no_traits).moves n
-    → Appeared ts (faces x) t → Appeared ts (faces (uses_move n x)) t
-uses-appeared ts x t n o h m =
+uses-appeared : (ts : List Traits) (x : PublicSide) (t : Party) (more n : ℕ) → IsOut t → Allowed (get_or ts (t.active.place - 1) no_traits).moves n
+    → Appeared ts (faces x) t → Appeared ts (faces (shows_use more n x)) t
+uses-appeared ts x t more n o h m =
     let six : length x.members ≡ 6 = sym (length-map x.members face) ∙ m.six in
     let e : x.place ≡ t.active.place = m.place in
     let few = counted ts (faces x) t m in
@@ -134,25 +135,26 @@ uses-appeared ts x t n o h m =
       six = length-map _ face ∙ length-set x.members (x.place - 1) _ ∙ six;
       few = m.few;
       named = m.named;
-      out = λ z. subst (λ (i : ℕ). i ≢ 0) (sym (uses-face n x low high)) (m.out z);
-      shows = uses-shows n x ts low high
+      out = λ z. subst (λ (i : ℕ). i ≢ 0) (sym (uses-face more n x low high)) (m.out z);
+      shows = uses-shows more n x ts low high
           (subst (λ (i : ℕ). Allowed (get_or ts (i - 1) no_traits).moves n) (sym e) h) m.shows;
     }
 
-moved : (k : Teams) (s : Side) (n : ℕ) (f : Field) (p : Public) → BothOut f → Usable k s n f → Appears k f p → Appears k f (on_out s (uses_move n) p)
-moved k One n f p o h m =
+acted : (k : Teams) (s : Side) (more n : ℕ) (act : PublicSide → PublicSide) → ((x : PublicSide) → faces (act x) ≡ faces (shows_use more n x))
+    → (f : Field) (p : Public) → BothOut f → Usable k s n f → Appears k f p → Appears k f (on_out s act p)
+acted k One more n act same f p o h m =
     let e : p.one.place ≡ f.one.active.place = m.one.place in
     let low : 1 ≤ p.one.place = omega (arith, e, o.one.placed) in
     record {
-      one = subst (λ (x : PublicSide). Appeared k.one (faces x) f.one) (sym (out-side One (uses_move n) p low)) (uses-appeared k.one p.one f.one n o.one h m.one);
-      two = subst (λ (x : PublicSide). Appeared k.two (faces x) f.two) (sym (foe-side One (uses_move n) p)) m.two;
+      one = subst (λ (z : Faces). Appeared k.one z f.one) (sym (ap faces (out-side One act p low) ∙ same p.one)) (uses-appeared k.one p.one f.one more n o.one h m.one);
+      two = subst (λ (x : PublicSide). Appeared k.two (faces x) f.two) (sym (foe-side One act p)) m.two;
     }
-moved k Two n f p o h m =
+acted k Two more n act same f p o h m =
     let e : p.two.place ≡ f.two.active.place = m.two.place in
     let low : 1 ≤ p.two.place = omega (arith, e, o.two.placed) in
     record {
-      one = subst (λ (x : PublicSide). Appeared k.one (faces x) f.one) (sym (foe-side Two (uses_move n) p)) m.one;
-      two = subst (λ (x : PublicSide). Appeared k.two (faces x) f.two) (sym (out-side Two (uses_move n) p low)) (uses-appeared k.two p.two f.two n o.two h m.two);
+      one = subst (λ (x : PublicSide). Appeared k.one (faces x) f.one) (sym (foe-side Two act p)) m.one;
+      two = subst (λ (z : Faces). Appeared k.two z f.two) (sym (ap faces (out-side Two act p low) ∙ same p.two)) (uses-appeared k.two p.two f.two more n o.two h m.two);
     }
 
 -- A side whose member comes out.
@@ -180,7 +182,7 @@ member-out : (place : ℕ) (t : Party) → member_at (with_sent_out place (membe
 member-out place t = ap (λ (i : ℕ). member_at i t) (sent-place place (member_at place t) t.active)
 
 sent-appears : (k : Teams) (s : Side) (place : ℕ) (f : Field) (p : Public) → 1 ≤ place → place ≤ length (party s f).members → Appears k f p
-    → Appears k (sent s place f) (hears (switch_event s place (sent s place f)) p)
+    → Appears k (sent s place f) (takes_in (switch_event s place (sent s place f)) p)
 unfolding changed_active changed_conditions
 sent-appears k One place f p low high m =
     let g : Field = sent One place f in
@@ -197,13 +199,53 @@ sent-appears k Two place f p low high m =
           (with_sent_out place (member_at place f.two) f.two.active) (sent-place place (member_at place f.two) f.two.active) m.two;
     })
 
+-- A health that is told is that of the member that shows, and a switch names one of six places
+
+max-shown : (ts : List Traits) (x : PublicSide) (t : Party) → Appeared ts (faces x) t → x.place ≢ 0 → (member_at t.active.place t).max ≡ (seen_at x.place x).max
+max-shown ts x t m z =
+    let i : ℕ = x.place - 1 in
+    let at : get_or ts i no_traits ≡ traits (member_at x.place t) =
+    ap (λ (qs : List Traits). get_or qs i no_traits) (sym m.same) ∙ get_or-map traits t.members i nobody in
+    ap (λ (place : ℕ). (member_at place t).max) (sym m.place) ∙ sym (ap (λ (q : Traits). q.max) at) ∙ sym ((m.shows i).is (m.out z)).2
+    ∙ ap (λ (s : Face). s.max) (get_or-map face x.members i not_seen)
+
+health-shown : (k : Teams) (s : Side) (f : Field) (p : Public) → Appears k f p → (public_side s p).place ≢ 0
+    → (health_in s f).max ≡ (seen_at (public_side s p).place (public_side s p)).max
+health-shown k One f p m z = max-shown k.one p.one f.one m.one z
+health-shown k Two f p m z = max-shown k.two p.two f.two m.two z
+
+noise-tellable : (k : Teams) (e : Event) (f : Field) → Noise f e → (p : Public) → Appears k f p → Tellable e p
+noise-tellable k (events.Damage w h source) f n p m = λ z. ap (λ (q : Health). q.max) n ∙ health-shown k w.side f p m z
+noise-tellable k (events.Heal w h) f n p m = λ z. ap (λ (q : Health). q.max) n ∙ health-shown k w.side f p m z
+noise-tellable k (events.Switch w place level h) f n p m = absurd (true≢false (sym n))
+noise-tellable k _ f n p m = tt
+
+place-tellable : (ts : List Traits) (x : PublicSide) (t : Party) (place : ℕ) → Appeared ts (faces x) t → 1 ≤ place → place ≤ length t.members
+    → (place ≤ 6) × ((member_at place t).species ≢ 0)
+place-tellable ts x t place m low high =
+    let few = counted ts (faces x) t m in
+    let all : length t.members ≡ length ts = sym (length-map t.members traits) ∙ ap length m.same in
+    let at : get_or ts (place - 1) no_traits ≡ traits (member_at place t) =
+    ap (λ (qs : List Traits). get_or qs (place - 1) no_traits) (sym m.same) ∙ get_or-map traits t.members (place - 1) nobody in
+    (omega (arith, high, few), subst (λ (q : Traits). q.species ≢ 0) at (m.named (place - 1) (omega (arith, low, high, all))))
+
+sent-tellable : (k : Teams) (s : Side) (place : ℕ) (f : Field) (p : Public) → 1 ≤ place → place ≤ length (party s f).members → Appears k f p
+    → Tellable (switch_event s place (sent s place f)) p
+unfolding changed_active changed_conditions
+sent-tellable k One place f p low high m =
+    let is = place-tellable k.one p.one f.one place m.one low high in
+    (low, is.0, subst (λ (x : Member). x.species ≢ 0) (sym (member-out place f.one)) is.1)
+sent-tellable k Two place f p low high m =
+    let is = place-tellable k.two p.two f.two place m.two low high in
+    (low, is.0, subst (λ (x : Member). x.species ≢ 0) (sym (member-out place f.two)) is.1)
+
 -- The stories: of a whole battle, and of an action whose move is settled
 
 abbrev told_by : List Event → Public
 told_by es = hears_all es first_public
 
-start-begins : (w : Who) (what : Volatile) (p : Public) → hears (events.Start w what) p ≡ begins w.side what p
-unfolding hears
+start-begins : (w : Who) (what : Volatile) (p : Public) → takes_in (events.Start w what) p ≡ begins w.side what p
+unfolding takes_in
 start-begins w what p = refl
 
 -- A further fact about the places of active members.
@@ -215,44 +257,53 @@ record Further (U : Field → Type 0) : Type 0 where
 record With (k : Teams) (U : Field → Type 0) (f : Field) (es : List Event) : Type 0 where
   appears : Appears k f (told_by es)
   more : U f
+  each : AllTellable es first_public
 
 fallen-tame : Tame fallen
 unfolding fallen
 fallen-tame m = refl
 
 module _ {k : Teams} {U : Field → Type 0} (u : Further U) where
-  with-last : (f : Field) (es : List Event) (e : Event) → ((s : Side) → faces (public_side s (hears e (told_by es))) ≡ faces (public_side s (told_by es)))
-      → With k U f es → With k U f (es ++ e ∷ [])
-  with-last f es e h m = record {
-    appears = subst (Appears k f) (sym (hears_all-last es e first_public)) (appears-heard f (told_by es) (hears e (told_by es)) h m.appears);
+  with-settled : (f : Field) (es : List Event) (e : Event) → With k U f es → Appears k f (settled e (told_by es))
+  with-settled f es e m = appears-heard f (told_by es) (settled e (told_by es)) (λ s. settled-faces e s (told_by es)) m.appears
+
+  with-last : (f : Field) (es : List Event) (e : Event) → ((s : Side) (p : Public) → faces (public_side s (takes_in e p)) ≡ faces (public_side s p))
+      → Tellable e (told_by es) → With k U f es → With k U f (es ++ e ∷ [])
+  with-last f es e h fits m = record {
+    appears = let p : Public = settled e (told_by es) in
+        subst (Appears k f) (sym (hears_all-last es e first_public ∙ hears-in e (told_by es))) (appears-heard f p (takes_in e p) (λ s. h s p) (with-settled f es e m));
     more = m.more;
+    each = tellable-last es e first_public m.each fits;
   }
 
+  with-noise : (e : Event) (f : Field) → Noise f e → (es : List Event) → With k U f es → With k U f (es ++ e ∷ [])
+  with-noise e f h es m = with-last f es e (λ s p. noise-faces e (noise-is f e h) s p) (noise-tellable k e f h (told_by es) m.appears) m
+
   with-active : (s : Side) (change : Active → Active) → ((a : Active) → (change a).place ≡ a.place) → (f : Field) (es : List Event) → With k U f es → With k U (changed_active s change f) es
-  with-active s change h f es m = record { appears = appears-active s change h f (told_by es) m.appears; more = u.active s change h f m.more }
+  with-active s change h f es m = record { appears = appears-active s change h f (told_by es) m.appears; more = u.active s change h f m.more; each = m.each }
 
   with-conditions : (s : Side) (change : ActiveConditions → ActiveConditions) (f : Field) (es : List Event) → With k U f es → With k U (changed_conditions s change f) es
   unfolding changed_conditions
   with-conditions s change f es m = with-active s (λ a. record a { conditions = change a.conditions }) (λ a. refl) f es m
 
   with-member : (s : Side) (change : Member → Member) → Tame change → (f : Field) (es : List Event) → With k U f es → With k U (changed_member s change f) es
-  with-member s change h f es m = record { appears = appears-member s change h f (told_by es) m.appears; more = u.member s change f m.more }
+  with-member s change h f es m = record { appears = appears-member s change h f (told_by es) m.appears; more = u.member s change f m.more; each = m.each }
 
   with-apart : (f g : Field) (es : List Event) → f.one ≡ g.one → f.two ≡ g.two → With k U f es → With k U g es
-  with-apart f g es a b m = record { appears = appears-apart f g (told_by es) a b m.appears; more = u.apart f g a b m.more }
+  with-apart f g es a b m = record { appears = appears-apart f g (told_by es) a b m.appears; more = u.apart f g a b m.more; each = m.each }
 
   with-start : (w : Who) (what : Volatile) (f : Field) (es : List Event) → With k U f es → With k U f (es ++ events.Start w what ∷ [])
   with-start w what f es m = with-last f es (events.Start w what)
-      (λ s. ap (λ (p : Public). faces (public_side s p)) (start-begins w what (told_by es)) ∙ start-faces w.side what s (told_by es)) m
+      (λ s p. ap (λ (q : Public). faces (public_side s q)) (start-begins w what p) ∙ start-faces w.side what s p) tt m
 
   with-end : (w : Who) (what : Volatile) (f : Field) (es : List Event) → With k U f es → With k U f (es ++ events.End w what ∷ [])
   with-end w what f es m = with-last f es (events.End w what)
-      (λ s. ap (λ (p : Public). faces (public_side s p)) (end-hears w what (told_by es)) ∙ end-faces w.side what s (told_by es)) m
+      (λ s p. ap (λ (q : Public). faces (public_side s q)) (end-hears w what p) ∙ end-faces w.side what s p) tt m
 
   with-clear : (f : Field) (es : List Event) → With k U f es → With k U (with_cleared Two (with_cleared One f)) (es ++ events.ClearAll ∷ [])
   unfolding with_levelled_stats
   with-clear f es m = with-last _ es events.ClearAll
-      (λ s. ap (λ (p : Public). faces (public_side s p)) (clear-hears (told_by es)) ∙ clear-faces s (told_by es))
+      (λ s p. ap (λ (q : Public). faces (public_side s q)) (clear-hears p) ∙ clear-faces s p) tt
       (with-conditions Two after_haze _ es (with-active Two with_levelled_stats (λ a. refl) _ es
       (with-conditions One after_haze _ es (with-active One with_levelled_stats (λ a. refl) f es m))))
 
@@ -264,13 +315,28 @@ module _ {k : Teams} {U : Field → Type 0} (u : Further U) where
   with-move : (s : Side) (move : Move) → ((f : Field) → U f → Usable k s move.number f) → (f : Field) (es : List Event) → BothOut f → With k U f es
       → With k U f (es ++ events.Move (who_in s f) move.number (who_in (other s) f) ∷ [])
   with-move s move h f es o m =
-      let p : Public = told_by es in
       let n : ℕ = move.number in
       let e : Event = events.Move (who_in s f) n (who_in (other s) f) in
+      let p : Public = settled e (told_by es) in
       record {
-        appears = subst (Appears k f) (sym (hears_all-last es e first_public)) (subst (Appears k f) (sym (move-hears (who_in s f) (who_in (other s) f) n p))
-            (appears-heard f (on_out s (uses_move n) p) _ (λ t. suffers-same (other s) t n (on_out s (uses_move n) p)) (moved k s n f p o (h f m.more) m.appears)));
+        appears = subst (Appears k f) (sym (hears_all-last es e first_public ∙ hears-in e (told_by es) ∙ move-hears (who_in s f) (who_in (other s) f) n p))
+            (appears-heard f (on_out s (uses_move n) p) _ (λ t. suffers-same (other s) t n (on_out s (uses_move n) p))
+            (acted k s 1 n (uses_move n) (λ x. refl) f p o (h f m.more) (with-settled f es e m)));
         more = m.more;
+        each = tellable-last es e first_public m.each tt;
+      }
+
+  with-prepare : (s : Side) (move : Move) → ((f : Field) → U f → Usable k s move.number f) → (f : Field) (es : List Event) → BothOut f → With k U f es
+      → With k U f (es ++ events.Prepare (who_in s f) move.number ∷ [])
+  with-prepare s move h f es o m =
+      let n : ℕ = move.number in
+      let e : Event = events.Prepare (who_in s f) n in
+      let p : Public = settled e (told_by es) in
+      record {
+        appears = subst (Appears k f) (sym (hears_all-last es e first_public ∙ hears-in e (told_by es) ∙ prepare-hears (who_in s f) n p))
+            (acted k s 0 n (prepares n) (λ x. refl) f p o (h f m.more) (with-settled f es e m));
+        more = m.more;
+        each = tellable-last es e first_public m.each tt;
       }
 
 appearing : (k : Teams) (U : Field → Type 0) → Further U → Story
@@ -284,16 +350,17 @@ appearing k U u = record {
   active = λ s change h f es m. with-active u s change (λ a. ap (λ (x : Standing). x.place) (h a)) f es m;
   conditions = λ s change h f es m. with-conditions u s change f es m;
   apart = λ f g es a b m. with-apart u f g es a b m;
-  noise = λ e h f es m. with-last u f es e (λ s. noise-faces e h s (told_by es)) m;
+  noise = λ e f h es m. with-noise u e f h es m;
   starts = λ s what change h f es o m. with-start u _ what _ es (with-conditions u s change f es m);
   ends = λ s what change h f es o m. with-end u _ what _ es (with-conditions u s change f es m);
   converts = λ s f es o m. with-convert u s f es m;
   clears = λ f es o m. with-clear u f es m;
   moves = λ s move h f es o m. with-move u s move h f es o m;
+  prepares = λ s move h f es o m. with-prepare u s move h f es o m;
   explodes = λ s f es o m. with-conditions u s without_seed _ es (with-member u s fallen fallen-tame f es m);
   loose_active = λ s change h f es m. with-active u s change (λ a. ap (λ (x : Standing). x.place) (h a)) f es m;
   loose_apart = λ f g es a b m. with-apart u f g es a b m;
-  loose_noise = λ e h f es m. with-last u f es e (λ s. noise-faces e h s (told_by es)) m;
+  loose_noise = λ e f h es m. with-noise u e f h es m;
   loose_falls = λ s f es o m. with-member u s fallen fallen-tame f es m;
 }
 
@@ -303,16 +370,26 @@ nothing-further = record { active = λ s change h f m. tt; member = λ s change 
 abbrev of_battle : Teams → Story
 of_battle k = appearing k (λ f. Unit {0}) nothing-further
 
+sent-last : (k : Teams) (s : Side) (place : ℕ) (f : Field) (es : List Event) → 1 ≤ place → place ≤ length (party s f).members → Appears k f (told_by es)
+    → Appears k (sent s place f) (told_by (es ++ switch_event s place (sent s place f) ∷ []))
+sent-last k s place f es low high m =
+    let e : Event = switch_event s place (sent s place f) in
+    let p : Public = settled e (told_by es) in
+    subst (Appears k (sent s place f)) (sym (hears_all-last es e first_public ∙ hears-in e (told_by es)))
+    (sent-appears k s place f p low high (appears-heard f (told_by es) p (λ u. settled-faces e u (told_by es)) m))
+
 battle-switches : (k : Teams) → Switching (of_battle k)
 unfolding appearing
 battle-switches k = record {
   sends = λ s place f es low high m. record {
-    appears = subst (Appears k (sent s place f)) (sym (hears_all-last es (switch_event s place (sent s place f)) first_public)) (sent-appears k s place f (told_by es) low high m.appears);
+    appears = sent-last k s place f es low high m.appears;
     more = tt;
+    each = tellable-last es _ first_public m.each (sent-tellable k s place f (told_by es) low high m.appears);
   };
   loose_sends = λ s place f es low high m. record {
-    appears = subst (Appears k (sent s place f)) (sym (hears_all-last es (switch_event s place (sent s place f)) first_public)) (sent-appears k s place f (told_by es) low high m.appears);
+    appears = sent-last k s place f es low high m.appears;
     more = tt;
+    each = tellable-last es _ first_public m.each (sent-tellable k s place f (told_by es) low high m.appears);
   };
 }
 
@@ -358,8 +435,8 @@ taken-usable k Two pick f p m = subst (λ (q : Traits). Allowed q.moves (number_
 forget : (k : Teams) (s : Side) (i : ℕ) (n : Sizes) (pre : List Event) (q : Progress) → Lands (MayFall (of_action k s i) n pre) (MayFall (of_action k s i) n pre) q
     → Lands (MayFall (of_battle k) n pre) (MayFall (of_battle k) n pre) q
 unfolding appearing
-forget k s i n pre q (Runs r m) = Runs r (record { begun = m.begun; loose = record { appears = m.loose.appears; more = tt } })
-forget k s i n pre q (Rests r m) = Rests r (record { begun = m.begun; loose = record { appears = m.loose.appears; more = tt } })
+forget k s i n pre q (Runs r m) = Runs r (record { begun = m.begun; loose = record { appears = m.loose.appears; more = tt; each = m.loose.each } })
+forget k s i n pre q (Rests r m) = Rests r (record { begun = m.begun; loose = record { appears = m.loose.appears; more = tt; each = m.loose.each } })
 
 says : (k : Teams) (n : Sizes) (pre : List Event) (t : Terms) → Says (of_battle k) n pre (ruling_of t)
 unfolding given appearing
@@ -367,7 +444,7 @@ says k n pre t s pick = record {
   leads = λ p r m.
       let i : ℕ = number_in (used_by pick (active s p).current_move) (member s p).moves in
       forget k s i n pre _ ((carry_out-tells {v = of_action k s i} {z = n} {pre = pre} (ruling_of t) (ruling_of-tells t) s pick (move_taken_in s pick p.field) (λ f u. u)).leads p r
-      (record { begun = m.begun; exact = record { appears = m.exact.appears; more = taken-usable k s pick p.field (told_by (pre ++ p.events)) m.exact.appears } }));
+      (record { begun = m.begun; exact = record { appears = m.exact.appears; more = taken-usable k s pick p.field (told_by (pre ++ p.events)) m.exact.appears; each = m.exact.each } }));
 }
 
 -- What is left of it
@@ -398,13 +475,25 @@ first-appeared team h t e z = record {
   shows = none-show 6 (map traits team);
 }
 
-pub members_agree : MembersAgree
+-- After any run the story of the battle is true.
+abbrev Ends : List Member → List Member → Ran → Type 0
+Ends one two r = With (record { one = map traits one; two = map traits two }) (λ f. Unit {0}) r.state.field (events_in r)
+
+ends : OfRuns Ends
 unfolding hears_all appearing
-members_agree t one two seed pairs a b =
+ends t one two seed pairs a b =
     let k : Teams = record { one = map traits one; two = map traits two } in
-    let r : Ran = run (first_state t one two seed) pairs in
-    let m = story-runs (of_battle k) t one two seed pairs a b (battle-switches k) (λ pre t. says k (sizes_of one two) pre t) (record {
+    story-runs (of_battle k) t one two seed pairs a b (battle-switches k) (λ pre t. says k (sizes_of one two) pre t) (record {
       appears = record { one = first-appeared one a _ refl refl; two = first-appeared two b _ refl refl };
       more = tt;
-    }) in
-    (side-appeared k.one (public_of r).one r.state.field.one m.appears.one, side-appeared k.two (public_of r).two r.state.field.two m.appears.two)
+      each = tt;
+    })
+
+pub members_agree : MembersAgree
+members_agree t one two seed pairs a b =
+    let r : Ran = run (first_state t one two seed) pairs in
+    let m : Ends one two r = ends t one two seed pairs a b in
+    (side-appeared (map traits one) (public_of r).one r.state.field.one m.appears.one, side-appeared (map traits two) (public_of r).two r.state.field.two m.appears.two)
+
+pub all-tellable : OfRuns (λ one two r. AllTellable (events_in r) first_public)
+all-tellable t one two seed pairs a b = (ends t one two seed pairs a b).each

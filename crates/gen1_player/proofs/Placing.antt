@@ -10,7 +10,7 @@ use Rattle.gen1_machine.specs.Step.{run, Ran}
 use Rattle.gen1_machine.specs.View.{View}
 use Rattle.gen1_machine.proofs.Spectators.{watcher_knows}
 use Rattle.gen1_player.specs.True.{events_in, public_of, AgreesWith, PublicAgrees, PublicAgreesWithView}
-use Rattle.gen1_player.proofs.Facts.{is_noise, Sizes, Fits}
+use Rattle.gen1_player.proofs.Facts.{is_noise, noise-is, Sizes, Fits}
 use Rattle.gen1_player.proofs.Stories.{Sized, Story, Switching}
 use Rattle.gen1_machine.specs.Ruling.{ruling_of}
 use Rattle.gen1_player.proofs.ToldEffects.{ruling_of-tells}
@@ -73,16 +73,17 @@ placing n = record {
   active = λ s change h f es m. placed-active s change f es m;
   conditions = λ s change h f es m. placed-active s _ f es m;
   apart = λ f g es a b m. placed-same f g es a b m;
-  noise = λ e h f es m. placed-last n f es e (noise-fits n e h) m;
+  noise = λ e f h es m. placed-last n f es e (noise-fits n e (noise-is f e h)) m;
   starts = λ s what change h f es o m. placed-last n _ es _ tt (placed-active s _ f es m);
   ends = λ s what change h f es o m. placed-last n _ es _ tt (placed-active s _ f es m);
   converts = λ s f es o m. placed-last n _ es _ tt (placed-active s _ f es m);
   clears = λ f es o m. placed-last n _ es _ tt (placed-active Two _ _ es (placed-active Two _ _ es (placed-active One _ _ es (placed-active One _ f es m))));
   moves = λ s move k f es o m. placed-last n f es _ tt m;
+  prepares = λ s move k f es o m. placed-last n f es _ tt m;
   explodes = λ s f es o m. placed-active s _ _ es (placed-member s _ f es m);
   loose_active = λ s change h f es m. placed-active s change f es m;
   loose_apart = λ f g es a b m. placed-same f g es a b m;
-  loose_noise = λ e h f es m. placed-last n f es e (noise-fits n e h) m;
+  loose_noise = λ e f h es m. placed-last n f es e (noise-fits n e (noise-is f e h)) m;
   loose_falls = λ s f es o m. placed-member s _ f es m;
 }
 

@@ -23,7 +23,7 @@ use Rattle.gen1_machine.specs.Progress.{cure, stop, draw, draw_until, ends, faul
 use Rattle.gen1_machine.specs.SwitchingIn.{switch_event}
 use Rattle.gen1_machine.proofs.Showing.{keeps-active, keeps-member, BothOut}
 use Rattle.gen1_machine.proofs.Watching.{choose-tells, stay-tells, stop-leads, ◌⊳◌, Lands, Leads, Runs}
-use Rattle.gen1_player.proofs.Facts.{penalty-placid, Calm, Marks, Standing, Placid, Tame, is_noise, with_cleared, sent, Sizes}
+use Rattle.gen1_player.proofs.Facts.{penalty-placid, still-is, Calm, Marks, Noise, Standing, Placid, Tame, is_still, with_cleared, sent, Sizes}
 
 -- Stories
 
@@ -40,7 +40,7 @@ pub record Story : Type 1 where
   pub conditions : (s : Side) (change : ActiveConditions → ActiveConditions) → Calm change → (f : Field) (es : List Event)
       → exact f es → exact (changed_conditions s change f) es
   pub apart : (f g : Field) (es : List Event) → f.one ≡ g.one → f.two ≡ g.two → exact f es → exact g es
-  pub noise : (e : Event) → is_noise e ≡ true → (f : Field) (es : List Event) → exact f es → exact f (es ++ e ∷ [])
+  pub noise : (e : Event) (f : Field) → Noise f e → (es : List Event) → exact f es → exact f (es ++ e ∷ [])
   pub starts : (s : Side) (what : Volatile) (change : ActiveConditions → ActiveConditions) → Marks what true change → (f : Field) (es : List Event)
       → BothOut f → exact f es → exact (changed_conditions s change f) (es ++ events.Start (who_in s (changed_conditions s change f)) what ∷ [])
   pub ends : (s : Side) (what : Volatile) (change : ActiveConditions → ActiveConditions) → Marks what false change → (f : Field) (es : List Event)
@@ -50,10 +50,12 @@ pub record Story : Type 1 where
   pub clears : (f : Field) (es : List Event) → BothOut f → exact f es → exact (with_cleared Two (with_cleared One f)) (es ++ events.ClearAll ∷ [])
   pub moves : (s : Side) (move : Move) → said s move → (f : Field) (es : List Event) → BothOut f → exact f es
       → exact f (es ++ events.Move (who_in s f) move.number (who_in (other s) f) ∷ [])
+  pub prepares : (s : Side) (move : Move) → said s move → (f : Field) (es : List Event) → BothOut f → exact f es
+      → exact f (es ++ events.Prepare (who_in s f) move.number ∷ [])
   pub explodes : (s : Side) (f : Field) (es : List Event) → BothOut f → exact f es → loose (changed_conditions s without_seed (changed_member s fallen f)) es
   pub loose_active : (s : Side) (change : Active → Active) → Placid change → (f : Field) (es : List Event) → loose f es → loose (changed_active s change f) es
   pub loose_apart : (f g : Field) (es : List Event) → f.one ≡ g.one → f.two ≡ g.two → loose f es → loose g es
-  pub loose_noise : (e : Event) → is_noise e ≡ true → (f : Field) (es : List Event) → loose f es → loose f (es ++ e ∷ [])
+  pub loose_noise : (e : Event) (f : Field) → Noise f e → (es : List Event) → loose f es → loose f (es ++ e ∷ [])
   pub loose_falls : (s : Side) (f : Field) (es : List Event) → BothOut f → loose f es → loose (changed_member s fallen f) es
 
 -- Why a member that comes out keeps a story true.
@@ -131,14 +133,17 @@ module _ {v : Story} {n : Sizes} {pre : List Event} where
   pub holds-member : (s : Side) (change : Member → Member) → Tame change → (f : Field) (es : List Event) → Holds v n pre f es → Holds v n pre (changed_member s change f) es
   holds-member s change h f es m = record { begun = begun-member s change f m.begun; exact = v.member s change h f (pre ++ es) m.exact }
 
-  pub holds-noise : (e : Event) → is_noise e ≡ true → (f : Field) (es : List Event) → Holds v n pre f es → Holds v n pre f (es ++ e ∷ [])
-  holds-noise e h f es m = record { begun = m.begun; exact = at_end v.exact f pre es e (v.noise e h f (pre ++ es) m.exact) }
+  holds-health : (e : Event) (f : Field) → Noise f e → (es : List Event) → Holds v n pre f es → Holds v n pre f (es ++ e ∷ [])
+  holds-health e f h es m = record { begun = m.begun; exact = at_end v.exact f pre es e (v.noise e f h (pre ++ es) m.exact) }
+
+  pub holds-noise : (e : Event) → is_still e ≡ true → (f : Field) (es : List Event) → Holds v n pre f es → Holds v n pre f (es ++ e ∷ [])
+  holds-noise e h f es m = holds-health e f (still-is f e h) es m
 
   pub may-active : (s : Side) (change : Active → Active) → Placid change → (f : Field) (es : List Event) → May v n pre f es → May v n pre (changed_active s change f) es
   may-active s change h f es m = record { begun = begun-active s change f (λ a. ap place_of (h a)) m.begun; loose = v.loose_active s change h f (pre ++ es) m.loose }
 
-  pub may-noise : (e : Event) → is_noise e ≡ true → (f : Field) (es : List Event) → May v n pre f es → May v n pre f (es ++ e ∷ [])
-  may-noise e h f es m = record { begun = m.begun; loose = at_end v.loose f pre es e (v.loose_noise e h f (pre ++ es) m.loose) }
+  pub may-noise : (e : Event) → is_still e ≡ true → (f : Field) (es : List Event) → May v n pre f es → May v n pre f (es ++ e ∷ [])
+  may-noise e h f es m = record { begun = m.begun; loose = at_end v.loose f pre es e (v.loose_noise e f (still-is f e h) (pre ++ es) m.loose) }
 
   pub loosened : (p : Progress) → Now v n pre p → MayFall v n pre p
   loosened p m = record { begun = m.begun; loose = v.loosen p.field (pre ++ p.events) m.exact }
@@ -175,10 +180,10 @@ module _ {v : Story} {n : Sizes} {pre : List Event} {S : Progress → Type 0} wh
 
   -- An event that a story doesn't follow.
   pub told-noise : (change : Field → Field) (event : Field → Event) → ((f : Field) (es : List Event) → Holds v n pre f es → Holds v n pre (change f) es)
-      → ((f : Field) → is_noise (event f) ≡ true) → Leads (Now v n pre) (Now v n pre) S (told change event)
+      → ((f : Field) → is_still (event f) ≡ true) → Leads (Now v n pre) (Now v n pre) S (told change event)
   told-noise change event h k = told-tells change event (λ f es m. holds-noise (event (change f)) (k (change f)) (change f) es (h f es m))
 
-  pub note-tells : (event : Field → Event) → ((f : Field) → is_noise (event f) ≡ true) → Leads (Now v n pre) (Now v n pre) S (note event)
+  pub note-tells : (event : Field → Event) → ((f : Field) → is_still (event f) ≡ true) → Leads (Now v n pre) (Now v n pre) S (note event)
   unfolding note
   note-tells event h = record { leads = λ p r m. Runs r (holds-noise (event p.field) (h p.field) p.field p.events m) }
 
@@ -227,12 +232,14 @@ module _ {v : Story} {n : Sizes} {pre : List Event} {S : Progress → Type 0} wh
   pub lose-tells : (s : Side) (source : DamageSource) (amount : ℕ) → Leads (Now v n pre) (Now v n pre) S (lose_hp s source amount)
   unfolding lose_hp hurt_by
   lose-tells s source amount = choose-tells _
-      (told-noise (changed_member s (hurt_by amount)) (λ f. events.Damage (who_in s f) (health_in s f) source) (holds-member s (hurt_by amount) (λ m. refl)) (λ f. refl)) stay-tells
+      (told-tells (changed_member s (hurt_by amount)) (λ f. events.Damage (who_in s f) (health_in s f) source)
+      (λ f es m. holds-health _ (changed_member s (hurt_by amount) f) refl es (holds-member s (hurt_by amount) (λ m. refl) f es m))) stay-tells
 
   pub gain-tells : (s : Side) (amount : ℕ) → Leads (Now v n pre) (Now v n pre) S (gain_hp s amount)
   unfolding gain_hp healed_by
   gain-tells s amount = choose-tells _
-      (told-noise (changed_member s (healed_by amount)) (λ f. events.Heal (who_in s f) (health_in s f)) (holds-member s (healed_by amount) (λ m. refl)) (λ f. refl)) stay-tells
+      (told-tells (changed_member s (healed_by amount)) (λ f. events.Heal (who_in s f) (health_in s f))
+      (λ f es m. holds-health _ (changed_member s (healed_by amount) f) refl es (holds-member s (healed_by amount) (λ m. refl) f es m))) stay-tells
 
   pub status-tells : (s : Side) (status : Status) (kind : Kind)
       → Leads (Now v n pre) (Now v n pre) S (told (changed_member s (with_status status)) (λ f. events.Status (who_in s f) kind))

@@ -100,18 +100,27 @@ module _ {v : Story} {z : Sizes} {pre : List Event} where
   unfolding make_current seeing
   current-tells s pick = given-tells _ (λ a. active-tells s _ (λ a. refl))
 
-  pub begin_charge-tells : (s : Side) (pick : Pick) (move : Move) → Tells v z pre (begin_charge s pick move)
+  prepare-tells : {S : Progress → Type 0} (s : Side) (move : Move) → v.said s move
+      → Leads (Now v z pre) (Now v z pre) S (note (λ f. events.Prepare (who_in s f) move.number))
+  unfolding note
+  prepare-tells s move k = record {
+    leads = λ p r m.
+        let event : Event = events.Prepare (who_in s p.field) move.number in
+        Runs r (record { begun = m.begun; exact = at_end v.exact p.field pre p.events event (v.prepares s move k p.field (pre ++ p.events) m.begun.both m.exact) });
+  }
+
+  pub begin_charge-tells : (s : Side) (pick : Pick) (move : Move) → v.said s move → Tells v z pre (begin_charge s pick move)
   unfolding begin_charge seeing
-  begin_charge-tells s pick move = current-tells s pick ⊳ conditions-tells s _ (λ c. refl) ⊳ choose-tells _ (conditions-tells s _ (λ c. refl)) stay-tells
-      ⊳ note-tells _ (λ f. refl) ⊳ stop-tells
+  begin_charge-tells s pick move k = current-tells s pick ⊳ conditions-tells s _ (λ c. refl) ⊳ choose-tells _ (conditions-tells s _ (λ c. refl)) stay-tells
+      ⊳ prepare-tells s move k ⊳ stop-tells
 
   pub end_charge-tells : (s : Side) → Tells v z pre (end_charge s)
   unfolding end_charge seeing
   end_charge-tells s = conditions-tells s _ (λ c. refl) ⊳ conditions-tells s _ (λ c. refl)
 
-  pub charge-tells : (s : Side) (pick : Pick) (move : Move) → Tells v z pre (charge s pick move)
+  pub charge-tells : (s : Side) (pick : Pick) (move : Move) → v.said s move → Tells v z pre (charge s pick move)
   unfolding charge seeing
-  charge-tells s pick move = choose-tells _ (choose-tells _ (end_charge-tells s) (begin_charge-tells s pick move)) stay-tells
+  charge-tells s pick move k = choose-tells _ (choose-tells _ (end_charge-tells s) (begin_charge-tells s pick move k)) stay-tells
 
   pub spend-tells : (s : Side) → Tells v z pre (spend_pp s)
   unfolding spend_pp seeing
@@ -171,7 +180,7 @@ module _ {v : Story} {z : Sizes} {pre : List Event} where
 
   pub lead_up-tells : (s : Side) (pick : Pick) (move : Move) → v.said s move → Tells v z pre (lead_up s pick move)
   unfolding lead_up seeing
-  lead_up-tells s pick move k = charge-tells s pick move ⊳ use_move-tells s pick move k
+  lead_up-tells s pick move k = charge-tells s pick move k ⊳ use_move-tells s pick move k
       ⊳ choose-tells _ (early_effect-tells s move move.effect ⊳ stop-tells) stay-tells
       ⊳ prelude-tells s move
 

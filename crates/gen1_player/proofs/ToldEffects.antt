@@ -26,7 +26,7 @@ use Rattle.gen1_machine.specs.EarlyEffects.{confused_by, confuse, confuse_foe, t
 use Rattle.gen1_machine.specs.LateEffects.{ready_to_sleep, put_to_sleep, lower_foes_stat, bide_for, start_bide, late_effect}
 use Rattle.gen1_machine.specs.SideEffects.{happens_below, by_chance, thaw, may_inflict, may_poison, may_confuse, flinch, kept_away_effect, names_slot, disable_for, disable_slot, disable, must_recharge, side_effect}
 use Rattle.gen1_machine.proofs.Watching.{seeing, Runs, Leads, before-leads, ◌⊳◌, choose-tells, given-tells, given-sees, stay-tells}
-use Rattle.gen1_player.proofs.Facts.{penalty-placid, is_noise, with_cleared, Placid, Sizes}
+use Rattle.gen1_player.proofs.Facts.{penalty-placid, is_still, with_cleared, Placid, Sizes}
 use Rattle.gen1_player.proofs.Stories.{Begun, Story, Holds, Now, MayFall, Tells, at_end, begun-active, begun-conditions, holds-conditions, may-active, may-noise, draw-tells, until-tells, told-noise, note-tells, active-tells, conditions-tells, starts-tells, lose-tells, gain-tells, status-tells, inflict-tells, cure-tells}
 use Rattle.gen1_player.proofs.ToldGate.{fail-tells, fails_if-tells, must_hit-tells}
 
@@ -49,7 +49,7 @@ new_stage-placid stat k a = refl
 -- A fact that changes of an active member keep, and events that a story doesn't follow.
 record Steady (P : Progress → Type 0) : Type 1 where
   active : (S : Progress → Type 0) (s : Side) (change : Active → Active) → Placid change → Leads P P S (on_active s change)
-  note : (S : Progress → Type 0) (event : Field → Event) → ((f : Field) → is_noise (event f) ≡ true) → Leads P P S (note event)
+  note : (S : Progress → Type 0) (event : Field → Event) → ((f : Field) → is_still (event f) ≡ true) → Leads P P S (note event)
 
 module _ {P S : Progress → Type 0} (k : Steady P) where
   penalty-shifts : (s : Side) → Leads P P S (take_penalty_again s)

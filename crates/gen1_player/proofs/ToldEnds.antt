@@ -18,7 +18,7 @@ use Rattle.gen1_machine.specs.SwitchingIn.{send_out, start, switch_event}
 use Rattle.gen1_machine.specs.Step.{update_for, close_update, update}
 use Rattle.gen1_machine.proofs.Showing.{IsOut}
 use Rattle.gen1_machine.proofs.Watching.{Runs, Rests, Lands, Leads, after-leads, before-leads, ◌⊳◌, choose-tells, choose-sees, given-tells, stay-tells, stop-leads}
-use Rattle.gen1_player.proofs.Facts.{is_noise, Sizes, sent, Fits}
+use Rattle.gen1_player.proofs.Facts.{is_still, Sizes, sent, Fits}
 use Rattle.gen1_player.proofs.Stories.{Story, Switching, Sized, Begun, Holds, May, Now, MayFall, at_end, begun-member, holds-noise, may-noise, loosened}
 use Rattle.gen1_player.proofs.ToldTurns.{send_out-at, Goes, ChoiceFits, or-left, or-right, other-out-two, out-one, out-two, sent-sized, send_out-falls, tightened, turn-tells, replace-falls}
 
@@ -68,7 +68,7 @@ module _ {v : Story} {n : Sizes} {pre : List Event} where
   holds-apart : (f g : Field) (es : List Event) → f.one ≡ g.one → f.two ≡ g.two → Holds v n pre f es → Holds v n pre g es
   holds-apart f g es one two m = record { begun = same-begun f g one two m.begun; exact = v.apart f g (pre ++ es) one two m.exact }
 
-  waits-noise : (e : Event) → is_noise e ≡ true → (f : Field) (es : List Event) → Waits v n pre f es → Waits v n pre f (es ++ e ∷ [])
+  waits-noise : (e : Event) → is_still e ≡ true → (f : Field) (es : List Event) → Waits v n pre f es → Waits v n pre f (es ++ e ∷ [])
   waits-noise e h f es m = record { may = may-noise e h f es m.may; turn = λ a b. holds-noise e h f es (m.turn a b) }
 
   -- The fallen faint
@@ -104,11 +104,11 @@ module _ {v : Story} {n : Sizes} {pre : List Event} where
   unfolding ask_nothing on_field
   ask_nothing-waits = record { leads = λ p r m. Runs r (asked-nothing p.field p.events m) }
 
-  note-waits : {S : Progress → Type 0} (event : Event) → is_noise event ≡ true → Leads (IsWaiting v n pre) (IsWaiting v n pre) S (note (λ f. event))
+  note-waits : {S : Progress → Type 0} (event : Event) → is_still event ≡ true → Leads (IsWaiting v n pre) (IsWaiting v n pre) S (note (λ f. event))
   unfolding note
   note-waits event h = record { leads = λ p r m. Runs r (waits-noise event h p.field p.events m) }
 
-  ends-wait : {Q : Progress → Type 0} (o : Outcome) (event : Event) → is_noise event ≡ true → Leads (MayFall v n pre) Q (IsWaiting v n pre) (battle_ends o event)
+  ends-wait : {Q : Progress → Type 0} (o : Outcome) (event : Event) → is_still event ≡ true → Leads (MayFall v n pre) Q (IsWaiting v n pre) (battle_ends o event)
   unfolding battle_ends
   ends-wait o event h = outcome-falls o ⊳ ask_nothing-waits ⊳ note-waits event h ⊳ stop-leads (λ p m. m)
 

@@ -1,11 +1,11 @@
 -- What the log of a battle makes public of both sides (docs/MECHANICS.md, "What the log makes public"). It is made from the events alone.
 -- The records are the plain structs of the code: a flag is 1 where it holds and 0 where it doesn't.
-use Rattle.std.specs.Prelude.{Bool, List, None, Option, Some, [], if◌then◌else◌, min, nat_le, replicate, slice_index_or, slice_set, true, ℕ, ◌&&◌, ◌+◌, ◌-◌, ◌==◌, ◌||◌, ◌∷◌}
+use Rattle.std.specs.Prelude.{Bool, List, None, Option, Some, [], if◌then◌else◌, min, nat_le, not, replicate, slice_index_or, slice_set, true, ℕ, ◌&&◌, ◌+◌, ◌-◌, ◌==◌, ◌||◌, ◌∷◌}
 use Rattle.std.specs.List.{position}
 use Rattle.gen1_tables.specs.declared.effect.Effect.{Effect}
 use Rattle.gen1_tables.specs.declared.effect.Effect.TheVariants as effects
 use Rattle.gen1_tables.specs.declared.effect.Stat.{Stat}
-use Rattle.gen1_tables.specs.Effects.{traps}
+use Rattle.gen1_tables.specs.Effects.{hides, traps}
 use Rattle.gen1_tables.specs.Species.{species_row}
 use Rattle.gen1_tables.specs.Types.{number_of}
 use Rattle.gen1_machine.specs.declared.side.Side.{Side}
@@ -25,7 +25,7 @@ use Rattle.gen1_machine.specs.Health.{Health}
 use Rattle.gen1_machine.specs.Layout.{outcome_byte}
 use Rattle.gen1_machine.specs.LogBytes.{kind_or_0}
 use Rattle.gen1_machine.specs.Moves.{move_at, toxic}
-use Rattle.gen1_machine.specs.Numbers.{kind_number}
+use Rattle.gen1_machine.specs.Numbers.{kind_number, side_number}
 use Rattle.gen1_machine.specs.Sides.{other}
 use Rattle.gen1_machine.specs.State.{level_stages}
 use Rattle.gen1_machine.specs.CurrentStats.{stage_of, with_stage}
@@ -36,7 +36,7 @@ use Rattle.gen1_player.specs.declared.public_side.PublicSide.{PublicSide}
 use Rattle.gen1_player.specs.declared.seen.Seen.{Seen}
 use Rattle.gen1_player.specs.declared.seen.SeenMove.{SeenMove}
 
--- A slot of a member's moves from which no use was seen.
+-- A slot of a member's moves in which none was seen.
 abbrev pub not_used : SeenMove
 not_used = record { id = 0; uses = 0 }
 
@@ -71,12 +71,12 @@ first_public_side = record {
   second_type = 0;
   last_move = 0;
   announced = nothing_announced;
-  unused = 0;
+  invulnerable = 0;
 }
 
 -- Before the first event nothing is public.
 abbrev pub first_public : Public
-first_public = record { one = first_public_side; two = first_public_side; turn = 0; outcome = outcome_byte outcomes.Ongoing; unused = 0 }
+first_public = record { one = first_public_side; two = first_public_side; turn = 0; outcome = outcome_byte outcomes.Ongoing; may_hit_itself = 0 }
 
 abbrev pub public_side : Side → Public → PublicSide
 public_side One p = p.one
@@ -104,20 +104,20 @@ on_seen f x = record x { members = slice_set x.members (x.place - 1) (f (seen_at
 abbrev pub on_announced : (Announced → Announced) → PublicSide → PublicSide
 on_announced f x = record x { announced = f x.announced }
 
--- Moves that a member was seen to use
+-- Moves that a member was seen to prepare or to use
 
--- One more use in a slot; none without a slot. The count stops at 255.
-abbrev pub used_in : Option ℕ → ℕ → List SeenMove → List SeenMove
-used_in None move slots = slots
-used_in (Some k) move slots = slice_set slots k (record { id = move; uses = min 255 ((slice_index_or slots k not_used).uses + 1) })
+-- More uses in a slot; none without a slot. The count stops at 255.
+abbrev pub used_in : ℕ → Option ℕ → ℕ → List SeenMove → List SeenMove
+used_in more None move slots = slots
+used_in more (Some k) move slots = slice_set slots k (record { id = move; uses = min 255 ((slice_index_or slots k not_used).uses + more) })
 
 -- The slot of a move: its own, or the first free one.
 abbrev pub is_slot : ℕ → SeenMove → Bool
 is_slot move m = m.id == move || m.id == 0
 
--- One more use of a move
-abbrev pub used_once_more : ℕ → List SeenMove → List SeenMove
-used_once_more move slots = used_in (position (is_slot move) slots) move slots
+-- More uses of a move: one, or none as it is prepared.
+abbrev pub used_more : ℕ → ℕ → List SeenMove → List SeenMove
+used_more more move slots = used_in more (position (is_slot move) slots) move slots
 
 -- A member that comes out has nothing from before.
 abbrev pub comes_out : ℕ → ℕ → ℕ → Health → PublicSide → PublicSide
@@ -131,13 +131,28 @@ comes_out species place level h x =
       second_type = number_of (species_row species).second_type;
       last_move = 0;
       announced = nothing_announced;
+      invulnerable = 0;
     }
     else x
 
--- A move that its user was seen to use. It has not recharged, charged or stored energy in this action.
+-- The use of a move ends Bide, charging and recharging. A charged move brings its user back into reach; another move doesn't.
+abbrev pub strikes : PublicSide → PublicSide
+strikes x = record x {
+  announced = record x.announced { bide = 0; charging = 0; recharging = 0 };
+  invulnerable = (if x.announced.charging == 0 then x.invulnerable else 0);
+}
+
+-- A move that its user was seen to use.
 abbrev pub uses_move : ℕ → PublicSide → PublicSide
-uses_move move x = on_announced (λ a. record a { bide = 0; charging = 0; recharging = 0 })
-    (on_seen (λ m. record m { moves = used_once_more move m.moves }) (record x { last_move = move }))
+uses_move move x = strikes (on_seen (λ m. record m { moves = used_more 1 move m.moves }) (record x { last_move = move }))
+
+-- The first turn of a charging move. Fly and Dig take their user out of reach.
+abbrev pub charges_up : Bool → PublicSide → PublicSide
+charges_up hidden x = record x { announced = record x.announced { charging = 1 }; invulnerable = (if hidden then 1 else x.invulnerable) }
+
+abbrev pub prepares : ℕ → PublicSide → PublicSide
+prepares move x = charges_up (hides (move_at move).effect)
+    (on_seen (λ m. record m { moves = used_more 0 move m.moves }) (record x { last_move = move }))
 
 -- Trapping moves and moves that put to sleep end the recharging of the foe (docs/MECHANICS.md, "Late effects", "Going on").
 abbrev pub ends_recharging : Effect → Bool
@@ -155,10 +170,17 @@ is_kept_by reasons.Disabled a = record a { charging = 0 }
 is_kept_by reasons.Paralysed a = record a { bide = 0; charging = 0 }
 is_kept_by _ a = a
 
--- A hit on itself ends the same as full paralysis.
+-- A hit on itself ends the same as full paralysis, and brings the member back into reach.
 abbrev pub is_hurt_by : DamageSource → Announced → Announced
 is_hurt_by sources.Confusion a = record a { bide = 0; charging = 0 }
 is_hurt_by _ a = a
+
+abbrev pub reach_after : DamageSource → ℕ → ℕ
+reach_after sources.Confusion invulnerable = 0
+reach_after _ invulnerable = invulnerable
+
+abbrev pub takes_damage : DamageSource → PublicSide → PublicSide
+takes_damage source x = record x { announced = is_hurt_by source x.announced; invulnerable = reach_after source x.invulnerable }
 
 -- Poison that follows Toxic is bad poison. A freeze ends recharging.
 abbrev pub gets_status : Kind → ℕ → Announced → Announced
@@ -209,29 +231,72 @@ rises stat n x = record x { stages = with_stage stat (min 12 (stage_of stat x.st
 abbrev pub drops : Stat → ℕ → PublicSide → PublicSide
 drops stat n x = record x { stages = with_stage stat (stage_of stat x.stages - n) x.stages }
 
+-- A hit on itself that no event reports
+
+-- A confused member behind its own Substitute isn't hurt by its hit on itself. If it hits itself, the next event is not its act.
+abbrev pub waiting_for : Side → Volatile → ℕ → ℕ
+waiting_for s volatiles.Confusion substitute = if substitute == 0 then 0 else side_number s
+waiting_for s _ substitute = 0
+
+abbrev pub activates : Side → Volatile → Public → Public
+activates s what p = record p { may_hit_itself = waiting_for s what (public_side s p).announced.substitute }
+
+-- The number of the side whose member acts, or is kept from acting; 0 for none.
+abbrev pub acting : Event → ℕ
+acting (events.Move w move foe) = side_number w.side
+acting (events.Cant w why) = side_number w.side
+acting (events.Prepare w move) = side_number w.side
+acting (events.Start w what) = side_number w.side
+acting (events.End w what) = side_number w.side
+acting (events.Activate w what) = side_number w.side
+acting _ = 0
+
+abbrev pub broken_off_if : Bool → PublicSide → PublicSide
+broken_off_if hit x = if hit then takes_damage sources.Confusion x else x
+
+-- Whether the member of a side of this number has hit itself, by the side that acts next.
+abbrev pub has_hit_itself : ℕ → ℕ → ℕ → Bool
+has_hit_itself n actor waiting = waiting == n && not (actor == n)
+
+abbrev pub settled_by : ℕ → Public → Public
+settled_by actor p = record p {
+  one = broken_off_if (has_hit_itself 1 actor p.may_hit_itself) p.one;
+  two = broken_off_if (has_hit_itself 2 actor p.may_hit_itself) p.two;
+  may_hit_itself = 0;
+}
+
+-- What an event says of the hit that may have come before it.
+unfoldable pub settled : Event → Public → Public
+settled event p = settled_by (acting event) p
+
+-- What an event says by itself
+unfoldable pub takes_in : Event → Public → Public
+takes_in (events.Turn n) p = record p { turn = n }
+takes_in (events.Switch w place level h) p = on_public_side w.side (comes_out w.species place level h) p
+takes_in (events.Move w move foe) p = on_out (other w.side) (suffers_move move) (on_out w.side (uses_move move) p)
+takes_in (events.Cant w why) p = on_out w.side (on_announced (is_kept_by why)) p
+takes_in (events.Damage w h source) p = on_out w.side (λ x. takes_damage source (on_seen (λ m. record m { hp = h.hp }) x)) p
+takes_in (events.Heal w h) p = on_out w.side (on_seen (λ m. record m { hp = h.hp })) p
+takes_in (events.Status w kind) p =
+    on_out w.side (λ x. on_announced (gets_status kind (public_side (other w.side) p).last_move) (on_seen (λ m. record m { status = kind_number kind }) x)) p
+takes_in (events.Cure w kind) p = on_out w.side (on_seen (λ m. record m { status = 0 })) p
+takes_in (events.Faint w) p = on_out w.side (on_seen (λ m. record m { hp = 0; status = 0 })) p
+takes_in (events.Boost w stat n) p = on_out w.side (rises stat n) p
+takes_in (events.Unboost w stat n) p = on_out w.side (drops stat n) p
+takes_in events.ClearAll p = on_out Two is_cleared (on_out One is_cleared p)
+takes_in (events.Start w what) p = begins w.side what p
+takes_in (events.End w what) p = on_out w.side (on_announced (set_volatile what 0)) p
+takes_in (events.Activate w what) p = activates w.side what p
+takes_in (events.Prepare w move) p = on_out w.side (prepares move) p
+takes_in (events.MustRecharge w) p = on_out w.side (on_announced (λ a. record a { recharging = 1 })) p
+takes_in (events.Win s) p = record p { outcome = outcome_byte (won_by s) }
+takes_in events.Tie p = record p { outcome = outcome_byte outcomes.Tie }
+takes_in (events.Fault n) p = record p { outcome = outcome_byte (outcomes.Fault n) }
+takes_in _ p = p
+
 -- What an event makes public
 unfoldable pub hears : Event → Public → Public
-hears (events.Turn n) p = record p { turn = n }
-hears (events.Switch w place level h) p = on_public_side w.side (comes_out w.species place level h) p
-hears (events.Move w move foe) p = on_out (other w.side) (suffers_move move) (on_out w.side (uses_move move) p)
-hears (events.Cant w why) p = on_out w.side (on_announced (is_kept_by why)) p
-hears (events.Damage w h source) p = on_out w.side (λ x. on_announced (is_hurt_by source) (on_seen (λ m. record m { hp = h.hp }) x)) p
-hears (events.Heal w h) p = on_out w.side (on_seen (λ m. record m { hp = h.hp })) p
-hears (events.Status w kind) p =
-    on_out w.side (λ x. on_announced (gets_status kind (public_side (other w.side) p).last_move) (on_seen (λ m. record m { status = kind_number kind }) x)) p
-hears (events.Cure w kind) p = on_out w.side (on_seen (λ m. record m { status = 0 })) p
-hears (events.Faint w) p = on_out w.side (on_seen (λ m. record m { hp = 0; status = 0 })) p
-hears (events.Boost w stat n) p = on_out w.side (rises stat n) p
-hears (events.Unboost w stat n) p = on_out w.side (drops stat n) p
-hears events.ClearAll p = on_out Two is_cleared (on_out One is_cleared p)
-hears (events.Start w what) p = begins w.side what p
-hears (events.End w what) p = on_out w.side (on_announced (set_volatile what 0)) p
-hears (events.Prepare w move) p = on_out w.side (on_announced (λ a. record a { charging = 1 })) p
-hears (events.MustRecharge w) p = on_out w.side (on_announced (λ a. record a { recharging = 1 })) p
-hears (events.Win s) p = record p { outcome = outcome_byte (won_by s) }
-hears events.Tie p = record p { outcome = outcome_byte outcomes.Tie }
-hears (events.Fault n) p = record p { outcome = outcome_byte (outcomes.Fault n) }
-hears _ p = p
+hears event p = takes_in event (settled event p)
 
 unfoldable pub hears_all : List Event → Public → Public
 hears_all [] p = p

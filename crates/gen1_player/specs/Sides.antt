@@ -8,7 +8,7 @@ use Rattle.gen1_machine.specs.declared.side.Side.{Side}
 use Rattle.gen1_machine.specs.Numbers.{kind_number}
 use Rattle.gen1_player.specs.declared.public_side.PublicSide.{PublicSide}
 use Rattle.gen1_player.specs.declared.seen.Seen.{Seen}
-use Rattle.gen1_player.specs.Public.{comes_out, drops, gets_status, if_seen_out, is_hurt_by, is_kept_by, not_seen, on_announced, on_seen, rises, seen_at, set_volatile, suffers_move, takes_types, uses_move}
+use Rattle.gen1_player.specs.Public.{comes_out, drops, gets_status, if_seen_out, is_kept_by, not_seen, on_announced, on_seen, prepares, rises, seen_at, set_volatile, suffers_move, takes_damage, takes_types, uses_move}
 
 -- the side that an event names, if it changes what is public of it
 abbrev pub side_named : Event → Option Side
@@ -37,7 +37,7 @@ abbrev pub side_hears : Event → PublicSide → PublicSide → PublicSide
 side_hears (events.Switch w place level h) foe x = comes_out w.species place level h x
 side_hears (events.Move w move other) foe x = if_seen_out (uses_move move) x
 side_hears (events.Cant w why) foe x = if_seen_out (on_announced (is_kept_by why)) x
-side_hears (events.Damage w h source) foe x = if_seen_out (λ y. on_announced (is_hurt_by source) (on_seen (λ m. record m { hp = h.hp }) y)) x
+side_hears (events.Damage w h source) foe x = if_seen_out (λ y. takes_damage source (on_seen (λ m. record m { hp = h.hp }) y)) x
 side_hears (events.Heal w h) foe x = if_seen_out (on_seen (λ m. record m { hp = h.hp })) x
 side_hears (events.Status w kind) foe x =
     if_seen_out (λ y. on_announced (gets_status kind foe.last_move) (on_seen (λ m. record m { status = kind_number kind }) y)) x
@@ -47,7 +47,7 @@ side_hears (events.Boost w stat n) foe x = if_seen_out (rises stat n) x
 side_hears (events.Unboost w stat n) foe x = if_seen_out (drops stat n) x
 side_hears (events.Start w what) foe x = side_begins what foe x
 side_hears (events.End w what) foe x = if_seen_out (on_announced (set_volatile what 0)) x
-side_hears (events.Prepare w move) foe x = if_seen_out (on_announced (λ a. record a { charging = 1 })) x
+side_hears (events.Prepare w move) foe x = if_seen_out (prepares move) x
 side_hears (events.MustRecharge w) foe x = if_seen_out (on_announced (λ a. record a { recharging = 1 })) x
 side_hears _ foe x = x
 

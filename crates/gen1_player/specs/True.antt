@@ -1,5 +1,5 @@
--- What holds of all that a log makes public, after any run of a battle from its start.
-use Rattle.std.specs.Prelude.{All, List, is_some, true, ℕ, ◌==◌, ◌≡◌, ◌≢◌, ◌⊎◌}
+-- What holds of all that a log makes public, after any run of a battle from its start, and of what a player holds of it.
+use Rattle.std.specs.Prelude.{All, List, None, [], if◌then◌else◌, is_some, map, replicate, true, ℕ, ◌+◌, ◌-◌, ◌==◌, ◌≡◌, ◌≢◌, ◌⊎◌, ◌∷◌}
 use Rattle.std.specs.List.{flat_map}
 use Rattle.gen1_tables.specs.Moves.{struggle}
 use Rattle.gen1_tables.specs.Types.{any, number_of}
@@ -7,9 +7,13 @@ use Rattle.gen1_stats.specs.declared.known_move.KnownMove.{KnownMove}
 use Rattle.gen1_stats.specs.Members.{is_living, IsTeam, Member}
 use Rattle.gen1_machine.specs.declared.choice.Choice.{Choice}
 use Rattle.gen1_machine.specs.declared.event.Event.{Event}
+use Rattle.gen1_machine.specs.declared.side.Side.{Side}
+use Rattle.gen1_machine.specs.declared.side.Side.TheVariants.{One, Two}
 use Rattle.gen1_machine.specs.Layout.{outcome_byte}
 use Rattle.gen1_machine.specs.LogBytes.{kind_or_0}
+use Rattle.gen1_machine.specs.Numbers.{side_number}
 use Rattle.gen1_machine.specs.Rules.{bit_of}
+use Rattle.gen1_machine.specs.Sides.{other}
 use Rattle.gen1_machine.specs.State.{first_state, member_at, Field, Party, Terms}
 use Rattle.gen1_machine.specs.Step.{events_of, run, Ran}
 use Rattle.gen1_machine.specs.View.{first_view, sees_all, shown_at, shows, Shown, SideView, View}
@@ -17,7 +21,13 @@ use Rattle.gen1_player.specs.declared.public.Public.{Public}
 use Rattle.gen1_player.specs.declared.public_side.PublicSide.{PublicSide}
 use Rattle.gen1_player.specs.declared.seen.Seen.{Seen}
 use Rattle.gen1_player.specs.declared.seen.SeenMove.{SeenMove}
-use Rattle.gen1_player.specs.Public.{first_public, hears_all, seen_at}
+use Rattle.gen1_events.specs.Splits.{IsReading}
+use Rattle.gen1_player.specs.declared.player.Player.{Player}
+use Rattle.gen1_player.specs.declared.teller.Teller.{Teller}
+use Rattle.gen1_player.specs.Player.{IsPlayer, known_at}
+use Rattle.gen1_player.specs.Player as players
+use Rattle.gen1_player.specs.Public.{first_public, hears_all, not_seen, on_public_side, seen_at}
+use Rattle.gen1_player.specs.Telling.{health_told, meets_all, slot_of, told_all}
 
 -- All events that a run logged.
 abbrev pub events_in : Ran → List Event
@@ -99,3 +109,50 @@ pub record SideHasAppeared (x : PublicSide) (t : Party) : Type 0 where
 
 abbrev pub MembersAgree : Type 0
 MembersAgree = OfRuns λ one two r. SideHasAppeared (public_of r).one r.state.field.one × SideHasAppeared (public_of r).two r.state.field.two
+
+-- What a player holds
+
+-- Members at some places, each as somebody knows the one at a place.
+abbrev pub members_by : (ℕ → Seen → Seen) → List ℕ → PublicSide → List Seen
+members_by known places x = map (λ place. known place (seen_at place x)) places
+
+-- Its own members: as the log showed them, and before they appeared as the team has them.
+abbrev pub own_known : List Member → ℕ → Seen → Seen
+own_known team place m = if m.species == 0 then known_at (place - 1) team else m
+
+abbrev pub own_places : List ℕ
+own_places = 1 ∷ 2 ∷ 3 ∷ 4 ∷ 5 ∷ 6 ∷ []
+
+abbrev pub own_as_known : List Member → PublicSide → PublicSide
+own_as_known team x = record x { members = members_by (own_known team) own_places x }
+
+-- The foe's members, with HP as it is told; none at place 0.
+abbrev pub with_hp_told : Teller → Seen → Seen
+with_hp_told t m = let h = health_told (record { hp = m.hp; max = m.max; kind = None }) t in record m { hp = h.hp; max = h.max }
+
+abbrev pub foe_known : Teller → ℕ → Seen → Seen
+foe_known t place m = if place == 0 then not_seen else with_hp_told t m
+
+-- They are in the order in which they appeared, and so is the place of the active one.
+abbrev pub foe_as_told : Teller → PublicSide → PublicSide
+foe_as_told t x = record x { members = members_by (foe_known t) t.places x; place = (if x.place == 0 then 0 else slot_of x.place t.places + 1) }
+
+-- All else is the same.
+abbrev pub as_known : Side → List Member → Teller → Public → Public
+as_known s team t p = on_public_side (other s) (foe_as_told t) (on_public_side s (own_as_known team) p)
+
+abbrev pub team_of : Side → List Member → List Member → List Member
+team_of One one two = one
+team_of Two one two = two
+
+abbrev pub first_teller : Side → ℕ → Teller
+first_teller s pixels = record { side = side_number s; pixels = pixels; places = replicate 6 0 }
+
+-- A player that was fed what its side was told of a run holds what the log of the run makes public, as its side knows it.
+abbrev pub PlayerHolds : Side → ℕ → List Member → List Member → Ran → Type 0
+PlayerHolds s pixels one two r = (foes : ℕ) (log : List ℕ) (shown : players.Shown) (player : Player)
+    → IsReading log (told_all (events_in r) (first_teller s pixels)) → IsPlayer s (team_of s one two) foes log shown player
+    → player.public ≡ as_known s (team_of s one two) (meets_all (events_in r) (first_teller s pixels)) (public_of r)
+
+abbrev pub PlayersHoldThePublic : Type 0
+PlayersHoldThePublic = (s : Side) (pixels : ℕ) → OfRuns (PlayerHolds s pixels)

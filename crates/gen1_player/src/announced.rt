@@ -24,6 +24,7 @@ pub struct Announced {
     pub disabled: u8,
     pub rage: u8,
     pub bide: u8,
+    /// Its move is `last_move` of its side.
     pub charging: u8,
     pub recharging: u8,
 }
@@ -84,7 +85,7 @@ impl Announced {
         }
     }
 
-    /// Ends what a hit of a member on itself ends.
+    /// Ends what damage of this source ends.
     pub(crate) fn hurt(&mut self, source: DamageSource)
         ensures { self.new ≡ is_hurt_by source self.old }
     {

@@ -104,7 +104,9 @@ struct Out {
 
 /// Returns what a side is shown of itself. Of the foe this depends on one thing: whether its trapping is on.
 pub fn own_side(battle: &Packed, side: Side) -> OwnSide
-    ensures { (s : State) → Stands battle.now s → result ≡ plain_side (own_side side s.field) }
+    ensures stands { (s : State) → Stands battle.now s → result ≡ plain_side (own_side side s.field) }
+    // For any bytes, valid or not.
+    ensures few { result.count ≤ 6 }
 {
     let out = active(battle, side);
     let stats = out.stats;
@@ -257,7 +259,8 @@ fn traps(battle: &Packed, side: Side) -> u8
 
 // How many members there are: as many as places with a species.
 fn count(battle: &Packed, side: Side) -> u8
-    ensures { ReadsPacked battle.now result λ f. length (party side f).members }
+    ensures packs { ReadsPacked battle.now result λ f. length (party side f).members }
+    ensures few { result ≤ 6 }
 {
     present(battle, side, 1)
         + present(battle, side, 2)

@@ -1,13 +1,14 @@
 //! What the log of a battle makes public of one side (docs/MECHANICS.md, "What the log makes public").
 ghost use Rattle.std.specs.Prelude.{◌≡◌, ◌≤◌};
+ghost use Rattle.gen1_tables.specs.Effects.{hides};
 ghost use Rattle.gen1_machine.specs.LogBytes.{kind_or_0};
-ghost use Rattle.gen1_player.specs.Public.{comes_out, ends_recharging, first_public_side, if_seen_out, is_cleared, on_seen, seen_at, suffers_move, uses_move};
+ghost use Rattle.gen1_player.specs.Public.{comes_out, ends_recharging, first_public_side, if_seen_out, is_cleared, on_seen, prepares, reach_after, seen_at, strikes, suffers_move, takes_damage, uses_move};
 ghost use Rattle.gen1_player.specs.Sides.{foe_hears, seen_or_none, side_begins, side_hears};
 
 use crate::announced::Announced;
 use crate::seen::Seen;
 use crate::stages::SeenStages;
-use gen1_machine::{Event, Health, Kind, Volatile};
+use gen1_machine::{DamageSource, Event, Health, Kind, Volatile};
 use gen1_tables::{Effect, MoveId, Species};
 
 /// What is public of a side.
@@ -26,10 +27,10 @@ pub struct PublicSide {
     pub first_type: u8,
     /// The number of its second type, which is the first again for a member of one type.
     pub second_type: u8,
-    /// The number of the move that the active member used last, 1 to 165; 0 for none since it came out.
+    /// The number of the move that the active member used or prepared last, 1 to 165; 0 for none since it came out.
     pub last_move: u8,
-    /// 0.
-    pub unused: u8,
+    /// 1 if Fly or Dig has taken the active member out of reach, which may outlast the move; else 0.
+    pub invulnerable: u8,
 }
 
 impl PublicSide {
@@ -44,7 +45,7 @@ impl PublicSide {
             second_type: 0,
             last_move: 0,
             announced: Announced::nothing(),
-            unused: 0,
+            invulnerable: 0,
         }
     }
 
@@ -64,7 +65,7 @@ impl PublicSide {
             Event::Cant(_, why) => self.announced.keep(why),
             Event::Damage(_, health, source) => {
                 self.set_hp(health.hp());
-                self.announced.hurt(source);
+                self.hurt(source);
             }
             Event::Heal(_, health) => self.set_hp(health.hp()),
             Event::Status(_, kind) => {
@@ -79,7 +80,7 @@ impl PublicSide {
             }
             Event::Start(_, what) => self.begin(what, foe),
             Event::End(_, what) => self.announced.set(what, 0),
-            Event::Prepare(_, _) => self.announced.charging = 1,
+            Event::Prepare(_, id) => self.prepare(id),
             Event::MustRecharge(_) => self.announced.recharging = 1,
             _ => {}
         }
@@ -92,6 +93,14 @@ impl PublicSide {
         if let Event::Move(_, id, _) = *event {
             self.suffer(id);
         }
+    }
+
+    /// Ends what damage of this source ends.
+    pub(crate) fn hurt(&mut self, source: DamageSource)
+        ensures { self.new ≡ takes_damage source self.old }
+    {
+        self.announced.hurt(source);
+        self.invulnerable = reach_after(source, self.invulnerable);
     }
 
     /// Applies `ClearAll`.
@@ -156,6 +165,7 @@ impl PublicSide {
         self.stages = SeenStages::level();
         self.last_move = 0;
         self.announced = Announced::nothing();
+        self.invulnerable = 0;
     }
 
     fn use_move(&mut self, id: MoveId)
@@ -163,8 +173,30 @@ impl PublicSide {
         ensures { self.new ≡ uses_move id self.old }
     {
         self.last_move = id.number();
-        let seen = self.active().after_use(id.number());
+        let seen = self.active().after_use(id.number(), 1);
         self.show(seen);
+        self.strike();
+    }
+
+    fn prepare(&mut self, id: MoveId)
+        requires out { 1 ≤ self.old.place }
+        ensures { self.new ≡ prepares id self.old }
+    {
+        self.last_move = id.number();
+        let seen = self.active().after_use(id.number(), 0);
+        self.show(seen);
+        self.announced.charging = 1;
+        if hides(id.effect()) {
+            self.invulnerable = 1;
+        }
+    }
+
+    fn strike(&mut self)
+        ensures { self.new ≡ strikes self.old }
+    {
+        if self.announced.charging != 0 {
+            self.invulnerable = 0;
+        }
         self.announced.bide = 0;
         self.announced.charging = 0;
         self.announced.recharging = 0;
@@ -223,6 +255,22 @@ fn ends_recharging(effect: Effect) -> bool
     ensures { result ≡ ends_recharging effect }
 {
     matches!(effect, Effect::InflictSleep) || effect.traps()
+}
+
+fn reach_after(source: DamageSource, invulnerable: u8) -> u8
+    ensures { result ≡ reach_after source invulnerable }
+{
+    if matches!(source, DamageSource::Confusion) {
+        0
+    } else {
+        invulnerable
+    }
+}
+
+fn hides(effect: Effect) -> bool
+    ensures { result ≡ hides effect }
+{
+    matches!(effect, Effect::ChargeInvulnerable)
 }
 
 fn status_number(kind: Option<Kind>) -> u8

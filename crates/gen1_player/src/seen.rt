@@ -1,15 +1,15 @@
 //! A member that has appeared, as the log showed it last (docs/MECHANICS.md, "What the log makes public").
 ghost use Rattle.std.specs.Prelude.{IfSome, length, ◌<◌, ◌≡◌};
 ghost use Rattle.std.specs.List.{position};
-ghost use Rattle.gen1_player.specs.Public.{is_slot, not_seen, used_once_more};
+ghost use Rattle.gen1_player.specs.Public.{is_slot, not_seen, used_more};
 
-/// A move that a member was seen to use.
+/// A move that a member was seen to prepare or to use.
 #[repr(C)]
 #[derive(Clone, Copy, Debug, PartialEq, Eq, Drop)]
 pub struct SeenMove {
     /// The number of the move, 1 to 165; 0 in a free slot.
     pub id: u8,
-    /// How often the member used it, 1 to 255; 255 for that many and more. 0 in a free slot.
+    /// How often the member used it; 255 for that many and more. 0 for a move that it has only prepared, and in a free slot.
     pub uses: u8,
 }
 
@@ -27,7 +27,7 @@ pub struct Seen {
     pub level: u8,
     /// The number of its kind of status, 1 to 5; 0 without one.
     pub status: u8,
-    /// In the order of their first use. A member uses at most five moves, four and Struggle.
+    /// In the order in which they were first seen. A member uses at most five moves, four and Struggle.
     pub moves: [SeenMove; 5],
     /// 0.
     pub unused: u8,
@@ -49,13 +49,13 @@ impl Seen {
         }
     }
 
-    /// The member after one more use of a move.
-    pub(crate) fn after_use(self, id: u8) -> Self
-        ensures { result ≡ record self { moves = used_once_more id self.moves } }
+    /// The member after more uses of a move.
+    pub(crate) fn after_use(self, id: u8, more: u8) -> Self
+        ensures { result ≡ record self { moves = used_more more id self.moves } }
     {
         let mut seen = self;
         if let Some(slot) = slot_of(&seen.moves, id) {
-            let uses = seen.moves[slot].uses.saturating_add(1);
+            let uses = seen.moves[slot].uses.saturating_add(more);
             seen.moves[slot] = SeenMove { id, uses };
         }
         seen

@@ -1,11 +1,17 @@
 //! What holds of all that a log makes public (docs/MECHANICS.md, "Player's view"), as functions that do nothing.
-ghost use Rattle.gen1_player.specs.True.{ConditionsAgree, MembersAgree, PublicAgrees, PublicAgreesWithView};
+ghost use Rattle.gen1_player.specs.True.{ConditionsAgree, MembersAgree, PlayersHoldThePublic, PublicAgrees, PublicAgreesWithView};
 
 /// After any run of a battle of two teams from its start, what its log made public agrees with the battle: active places, stages,
 /// Substitute, confusion, screens, turn, outcome, and HP and kind of status of each member that has appeared.
 pub fn public_agrees()
     ensures view { PublicAgreesWithView }
     ensures state { PublicAgrees }
+{}
+
+/// A player that was fed what its side was told of a run holds what the run's log made public, with its own members also before they
+/// appear, and the foe's in the order of their appearance, with HP as it was told.
+pub fn players_hold_the_public()
+    ensures { PlayersHoldThePublic }
 {}
 
 /// After any run from the start, Mist, Focus Energy, Disable, rage and, of a living member, Leech Seed are announced exactly if they
@@ -15,7 +21,7 @@ pub fn conditions_agree()
 {}
 
 /// After any run from the start, the member that is out has appeared. A member that has appeared has the species, level and maximum HP
-/// of the member at its place, and it was seen to use its own moves or Struggle.
+/// of the member at its place, and it was seen to prepare or use its own moves or Struggle.
 pub fn members_agree()
     ensures { MembersAgree }
 {}

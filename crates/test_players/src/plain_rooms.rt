@@ -6,8 +6,9 @@ use crate::teams::{SEED, tauros};
 use gen1_engine::BattleResult;
 use gen1_layout::Packed;
 use gen1_machine::{Outcome, Request, Side};
+use gen1_rolls::LinkRandom;
 use gen1_room::RoomRefusal;
-use gen1_room::plain::{PlainRoom, begin, choices, forfeit, result, submit};
+use gen1_room::plain::{PlainRoom, begin, choices, forfeit, reseed, result, submit};
 use std::process::Abort;
 use std::test::Fail;
 
@@ -48,6 +49,8 @@ static FORFEIT: [Step; 2] = [
     Step::Submits(TWO, 0, 17, Answer::Waits),
     Step::Forfeits(ONE, TWO_HAS_WON),
 ];
+
+static ONE_HAS_CHOSEN: [Step; 1] = [Step::Submits(ONE, 0, 17, Answer::Waits)];
 
 static AFTER_A_FORFEIT: [Step; 5] = [
     Step::Forfeits(TWO, ONE_HAS_WON),
@@ -98,6 +101,17 @@ fn a_room_begins_with_a_clear_log(rt: HostRuntime) -> Result<(), Fail> {
     assert_same(&rt, room.log[511], 0);
     assert_same(&rt, choices(&room, ONE).as_slice(), [17].as_slice());
     assert_same(&rt, result(&room).request_one, Request::Move);
+    Ok(())
+}
+
+// Bytes 5 to 15 of a battle are the index and the numbers (docs/LAYOUT.md, "Header").
+#[test]
+fn a_reseeded_room_keeps_the_choice(rt: HostRuntime) -> Result<(), Fail> {
+    let mut room = play(&rt, &ONE_HAS_CHOSEN)?;
+    reseed(&mut room, &LinkRandom::new([9, 8, 7, 6, 5, 4, 3, 2, 1, 0]));
+    let header = [0, 9, 8, 7, 6, 5, 4, 3, 2, 1, 0];
+    assert_same(&rt, &room.battle.header()[5..16], header.as_slice());
+    assert_same(&rt, (room.one, room.two, room.number), (17, 255, 0));
     Ok(())
 }
 

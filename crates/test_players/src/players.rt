@@ -3,8 +3,8 @@
 //! Psychic).
 use crate::comparing::assert_same;
 use crate::events::Tell::{
-    Boost, Cant, ClearAll, Cure, Damage, End, Faint, Fault, Heal, Move, MustRecharge, Prepare,
-    Start, Status, Switch, Tie, Turn, Unboost, Win,
+    Activate, Boost, Cant, ClearAll, Cure, Damage, End, Faint, Fault, Heal, Move, MustRecharge,
+    Prepare, Start, Status, Switch, Tie, Turn, Unboost, Win,
 };
 use crate::events::{CHANSEY, ONE, STARMIE, TAUROS, TWO, Tell, event};
 use crate::teams::lead_and_chansey;
@@ -58,7 +58,7 @@ enum Fact {
     Used(Side, u8, usize, u8, u8),
 }
 
-static PUBLIC: [Row; 12] = [
+static PUBLIC: [Row; 17] = [
     Row {
         name: "before the first event nothing is public",
         steps: &[
@@ -247,25 +247,124 @@ static PUBLIC: [Row; 12] = [
         name: "charging ends by what the log shows",
         steps: &[
             Step::Begin,
-            Step::Tells(Prepare(ONE, 91)),
+            // Razor Wind.
+            Step::Tells(Prepare(ONE, 13)),
             Step::Announced(ONE, &["charging"]),
-            Step::Tells(Move(ONE, 91)),
+            Step::Tells(Move(ONE, 13)),
             Step::Announced(ONE, &[]),
-            Step::Tells(Prepare(ONE, 91)),
+            Step::Tells(Prepare(ONE, 13)),
             Step::Announced(ONE, &["charging"]),
             Step::Tells(Cant(ONE, CantReason::Disabled)),
             Step::Announced(ONE, &[]),
-            Step::Tells(Prepare(ONE, 91)),
+            Step::Tells(Prepare(ONE, 13)),
             Step::Announced(ONE, &["charging"]),
             Step::Tells(Cant(ONE, CantReason::Paralysed)),
             Step::Announced(ONE, &[]),
-            Step::Tells(Prepare(ONE, 91)),
+            Step::Tells(Prepare(ONE, 13)),
             Step::Announced(ONE, &["charging"]),
             Step::Tells(Damage(ONE, 300, 353, DamageSource::Confusion)),
             Step::Announced(ONE, &[]),
-            Step::Tells(Prepare(ONE, 91)),
+            Step::Tells(Prepare(ONE, 13)),
             Step::Tells(Damage(ONE, 290, 353, DamageSource::Direct)),
             Step::Announced(ONE, &["charging"]),
+        ],
+    },
+    Row {
+        name: "a prepared move is seen and not used",
+        steps: &[
+            Step::Begin,
+            Step::Tells(Prepare(ONE, 13)),
+            Step::Is(Fact::Used(ONE, 1, 0, 13, 0)),
+            Step::Is(Fact::LastMove(ONE, 13)),
+            Step::Tells(Move(ONE, 13)),
+            Step::Is(Fact::Used(ONE, 1, 0, 13, 1)),
+            Step::Tells(Prepare(ONE, 91)),
+            Step::Is(Fact::Used(ONE, 1, 0, 13, 1)),
+            Step::Is(Fact::Used(ONE, 1, 1, 91, 0)),
+            Step::Is(Fact::LastMove(ONE, 91)),
+        ],
+    },
+    Row {
+        name: "Fly and Dig hide their user until a charged move strikes",
+        steps: &[
+            Step::Begin,
+            Step::Tells(Prepare(ONE, 19)),
+            Step::Announced(ONE, &["charging", "invulnerable"]),
+            Step::Tells(Move(ONE, 19)),
+            Step::Announced(ONE, &[]),
+            Step::Tells(Prepare(ONE, 91)),
+            Step::Tells(Cant(ONE, CantReason::Paralysed)),
+            Step::Announced(ONE, &["invulnerable"]),
+            // Strength, and then Razor Wind.
+            Step::Tells(Move(ONE, 70)),
+            Step::Announced(ONE, &["invulnerable"]),
+            Step::Tells(Prepare(ONE, 13)),
+            Step::Announced(ONE, &["charging", "invulnerable"]),
+            Step::Tells(Move(ONE, 13)),
+            Step::Announced(ONE, &[]),
+            Step::Tells(Prepare(ONE, 91)),
+            Step::Tells(Damage(ONE, 300, 353, DamageSource::Confusion)),
+            Step::Announced(ONE, &[]),
+            Step::Tells(Prepare(ONE, 91)),
+            Step::Tells(Switch(ONE, CHANSEY, 2, 703, 703, None)),
+            Step::Announced(ONE, &[]),
+        ],
+    },
+    Row {
+        name: "a hit on itself behind its own Substitute shows by the next event",
+        steps: &[
+            Step::Begin,
+            Step::Tells(Start(ONE, Volatile::Substitute)),
+            Step::Tells(Start(ONE, Volatile::Bide)),
+            Step::Tells(Prepare(ONE, 91)),
+            Step::Tells(Activate(ONE, Volatile::Confusion)),
+            Step::Announced(ONE, &["substitute", "bide", "charging", "invulnerable"]),
+            // The hit landed on nothing.
+            Step::Tells(Turn(2)),
+            Step::Announced(ONE, &["substitute"]),
+            Step::Tells(Start(ONE, Volatile::Bide)),
+            Step::Tells(Activate(ONE, Volatile::Confusion)),
+            // It landed on the Substitute of the foe.
+            Step::Tells(Activate(TWO, Volatile::Substitute)),
+            Step::Announced(ONE, &["substitute"]),
+            Step::Tells(Start(ONE, Volatile::Bide)),
+            Step::Tells(Activate(ONE, Volatile::Confusion)),
+            // Its poison, after the hit.
+            Step::Tells(Damage(ONE, 300, 353, DamageSource::Poison)),
+            Step::Announced(ONE, &["substitute"]),
+        ],
+    },
+    Row {
+        name: "a confused member that acts has not hit itself",
+        steps: &[
+            Step::Begin,
+            Step::Tells(Start(ONE, Volatile::Substitute)),
+            Step::Tells(Start(ONE, Volatile::Bide)),
+            Step::Tells(Activate(ONE, Volatile::Confusion)),
+            Step::Tells(Activate(ONE, Volatile::Bide)),
+            Step::Announced(ONE, &["substitute", "bide"]),
+            // Disable leaves Bide on.
+            Step::Tells(Activate(ONE, Volatile::Confusion)),
+            Step::Tells(Cant(ONE, CantReason::Disabled)),
+            Step::Announced(ONE, &["substitute", "bide"]),
+            Step::Tells(Activate(ONE, Volatile::Confusion)),
+            Step::Tells(End(ONE, Volatile::Bide)),
+            Step::Announced(ONE, &["substitute"]),
+            // Full paralysis leaves it out of reach.
+            Step::Tells(Prepare(ONE, 91)),
+            Step::Tells(Activate(ONE, Volatile::Confusion)),
+            Step::Tells(Cant(ONE, CantReason::Paralysed)),
+            Step::Announced(ONE, &["substitute", "invulnerable"]),
+        ],
+    },
+    Row {
+        name: "without a Substitute a hit on itself is reported",
+        steps: &[
+            Step::Begin,
+            Step::Tells(Start(ONE, Volatile::Bide)),
+            Step::Tells(Activate(ONE, Volatile::Confusion)),
+            Step::Tells(Turn(2)),
+            Step::Announced(ONE, &["bide"]),
         ],
     },
     Row {
@@ -367,7 +466,7 @@ fn found_member(public: &Public, fact: Fact) -> Fact {
 }
 
 // Each condition by its name.
-fn announced(side: &PublicSide) -> [(&'static str, u8); 13] {
+fn announced(side: &PublicSide) -> [(&'static str, u8); 14] {
     let on = side.announced;
     [
         ("substitute", on.substitute),
@@ -383,6 +482,7 @@ fn announced(side: &PublicSide) -> [(&'static str, u8); 13] {
         ("bide", on.bide),
         ("charging", on.charging),
         ("recharging", on.recharging),
+        ("invulnerable", side.invulnerable),
     ]
 }
 

@@ -4,6 +4,7 @@ use crate::events::{ONE, TWO};
 use crate::teams::{SEED, chansey, gengar, lead_and_chansey, tauros};
 use gen1_engine::Battle;
 use gen1_machine::{Outcome, Request, Side};
+use gen1_rolls::LinkRandom;
 use gen1_room::{Reply, Room, RoomRefusal, Submitted, pairs_are_answered, replies_hide_choices};
 use std::process::Abort;
 use std::test::Fail;
@@ -105,6 +106,17 @@ fn a_battle_is_started_with_its_room(rt: HostRuntime) -> Result<(), Fail> {
     assert_same(&rt, room.number(), 0);
     assert_same(&rt, room.log(), START.as_slice());
     assert_same(&rt, room.battle().result().request_one, Request::Move);
+    Ok(())
+}
+
+// Bytes 5 to 15 of a battle are the index and the numbers (docs/LAYOUT.md, "Header").
+#[test]
+fn a_reseeded_room_keeps_the_choice(rt: HostRuntime) -> Result<(), Fail> {
+    let mut room = play(&rt, two_tauros()?, &[ONE_FIRST[0]]);
+    room.reseed(&LinkRandom::new([9, 8, 7, 6, 5, 4, 3, 2, 1, 0]));
+    let header = [0, 9, 8, 7, 6, 5, 4, 3, 2, 1, 0];
+    assert_same(&rt, &room.battle().bytes()[5..16], header.as_slice());
+    play(&rt, room, &[ONE_FIRST[1]]);
     Ok(())
 }
 

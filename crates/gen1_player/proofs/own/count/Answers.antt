@@ -2,8 +2,8 @@ use Rattle.gen1_machine.specs.State.{party}
 use Rattle.gen1_player.proofs.OwnSides.{counted, have_species, members_under}
 use Rattle.gen1_player.proofs.own.count.Goals as goal
 
-pub returns : goal.returns
-returns c g f h =
+pub returns-clause-packs : goal.returns-clause-packs
+returns-clause-packs c g f h =
     let members = (party c.args.side f).members in let under = members_under c.args.side h in
     rw (
       c.present.ensures.packs g f h,

@@ -5,8 +5,8 @@ use Rattle.gen1_offers.proofs.BetweenUpdates.{packs_of}
 use Rattle.gen1_player.proofs.OwnSides.{as_many, fault_fits, shown_at}
 use Rattle.gen1_player.proofs.own.own_side.Goals as goal
 
-pub returns : goal.returns
-returns c s h =
+pub returns-clause-stands : goal.returns-clause-stands
+returns-clause-stands c s h =
     let g = setting_of s in let f = s.field in let k = packs_of h in let members = (party c.args.side f).members in
     rw (
       c.active-out.ensures s h,
@@ -22,7 +22,7 @@ returns c s h =
       c.request.ensures.packs g f k,
       c.byte_of_outcome.ensures.value (λ code is. fault_fits f.outcome k.outcome code (sym (c.outcome.ensures.packs g f k) ∙ is)),
       c.outcome.ensures.packs g f k,
-      c.count.ensures g f k,
+      c.count.ensures.packs g f k,
       shown_at members 0,
       shown_at members 1,
       shown_at members 2,
