@@ -1,8 +1,9 @@
 -- A pair that ends: what it leaves, and that its number is in range.
 use Rattle.arrayvec.specs.ArrayVec.{ArrayVec}
-use Rattle.std.proofs.Common.{Bool, Err, List, None, Ok, Option, Result, Some, [], ap, arith, false, inl, inr, refl, subst, sym, true, ℕ, ◌&&◌, ◌++◌, ◌+◌, ◌==◌, ◌≡◌, ◌≤◌, ◌∙◌, ◌∷◌, ◌⊎◌}
+use Rattle.std.proofs.Common.{Bool, Err, List, None, Ok, Option, Result, Some, [], ap, arith, false, inl, inr, refl, subst, sym, true, ℕ, ◌&&◌, ◌+◌, ◌==◌, ◌≡◌, ◌≤◌, ◌∙◌, ◌⊎◌}
 use Rattle.std.specs.Prelude.{if◌then◌else◌}
 use Rattle.std.proofs.lemmas.Bool.Decides.{nat_tests}
+use Rattle.gen1_rolls.specs.Link.{Ring}
 use Rattle.gen1_machine.specs.declared.side.Side.{Side}
 use Rattle.gen1_machine.specs.declared.side.Side.TheVariants.{One, Two}
 use Rattle.gen1_machine.specs.declared.terms.Request.TheVariants as requests
@@ -14,21 +15,21 @@ use Rattle.gen1_machine.specs.declared.terms.Outcome.TheVariants as outcomes
 use Rattle.gen1_machine.specs.declared.terms.Request.{Request}
 use Rattle.gen1_machine.specs.Room.{begun, Course, room_of}
 use Rattle.gen1_machine.specs.State.{Field, has_fallen_in, is_over, is_pass, request_of, State, Terms}
-use Rattle.gen1_machine.specs.Step.{events_of, is_among, Ran, run, run_by, step, Stepped}
+use Rattle.gen1_machine.specs.Step.{events_of, is_among, step, Stepped}
 use Rattle.gen1_machine.specs.OfferedChoices.{offered_for}
 use Rattle.gen1_machine.specs.Valid.{IsAsked, IsField, IsStarted, IsState, IsUnstarted, StandsAs}
 use Rattle.gen1_machine.proofs.FallenFaint.{Standing, update-standing}
-use Rattle.gen1_machine.proofs.Runs.{runs_append}
 use Rattle.gen1_machine.proofs.RunsEnd.{offered-is, state-ready}
 use Rattle.gen1_events.specs.Splits.{IsReading}
 use Rattle.gen1_layout.specs.Parts.{Parts}
 use Rattle.gen1_layout.specs.Within.{Stands}
 use Rattle.gen1_engine.specs.declared.result.BattleResult.{BattleResult}
 use Rattle.gen1_engine.specs.declared.result.Refusal.{Refusal}
+use Rattle.gen1_engine.specs.Reseed.{reseeded}
 use Rattle.gen1_engine.specs.Update.{Answers, AnswersAs, AreOffered, result_of, Tells, TellsAs}
 use Rattle.gen1_room.specs.declared.held.Held.{Held}
-use Rattle.gen1_room.specs.Rooms.{Counts, ended, Holds, IsRoom, Opens}
-use Rattle.gen1_room.proofs.Rooms.{one_pair_more}
+use Rattle.gen1_room.specs.Rooms.{Counts, ended, happened, Holds, IsRoom, Opens, reseeded_in}
+use Rattle.gen1_room.proofs.Counting.{counts_none, counts_pair}
 use Rattle.gen1_engine.proofs.Making.{goes_on, unstarted_at}
 use Rattle.gen1_room.proofs.Steps.{answers_ok, made, step_accepts}
 use Rattle.gen1_room.proofs.Choosing.{and_false}
@@ -136,22 +137,17 @@ end_holds c one two number a b old new old_list list log res stands counted h an
 -- the pairs so far, and one more
 
 pub counts_more : (old new : Parts) (res : BattleResult) (number : ℕ) (k : Counts old number) (one two : Choice)
-    → Answers (run k.start k.pairs).state one two old new (Ok res) → Counts new (number + 1)
-unfolding run_by
+    → Answers (happened k.start k.all) one two old new (Ok res) → Counts new (number + 1)
 counts_more old new res number k one two answers =
-    let s = (run k.start k.pairs).state in
+    let s = happened k.start k.all in
     let found = answers_ok (step s one two).answer (step s one two).state old new res answers in
-    record {
-      start = k.start;
-      pairs = k.pairs ++ (one, two) ∷ [];
-      valid = k.valid;
-      stands = subst (Stands new) (sym (ap (λ (x : Ran). x.state) (runs_append k.start k.pairs ((one, two) ∷ [])))) found.2;
-      counted = ap (λ (n : ℕ). n + 1) k.counted ∙ sym (one_pair_more k.start k.pairs one two found.0 found.1);
-    }
+    counts_pair k one two found.0 found.1 found.2
 
-pub counts_none : {battle : Parts} (s : State) → IsState s → Stands battle s → Counts battle 0
-unfolding run_by
-counts_none s valid stands = record { start = s; pairs = []; valid = valid; stands = stands; counted = refl }
+-- other numbers to draw
+
+pub holds_numbers : {r : Held} {c : Course} {new : Parts} (ring : Ring) → Stands new (reseeded ring c.state) → Holds r c
+    → Holds (record r { battle = new }) (reseeded_in ring c)
+holds_numbers ring stands h = record { stands = stands; counted = h.counted; logged = h.logged; one = h.one; two = h.two; waits = h.waits }
 
 -- a room over a battle
 

@@ -4,6 +4,8 @@ pub mod Steps
 pub mod Rooms
 pub mod Offers
 pub mod Choosing
+-- The number of pairs.
+pub mod Counting
 -- A pair that ends.
 pub mod Ending
 -- Plain rooms.

@@ -1,16 +1,18 @@
 -- What a room holds and replies, in the machine's terms (docs/MECHANICS.md, "Rooms").
-use Rattle.std.specs.Prelude.{Err, List, None, Ok, Option, Result, Some, false, ℕ, ◌≡◌, ◌⊎◌}
+use Rattle.std.specs.Prelude.{Err, List, None, Ok, Option, Result, Some, [], false, if◌then◌else◌, ℕ, ◌+◌, ◌≡◌, ◌∷◌, ◌⊎◌}
+use Rattle.gen1_rolls.specs.Link.{Ring}
 use Rattle.gen1_machine.specs.declared.side.Side.{Side}
 use Rattle.gen1_machine.specs.declared.side.Side.TheVariants.{One, Two}
 use Rattle.gen1_machine.specs.declared.choice.Choice.{Choice}
-use Rattle.gen1_machine.specs.Laws.{accepted_in}
+use Rattle.gen1_machine.specs.Laws.{is_accepted}
 use Rattle.gen1_machine.specs.Room.{after, AlreadyChosen, Advanced, begun, choice_made, ChoiceNotOffered, chosen, Course, ended_by, Reply, reply_to, RoomOver, RoomRefusal, Stale, Submission, TurnedAway, Waiting}
 use Rattle.gen1_machine.specs.State.{is_over, State}
-use Rattle.gen1_machine.specs.Step.{events_of, run}
+use Rattle.gen1_machine.specs.Step.{events_of, step}
 use Rattle.gen1_machine.specs.Valid.{IsState, StandsAs}
 use Rattle.gen1_events.specs.Splits.{IsReading}
 use Rattle.gen1_layout.specs.Parts.{Parts}
 use Rattle.gen1_layout.specs.Within.{Stands}
+use Rattle.gen1_engine.specs.Reseed.{reseeded}
 use Rattle.gen1_engine.specs.Update.{AreOffered}
 use Rattle.gen1_room.specs.declared.held.Held.{Held}
 use Rattle.gen1_room.specs.declared.reply.Submitted.{Submitted}
@@ -28,14 +30,36 @@ pub record Holds (r : Held) (c : Course) : Type 0 where
   pub two : r.two ≡ chosen Two c
   pub waits : is_over c.state.field.outcome ≡ false → (r.one ≡ None) ⊎ (r.two ≡ None)
 
+-- What happens to the battle of a room: a pair of choices, or other numbers to draw.
+pub data Happening : Type 0 where
+  Pair : (one two : Choice) → Happening
+  Numbers : (ring : Ring) → Happening
+
+abbrev pub then_happens : State → Happening → State
+then_happens s (Pair one two) = (step s one two).state
+then_happens s (Numbers ring) = reseeded ring s
+
+abbrev pub pairs_in : State → Happening → ℕ
+pairs_in s (Pair one two) = if is_accepted (step s one two).answer then 1 else 0
+pairs_in s (Numbers ring) = 0
+
+-- A battle after this has happened, the latest first, and how many pairs it has accepted.
+abbrev pub happened : State → List Happening → State
+happened s [] = s
+happened s (it ∷ before) = then_happens (happened s before) it
+
+abbrev pub pairs_of : State → List Happening → ℕ
+pairs_of s [] = 0
+pairs_of s (it ∷ before) = pairs_in (happened s before) it + pairs_of s before
+
 -- The number counts accepted pairs from some valid state. There are at most as many as the turn limit, plus eleven, so it is in
 -- range.
 pub record Counts (battle : Parts) (number : ℕ) : Type 0 where
   pub start : State
-  pub pairs : List (Choice × Choice)
+  pub all : List Happening
   pub valid : IsState start
-  pub stands : Stands battle (run start pairs).state
-  pub counted : number ≡ accepted_in start pairs
+  pub stands : Stands battle (happened start all)
+  pub counted : number ≡ pairs_of start all
 
 -- what holds for every room
 pub record IsRoom (r : Held) : Type 0 where
@@ -98,3 +122,7 @@ reply_of (Err why) = TurnedAway (why_of why)
 -- A submission to a room that holds any course: then it holds what the machine's room does, whose reply is returned.
 abbrev pub Takes : Held → Held → Result Submitted Why → Submission → Type 0
 Takes old new result submission = (c : Course) → Holds old c → Holds new (after c submission) × (reply_of result ≡ reply_to c submission)
+
+-- The same course, in which the battle draws other numbers.
+abbrev pub reseeded_in : Ring → Course → Course
+reseeded_in ring c = record c { state = reseeded ring c.state }

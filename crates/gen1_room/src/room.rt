@@ -5,7 +5,7 @@ ghost use Rattle.gen1_machine.specs.Room.{Course, course_of, replies_of, room_of
 ghost use Rattle.gen1_machine.specs.State.{State};
 ghost use Rattle.gen1_events.specs.Splits.{IsReading};
 ghost use Rattle.gen1_layout.specs.Within.{Stands};
-ghost use Rattle.gen1_room.specs.Rooms.{Holds, IsRoom, Takes, reply_of, submission_at, submission_of};
+ghost use Rattle.gen1_room.specs.Rooms.{Holds, IsRoom, Takes, reply_of, reseeded_in, submission_at, submission_of};
 
 use crate::held::Held;
 use crate::reply::Reply;
@@ -13,6 +13,7 @@ use crate::start::begin;
 use crate::submission::submit;
 use gen1_engine::Battle;
 use gen1_machine::Side;
+use gen1_rolls::LinkRandom;
 use std::marker::Model;
 
 /// A battle whose two players submit their choices separately (docs/MECHANICS.md, "Rooms").
@@ -77,6 +78,16 @@ impl Room {
         ensures refused { OnErr result (self.new ≡ self.old) }
     {
         submit(&mut self.held, side, number, byte)
+    }
+
+    /// Replaces the ten numbers that the battle draws, and changes nothing else: a choice that the room keeps stays.
+    ///
+    /// A host calls this before each pair, with bytes of its own. Otherwise the draws can be predicted from those before
+    /// (docs/MECHANICS.md, "Link numbers").
+    pub fn reseed(&mut self, numbers: &LinkRandom)
+        ensures { (c : Course) → Holds self.old c → Holds self.new (reseeded_in numbers.now c) }
+    {
+        self.held.battle.reseed(numbers);
     }
 
     /// Makes a room for a battle, and submits each submission in order. The reply to each is written at its index.

@@ -1,15 +1,11 @@
 use Rattle.std.proofs.Common.{arith}
-use Rattle.gen1_machine.specs.Step.{run}
+use Rattle.gen1_room.specs.Rooms.{happened}
+use Rattle.gen1_room.proofs.Counting.{counts_fit}
 use Rattle.gen1_room.proofs.Ending.{counts_more, end_holds, not_refused}
-use Rattle.gen1_room.proofs.Rooms.{few_pairs}
 use Rattle.gen1_room.proofs.submission.end_pair.Goals as goal
 
 pub overflow_add-held : goal.overflow_add-held
-overflow_add-held c =
-    let k = c.requires.valid.counts in
-    let most = few_pairs k.start k.pairs k.valid in
-    let is = k.counted in
-    omega (arith, most, is)
+overflow_add-held c = let most = counts_fit c.requires.valid.counts in omega (arith, most)
 
 pub returns-clause-holds : goal.returns-clause-holds
 returns-clause-holds c course stands counted offered =
@@ -22,7 +18,7 @@ pub returns-clause-counts : goal.returns-clause-counts
 returns-clause-counts c =
     let k = c.requires.valid.counts in
     counts_more c.args.held.now.battle c.update_events.new.self c.in-Ok.result c.args.held.now.number k c.args.one c.args.two
-    (c.in-Ok.ensures.answers (run k.start k.pairs).state k.stands)
+    (c.in-Ok.ensures.answers (happened k.start k.all) k.stands)
 
 pub unreachable-requires : goal.unreachable-requires
 unreachable-requires c =
