@@ -427,7 +427,10 @@ uint8_t gen1_update_silent(gen1_battle *battle, uint8_t one, uint8_t two);
 uint8_t gen1_update_offered(gen1_battle *battle, uint8_t one, uint8_t two, uint8_t *log, size_t room, size_t *length);
 uint8_t gen1_update_offered_silent(gen1_battle *battle, uint8_t one, uint8_t two);
 
-/* Returns the outcome so far and the request to each side for the next update, in one byte, which these macros take apart. */
+/*
+ * Returns the outcome so far and the request to each side for the next update, in one byte, which these macros take apart. For
+ * any 384 bytes each of the three is one of its constants below.
+ */
 uint8_t gen1_result(const gen1_battle *battle);
 
 #define GEN1_RESULT_OUTCOME(result) ((result) & 7)          /* GEN1_OUTCOME_ONGOING to GEN1_OUTCOME_FAULT_TWO */
@@ -823,9 +826,10 @@ typedef struct gen1_outcome_list {
  *
  * A search may want fewer outcomes. With `damage_classes` above 0, a damage roll has at most that many classes: the 39 factors
  * from 217 to 255 are divided into that many ranges, and the damages of one range are a class. The list has one damage near the
- * middle of each class, with the weight of the whole class. All damages that reach the HP of the target (or of its substitute)
- * are one more class, so the chance of a knock-out stays exact, and so does everything other than damage rolls. 0 lists each
- * damage; numbers above 39 count as 39.
+ * middle of each class, with the weight of the whole class. All damages that reach the HP of the target are one more class. No
+ * class holds both damages that break a substitute and damages that don't. So the chance that the first hit of a move knocks out
+ * or breaks a substitute stays exact, and so does everything other than damage rolls. Only what depends on the amount of damage
+ * is that of the listed one: later hits of a move, recoil, residual damage. 0 lists each damage; numbers above 39 count as 39.
  *
  * With `least` above 0, a course of the update is left out as soon as its draws so far have a probability below `least` / 2^32
  * together. A weight is then that of the ways to its battle that are not left out, and the rest is in `left_low` and `left_high`
@@ -854,7 +858,7 @@ typedef struct gen1_draw {
     uint16_t total;    /* how many bytes can be drawn */
     uint16_t count;    /* how many of them have the same effect as `byte` */
     uint16_t look[2];  /* how the byte is used: the parameters */
-    uint8_t kind;      /* how the byte is used: the kind, 0 to 3 */
+    uint8_t kind;      /* how the byte is used: the kind, 0 to 4 */
     uint8_t byte;      /* the byte that is drawn on the next way */
     uint8_t unused[6]; /* 0 */
 } gen1_draw;
@@ -1198,7 +1202,9 @@ uint8_t gen1_reseed(gen1_battle *battle, const uint8_t seed[10], uint8_t index);
  * until the other one is submitted; then it updates the battle.
  *
  * The caller owns a room, and may copy and store it. To make one, set `battle` by gen1_new or gen1_load and call
- * gen1_room_begin, which writes all other fields. From then on change it only by gen1_room_submit and gen1_room_forfeit.
+ * gen1_room_begin, which writes all other fields. From then on change it only by gen1_room_submit and gen1_room_forfeit, and its
+ * battle only by gen1_reseed. A host calls gen1_reseed(&room.battle, seed, 0) before each pair, with bytes of the operating
+ * system's source: nine draws in a row give all that follow. A choice that the room keeps stays.
  */
 typedef struct gen1_room {
     gen1_battle battle;         /* the battle as it is now; before gen1_room_begin, the one to make a room of */
@@ -1208,7 +1214,8 @@ typedef struct gen1_room {
                                    them to the players */
     uint8_t forfeit;            /* the side that has forfeited, 1 or 2; 0 if neither has */
     uint8_t unused[3];          /* 0 */
-    uint8_t log[GEN1_LOG_ROOM]; /* the log of the last pair that ended; before that, of the start, if the room played it */
+    uint8_t log[GEN1_LOG_ROOM]; /* the log of the last pair that ended; before that, of the start, if the room played it;
+                                   never show it to the players */
 } gen1_room;
 
 #define GEN1_ROOM_SIZE 908 /* the size of a gen1_room, for other languages; its alignment is 4 */
@@ -1237,8 +1244,8 @@ uint8_t gen1_room_choices(const gen1_room *room, uint8_t side, uint8_t choices[9
  *
  * Until the pair has ended, no result that either player gets depends on which of the offered choices the other player made.
  *
- * The room keeps only the log of the last pair. A caller that wants the log of the whole battle appends the room's log after
- * gen1_room_begin, and each time that `number` has risen:
+ * The room keeps only the log of the last pair. It is the host's: send a side what gen1_tell makes of it. A caller that wants
+ * the log of the whole battle appends the room's log after gen1_room_begin, and each time that `number` has risen:
  *
  *     uint32_t before = room.number;
  *     if (gen1_room_submit(&room, side, number, choice) == 0 && room.number != before) {
@@ -1324,10 +1331,10 @@ uint8_t gen1_spectator_feed(gen1_spectator *spectator, const uint8_t *log, size_
  * choices. A player is computed from these and from its own team, and from nothing else. The caller owns all structs.
  */
 
-/* A move that a member was seen to use. */
+/* A move that a member was seen to prepare or to use. */
 typedef struct gen1_seen_move {
     uint8_t id;   /* 1 to 165; 0 in a free slot */
-    uint8_t uses; /* 1 to 255, where 255 means 255 or more; 0 in a free slot */
+    uint8_t uses; /* 0 to 255, where 255 means 255 or more; 0 for a move that it has only prepared, and in a free slot */
 } gen1_seen_move;
 
 /* A member as the log last showed it. If it has not appeared, all fields are 0. */
@@ -1337,7 +1344,7 @@ typedef struct gen1_seen {
     uint8_t species;         /* 1 to 151 */
     uint8_t level;           /* 1 to 100 */
     uint8_t status;          /* GEN1_STATUS_NONE to GEN1_STATUS_PARALYSIS */
-    gen1_seen_move moves[5]; /* in the order of their first use */
+    gen1_seen_move moves[5]; /* in the order in which they were first seen */
     uint8_t unused;          /* 0 */
 } gen1_seen;
 
@@ -1354,7 +1361,7 @@ typedef struct gen1_announced {
     uint8_t disabled;     /* Disable, of one of its moves */
     uint8_t rage;         /* Rage */
     uint8_t bide;         /* Bide */
-    uint8_t charging;     /* it is charging a move, and uses it in its next action */
+    uint8_t charging;     /* it is charging `last_move`, and uses it in its next action */
     uint8_t recharging;   /* its next action is to recharge */
 } gen1_announced;
 
@@ -1366,8 +1373,8 @@ typedef struct gen1_public_side {
     uint8_t place;            /* of the active member, 1 to 6; 0 before the first comes out */
     uint8_t first_type;       /* 0 to 14 */
     uint8_t second_type;      /* 0 to 14; the first again for a member of one type */
-    uint8_t last_move;        /* 1 to 165; 0 if it has used none since it came out */
-    uint8_t unused;           /* 0 */
+    uint8_t last_move;        /* the move that it used or prepared last, 1 to 165; 0 if none since it came out */
+    uint8_t invulnerable;     /* 1 if Fly or Dig has taken it out of reach, which may outlast the move; else 0 */
 } gen1_public_side;
 
 /* What the events of a battle make public. */
@@ -1375,7 +1382,8 @@ typedef struct gen1_public {
     gen1_public_side sides[2]; /* side 1 and side 2 */
     uint16_t turn;             /* 0 before the first turn */
     uint8_t outcome;           /* as in gen1_spectator */
-    uint8_t unused;            /* 0 */
+    uint8_t may_hit_itself;    /* the side, 1 or 2, whose confused member has hit itself behind its own Substitute, unless the
+                                  next event is its act; else 0 */
 } gen1_public;
 
 /* A member of the player's own side; zeros if there is none. */

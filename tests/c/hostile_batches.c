@@ -77,7 +77,8 @@ static void try_update_many(void) {
     sizes[1] = got == 0 ? count * sizeof *updates : 0;
     bool is_kept = changed_only_these(sizes);
     for (size_t at = 0; got == 0 && at < count; at++)
-        is_kept &= updates[at].one == asked[at].one && updates[at].two == asked[at].two;
+        is_kept &=
+            updates[at].one == asked[at].one && updates[at].two == asked[at].two && is_update_code(updates[at].code);
     for (size_t at = 0; got == 0 && at < count && are_valid; at++) {
         uint8_t code = gen1_update_silent(&before[at], asked[at].one, asked[at].two);
         is_kept &= updates[at].code == code && updates[at].result == gen1_result(&before[at]);
@@ -110,6 +111,12 @@ static gen1_batch_update stepped(gen1_battle *battle, const gen1_battle *start, 
     return (gen1_batch_update){.one = pair[0], .two = pair[1], .result = gen1_result(battle), .code = code};
 }
 
+static bool is_loaded_as_it_is(const gen1_battle *battle) {
+    gen1_battle loaded;
+    return gen1_load(&loaded, battle->bytes, sizeof battle->bytes) == 0 && memcmp(&loaded, battle, sizeof loaded) == 0;
+}
+
+/* A start is read only where its battle is over. */
 static void try_step_random_many(void) {
     bool are_valid, are_starts_valid;
     size_t count = draw(MANY + 1), start_count = one_in(3) ? 0 : near_count(count), over_now = 0;
@@ -128,10 +135,15 @@ static void try_step_random_many(void) {
     size_t sizes[BLOCKS] = {count * sizeof *battles, 0, count * sizeof *generators, count * sizeof *updates,
                             sizeof *over};
     bool is_kept = got != 0 ? unchanged() : changed_only_these(sizes);
-    for (size_t at = 0; got == 0 && at < count; at++)
+    for (size_t at = 0; got == 0 && at < count; at++) {
         over_now += GEN1_RESULT_OUTCOME(updates[at].result) != GEN1_OUTCOME_ONGOING;
+        is_kept &= updates[at].code == 0 || updates[at].code == GEN1_ERROR_OVER;
+    }
     is_kept &= got != 0 || *over == over_now;
-    for (size_t at = 0; got == 0 && at < count && are_valid && are_starts_valid; at++) {
+    for (size_t at = 0; got == 0 && at < count && are_valid; at++) {
+        bool is_over = GEN1_RESULT_OUTCOME(gen1_result(&before[at])) != GEN1_OUTCOME_ONGOING;
+        if (start_count != 0 && is_over && !is_loaded_as_it_is(&starts[at]))
+            continue;
         gen1_batch_update want = stepped(&before[at], start_count != 0 ? &starts[at] : NULL, &seeds[at]);
         is_kept &= memcmp(&want, &updates[at], sizeof want) == 0 && seeds[at] == generators[at];
         is_kept &= memcmp(&before[at], &battles[at], sizeof before[at]) == 0;
@@ -196,7 +208,7 @@ static void try_outcomes(void) {
     size_t sizes[BLOCKS] = {0, capacity * sizeof *found, places * sizeof *table, got == 0 ? sizeof *list : 0};
     bool is_right = want == 0 && (got == 0 || is_short) ? changed_only_these(sizes) : got == want && unchanged();
     if (!is_valid)
-        is_right = changed_only_these(sizes);
+        is_right = changed_only_these(sizes) && (is_update_code(got) || is_short || got == GEN1_ERROR_DRAWS);
     if (got == 0)
         is_right &= list->count <= capacity && list->count <= places;
     if (got == 0 && is_valid)
@@ -216,7 +228,7 @@ static void try_walk_begin(void) {
     uint8_t want = is_valid ? gen1_update_silent(&next, one, two) : got;
     bool is_right =
         got == 0 ? changed_only(1, sizeof *walk) && memcmp(&walk->battle, &from, sizeof from) == 0 : unchanged();
-    tell("gen1_walk_begin", got == want && is_right, got, want);
+    tell("gen1_walk_begin", got == want && is_update_code(got) && is_right, got, want);
 }
 
 /* Whether a way has a probability above 0 and up to 1, a log that ends after an event, and zeros after it. */
@@ -231,6 +243,14 @@ static bool is_way(const gen1_way *way) {
         left--;
     double part = GEN1_WAY_PROBABILITY(way);
     return at == way->log_length && left == way->log_length && 0 < part && part <= 1;
+}
+
+/* Whether a walk has a number of draws within its array, `over` is 0 or 1, and the bytes that are not used are 0. */
+static bool is_walk(const gen1_walk *walk) {
+    bool is_right = walk->count <= 24 && walk->over <= 1 && are_zeros(walk->unused, sizeof walk->unused);
+    for (int at = 0; at < 24; at++)
+        is_right &= are_zeros(walk->draws[at].unused, sizeof walk->draws[at].unused);
+    return is_right;
 }
 
 /* A walk of lawful play after some ways; or one with some other bytes. */
@@ -264,7 +284,7 @@ static void try_walk_next(void) {
     is_right &= got == 0 || got == GEN1_ERROR_WALK_END || (got == GEN1_ERROR_DRAWS && !is_valid);
     is_right &= memcmp(&walk->battle, &from.battle, sizeof from.battle) == 0 && memcmp(walk, &copy, sizeof copy) == 0;
     if (got == 0)
-        is_right &= memcmp(way, &other, sizeof other) == 0 && (!is_valid || is_way(way));
+        is_right &= memcmp(way, &other, sizeof other) == 0 && (!is_valid || (is_way(way) && is_walk(walk)));
     tell("gen1_walk_next", got == again && is_right, got, again);
 }
 

@@ -203,7 +203,7 @@ static void try_update(void) {
         is_kept &= changed_only_two(1, *length <= room ? *length : 0, 2, sizeof *length);
         is_kept &= !is_valid || gen1_load(&from, after.bytes, sizeof after.bytes) == 0;
     }
-    tell("gen1_update", got == want && is_kept, got, want);
+    tell("gen1_update", got == want && (got == GEN1_ERROR_SMALL_LOG || is_update_code(got)) && is_kept, got, want);
 }
 
 /* It does what gen1_update does. */
@@ -218,7 +218,9 @@ static void try_update_silent(void) {
     uint8_t got = gen1_update_silent(battle, one, two), want = gen1_update(&told, one, two, log, sizeof log, &length);
     bool is_same = !is_valid || memcmp(battle, &told, sizeof told) == 0;
     tell("gen1_update_silent",
-         (got == want || !is_valid) && is_same && (got == 0 ? changed_only(0, sizeof from) : unchanged()), got, want);
+         (got == want || !is_valid) && is_update_code(got) && is_same &&
+             (got == 0 ? changed_only(0, sizeof from) : unchanged()),
+         got, want);
 }
 
 /* ---- gen1_update_offered, gen1_update_offered_silent ---- */
@@ -384,7 +386,9 @@ static void try_damage(void) {
     for (int at = 1; got == 0 && at < 39; at++)
         is_kept &= damages[at - 1] <= damages[at];
     is_kept &= !is_valid || got != GEN1_ERROR_NOBODY_OUT || !is_out;
-    tell("gen1_damage", got == want && got <= GEN1_ERROR_NOBODY_OUT && is_kept, got, want);
+    bool is_code = got == want && (want == GEN1_ERROR_SIDE || want == GEN1_ERROR_MOVE || got == 0 ||
+                                   (GEN1_ERROR_UNUSUAL <= got && got <= GEN1_ERROR_NOBODY_OUT));
+    tell("gen1_damage", is_code && is_kept, got, want);
 }
 
 try_call *const tries_of_battles[] = {

@@ -89,7 +89,8 @@ static void try_odds_now(void) {
                    : move < 1 || move > 165             ? GEN1_ERROR_MOVE
                    : state.turn == 0                    ? GEN1_ERROR_NOBODY_OUT
                                                         : 0;
-    bool is_right = got != 0 ? unchanged() : changed_only(1, sizeof *odds);
+    bool is_right =
+        got != 0 ? unchanged() : changed_only(1, sizeof *odds) && odds->usual.count <= 39 && odds->critical.count <= 39;
     if (got == 0 && want == 0 && is_valid)
         is_right &= has_its_damage(odds, &from, side, move) && is_likely(odds, &from, side, move);
     tell("gen1_odds_now", got == want && is_right, got, want);

@@ -51,7 +51,9 @@ static void try_player_feed(void) {
     note();
     uint8_t got = gen1_player_feed(player, count == 0 ? NULL : log, count);
     bool is_right = got != 0 ? unchanged() && (got == GEN1_ERROR_LOG_TAG || got == GEN1_ERROR_LOG_FIELD)
-                             : changed_only(1, sizeof *player);
+                             : changed_only(1, sizeof *player) && player->held_count <= sizeof player->held;
+    if (is_valid)
+        is_right &= player->unused == 0 && player->known.may_hit_itself <= 2;
     tell("gen1_player_feed", is_right, got, 0);
 }
 
@@ -77,7 +79,9 @@ static void try_get_own_side(void) {
     gen1_own_side *own = block(1, sizeof *own);
     note();
     uint8_t got = gen1_get_own_side(battle, side, own), want = is_side(side) ? 0 : GEN1_ERROR_SIDE;
-    bool is_right = got != 0 ? unchanged() : changed_only(1, sizeof *own);
+    bool is_right = got != 0 ? unchanged() : changed_only(1, sizeof *own) && own->count <= 6;
+    for (int at = 0; got == 0 && at < 6; at++)
+        is_right &= own->members[at].unused == 0;
     if (got == 0 && want == 0 && is_valid) {
         gen1_state state;
         gen1_get_state(&from, &state);

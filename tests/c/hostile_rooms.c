@@ -38,7 +38,8 @@ static void try_room_begin(void) {
     room->battle = from;
     note();
     gen1_room_begin(room);
-    bool is_right = changed_only(0, sizeof *room) && room->log_length <= GEN1_LOG_ROOM;
+    bool is_right = changed_only(0, sizeof *room) && room->log_length <= GEN1_LOG_ROOM && room->number == 0 &&
+                    room->forfeit == 0 && are_zeros(room->unused, sizeof room->unused);
     if (is_valid) {
         gen1_state state;
         gen1_get_state(&from, &state);
@@ -91,6 +92,12 @@ static uint8_t fault_of_submission(const gen1_room *room, uint8_t side, uint32_t
                                                                                      : 0;
 }
 
+/* Whether a code is one that a submission to any room may return. */
+static bool is_submission_code(uint8_t code) {
+    return code == 0 || code == GEN1_ERROR_SIDE || code == GEN1_ERROR_OVER || code == GEN1_ERROR_STALE ||
+           code == GEN1_ERROR_CHOSEN || code == GEN1_ERROR_NOT_OFFERED;
+}
+
 /* What an accepted choice makes of a lawful room. */
 static bool is_taken(const gen1_room *room, gen1_room from, uint8_t side, uint8_t choice) {
     from.chosen[side - 1] = choice;
@@ -111,9 +118,10 @@ static void try_room_submit(void) {
     uint8_t want = is_valid || !is_side(side) ? fault_of_submission(&from, side, number, choice) : got;
     bool is_kept = got != 0 ? unchanged() : changed_only(0, sizeof *room);
     is_kept &= room->log_length <= GEN1_LOG_ROOM || room->log_length == from.log_length;
+    is_kept &= memcmp(room->unused, from.unused, sizeof from.unused) == 0 && room->forfeit == from.forfeit;
     if (is_valid && got == 0 && want == 0)
         is_kept &= is_taken(room, from, side, choice);
-    tell("gen1_room_submit", got == want && is_kept, got, want);
+    tell("gen1_room_submit", got == want && is_submission_code(got) && is_kept, got, want);
 }
 
 /* A forfeit drops the choices of the pair, leaves the battle alone, and refuses what comes after it. */
@@ -125,8 +133,9 @@ static void try_room_forfeit(void) {
     note();
     uint8_t got = gen1_room_forfeit(room, side);
     bool is_over = GEN1_RESULT_OUTCOME(gen1_result(&from.battle)) != GEN1_OUTCOME_ONGOING;
-    uint8_t want = !is_side(side) ? GEN1_ERROR_SIDE : !is_valid ? got : is_over ? GEN1_ERROR_OVER : 0;
-    bool is_kept = got != 0 ? unchanged() : changed_only(0, sizeof *room);
+    uint8_t want = !is_side(side) ? GEN1_ERROR_SIDE : is_over || from.forfeit != 0 ? GEN1_ERROR_OVER : 0;
+    bool is_kept = got != 0 ? unchanged() : changed_only(0, sizeof *room) && room->forfeit == side;
+    is_kept &= memcmp(room->unused, from.unused, sizeof from.unused) == 0;
     if (is_valid && got == 0 && want == 0) {
         const uint8_t won[2] = {GEN1_EVENT_WIN, (uint8_t)(3 - side)};
         is_kept &= room->forfeit == side && room->number == from.number + 1 && room->log_length == 2 &&

@@ -68,3 +68,15 @@ bool is_offered(const gen1_battle *battle, uint8_t side, uint8_t choice) {
     uint8_t count = gen1_choices(battle, side, choices);
     return count <= 9 && memchr(choices, choice, count) != NULL;
 }
+
+bool are_zeros(const uint8_t *bytes, size_t count) {
+    for (size_t at = 0; at < count; at++)
+        if (bytes[at] != 0)
+            return false;
+    return true;
+}
+
+bool is_update_code(uint8_t code) {
+    return code == 0 || code == GEN1_ERROR_OVER || code == GEN1_ERROR_NOT_OFFERED_ONE ||
+           code == GEN1_ERROR_NOT_OFFERED_TWO;
+}

@@ -25,6 +25,12 @@ void meet(int place);
 /* A battle of lawful play, or any bytes: then `*is_valid` is false. */
 gen1_battle some_battle(bool *is_valid);
 
+/* Whether all of these bytes are 0. */
+bool are_zeros(const uint8_t *bytes, size_t count);
+
+/* Whether a code is one that an update without a log may return, for any bytes of the battle. */
+bool is_update_code(uint8_t code);
+
 /* Puts a number that may be out of its range into a team; and what gen1_new must return, by the header. */
 void spoil(gen1_team *team);
 uint32_t fault_of_new(const gen1_team *one, const gen1_team *two, uint8_t rules, uint16_t limit);

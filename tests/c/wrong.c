@@ -83,7 +83,8 @@ uint8_t __wrap_gen1_damage(const gen1_battle *battle, uint8_t side, uint8_t move
     return __real_gen1_damage(battle, WRONG == 11 && side == 3 ? 1 : side, move, critical, damages);
 }
 
-/* 12: a side is refused since the other has chosen. 13: a choice that is not offered is kept. 14: the old log stays. */
+/* 12: a side is refused since the other has chosen. 13: a choice that is not offered is kept. 14: the old log stays. 28: a pair writes
+   the unused bytes. */
 uint8_t __wrap_gen1_room_submit(gen1_room *room, uint8_t side, uint32_t number, uint8_t choice) {
     uint32_t before = room->number;
     if (WRONG == 12 && (side == GEN1_ONE || side == GEN1_TWO) && room->chosen[2 - side] > GEN1_CHOICE_PASS &&
@@ -94,6 +95,8 @@ uint8_t __wrap_gen1_room_submit(gen1_room *room, uint8_t side, uint32_t number, 
         room->chosen[side - 1] = choice;
     if (WRONG == 14 && answer == 0 && room->number != before)
         room->log_length = 0;
+    if (WRONG == 28 && answer == 0 && room->number != before)
+        room->unused[0] = 1;
     return answer;
 }
 
@@ -149,12 +152,14 @@ uint16_t __wrap_gen1_offered(const gen1_battle *battle, uint8_t side) {
     return (uint16_t)(WRONG == 22 && mask != 0 && !is_battle(battle) ? mask | 4096 : mask);
 }
 
-/* 23: a room of bytes that are not a battle has a log that is longer than its buffer. */
+/* 23: a room of bytes that are not a battle has a log that is longer than its buffer. 29: it begins with pair 7. */
 void __wrap_gen1_room_begin(gen1_room *room) {
     bool is_one = is_battle(&room->battle);
     __real_gen1_room_begin(room);
     if (WRONG == 23 && !is_one)
         room->log_length = 65535;
+    if (WRONG == 29 && !is_one)
+        room->number = 7;
 }
 
 /* 24: a walk has the battle after the update. */
@@ -166,12 +171,14 @@ uint8_t __wrap_gen1_walk_begin(const gen1_battle *battle, uint8_t one, uint8_t t
     return answer;
 }
 
-/* 25: a byte is written after the log. 26: a way is written after the last. */
+/* 25: a byte is written after the log. 26: a way is written after the last. 30: a walk that ends is marked by 2. */
 uint8_t __wrap_gen1_walk_next(gen1_walk *walk, gen1_way *way) {
     uint8_t answer = __real_gen1_walk_next(walk, way);
     if (WRONG == 25 && answer == 0 && way->log_length < sizeof way->log)
         way->log[way->log_length] ^= 1;
     if (WRONG == 26 && answer == GEN1_ERROR_WALK_END)
         way->low = 0;
+    if (WRONG == 30 && answer == 0 && walk->over == 1)
+        walk->over = 2;
     return answer;
 }

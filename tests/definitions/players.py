@@ -16,7 +16,7 @@ CONDITIONS = (
     None,
     None,
     "charging",
-    None,
+    "invulnerable",
     "confused",
     "mist",
     "focus_energy",
@@ -99,7 +99,7 @@ class Players:
         for name, bit in zip(CONDITIONS, self.bits(active.conditions)):
             # No event says whether a member exploded, which ends Leech Seed.
             if name and (name != "seeded" or party.members[active.place - 1].hp):
-                yield f"{where}, {name}", getattr(side.announced, name), int(bit)
+                yield f"{where}, {name}", getattr(side if name == "invulnerable" else side.announced, name), int(bit)
 
 
 class Told:

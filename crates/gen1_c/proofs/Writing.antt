@@ -1,6 +1,7 @@
 -- Texts that are expected, and so are written.
-use Rattle.std.proofs.Common.{Bool, Err, List, None, Ok, Option, Result, Some, ap, arith, codes, false, if◌then◌else◌, length, nat_le, nat_lt, ok_or, option_map, refl, set, subst, sym, true, ℕ, ◌&&◌, ◌++◌, ◌+◌, ◌<◌, ◌≡◌, ◌∙◌, ◌∷◌}
+use Rattle.std.proofs.Common.{Bool, Err, List, None, Ok, Option, Result, Some, ap, arith, codes, drop, false, if◌then◌else◌, length, nat_le, nat_lt, ok_or, option_map, refl, set, subst, sym, true, ℕ, ◌&&◌, ◌++◌, ◌+◌, ◌<◌, ◌≡◌, ◌∙◌, ◌∷◌}
 use Rattle.std.proofs.lemmas.Bool.Decides.{nat_tests}
+use Rattle.std.proofs.lemmas.List.{drop_at}
 use Rattle.std.specs.List.{slice_get}
 use Rattle.gen1_tables.specs.Names.{move_name, species_name}
 use Rattle.gen1_machine.specs.declared.side.Side.{Side}
@@ -28,6 +29,11 @@ ended_writes text old now count n long inside is =
     let bytes : set now count 0 ≡ over_front (ended text) old =
     ap (λ (k : ℕ). set now k 0) long ∙ (front_more text old now (length text) 0 (refl, is) few).1 in
     rw test (refl, rw (bytes, long) refl)
+
+-- past what was written to the beginning everything is as it was
+pub rest_of : (front old now : List ℕ) (count : ℕ) → count ≡ length front → now ≡ over_front front old → drop count now ≡ drop count old
+rest_of front old now count long is =
+    ap (λ (l : List ℕ). drop count l) is ∙ drop_at front (drop (length front) old) count (sym long) ∙ ap (λ (n : ℕ). drop n old) (sym long)
 
 -- a test that nothing passed
 pub none_through : {A : Type 0} (test : Bool) (x : A) → (if test then Some x else None) ≡ None → test ≡ false

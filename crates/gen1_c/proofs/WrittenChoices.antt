@@ -1,7 +1,7 @@
 -- Choices that are written one after the other to the beginning of a caller's nine bytes.
-use Rattle.std.proofs.Common.{Bool, List, [], ap, append-nil, append_assoc, arith, drop, false, get_or, inl, inr, length, length-append, map, refl, set, subst, sym, true, ℕ, ◌%◌, ◌++◌, ◌+◌, ◌/◌, ◌<◌, ◌==◌, ◌≡◌, ◌≤◌, ◌⊎◌, ◌∙◌, ◌∷◌}
+use Rattle.std.proofs.Common.{Bool, List, [], ap, append-nil, append_assoc, arith, drop, false, get_or, inl, inr, length, length-append, map, refl, set, subst, sym, true, ℕ, ◌%◌, ◌++◌, ◌+◌, ◌-◌, ◌/◌, ◌<◌, ◌==◌, ◌≡◌, ◌≤◌, ◌⊎◌, ◌∙◌, ◌∷◌}
 use Rattle.std.specs.Prelude.{if◌then◌else◌}
-use Rattle.std.proofs.lemmas.List.{drop_more, get_or-map, length-map, map-append}
+use Rattle.std.proofs.lemmas.List.{drop-drop, drop-set-lt, drop_more, get_or-map, length-map, map-append}
 use Rattle.std.proofs.Math.Seq.{set-append_seam}
 use Rattle.gen1_machine.specs.declared.choice.Choice.{Choice}
 use Rattle.gen1_machine.specs.declared.choice.Choice.TheVariants as choices
@@ -30,6 +30,20 @@ front_more done base now count byte is inside =
 -- no more bytes
 pub front_same : (done base now : List ℕ) (count : ℕ) → IsWritten done base now count → IsWritten (done ++ []) base now count
 front_same done base now count is = subst (λ (l : List ℕ). IsWritten l base now count) (sym (append-nil done)) is
+
+-- past a count that grows everything is as it was
+pub rest_more : (old now new : List ℕ) (count next : ℕ) → count ≤ next → drop count now ≡ drop count old → drop next new ≡ drop next now
+    → drop next new ≡ drop next old
+rest_more old now new count next grows before step =
+    let more : next ≡ count + (next - count) = omega (arith, grows) in
+    step ∙ ap (λ (n : ℕ). drop n now) more ∙ sym (drop-drop (next - count) count now) ∙ ap (drop (next - count)) before
+    ∙ drop-drop (next - count) count old ∙ ap (λ (n : ℕ). drop n old) (sym more)
+
+pub rest_four : (base : List ℕ) (next : ℕ) → 4 ≤ next → drop next (set (set (set (set base 0 0x11) 1 0x12) 2 0x13) 3 0x14) ≡ drop next base
+rest_four base next past =
+    drop-set-lt next (set (set (set base 0 0x11) 1 0x12) 2 0x13) 3 0x14 (omega (arith, past))
+    ∙ drop-set-lt next (set (set base 0 0x11) 1 0x12) 2 0x13 (omega (arith, past))
+    ∙ drop-set-lt next (set base 0 0x11) 1 0x12 (omega (arith, past)) ∙ drop-set-lt next base 0 0x11 (omega (arith, past))
 
 abbrev pub twelve_bytes : List ℕ
 twelve_bytes = 0x00 ∷ 0x10 ∷ 0x11 ∷ 0x12 ∷ 0x13 ∷ 0x14 ∷ 0x21 ∷ 0x22 ∷ 0x23 ∷ 0x24 ∷ 0x25 ∷ 0x26 ∷ []

@@ -1,5 +1,5 @@
 -- A list of the battles that an update can lead to (include/gen1.h, "exact outcomes").
-use Rattle.std.specs.Prelude.{List, Some, length, ℕ, ◌*◌, ◌+◌, ◌≡◌, ◌≤◌}
+use Rattle.std.specs.Prelude.{List, Some, length, ℕ, ◌*◌, ◌+◌, ◌≡◌, ◌≤◌, ◌⊎◌}
 use Rattle.gen1_machine.specs.declared.choice.Choice.{Choice}
 use Rattle.gen1_machine.specs.State.{State}
 use Rattle.gen1_machine.specs.Step.{Accepted, Answer, Refused}
@@ -21,6 +21,10 @@ pub record Arrays : Type 0 where
 abbrev pub refusal_due : Answer → ℕ
 refusal_due (Refused why) = refusal_code (refusal_of why)
 refusal_due (Accepted events) = 0
+
+-- 0; why the pair was refused, 24 to 26; or that an array is too short, or the update too large, 29 to 31
+abbrev pub IsListCode : ℕ → Type 0
+IsListCode code = (code ≡ 0) ⊎ ((24 ≤ code) × (code ≤ 26)) ⊎ ((29 ≤ code) × (code ≤ 31))
 
 -- how outcomes are listed
 abbrev pub options_of : OutcomeForm → OutcomeOptions

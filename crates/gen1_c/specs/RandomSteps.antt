@@ -1,6 +1,6 @@
 -- Random steps of many battles (include/gen1.h, "many battles").
-use Rattle.std.specs.Prelude.{List, None, Option, Some, [], if◌then◌else◌, length, slice_index_or, ℕ, ◌%◌, ◌+◌, ◌<◌, ◌==◌, ◌≡◌, ◌≤◌, ◌∷◌, ◌⊎◌}
-use Rattle.gen1_machine.specs.Choices.{byte_of_choice}
+use Rattle.std.specs.Prelude.{IsSome, List, None, Option, Some, [], false, if◌then◌else◌, length, slice_index_or, ℕ, ◌%◌, ◌+◌, ◌<◌, ◌==◌, ◌≡◌, ◌≤◌, ◌∷◌, ◌⊎◌}
+use Rattle.gen1_machine.specs.Choices.{byte_of_choice, choice_at}
 use Rattle.gen1_machine.specs.declared.side.Side.TheVariants.{One, Two}
 use Rattle.gen1_machine.specs.OfferedChoices.{offered}
 use Rattle.gen1_machine.specs.State.{State, is_over}
@@ -10,7 +10,7 @@ use Rattle.gen1_layout.specs.Within.{Stands}
 use Rattle.gen1_engine.specs.Update.{refusal_of}
 use Rattle.gen1_c.specs.Codes.{refusal_code}
 use Rattle.gen1_playouts.specs.Playouts.{Playout, begun, choice_by, next_state, play_on}
-use Rattle.gen1_c.specs.Update.{result_byte}
+use Rattle.gen1_c.specs.Update.{IsResult, result_byte}
 use Rattle.gen1_c.specs.declared.batches.BatchUpdate.{BatchUpdate}
 
 -- a battle that is over starts again from its start, if it has one, as a round of a playout does
@@ -46,17 +46,27 @@ pub record Batch : Type 0 where
   pub battles : List Parts
   pub generators : List ℕ
 
--- the start of the battle at an index, or that it has none
-abbrev pub IsStart : List Parts → ℕ → Option State → Type 0
-IsStart starts i None = length starts ≤ i
-IsStart starts i (Some start) = (i < length starts) × ((d : Parts) → Stands (slice_index_or starts i d) start)
+-- the start of the battle at an index; none where it has none, or is not over
+abbrev pub IsStart : List Parts → ℕ → State → Option State → Type 0
+IsStart starts i s None = (length starts ≤ i) ⊎ (is_over s.field.outcome ≡ false)
+IsStart starts i s (Some start) = (i < length starts) × ((d : Parts) → Stands (slice_index_or starts i d) start)
 
 -- a step of each of the first battles was played
 abbrev pub AreStepped : ℕ → List Parts → Batch → Batch → List BatchUpdate → Type 0
 AreStepped count starts old new updates = (i : ℕ) (d : Parts) (u : BatchUpdate) (s : State) (start : Option State) → i < count
-    → Stands (slice_index_or old.battles i d) s → IsStart starts i start
+    → Stands (slice_index_or old.battles i d) s → IsStart starts i s start
     → IsStepped (started_again start (record { battle = s; random = slice_index_or old.generators i 0 }))
     (slice_index_or new.battles i d) (slice_index_or new.generators i 0) (slice_index_or updates i u)
+
+-- two bytes that are choices, the result of some battle, and no code but that of one that is over
+pub record IsListed (update : BatchUpdate) : Type 0 where
+  pub one : IsSome (choice_at update.one)
+  pub two : IsSome (choice_at update.two)
+  pub result : IsResult update.result
+  pub code : (update.code ≡ 0) ⊎ (update.code ≡ 24)
+
+abbrev pub AreListed : ℕ → List BatchUpdate → Type 0
+AreListed count updates = (i : ℕ) (u : BatchUpdate) → i < count → IsListed (slice_index_or updates i u)
 
 -- how many battles are over
 

@@ -1,5 +1,5 @@
 -- What is offered, what an update returns and leaves, and the result of a battle (include/gen1.h, "playing").
-use Rattle.std.specs.Prelude.{List, length, map, ℕ, ◌*◌, ◌+◌, ◌≡◌, ◌≢◌}
+use Rattle.std.specs.Prelude.{List, length, map, ℕ, ◌%◌, ◌*◌, ◌+◌, ◌/◌, ◌≡◌, ◌≢◌, ◌≤◌}
 use Rattle.gen1_machine.specs.declared.choice.Choice.{Choice}
 use Rattle.gen1_machine.specs.declared.event.Event.{Event}
 use Rattle.gen1_machine.specs.declared.side.Side.{Side}
@@ -50,6 +50,10 @@ Updates s bytes = UpdatesAs (step_by_bytes s bytes).answer (step_by_bytes s byte
 -- the outcome and the requests of both sides, as one number
 abbrev pub result_byte : Field → ℕ
 result_byte f = outcome_byte f.outcome + 8 * request_byte f.request_one + 32 * request_byte f.request_two
+
+-- such a number for any outcome and requests
+abbrev pub IsResult : ℕ → Type 0
+IsResult byte = (byte % 8 ≤ 5) × (byte / 8 % 4 ≤ 2) × (byte / 32 ≤ 2)
 
 -- an empty writer in the memory of this name, which holds these bytes
 abbrev pub IsNewIn : {T : Type 0} → ℕ → List ℕ → Front T → Type 0

@@ -77,6 +77,7 @@ pub extern "C" fn gen1_choice_words(
     // For any bytes, valid or not.
     ensures kept { result ≢ 0 → (text.new ≡ text.old) × (written.new ≡ written.old) }
     ensures within { result ≡ 0 → written.new < length text.old }
+    ensures code { result ≢ 0 → (40 ≤ result) × (result ≤ 44) × (result ≢ 42) }
 {
     let Some(side) = Side::from_number(side) else {
         return SIDE;
@@ -99,6 +100,7 @@ fn write_move(battle: &Packed, side: Side, slot: u8, text: &mut [u8], written: &
         (record { bytes = text.new; count = written.new }) result }
     ensures kept { result ≢ 0 → (text.new ≡ text.old) × (written.new ≡ written.old) }
     ensures within { result ≡ 0 → written.new < length text.old }
+    ensures code { result ≢ 0 → (40 ≤ result) × (result ≤ 44) × (result ≢ 42) }
 {
     if slot == 0 {
         return write_text(b"move 0", text, written);
@@ -124,6 +126,7 @@ fn write_switch(battle: &Packed, side: Side, place: u8, text: &mut [u8], written
         (record { bytes = text.new; count = written.new }) result }
     ensures kept { result ≢ 0 → (text.new ≡ text.old) × (written.new ≡ written.old) }
     ensures within { result ≡ 0 → written.new < length text.old }
+    ensures code { result ≢ 0 → (40 ≤ result) × (result ≤ 44) × (result ≢ 42) }
 {
     match Species::new(battle.species_at(side, place)) {
         Some(species) => {
@@ -140,6 +143,7 @@ fn write_joined(head: &[u8], name: &[u8], text: &mut [u8], written: &mut usize) 
     ensures writes { Writes (Ok (head.now ++ name.now)) (record { bytes = text.old; count = written.old })
         (record { bytes = text.new; count = written.new }) result }
     ensures within { result ≡ 0 → written.new < length text.old }
+    ensures code { result ≢ 0 → (40 ≤ result) × (result ≤ 44) × (result ≢ 42) }
 {
     let count = head.len() + name.len();
     if text.len() <= count {

@@ -29,6 +29,7 @@ pub extern "C" fn gen1_choices(battle: &Packed, side: u8, choices: &mut [u8; 9])
     ensures no_side { IsNoSide side → (result ≡ 0) × (choices.new ≡ choices.old) }
     // For any bytes of the battle, valid or not.
     ensures few { result ≤ 9 }
+    ensures rest { drop result choices.new ≡ drop result choices.old }
 {
     match Side::from_number(side) {
         Some(side) => put_offered(battle, side, choices),
@@ -41,6 +42,7 @@ fn put_offered(battle: &Packed, side: Side, choices: &mut [u8; 9]) -> u8
     ensures offers { (s : State) → Stands battle.now s
         → Offers (offered side s.field) choices.old choices.new result }
     ensures few { result ≤ 9 }
+    ensures rest { drop result choices.new ≡ drop result choices.old }
 {
     put_choices(offered_mask(battle, side), choices)
 }
@@ -51,6 +53,7 @@ fn put_choices(mask: u16, choices: &mut [u8; 9]) -> u8
     ensures offers { length (choices_in mask) ≤ 9
         → Offers (choices_in mask) choices.old choices.new result }
     ensures few { result ≤ 9 }
+    ensures rest { drop result choices.new ≡ drop result choices.old }
 {
     // Usually all four moves can be chosen, and take one write.
     if mask % 64 == 0x3c {
@@ -69,6 +72,8 @@ fn put_digits(mask: u16, from: usize, before: usize, choices: &mut [u8; 9]) -> u
     requires from { from ≤ 12 }
     requires before { before ≤ 9 }
     ensures few { result ≤ 9 }
+    ensures grows { before ≤ result }
+    ensures rest { drop result choices.new ≡ drop result choices.old }
     ensures written { (base : List ℕ) (done : List Choice)
         → IsWritten (map byte_of_choice done) base choices.old before → length base ≡ 9
         → length (done ++ chosen_by mask (drop from all_choices)) ≤ 9
@@ -88,6 +93,8 @@ fn put_digits(mask: u16, from: usize, before: usize, choices: &mut [u8; 9]) -> u
 fn put_if(holds: bool, byte: u8, count: usize, choices: &mut [u8; 9]) -> usize
     requires { count ≤ 9 }
     ensures few { result ≤ 9 }
+    ensures grows { count ≤ result }
+    ensures rest { drop result choices.new ≡ drop result choices.old }
     ensures written { (base done : List ℕ) → IsWritten done base choices.old count
         → length base ≡ 9 → length (done ++ (if holds then byte ∷ [] else [])) ≤ 9
         → IsWritten (done ++ (if holds then byte ∷ [] else [])) base choices.new result }
@@ -103,6 +110,8 @@ fn put_if(holds: bool, byte: u8, count: usize, choices: &mut [u8; 9]) -> usize
 fn put_one(byte: u8, count: usize, choices: &mut [u8; 9]) -> usize
     requires { count ≤ 9 }
     ensures few { result ≤ 9 }
+    ensures grows { count ≤ result }
+    ensures rest { drop result choices.new ≡ drop result choices.old }
     ensures written { (base done : List ℕ) → IsWritten done base choices.old count
         → length base ≡ 9 → length done < 9
         → IsWritten (done ++ (byte ∷ [])) base choices.new result }

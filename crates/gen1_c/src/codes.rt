@@ -1,6 +1,7 @@
 //! The codes that functions return (include/gen1.h, "errors"). Each number is the same error in every function.
 ghost use Rattle.std.specs.Prelude.{◌≡◌, ◌≤◌};
 ghost use Rattle.gen1_c.specs.Codes.{load_code, log_code, outcomes_code, refusal_code};
+ghost use Rattle.gen1_c.specs.Outcomes.{IsListCode};
 
 use gen1_engine::Refusal;
 use gen1_events::LogFault;
@@ -88,7 +89,8 @@ pub(crate) fn of_load(fault: LoadFault) -> u8
 // Why an update was refused.
 pub(crate) fn of_refusal(why: Refusal) -> u8
     ensures value { result ≡ refusal_code why }
-    ensures some { 1 ≤ result }
+    ensures low { 24 ≤ result }
+    ensures high { result ≤ 26 }
 {
     match why {
         Refusal::Over => 24,
@@ -101,6 +103,7 @@ pub(crate) fn of_refusal(why: Refusal) -> u8
 pub(crate) fn of_outcomes(why: OutcomesFault) -> u8
     ensures value { result ≡ outcomes_code why }
     ensures some { 1 ≤ result }
+    ensures code { IsListCode result }
 {
     match why {
         OutcomesFault::Refused(why) => of_refusal(why),

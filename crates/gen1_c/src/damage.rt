@@ -1,5 +1,5 @@
 //! The damage of a hit in the present state of a battle (include/gen1.h, "calculating").
-ghost use Rattle.std.specs.Prelude.{◌≡◌, ◌≢◌};
+ghost use Rattle.std.specs.Prelude.{◌≡◌, ◌≢◌, ◌≤◌};
 ghost use Rattle.gen1_machine.specs.Numbers.{side_number};
 ghost use Rattle.gen1_machine.specs.State.{State};
 ghost use Rattle.gen1_machine.specs.declared.side.Side.{Side};
@@ -37,6 +37,7 @@ pub extern "C" fn gen1_damage(
         → TellsDamages (damages_due which number critical s.field) damages.old damages.new result }
     ensures no_side { IsNoSide side → (result ≡ 40) × (damages.new ≡ damages.old) }
     // For any bytes, valid or not.
+    ensures code { result ≢ 0 → result ≢ 11 → result ≢ 40 → (48 ≤ result) × (result ≤ 50) }
     ensures kept { result ≢ 0 → damages.new ≡ damages.old }
 {
     let Some(side) = Side::from_number(side) else {

@@ -1,5 +1,5 @@
 //! Writing to the beginning of a caller's memory (include/gen1.h, "playing", "telling", "naming").
-ghost use Rattle.std.specs.Prelude.{Ok, length, ◌<◌, ◌≡◌, ◌≤◌};
+ghost use Rattle.std.specs.Prelude.{Ok, length, ◌<◌, ◌≡◌, ◌≢◌, ◌≤◌};
 ghost use Rattle.gen1_c.specs.Fronts.{Writes, ended, over_front};
 
 use crate::codes::SMALL_TEXT;
@@ -27,6 +27,7 @@ pub(crate) fn write_text(text: &[u8], room: &mut [u8], written: &mut usize) -> u
     ensures writes { Writes (Ok text.now) (record { bytes = room.old; count = written.old })
         (record { bytes = room.new; count = written.new }) result }
     ensures within { result ≡ 0 → written.new < length room.old }
+    ensures code { result ≢ 0 → result ≡ 41 }
 {
     if room.len() <= text.len() {
         return SMALL_TEXT;

@@ -1,5 +1,5 @@
 //! The odds of a use of a move, and its chance to knock out (include/gen1.h, "calculating"; docs/MECHANICS.md, "Critical hits" to "Hit test").
-ghost use Rattle.std.specs.Prelude.{Err, IfErr, [], if◌then◌else◌, ◌∷◌, ◌≡◌, ◌≢◌};
+ghost use Rattle.std.specs.Prelude.{Err, IfErr, [], if◌then◌else◌, ◌∷◌, ◌≡◌, ◌≢◌, ◌≤◌};
 ghost use Rattle.gen1_stats.specs.Teams.{team_of};
 ghost use Rattle.gen1_machine.specs.Numbers.{side_number};
 ghost use Rattle.gen1_machine.specs.State.{State};
@@ -39,7 +39,9 @@ pub extern "C" fn gen1_odds_now(battle: &Packed, side: u8, number: u8, odds: &mu
         → Tells (odds_due s.terms.rules which number s.field) odds.old odds.new result }
     ensures no_side { IsNoSide side → (result ≡ 40) × (odds.new ≡ odds.old) }
     // For any bytes, valid or not.
+    ensures code { result ≢ 0 → result ≢ 11 → result ≢ 40 → result ≡ 50 }
     ensures kept { result ≢ 0 → odds.new ≡ odds.old }
+    ensures within { result ≡ 0 → (odds.new.usual.count ≤ 39) × (odds.new.critical.count ≤ 39) }
 {
     match use_of(battle, side, number) {
         Ok(used) => {
@@ -59,6 +61,7 @@ pub extern "C" fn gen1_knock_out(battle: &Packed, side: u8, number: u8, chances:
         → Tells (chances_due s.terms.rules which number s.field) chances.old chances.new result }
     ensures no_side { IsNoSide side → (result ≡ 40) × (chances.new ≡ chances.old) }
     // For any bytes, valid or not.
+    ensures code { result ≢ 0 → result ≢ 11 → result ≢ 40 → result ≡ 50 }
     ensures kept { result ≢ 0 → chances.new ≡ chances.old }
 {
     match use_of(battle, side, number) {
@@ -85,6 +88,7 @@ pub extern "C" fn gen1_knock_out_in_three(
         → Tells (three_chances_due between.now s.terms.rules which number s.field) chances.old chances.new result }
     ensures no_side { IsNoSide side → (result ≡ 40) × (chances.new ≡ chances.old) }
     // For any bytes, valid or not.
+    ensures code { result ≢ 0 → result ≢ 11 → result ≢ 40 → result ≡ 50 }
     ensures kept { result ≢ 0 → chances.new ≡ chances.old }
 {
     match use_of(battle, side, number) {
@@ -102,6 +106,7 @@ fn use_of(battle: &Packed, side: u8, number: u8) -> Result<(Side, MoveId), u8>
         → result ≡ use_due which number s.field }
     ensures no_side { IsNoSide side → result ≡ Err 40 }
     ensures some { IfErr result (λ code. code ≢ 0) }
+    ensures listed { IfErr result (λ code. code ≢ 11 → code ≢ 40 → code ≡ 50) }
 {
     let Some(side) = Side::from_number(side) else {
         return Err(NO_SIDE);

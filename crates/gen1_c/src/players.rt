@@ -1,5 +1,5 @@
 //! What a player knows, and what it is told (include/gen1.h, "players"; docs/MECHANICS.md, "Player's view").
-ghost use Rattle.std.specs.Prelude.{List, [], ◌++◌, ◌≡◌, ◌≢◌, ℕ};
+ghost use Rattle.std.specs.Prelude.{List, [], length as length_of, ◌++◌, ◌≡◌, ◌≢◌, ◌≤◌, ℕ};
 ghost use Rattle.gen1_stats.specs.Members.{Member};
 ghost use Rattle.gen1_stats.specs.Teams.{team_of};
 ghost use Rattle.gen1_machine.specs.State.{State};
@@ -14,6 +14,7 @@ ghost use Rattle.gen1_c.specs.Players.{BreaksOff, Tells, begin_code, first_telle
 ghost use Rattle.gen1_c.specs.Teams.{sheets_of, team_fault};
 ghost use Rattle.gen1_c.specs.Update.{IsNoSide};
 
+use crate::codes::of_log;
 use crate::fronts::put_front;
 use crate::teams::{TeamForm, team_of};
 use gen1_layout::Packed;
@@ -61,11 +62,13 @@ pub extern "C" fn gen1_player_feed(player: &mut Player, told: &[u8]) -> u8
     ensures fault { (side : Side) (team : List Member) (foes : ℕ) (before : List ℕ) (shown : Shown)
         → IsPlayer side team foes before shown player.old → result ≢ 0
         → (fault : LogFault) × (result ≡ log_code fault) × BreaksOff fault (before ++ told.now) }
+    // For any bytes, valid or not.
+    ensures code { result ≢ 0 → (32 ≤ result) × (result ≤ 34) }
     ensures kept { result ≢ 0 → player.new ≡ player.old }
 {
     match player.feed(told) {
         Ok(()) => 0,
-        Err(fault) => 31 + fault.number(),
+        Err(fault) => of_log(fault),
     }
 }
 
@@ -106,6 +109,7 @@ pub extern "C" fn gen1_tell(
 ) -> u8
     ensures told { Tells log.now (record { teller = teller.old; bytes = told.old; count = length.old })
         (record { teller = teller.new; bytes = told.new; count = length.new }) result }
+    ensures within { result ≡ 0 → length.new ≤ length_of told.old }
 {
     if log.len() > 512 {
         return LONG_LOG;
@@ -130,6 +134,10 @@ pub extern "C" fn gen1_get_own_side(battle: &Packed, side: u8, own: &mut OwnSide
     ensures shows { (s : State) (which : Side) → Stands battle.now s → side ≡ side_number which
         → (result ≡ 0) × (own.new ≡ plain_side (own_side which s.field)) }
     ensures no_side { IsNoSide side → (result ≡ 40) × (own.new ≡ own.old) }
+    // For any bytes, valid or not.
+    ensures code { result ≢ 0 → result ≡ 40 }
+    ensures kept { result ≢ 0 → own.new ≡ own.old }
+    ensures few { result ≡ 0 → own.new.count ≤ 6 }
 {
     let Some(side) = Side::from_number(side) else {
         return NO_SIDE;

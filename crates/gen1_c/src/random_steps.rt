@@ -1,10 +1,10 @@
 //! Random steps of many battles (include/gen1.h, "many battles").
-ghost use Rattle.std.specs.Prelude.{Option, length, ◌≡◌, ◌≢◌, ◌≤◌};
-ghost use Rattle.gen1_machine.specs.Choices.{byte_of_choice};
+ghost use Rattle.std.specs.Prelude.{Option, Some, length, ◌≡◌, ◌≢◌, ◌≤◌};
+ghost use Rattle.gen1_machine.specs.Choices.{byte_of_choice, choice_at};
 ghost use Rattle.gen1_machine.specs.State.{State};
 ghost use Rattle.gen1_layout.specs.Within.{Stands};
 ghost use Rattle.gen1_playouts.specs.Playouts.{begun};
-ghost use Rattle.gen1_c.specs.RandomSteps.{AreStepped, HasLengths, IsAt, IsStart, IsStepped, started_again, one_if_over, over_in};
+ghost use Rattle.gen1_c.specs.RandomSteps.{AreListed, AreStepped, HasLengths, IsAt, IsListed, IsStart, IsStepped, started_again, one_if_over, over_in};
 
 use crate::batches::BatchUpdate;
 use crate::codes::{LENGTHS, OVER};
@@ -33,6 +33,8 @@ pub extern "C" fn gen1_step_random_many(
         (record { battles = battles.old; generators = generators.old })
         (record { battles = battles.new; generators = generators.new }) updates.new }
     ensures over { result ≡ 0 → over.new ≡ over_in updates.new }
+    // For any bytes, valid or not.
+    ensures listed { result ≡ 0 → AreListed (length battles.old) updates.new }
     ensures fits { HasLengths (length battles.old) starts.now generators.old updates.old
         → result ≡ 0 }
     ensures lengths { result ≡ 0
@@ -65,6 +67,7 @@ fn step_each(
         (record { battles = battles.old; generators = generators.old })
         (record { battles = battles.new; generators = generators.new }) updates.new }
     ensures over { result ≡ over_in updates.new }
+    ensures listed { AreListed (length battles.old) updates.new }
 {
     let mut over = 0;
     for place in 0..battles.len() {
@@ -90,7 +93,7 @@ fn one_if_over(result_byte: u8) -> usize
 // A battle that is over starts again, if it has a start.
 fn start_again(battle: &mut Packed, starts: &[Packed], place: usize, random: &mut ChoiceGenerator)
     ensures { (s : State) (start : Option State) → Stands battle.old s
-        → IsStart starts.now place start
+        → IsStart starts.now place s start
         → IsAt (started_again start (record { battle = s; random = random.old.state })) battle.new
         random.new.state }
 {
@@ -113,7 +116,8 @@ fn restart(battle: &mut Packed, start: &Packed, random: &mut ChoiceGenerator)
 
 // A step of a battle by choices at random, side 1 first.
 fn step_at_random(battle: &mut Packed, random: &mut ChoiceGenerator) -> BatchUpdate
-    ensures { (s : State) → Stands battle.old s
+    ensures listed { IsListed result }
+    ensures steps { (s : State) → Stands battle.old s
         → IsStepped (record { battle = s; random = random.old.state }) battle.new
         random.new.state result }
 {
@@ -138,7 +142,8 @@ fn step_at_random(battle: &mut Packed, random: &mut ChoiceGenerator) -> BatchUpd
 }
 
 fn byte_of(choice: &Choice) -> u8
-    ensures { result ≡ byte_of_choice choice.now }
+    ensures value { result ≡ byte_of_choice choice.now }
+    ensures undone { choice_at result ≡ Some choice.now }
 {
     let copy = *choice;
     copy.byte()

@@ -17,8 +17,9 @@ pub extern "C" fn gen1_reseed(battle: &mut Packed, seed: &[u8; 10], index: u8) -
     ensures stands { index < 9 → (s : State) → Stands battle.old s → (result ≡ 0)
         × Stands battle.new (reseeded (record { index = index; numbers = seed.now }) s) }
     ensures valid { StandsForSome battle.old → StandsForSome battle.new }
-    ensures above { 9 ≤ index → result ≡ 46 }
     // For any bytes, valid or not.
+    ensures above { 9 ≤ index → result ≡ 46 }
+    ensures below { index < 9 → result ≡ 0 }
     ensures kept { result ≢ 0 → battle.new ≡ battle.old }
 {
     match LinkRandom::from_parts(index, *seed) {

@@ -1,5 +1,5 @@
 //! Rooms, whose two players submit their choices separately (include/gen1.h, "rooms"; docs/MECHANICS.md, "Rooms").
-ghost use Rattle.std.specs.Prelude.{drop, replicate, ◌≡◌, ◌≢◌, ◌≤◌};
+ghost use Rattle.std.specs.Prelude.{drop, replicate, ◌+◌, ◌≡◌, ◌≢◌, ◌≤◌};
 ghost use Rattle.gen1_machine.specs.Numbers.{side_number};
 ghost use Rattle.gen1_machine.specs.Room.{Course, after, reply_to, room_of};
 ghost use Rattle.gen1_machine.specs.State.{State, is_over};
@@ -8,7 +8,7 @@ ghost use Rattle.gen1_layout.specs.Within.{Stands};
 ghost use Rattle.gen1_room.specs.Plain.{IsMarked, Keeps, due};
 ghost use Rattle.gen1_room.specs.Rooms.{submission_of, why_of};
 ghost use Rattle.gen1_c.specs.Rooms.{ForfeitsAs, lost_byte, reply_code, why_code};
-ghost use Rattle.gen1_c.specs.Update.{IsNoSide, Offers, result_byte};
+ghost use Rattle.gen1_c.specs.Update.{IsNoSide, IsResult, Offers, result_byte};
 
 use crate::codes::SIDE;
 use crate::fronts::put_front;
@@ -34,6 +34,8 @@ pub extern "C" fn gen1_room_begin(room: &mut PlainRoom)
     ensures marked { IsMarked room.new }
     ensures short { room.new.log_length ≤ 512 }
     ensures cleared { drop room.new.log_length room.new.log ≡ drop room.new.log_length (replicate 512 0) }
+    ensures counted { room.new.number ≡ 0 }
+    ensures going { room.new.forfeit ≡ 0 }
     ensures unused { room.new.unused ≡ replicate 3 0 }
 {
     begin(room);
@@ -49,6 +51,7 @@ pub extern "C" fn gen1_room_choices(room: &PlainRoom, side: u8, front: &mut [u8;
     ensures forfeited { room.now.forfeit ≢ 0 → result ≡ 0 }
     // For any bytes of the room, valid or not.
     ensures few { result ≤ 9 }
+    ensures rest { drop result front.new ≡ drop result front.old }
 {
     let Some(side) = Side::from_number(side) else {
         return 0;
@@ -72,6 +75,10 @@ pub extern "C" fn gen1_room_submit(room: &mut PlainRoom, side: u8, number: u32, 
     ensures kept { result ≢ 0 → room.new ≡ room.old }
     ensures short { room.old.log_length ≤ 512 → room.new.log_length ≤ 512 }
     ensures rest { drop room.new.log_length room.new.log ≡ drop room.new.log_length room.old.log }
+    ensures unused { room.new.unused ≡ room.old.unused }
+    ensures counted { (room.old.number ≤ room.new.number) × (room.new.number ≤ room.old.number + 1) }
+    ensures going { room.new.forfeit ≡ room.old.forfeit }
+    ensures code { result ≢ 0 → result ≢ 24 → result ≢ 40 → (52 ≤ result) × (result ≤ 54) }
 {
     let Some(side) = Side::from_number(side) else {
         return SIDE;
@@ -83,7 +90,9 @@ pub extern "C" fn gen1_room_submit(room: &mut PlainRoom, side: u8, number: u32, 
 }
 
 fn code_of(why: RoomRefusal) -> u8
-    ensures { result ≡ why_code (why_of why) }
+    ensures value { result ≡ why_code (why_of why) }
+    ensures some { 1 ≤ result }
+    ensures listed { result ≢ 24 → (52 ≤ result) × (result ≤ 54) }
 {
     match why {
         RoomRefusal::Over => OVER,
@@ -106,6 +115,11 @@ pub extern "C" fn gen1_room_forfeit(room: &mut PlainRoom, side: u8) -> u8
     ensures kept { result ≢ 0 → room.new ≡ room.old }
     ensures short { room.old.log_length ≤ 512 → room.new.log_length ≤ 512 }
     ensures rest { drop room.new.log_length room.new.log ≡ drop room.new.log_length room.old.log }
+    ensures unused { room.new.unused ≡ room.old.unused }
+    ensures counted { (room.old.number ≤ room.new.number) × (room.new.number ≤ room.old.number + 1) }
+    ensures battle { room.new.battle ≡ room.old.battle }
+    ensures told { result ≡ 0 → room.new.forfeit ≡ side }
+    ensures code { result ≢ 0 → result ≢ 40 → result ≡ 24 }
 {
     let Some(side) = Side::from_number(side) else {
         return SIDE;
@@ -122,6 +136,8 @@ pub extern "C" fn gen1_room_result(room: &PlainRoom) -> u8
     ensures keeps { (c : Course) → Keeps room.now c → result ≡ result_byte c.state.field }
     ensures forfeited { (which : Side) → room.now.forfeit ≡ side_number which
         → result ≡ lost_byte which }
+    // For any bytes of the room, valid or not.
+    ensures listed { IsResult result }
 {
     let now = result(room);
     let one = byte_of_request(now.request_one);

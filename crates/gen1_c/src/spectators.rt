@@ -1,5 +1,5 @@
 //! What a spectator knows of a battle from its log bytes (include/gen1.h, "watching"; docs/MECHANICS.md, "Spectator's view").
-ghost use Rattle.std.specs.Prelude.{Err, Ok, [], ◌≡◌, ◌≢◌};
+ghost use Rattle.std.specs.Prelude.{Err, Ok, [], ◌≡◌, ◌≢◌, ◌≤◌};
 ghost use Rattle.gen1_stats.specs.Teams.{team_of};
 ghost use Rattle.gen1_machine.specs.View.{View, first_view};
 ghost use Rattle.gen1_events.specs.Reader.{Reading, part};
@@ -50,6 +50,7 @@ pub extern "C" fn gen1_spectator_feed(watch: &mut PlainSpectator, log: &[u8]) ->
     ensures exact { IsPlainSpectator watch.old → result ≡ 0 → IsExact watch.new }
     ensures ranges { IsPlainSpectator watch.old → IsInRange watch.old → IsInRange watch.new }
     // For any bytes, valid or not.
+    ensures code { result ≢ 0 → (32 ≤ result) × (result ≤ 34) }
     ensures kept { result ≢ 0 → watch.new ≡ watch.old }
 {
     match feed(watch, log) {

@@ -8,7 +8,7 @@
  *
  *     ask NUMBER CHOICE ..   the number of the current pair, and the bytes of the choices that are offered for it
  *     taken | refused CODE   the result of the player's last line: a code of gen1_room_submit, or 255 for a line that is not a choice
- *     line TEXT              a line of the battle
+ *     line TEXT              a line of the battle, as its side may see it: the foe's HP in 48ths
  *     NUMBER CHOICE          (from the player) a choice for a pair
  *
  * Neither player sees the other's choice before both have chosen. Any other line of a player is refused with a code, and changes nothing.
@@ -41,6 +41,7 @@ enum { RUBBISH = 255, CODES };
 
 typedef struct player {
     uint8_t side;
+    gen1_teller teller;
     pid_t pid;
     int to, from;         /* the room's ends of both pipes; -1 once closed */
     char line[LINE_MOST]; /* the incomplete line so far; longer lines are cut, and so refused */
@@ -79,17 +80,25 @@ static void ask(player *of, const gen1_room *at) {
         send(of, "ask %lu%s\n", (unsigned long)at->number, words);
 }
 
-/* Prints the lines of the last update, and sends them to both. */
+/* Sends a player the lines of the last update as its side may see them, and asks it for its choice. */
+static void tell(player *to, const gen1_room *at) {
+    uint8_t told[GEN1_LOG_ROOM];
+    char line[GEN1_LINE_ROOM];
+    size_t count = 0, place = 0, length = 0;
+    gen1_tell(&to->teller, at->log, at->log_length, told, sizeof told, &count);
+    while (gen1_next_line(told, count, &place, line, sizeof line, &length) == 0)
+        send(to, "line %s", line);
+    ask(to, at);
+}
+
+/* Prints the lines of the last update, and sends both players theirs. The room's own log is for the host alone. */
 static void tell_both(player players[2], const gen1_room *at) {
     char line[GEN1_LINE_ROOM];
     size_t place = 0, length = 0;
-    while (gen1_next_line(at->log, at->log_length, &place, line, sizeof line, &length) == 0) {
+    while (gen1_next_line(at->log, at->log_length, &place, line, sizeof line, &length) == 0)
         fputs(line, stdout);
-        send(&players[0], "line %s", line);
-        send(&players[1], "line %s", line);
-    }
-    ask(&players[0], at);
-    ask(&players[1], at);
+    tell(&players[0], at);
+    tell(&players[1], at);
 }
 
 /* ---- reading from the players ---- */
@@ -211,7 +220,9 @@ static player begin(uint8_t side, const char *command) {
     }
     close(to[0]);
     close(from[1]);
-    return (player){.side = side, .pid = pid, .to = to[1], .from = from[0]};
+    player made = {.side = side, .pid = pid, .to = to[1], .from = from[0]};
+    gen1_teller_begin(&made.teller, side, 1);
+    return made;
 }
 
 /* Gives a process time to end. It is not reaped yet, so that its process ID stays reserved. */

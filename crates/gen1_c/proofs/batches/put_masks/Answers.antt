@@ -15,7 +15,10 @@ loop-place-preserved c =
     let room : place < length c.loop-place.masks = omega (arith, c.requires.same) in
     let battle = c.index-battles-place.result in
     masks_more c.args.side c.args.battles.now c.loop-place.masks place battle c.offered_mask.result inside room c.loop-place.invariant
-    (λ s h. c.offered_mask.ensures.stands s (subst (λ (p : Parts). Stands p s) (sym c.index-battles-place.is) h))
+    (record {
+      stands = λ s h. c.offered_mask.ensures.stands s (subst (λ (p : Parts). Stands p s) (sym c.index-battles-place.is) h);
+      twelve = c.offered_mask.ensures.twelve;
+    })
 
 pub returns : goal.returns
 returns c =

@@ -24,7 +24,9 @@ loop-place-preserved c =
       answers = c.gen1_update_silent-code.ensures.answers;
       valid = c.gen1_update_silent-code.ensures.valid;
       stays = c.gen1_update_silent-code.ensures.kept;
-      stands = c.gen1_result.ensures;
+      stands = c.gen1_result.ensures.stands;
+      code = c.gen1_update_silent-code.ensures.code;
+      listed = c.gen1_result.ensures.listed;
       choices = (refl, refl);
     }) in (
       updated_more c.args.battles.now battles c.args.updates.now updates place c.gen1_update_silent-code.new.battle done one two c.loop-place.invariant.0 h,

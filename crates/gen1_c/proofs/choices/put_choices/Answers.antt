@@ -1,8 +1,8 @@
-use Rattle.std.proofs.Common.{List, [], arith, drop, length, refl, subst, sym, ◌++◌, ◌/◌, ◌≡◌, ◌≤◌}
+use Rattle.std.proofs.Common.{List, [], arith, drop, length, refl, subst, sym, ◌++◌, ◌/◌, ◌∙◌, ◌≡◌, ◌≤◌}
 use Rattle.gen1_machine.specs.declared.choice.Choice.{Choice}
 use Rattle.gen1_offers.specs.OfferedMask.{all_choices, choices_in, chosen_by}
 use Rattle.gen1_c.specs.Update.{Offers}
-use Rattle.gen1_c.proofs.WrittenChoices.{four, four_first, four_written, offers_of}
+use Rattle.gen1_c.proofs.WrittenChoices.{four, four_first, four_written, offers_of, rest_four}
 use Rattle.gen1_c.proofs.choices.put_choices.Goals as goal
 
 pub returns-then-mask-eq60-clause-offers : goal.returns-then-mask-eq60-clause-offers
@@ -21,3 +21,6 @@ returns-clause-offers c few =
     let nine : length c.args.choices.now ≡ 9 = omega arith in
     offers_of (chosen_by c.args.mask all_choices) c.args.choices.now c.put_digits-2.new.choices c.put_digits-2.result
     (c.put_digits-2.ensures.written c.args.choices.now [] (refl, refl) nine few)
+
+pub returns-then-mask-eq60-clause-rest : goal.returns-then-mask-eq60-clause-rest
+returns-then-mask-eq60-clause-rest c = c.put_digits.ensures.rest ∙ rest_four c.args.choices.now c.put_digits.result c.put_digits.ensures.grows

@@ -13,3 +13,4 @@ invariant-loop-digit l =
     × ((base : List ℕ) (done : List Choice) → IsWritten (map byte_of_choice done) base l.initial.choices l.fn.before → length base ≡ 9
     → length (done ++ chosen_by l.fn.mask (drop l.fn.from all_choices)) ≤ 9
     → SoFar base done l.fn.mask l.fn.from l.rest l.digit l.choices l.count)
+    × (l.fn.before ≤ l.count) × (drop l.count l.choices ≡ drop l.count l.initial.choices)

@@ -8,4 +8,4 @@ use Rattle.gen1_c.proofs.players.gen1_get_own_side.Goals as goal
 pub returns-clause-shows : goal.returns-clause-shows
 returns-clause-shows c s which h e =
     let side = same_side c.in-Some.side which (c.in-Some.ensures.exact ∙ e) in
-    (refl, c.own_side.ensures s h ∙ ap (λ (it : Side). plain_side (own_side it s.field)) side)
+    (refl, c.own_side.ensures.stands s h ∙ ap (λ (it : Side). plain_side (own_side it s.field)) side)

@@ -1,6 +1,5 @@
-use Rattle.std.proofs.Common.{ap, ℕ, ◌+◌}
 use Rattle.gen1_c.proofs.players.gen1_player_feed.Goals as goal
 
 pub returns-in-Err-clause-fault : goal.returns-in-Err-clause-fault
 returns-in-Err-clause-fault c side team foes before shown h n =
-    (c.in-Err.fault, ap (λ (m : ℕ). 31 + m) c.number.ensures, c.in-Err.ensures.fault side team foes before shown h)
+    (c.in-Err.fault, c.of_log.ensures.value, c.in-Err.ensures.fault side team foes before shown h)

@@ -16,4 +16,5 @@ returns-in-Err c =
         told = λ e. absurd (omega arith);
         kept = λ n. kept;
       };
+      within = λ e. absurd (omega arith);
     }

@@ -1,6 +1,6 @@
 -- The first battles are stepped, and counted if they are over; the others and their generators are as they were.
 use Rattle.std.proofs.Common.{take, ◌≡◌, ◌≤◌}
-use Rattle.gen1_c.specs.RandomSteps.{AreStepped, over_in}
+use Rattle.gen1_c.specs.RandomSteps.{AreListed, AreStepped, over_in}
 use Rattle.gen1_c.proofs.OneByOne.{AreLeft}
 use Rattle.gen1_c.proofs.random_steps.step_each.Given as goal
 
@@ -10,3 +10,4 @@ invariant-loop-place l =
     (record { battles = l.battles; generators = l.generators }) l.updates
     × AreLeft l.place l.initial.battles l.battles × AreLeft l.place l.initial.generators l.generators
     × (l.over ≡ over_in (take l.place l.updates)) × (l.over ≤ l.place)
+    × AreListed l.place l.updates

@@ -20,3 +20,7 @@ returns-in-Some-clause-above c high =
 pub returns-in-None-clause-stands : goal.returns-in-None-clause-stands
 returns-in-None-clause-stands c low s h =
     let test = none_through _ _ (sym c.from_parts.ensures.value ∙ c.in-None.is) in absurd (grind (arith, nat_tests))
+
+pub returns-in-None-clause-below : goal.returns-in-None-clause-below
+returns-in-None-clause-below c low =
+    let test = none_through _ _ (sym c.from_parts.ensures.value ∙ c.in-None.is) in absurd (grind (arith, nat_tests))

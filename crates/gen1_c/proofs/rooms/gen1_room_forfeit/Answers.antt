@@ -21,7 +21,7 @@ returns-in-Err-clause-forfeits c course which k e =
     let side = same_side c.in-Some.side which (c.in-Some.ensures.exact ∙ e) in
     let over = is_over course.state.field.outcome in
     subst (λ (it : Side). ForfeitsAs over course it c.forfeit.new.room c.code_of.result) side
-    (subst (λ (n : ℕ). ForfeitsAs over course c.in-Some.side c.forfeit.new.room n) (sym c.code_of.ensures)
+    (subst (λ (n : ℕ). ForfeitsAs over course c.in-Some.side c.forfeit.new.room n) (sym c.code_of.ensures.value)
     (refused_forfeit over course c.in-Some.side c.forfeit.new.room c.in-Err.why (c.in-Err.ensures.forfeits course k)))
 
 -- after a forfeit
@@ -33,4 +33,9 @@ pub returns-in-Ok-clause-forfeited : goal.returns-in-Ok-clause-forfeited
 returns-in-Ok-clause-forfeited c which e h = absurd (let k = c.in-Ok.ensures.forfeited h in cc)
 
 pub returns-in-Err-clause-forfeited : goal.returns-in-Err-clause-forfeited
-returns-in-Err-clause-forfeited c which e h = c.code_of.ensures ∙ over_code c.in-Err.why refl (c.in-Err.ensures.forfeited h)
+returns-in-Err-clause-forfeited c which e h = c.code_of.ensures.value ∙ over_code c.in-Err.why refl (c.in-Err.ensures.forfeited h)
+
+-- a forfeit is refused only if the room is over
+
+pub returns-in-Err-clause-code : goal.returns-in-Err-clause-code
+returns-in-Err-clause-code c some other = c.code_of.ensures.value ∙ over_code c.in-Err.why refl c.in-Err.ensures.over

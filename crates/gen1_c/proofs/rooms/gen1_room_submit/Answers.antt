@@ -25,7 +25,7 @@ returns-in-Err-clause-submits c course which k e =
     let all = c.in-Err.ensures.keeps course k in
     subst (λ (it : Side). Keeps c.submit.new.room (after course (submission_of it c.args.number c.args.choice))
     × (c.code_of.result ≡ reply_code (reply_to course (submission_of it c.args.number c.args.choice)))) side
-    (all.0, refused_code c.in-Err.why c.code_of.result (reply_to course (submission_of c.in-Some.side c.args.number c.args.choice)) c.code_of.ensures all.1)
+    (all.0, refused_code c.in-Err.why c.code_of.result (reply_to course (submission_of c.in-Some.side c.args.number c.args.choice)) c.code_of.ensures.value all.1)
 
 -- after a forfeit
 
@@ -36,4 +36,4 @@ pub returns-in-Ok-clause-forfeited : goal.returns-in-Ok-clause-forfeited
 returns-in-Ok-clause-forfeited c which e h = absurd (let k = c.in-Ok.ensures.forfeited h in cc)
 
 pub returns-in-Err-clause-forfeited : goal.returns-in-Err-clause-forfeited
-returns-in-Err-clause-forfeited c which e h = c.code_of.ensures ∙ over_code c.in-Err.why refl (c.in-Err.ensures.forfeited h)
+returns-in-Err-clause-forfeited c which e h = c.code_of.ensures.value ∙ over_code c.in-Err.why refl (c.in-Err.ensures.forfeited h)

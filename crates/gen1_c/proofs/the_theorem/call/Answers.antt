@@ -23,7 +23,7 @@ returns-clause-called c s h =
     (c.gen1_update-update.ensures.updates long s k) in
     called_same s u c.copy_from_slice.new.self c.gen1_choices-update.new.choices c.gen1_choices-update-2.new.choices c.gen1_update-update.new.log c.gen1_result-update.result
     c.gen1_choices-update.result c.gen1_choices-update-2.result c.load-update.result c.gen1_update-update.result c.gen1_update-update.new.written
-    stored (c.gen1_result-update.ensures s h) (c.gen1_choices-update.ensures.offers s One h refl) (c.gen1_choices-update-2.ensures.offers s Two h refl) loaded.0 wrote
+    stored (c.gen1_result-update.ensures.stands s h) (c.gen1_choices-update.ensures.offers s One h refl) (c.gen1_choices-update-2.ensures.offers s Two h refl) loaded.0 wrote
 
 pub returns-clause-logged : goal.returns-clause-logged
 returns-clause-logged c s h =
