@@ -5,12 +5,14 @@ import copy
 import json
 import random
 import re
+import struct
 import subprocess
 import sys
 from concurrent.futures import ThreadPoolExecutor
 
 import pytest
 from cargo import TARGET, want_cargo
+from log_lines import codes
 from processes import ran
 
 PROGRAMS = ("bot", "referee", "room")
@@ -176,11 +178,31 @@ def is_whole(row):
     return len(updates) < 60 and all(it["refused"] is None for it in updates) and updates[-1]["result"][0] in (1, 2, 3)
 
 
+def told(logs, side):
+    """Log bytes as a player of a side gets them (docs/MECHANICS.md, "What a side is told"): the foe's members are numbered in the order in
+    which they appear, and their HP are in 48ths."""
+    places = []
+    for log in logs:
+        found = b""
+        for code in map(bytearray, codes(bytes.fromhex(log))):
+            at = {0x02: 5, 0x05: 3, 0x06: 3}.get(code[0])
+            if at and code[1] != side + 1:
+                if at == 5 and code[3] not in places:
+                    places.append(code[3])
+                if at == 5:
+                    code[3] = places.index(code[3]) + 1
+                hp, most = struct.unpack_from("<2H", code, at)
+                struct.pack_into("<2H", code, at, max(48 * hp // most, hp > 0), 48)
+            found += code
+        yield found.hex()
+
+
 def transcript(row, side, is_rude):
     """All lines that a player must receive, except that of its team; and how often it is asked."""
     text, asked, updates = f"side {side + 1}\n", 0, row["updates"]
-    for number, it in enumerate(updates):
-        text += f"log {it['log']}\n"
+    logs = told((it["log"] for it in updates), side)
+    for number, (it, log) in enumerate(zip(updates, logs)):
+        text += f"log {log}\n"
         if it["result"][0] != 0 or it["result"][1 + side] == 0:
             continue
         text += f"ask {number} {' '.join(map(str, it['offered'][side]))}\n"

@@ -58,7 +58,7 @@ IN_ADAPTER = {
     "std::process::Abort": "gen1_adapter::testing::Abort",
     "std::test::Fail": "gen1_adapter::testing::Fail",
 }
-PROOFS_ALONE = {"std::marker::Model", "thiserror::Error"}
+PROOFS_ALONE = {"std::marker::Model"}
 
 
 class Source:
@@ -197,7 +197,7 @@ def take_empty_modules(source):
 
 
 def take_attributes(source):
-    """Drops marks for the prover; derives `Drop` and `Error` in other ways."""
+    """Drops marks for the prover, among them `Drop`."""
     for place in source.find("#"):
         if source.code[place].kind == "off":
             continue
@@ -217,60 +217,15 @@ def take_derives(source, place, opening, closing):
     item = next(at for at in range(closing, len(source.code)) if source.code[at].text in ("struct", "enum"))
     owner = source.code[item + 1].text
     own = {"Debug"} if re.search(rf"\bDebug for {owner}\b", source.crate.added) else set()
-    kept = [name for name in names if name not in {"Drop", "Error"} | own]
+    kept = [name for name in names if name not in {"Drop"} | own]
     for name in set(kept) - DERIVES:
         source.fail(source.code[place], f"an unknown derive, {name}")
-    if "Error" in names:
-        source.after.append(error_impls(source, closing + 1))
     if not kept:
         source.drop(place, closing)
     elif owner in WITH_SERDE.get(source.crate.name, ()):
         source.put(place, closing, f"#[derive({', '.join(kept)})] {SERDE}")
     elif kept != names:
         source.put(place, closing, f"#[derive({', '.join(kept)})]")
-
-
-DISPLAY = """
-impl core::fmt::Display for {name} {{
-    fn fmt(&self, f: &mut core::fmt::Formatter<'_>) -> core::fmt::Result {{
-        match self {{
-{arms}        }}
-    }}
-}}
-"""
-
-
-def error_impls(source, place):
-    """What thiserror's derive writes for the enum at a place; its `Display` only where the additions have none."""
-    place += source.is_at(place, "pub")
-    if not source.is_at(place, "enum"):
-        source.fail(source.code[place], "an error that is no enum")
-    name, at, arms = source.code[place + 1].text, place + 3, ""
-    while at < source.ends[place + 2]:
-        arm, at = error_arm(source, at)
-        arms += f"            {name}::{arm},\n"
-    shown = "" if f"Display for {name} " in source.crate.added else DISPLAY.format(name=name, arms=arms)
-    return f"{shown}\nimpl core::error::Error for {name} {{}}\n"
-
-
-def error_arm(source, at):
-    """The arm of `Display` for the variant at a place, and the place of the next."""
-    if not source.is_at(at, "# [ error (") or source.code[at + 4].kind != "string":
-        source.fail(source.code[at], "a variant of an error with no text of its own")
-    text, pattern = source.code[at + 4].text, source.code[at + 7].text
-    source.drop(at, at + 6)
-    at += 8
-    if source.is_at(at, "("):
-        count = 1 + sum(token.text == "," for token in source.code[at : source.ends[at] - 1])
-        fields = (f"field_{n}" if f"{{{n}" in text else "_" for n in range(count))
-        pattern += f"({', '.join(fields)})"
-        at = source.ends[at] + 1
-    elif source.is_at(at, "{"):
-        pattern += f" {{ {''.join(f'{name}, ' for name in re.findall(r'{([a-z_]+)', text))}.. }}"
-        at = source.ends[at] + 1
-    if not source.is_at(at, ",") and not source.is_at(at, "}"):
-        source.fail(source.code[at], "a variant of an error of an unknown form")
-    return f"{pattern} => write!(f, {re.sub(r'{(?=[0-9])', '{field_', text)})", at + source.is_at(at, ",")
 
 
 def take_models(source):
@@ -444,7 +399,7 @@ def take_uses(source):
 
 
 def check_root(source, token):
-    known = {"crate", "self", "super", "std", "core", "thiserror", "bitflags"} | source.crate.depends
+    known = {"crate", "self", "super", "std", "core", "bitflags"} | source.crate.depends
     if token.text not in known | source.crate.modules and not token.text[0].isupper():
         source.fail(token, f"a use of {token.text}, which is not a module and not a crate of crates.txt")
 

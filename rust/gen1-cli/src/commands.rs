@@ -24,7 +24,10 @@ pub fn text_of<'a>(events: impl IntoIterator<Item = &'a Event>) -> String {
 }
 
 /// Plays the choices of an input, passes each update to `then`, and returns the battle after them.
-fn played(given: &Given, then: impl FnMut(&Step) -> Result<(), Fault>) -> Result<Battle, Fault> {
+pub fn played(
+    given: &Given,
+    then: impl FnMut(&Step) -> Result<(), Fault>,
+) -> Result<Battle, Fault> {
     let (start, pairs) = given.start_and_choices()?;
     let mut battle = start.battle;
     game::play(&mut battle, &pairs, then)?;

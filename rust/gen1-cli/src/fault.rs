@@ -68,6 +68,16 @@ impl Fault {
         Fault::new(1, "guess", why)
     }
 
+    /// A team breaks the rules of a format, or there is no such format.
+    pub fn format(why: &str) -> Fault {
+        Fault::new(1, "format", why)
+    }
+
+    /// A search has nothing to do, or its table does not fit.
+    pub fn search(why: &str) -> Fault {
+        Fault::new(1, "search", why)
+    }
+
     /// No name has the pattern.
     pub fn names(why: &str) -> Fault {
         Fault::new(1, "names", why)
@@ -169,7 +179,9 @@ impl Fault {
 
     /// Whether only this program has errors of this form, so that the explanation is always printed.
     fn is_own(&self) -> bool {
-        let own = ["text", "choices", "names", "page", "showdown", "guess"];
+        let own = [
+            "text", "choices", "format", "names", "page", "showdown", "guess", "search",
+        ];
         self.status == 2 || own.contains(&self.line.as_str()) || self.line.starts_with("lines ")
     }
 
@@ -183,6 +195,21 @@ impl Fault {
         // If standard error cannot be written, only the status reports the error.
         let _ = std::io::stderr().write_all(text.as_bytes());
         ExitCode::from(self.status)
+    }
+}
+
+/// An error of Showdown's protocol.
+impl From<gen1_showdown::Fault> for Fault {
+    fn from(why: gen1_showdown::Fault) -> Fault {
+        use gen1_showdown::Fault::{Guess, Line, Log, Pair, Team};
+        match why {
+            Line { line, why } => Fault::protocol(line, &why),
+            Team { side, why } => Fault::team(side.number(), why),
+            Guess(why) => Fault::guess(&why),
+            Pair { number, why } => Fault::pair(number, why, ""),
+            Log(why) => Fault::log(1, 0, why),
+            other => Fault::guess(&other.to_string()),
+        }
     }
 }
 

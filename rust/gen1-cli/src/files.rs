@@ -29,6 +29,15 @@ pub fn read_battle_log(file: Option<&Path>) -> Result<Vec<u8>, Fault> {
     read_up_to(LOG_LIMIT, file)
 }
 
+/// Reads the table of a solver; `None` if there is no such file.
+pub fn read_table(path: &Path) -> Result<Option<Vec<u8>>, Fault> {
+    match fs::read(path) {
+        Ok(bytes) => Ok(Some(bytes)),
+        Err(why) if why.kind() == io::ErrorKind::NotFound => Ok(None),
+        Err(why) => Err(Fault::read(&name_of(Some(path)), &why)),
+    }
+}
+
 fn read_up_to(limit: u64, file: Option<&Path>) -> Result<Vec<u8>, Fault> {
     let mut input = Vec::new();
     let done = match named(file) {

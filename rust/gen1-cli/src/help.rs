@@ -86,6 +86,18 @@ Standard input has your choices, a number on each line, and q to leave the game.
 The choices in FILE are ignored. With FILE - the whole of standard input is the battle,
 so the game ends at your first choice.";
 
+pub const THINK: &str = "\
+The input is that of `gen1 run --help`. The side sees what a player may see: nothing of
+the foe's team but what the choices have shown. Each line is a choice: how often to make
+it, how often the side wins after it, and the choice. Then comes a line of play.
+rust/gen1-search/README.md describes the search.";
+
+pub const SOLVE: &str = "\
+The input is that of `gen1 run --help`. A tie counts as half a win. The interval holds the
+value whatever was left out: memory, draws, sweeps and rounding. After it come the reason
+to stop (solved, memory, endless, sweeps) and the choices of both sides, with how often to
+make them. rust/gen1-search/README.md describes what a position is.";
+
 pub const REPLAY: &str = "A file is written completely or not at all.";
 
 pub const BENCH: &str = "\

@@ -20,6 +20,7 @@ mod play;
 mod random;
 mod replay;
 mod screen;
+mod search;
 mod sentences;
 mod shell;
 mod showdown;
@@ -76,6 +77,8 @@ fn done(command: &Command) -> Result<(), Fault> {
         Command::Names(asked) => names::names(asked),
         Command::Showdown(asked) => showdown::simulate(asked),
         Command::Follow(asked) => follow::follow(asked),
+        Command::Think(asked) => on_battle(&asked.battle, |given| search::think(asked, given)),
+        Command::Solve(asked) => on_battle(&asked.battle, |given| search::solve(asked, given)),
         Command::Play(game) => play::play(game),
         Command::Replay(asked) => replay::replay(asked),
         Command::Bench(measure) => bench::bench(measure),

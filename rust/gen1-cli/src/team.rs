@@ -1,11 +1,12 @@
 //! `gen1 team`: teams between export text, packed line and JSON (docs/TEAM_TEXT.md).
 use crate::fault::Fault;
-use crate::files::put;
-use crate::input::{Members, team, team_in};
+use crate::files::{name_of, put, read};
+use crate::input::{Members, shown, team, team_in};
 use crate::json::line_of;
 use clap::Args;
 use gen1::{MemberSpec, MoveId};
-use std::path::PathBuf;
+use gen1_showdown::Formats;
+use std::path::{Path, PathBuf};
 
 /// The arguments of `team`.
 #[derive(Args)]
@@ -18,17 +19,54 @@ pub struct Convert {
     /// Prints a packed line
     #[arg(long, conflicts_with = "json")]
     packed: bool,
+    /// Refuses a team that the rules of this format don't allow, such as gen1ou
+    #[arg(long, value_name = "ID")]
+    format: Option<String>,
+    /// The formats, in the form of rust/gen1-showdown/formats.json; without it those of that file
+    #[arg(long, value_name = "FILE", requires = "format")]
+    formats: Option<PathBuf>,
 }
 
 /// Reads a team in any form, and prints it in the requested form, which is the export text by default.
 pub fn convert(asked: &Convert) -> Result<(), Fault> {
     let members = team_in(asked.file.as_deref())?;
     team(1, &members.specs)?;
+    if let Some(id) = &asked.format {
+        let formats = formats_in(asked.formats.as_deref())?;
+        check(&formats, id, &members)?;
+    }
     put(match (asked.json, asked.packed) {
         (true, _) => line_of(&members.specs),
         (_, true) => packed(&members)?,
         _ => text(&members)?,
     })
+}
+
+/// The formats in a file, or those of the library.
+pub fn formats_in(file: Option<&Path>) -> Result<Formats, Fault> {
+    let Some(path) = file else {
+        return Ok(Formats::default());
+    };
+    let text = read(Some(path))?;
+    let text = std::str::from_utf8(&text).map_err(|_| "expected text in UTF-8".to_string());
+    let formats = text.and_then(Formats::read);
+    formats.map_err(|why| Fault::format(&why).within(&name_of(Some(path))))
+}
+
+/// Refuses a team that a format does not allow.
+fn check(formats: &Formats, id: &str, members: &Members) -> Result<(), Fault> {
+    let Some(broken) = formats.complaints(id, members) else {
+        let known = formats.ids().collect::<Vec<_>>().join(", ");
+        let found = shown(id);
+        return Err(Fault::format(&format!(
+            "expected one of {known}, found {found}"
+        )));
+    };
+    let broken: Vec<_> = broken.iter().map(ToString::to_string).collect();
+    match broken.is_empty() {
+        true => Ok(()),
+        false => Err(Fault::format(&broken.join("; "))),
+    }
 }
 
 /// The stats of a text, with the index of the experience in a member: the Special is both SpA and SpD.

@@ -1,7 +1,7 @@
 //! The command line: subcommands and their arguments.
 use crate::input::{Input, Terms};
 use crate::{
-    batch, bench, calc, explain, follow, help, names, play, replay, shell, showdown, team,
+    batch, bench, calc, explain, follow, help, names, play, replay, search, shell, showdown, team,
 };
 use clap::{Args, Parser, Subcommand};
 
@@ -51,10 +51,16 @@ pub enum Command {
     Names(names::Names),
     /// Speaks the text protocol of Showdown's simulator over standard input and output
     #[command(after_help = help::SHOWDOWN)]
-    Showdown(showdown::Simulator),
+    Showdown(showdown::Showdown),
     /// Reads a battle log of Showdown, and prints what the player of a side knows after it
     #[command(after_help = help::FOLLOW)]
     Follow(follow::Follow),
+    /// Searches for a side's best choice, from what its player knows
+    #[command(after_help = help::THINK)]
+    Think(search::Think),
+    /// Prints how often side 1 wins if both sides play as well as can be
+    #[command(after_help = help::SOLVE)]
+    Solve(search::Solve),
     /// Plays against the computer, in the terminal
     #[command(after_help = help::PLAY)]
     Play(play::Game),

@@ -58,6 +58,7 @@ fn public(side: &PublicSide, count: usize) -> Value {
         (on.focus_energy, "FOCUS_ENERGY"),
         (on.substitute, "SUBSTITUTE"),
         (on.recharging, "RECHARGE"),
+        (side.invulnerable, "INVULNERABLE"),
         (on.rage, "RAGE"),
         (on.seeded, "SEEDED"),
         (on.toxic, "BAD_POISON"),
@@ -141,7 +142,7 @@ fn what_a_side_is_sent_is_what_the_battle_tells() {
             let words: &[&str] = if pixels {
                 &["showdown", "--pixels"]
             } else {
-                &["showdown"]
+                &["showdown", "--hp", "exact"]
             };
             let printed = ran(words, commands.as_bytes());
             assert!(printed.status.success());
@@ -289,7 +290,7 @@ fn other_forms_of_showdown_are_read() {
     );
 }
 
-/// A replay page is read as its log.
+/// A replay, as a page or as JSON, is read as its log.
 #[test]
 fn a_page_is_read_as_its_log() {
     let input = common::battle(common::TAUROS, r#""choices":[[0,0],[17,17]]"#);
@@ -301,10 +302,11 @@ fn a_page_is_read_as_its_log() {
         String::from_utf8_lossy(&made.stderr)
     );
     let log = ran(&["run", "--showdown"], input.as_bytes()).stdout;
-    assert_eq!(
-        ran(&["follow", &page], b"").stdout,
-        ran(&["follow"], &log).stdout
-    );
+    let due = ran(&["follow"], &log).stdout;
+    assert_eq!(ran(&["follow", &page], b"").stdout, due);
+    let log = String::from_utf8(log).expect("UTF-8");
+    let replay = json!({"id": "gen1ou-1", "players": ["A", "B"], "log": log});
+    assert_eq!(ran(&["follow"], replay.to_string().as_bytes()).stdout, due);
 }
 
 #[test]

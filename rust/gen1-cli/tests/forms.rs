@@ -264,15 +264,60 @@ fn has_distinct_species(input: &Value) -> bool {
     })
 }
 
-/// A line of Showdown's log as `run` prints it; none for lines that it adds.
-fn without_showdown(line: &str) -> Option<String> {
-    let is_event = !matches!(line, "|" | "|upkeep");
-    let named = line
-        .replace("|win|Side ", "|win|p")
-        .replace("|spa|", "|spc|")
-        .replace("|accuracy|", "|acc|")
-        .replace("|evasion|", "|eva|");
-    is_event.then_some(named + "\n")
+/// The lines of Showdown's log as `run` prints them: without the lines and the words that only Showdown has.
+#[derive(Default)]
+struct Plain {
+    /// Both active members, as `p1a: Tauros`.
+    active: [String; 2],
+}
+
+impl Plain {
+    /// A line of `run`; none for a line that only Showdown has.
+    fn line(&mut self, line: &str) -> Option<String> {
+        let mut fields: Vec<&str> = line.split('|').collect();
+        let has = |tag: &str| line.ends_with(tag);
+        let is_told_elsewhere = match fields[1] {
+            "" | "upkeep" | "-message" => true,
+            "move" => fields[3] == "Bide" || has("|[still]"),
+            "-end" | "-status" => has("|[silent]"),
+            "-boost" | "-unboost" => fields[3] == "spd",
+            "-activate" => has("|move: Haze"),
+            _ => false,
+        };
+        if is_told_elsewhere {
+            return None;
+        }
+        let is_source = |field: &str| {
+            let kept = ["psn", "brn", "Leech Seed", "Recoil", "confusion"];
+            kept.iter().any(|word| field == format!("[from] {word}"))
+        };
+        fields.retain(|field| !field.starts_with('[') || is_source(field));
+        match fields[1] {
+            "switch" => {
+                let at = usize::from(fields[2].starts_with("p2"));
+                self.active[at] = fields[2].into();
+            }
+            "move" => {
+                let foe = usize::from(fields[2].starts_with("p1"));
+                fields[4] = &self.active[foe];
+            }
+            "-miss" => fields.truncate(3),
+            "-fail" => fields.truncate(3),
+            "cant" | "-start" => fields.truncate(4),
+            _ => (),
+        }
+        let fields = fields.iter().map(|field| {
+            let field = field.strip_prefix("move: ").unwrap_or(field);
+            match field {
+                "spa" => "spc".into(),
+                "accuracy" => "acc".into(),
+                "evasion" => "eva".into(),
+                "tox" => "psn".into(),
+                _ => field.replace(" tox", " psn").replace("Side ", "p"),
+            }
+        });
+        Some(fields.collect::<Vec<_>>().join("|") + "\n")
+    }
 }
 
 #[test]
@@ -283,7 +328,8 @@ fn showdowns_log_has_the_recorded_events() {
         let done = ran(&["run", "--showdown"], input.to_string().as_bytes());
         let text = String::from_utf8(done.stdout).expect("UTF-8");
         let (_, events) = text.split_once("|start\n").expect("a start");
-        let lines: String = events.lines().filter_map(without_showdown).collect();
+        let mut plain = Plain::default();
+        let lines: String = events.lines().filter_map(|it| plain.line(it)).collect();
         let recorded = case["stdout"].as_str().expect("stdout");
         if !recorded.contains("|fault|") {
             assert_eq!(lines, recorded, "{}", case["name"]);

@@ -1,6 +1,6 @@
 //! What the program reads and prints is as docs/PROGRAM.schema.json says. Without Python's jsonschema nothing is tested, and the test says so.
 mod common;
-use common::{ran, recorded};
+use common::{TAUROS, battle, ran, recorded};
 use serde_json::{Value, json};
 use std::io::Write;
 use std::path::Path;
@@ -111,6 +111,19 @@ fn collected() -> Values {
             &["attacker", "moves"],
         );
     }
+    let begun = battle(TAUROS, r#""choices":[[0,0]]"#);
+    let think = ["think", "--json", "--nodes", "100"];
+    values.prints("thought", &think, &begun, &["value", "choices"]);
+    let solve = [
+        "solve",
+        "--json",
+        "--endless",
+        "--classes",
+        "1",
+        "--memory",
+        "1",
+    ];
+    values.prints("solved", &solve, &begun, &["low", "plays"]);
     let words = [
         "calc",
         "--json",

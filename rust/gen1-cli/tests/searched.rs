@@ -1,4 +1,5 @@
-//! `gen1 follow --battle`: the battle of a stream that is cut fits what its side knows, and offers it the same choices.
+//! `gen1 follow --battle`: the battle of a stream that is cut fits what its side knows, and offers it the same choices; `gen1 think` and
+//! `gen1 solve`.
 mod common;
 use common::played::{battle, commands, inputs, is_played_by_showdown, members, name, pairs, view};
 use common::{fed, file_with, gen1, ran};
@@ -141,7 +142,7 @@ fn a_stream_that_is_cut_gives_a_battle_that_fits() {
         let words: &[&str] = if pixels {
             &["showdown", "--pixels"]
         } else {
-            &["showdown"]
+            &["showdown", "--hp", "exact"]
         };
         let printed = ran(words, commands(input).as_bytes());
         let printed = String::from_utf8(printed.stdout).expect("UTF-8");
@@ -354,5 +355,103 @@ fn a_guess_that_contradicts_the_log_is_refused() {
         let due = format!("error: guess\nstandard input: {due}");
         assert!(told.starts_with(&due), "{told}\n{due}");
         assert!(done.stdout.is_empty());
+    }
+}
+
+/// A battle of teams in texts, after its start and more pairs of choices.
+fn fight(one: &str, two: &str, more: &[[&str; 2]]) -> String {
+    let pairs = [["pass", "pass"]].into_iter().chain(more.iter().copied());
+    let pairs: Vec<_> = pairs.collect();
+    json!({"seed": [1, 36, 255, 7, 31, 100, 179, 254, 127, 10], "one": one, "two": two, "choices": pairs}).to_string()
+}
+
+const STARMIE: &str = "Starmie\n- Swift\n- Surf\n- Recover\n";
+const BABY: &str = "Snorlax\nLevel: 5\n- Body Slam\n- Rest\n";
+
+fn printed(words: &[&str], input: &str) -> String {
+    let done = ran(words, input.as_bytes());
+    let told = String::from_utf8_lossy(&done.stderr).into_owned();
+    assert!(done.status.success(), "{words:?}: {told}");
+    String::from_utf8(done.stdout).expect("UTF-8")
+}
+
+#[test]
+fn think_does_not_see_what_the_foe_has_not_shown() {
+    let texts = [
+        ("Recover", "Jynx\n- Psychic"),
+        ("Psychic", "Zapdos\n- Agility"),
+    ]
+    .map(|(hidden, other)| {
+        let two = format!("Alakazam\n- Reflect\n- {hidden}\n\n{other}\n");
+        let input = fight(STARMIE, &two, &[["move Recover", "move Reflect"]]);
+        printed(&["think", "--nodes", "300"], &input)
+    });
+    assert_eq!(texts[0], texts[1]);
+    let lines: Vec<_> = texts[0].lines().collect();
+    assert!(lines[0].starts_with("side 1, turn 2: value 0.") && lines[0].ends_with(", 300 nodes"));
+    let names = ["Swift", "Surf", "Recover"];
+    assert!(
+        names
+            .iter()
+            .all(|name| lines[1..4].iter().any(|line| line.ends_with(name)))
+    );
+}
+
+#[test]
+fn think_takes_its_foes_from_files_and_ends_in_time() {
+    let foe = file_with("foe.txt", "Snorlax\n- Splash\n");
+    let input = fight(STARMIE, BABY, &[]);
+    let text = printed(&["think", "--json", "--ms", "50", "--foe", &foe], &input);
+    let thought: Value = serde_json::from_str(&text).expect("JSON");
+    // Nothing that the foe may have does damage.
+    assert!(thought["value"].as_f64() > Some(0.6), "{thought}");
+    assert!(thought["nodes"].as_u64() > Some(0));
+}
+
+/// Swift never misses, and Starmie is faster and knocks out at once.
+#[test]
+fn solve_prints_a_value_known_by_hand() {
+    let text = printed(&["solve"], &fight(STARMIE, BABY, &[]));
+    let first = "side 1 wins with probability 1.000000 to 1.000000\nsolved: ";
+    assert!(text.starts_with(first), "{text}");
+    let back = printed(&["solve"], &fight(BABY, STARMIE, &[]));
+    assert!(
+        back.starts_with("side 1 wins with probability 0.000000 to 0.000000\n"),
+        "{back}"
+    );
+}
+
+#[test]
+fn a_table_of_another_battle_is_refused() {
+    let table = file_with("table.bin", "");
+    std::fs::remove_file(&table).expect("the file is there");
+    let words = ["solve", "--endless", "--table", &table];
+    let input = fight(BABY, BABY, &[]);
+    let first = printed(&words, &input);
+    assert_eq!(printed(&words, &input).lines().next(), first.lines().next());
+    let told = |words: &[&str], input: &str| {
+        let done = ran(words, input.as_bytes());
+        assert!(done.stdout.is_empty() && done.status.code() == Some(1));
+        String::from_utf8(done.stderr).expect("UTF-8")
+    };
+    let due = format!("error: search\n{table}: the table is that of another battle\n");
+    assert_eq!(told(&words, &fight(STARMIE, BABY, &[])), due);
+    std::fs::write(&table, "gen1sol2").expect("the file is written");
+    assert!(told(&words, &input).starts_with("error: search\n"));
+}
+
+#[test]
+fn a_battle_that_is_over_is_not_searched() {
+    let input = fight("Starmie\n- Swift\n", BABY, &[["move Swift", "move Rest"]]);
+    for (words, due) in [
+        ("think", "the player is offered no choice"),
+        ("solve", "the battle is over"),
+    ] {
+        let done = ran(&[words], input.as_bytes());
+        let told = String::from_utf8(done.stderr).expect("UTF-8");
+        assert_eq!(
+            (done.status.code(), told),
+            (Some(1), format!("error: search\n{due}\n"))
+        );
     }
 }

@@ -1,5 +1,8 @@
 """Plays battles over pipes, by nothing but the text protocol of Showdown's simulator; each side chooses at random.
 
+Each side reads every line as the bots do that play on Showdown, refuses an unknown word, and compares what it believes of its own members
+with its requests: HP, status, PP, and who is active.
+
 usage: showdown_bot.py BATTLES COMMAND ..
 Prints how many battles were won and tied, and fails if a message is wrong or shows a player what it may not know.
 """
@@ -29,11 +32,68 @@ def team():
     return species, "]".join(f"{name}||||{MOVES[name]}||||||{level}|" for name, level in zip(species, levels))
 
 
+# Words of lines that change nothing that is compared.
+PASSED_OVER = """gametype player teamsize gen tier rule start upkeep turn win tie t: cant -crit -supereffective -resisted -immune -miss
+    -fail -clearallboost -mustrecharge -hitcount -ohko -message -prepare""".split()
+VOLATILES = """confusion Bide Substitute Mist Reflect Disable Rage typechange""".split() + [
+    "Light Screen",
+    "move: Leech Seed",
+]
+STATUS = ["slp", "psn", "tox", "brn", "frz", "par"]
+
+
+class Belief:
+    """What a bot believes of one side's members, by names."""
+
+    def __init__(self):
+        self.conditions, self.used, self.stages, self.active = {}, {}, {}, None
+
+    def reads(self, word, fields):
+        """Takes a line about the active member; the fields after it."""
+        if word == "switch":
+            self.active, self.stages = fields[0].split(": ")[1], {}
+            self.conditions[self.active] = fields[2]
+            assert re.fullmatch(r"[A-Z]\w+(, L\d+)?", fields[1]), fields
+            return
+        name, rest = fields[0].split(": ")[1], fields[1:]
+        assert name == self.active, fields
+        tags = [field for field in rest if field.startswith("[")]
+        if word == "move":
+            self.uses(rest[0], rest[1], tags)
+        elif word in ("-damage", "-heal"):
+            self.conditions[name] = rest[0]
+        elif word == "faint":
+            self.conditions[name] = "0 fnt"
+        elif word in ("-status", "-curestatus"):
+            assert rest[0] in STATUS, fields
+            hp = self.conditions[name].split()[0]
+            self.conditions[name] = f"{hp} {rest[0]}" if word == "-status" else hp
+        elif word in ("-boost", "-unboost"):
+            assert rest[0] in ("atk", "def", "spe", "spa", "spd", "accuracy", "evasion"), fields
+            change = int(rest[1]) * (1 if word == "-boost" else -1)
+            self.stages[rest[0]] = max(-6, min(6, self.stages.get(rest[0], 0) + change))
+            assert tags in ([], ["[silent]"], ["[from] Rage"]), fields
+        elif word == "-start" and rest[0] == "typechange":
+            assert all(kind.isalpha() for kind in rest[1].split("/")) and tags[1].startswith("[of] p"), fields
+        else:
+            known = VOLATILES + ["Leech Seed", "Focus Energy", "move: Focus Energy", "move: Haze", "move: Splash"]
+            assert word in ("-start", "-end", "-activate") and rest[0] in known, fields
+
+    def uses(self, move, target, tags):
+        """Counts a use, but not of a move that goes on. A charge is used twice, and costs one PP."""
+        assert target == "" or re.match(r"p[12]a: \w", target), (move, target)
+        assert set(tags) <= {"[miss]", "[still]", f"[from] move: {move}"}, (move, tags)
+        if not any(tag.startswith("[from]") for tag in tags):
+            key = (self.active, re.sub(r"\W", "", move).lower())
+            self.used[key] = self.used.get(key, 0) + 1
+
+
 class Side:
     """What one player has heard."""
 
     def __init__(self, player, own, foes):
         self.player, self.own, self.foes, self.seen, self.request, self.errors = player, own, foes, set(), None, 0
+        self.beliefs = {"p1": Belief(), "p2": Belief()}
 
     def hears(self, lines):
         """Takes an update. Of two lines after a split only the first is for the side that it names."""
@@ -43,6 +103,8 @@ class Side:
                 skipped = number + (2 if line == f"|split|{self.player}" else 1)
             elif number != skipped:
                 fields = line.split("|")
+                if fields[1] and fields[1] not in PASSED_OVER:
+                    self.beliefs[fields[2][:2]].reads(fields[1], fields[2:])
                 if fields[1] == "switch" and not fields[2].startswith(self.player):
                     self.seen.add(fields[3].split(",")[0])
                 others = re.sub(rf"{self.player}a: \w+(\|\w+)?", "", line)
@@ -57,6 +119,17 @@ class Side:
         assert not any(name in text for name in set(self.foes) - set(self.own)), text
         assert side["pokemon"][0]["active"] and not any(it["active"] for it in side["pokemon"][1:])
         assert sum(key in self.request for key in ("active", "forceSwitch", "wait")) == 1, text
+        belief = self.beliefs[self.player]
+        assert belief.active == side["pokemon"][0]["ident"][4:], text
+        for it in side["pokemon"]:
+            name = it["ident"][4:]
+            assert it["condition"] == belief.conditions.get(name, it["condition"]), (belief.conditions, text)
+            assert name in belief.conditions or it["condition"].split("/")[0] == it["condition"].split("/")[-1], text
+        for it in self.request.get("active", [{"moves": []}])[0]["moves"]:
+            assert it["id"] == "recharge" or it["id"] == "struggle" or it["id"] in side["pokemon"][0]["moves"], text
+            if "pp" in it and it["id"] != "fly":
+                used = belief.used.get((belief.active, it["id"]), 0)
+                assert it["pp"] == (it["maxpp"] - used) % 64, (belief.used, text)
 
     def choice(self):
         """A choice that the request allows."""

@@ -52,15 +52,15 @@ fn requested(message: &[String]) -> Value {
 fn a_battle_begins_with_an_update_and_two_requests() {
     let (text, messages) = played(&[], &[]);
     let due = "update\n|gametype|singles\n|player|p1|Alice||\n|player|p2|Eve||\n|teamsize|p1|2\n|teamsize|p2|2\n|gen|1\n\
-        |tier|[Gen 1] Link battle\n|\n|start\n|switch|p1a: Bob|Tauros|353/353\n|switch|p2a: Mew|Mew|403/403\n|turn|1\n|\n\nsideupdate\np1\n";
+        |tier|[Gen 1] Link battle\n|\n|start\n|switch|p1a: Bob|Tauros|353/353\n|switch|p2a: Mew|Mew|403/403\n|turn|1\n\nsideupdate\np1\n";
     assert!(text.starts_with(due), "{text}");
     assert_eq!(messages.len(), 3);
     let request = requested(&messages[1]);
     assert_eq!(
         request["active"],
         json!([{"moves": [
-            {"move": "Body Slam", "id": "bodyslam", "pp": 24, "maxpp": 24, "disabled": false},
-            {"move": "Hyper Beam", "id": "hyperbeam", "pp": 8, "maxpp": 8, "disabled": false},
+            {"move": "Body Slam", "id": "bodyslam", "pp": 24, "maxpp": 24, "target": "normal", "disabled": false},
+            {"move": "Hyper Beam", "id": "hyperbeam", "pp": 8, "maxpp": 8, "target": "normal", "disabled": false},
         ]}])
     );
     let members = &request["side"]["pokemon"];
@@ -100,7 +100,7 @@ fn a_wrong_choice_is_refused_and_may_be_made_again() {
         ("move 0", "Can't move: Your Bob doesn't have a move 0"),
         (
             "move splash",
-            "Can't move: Your Bob doesn't have a move splash",
+            "Can't move: Your Bob doesn't have a move matching splash",
         ),
         (
             "switch 1",
@@ -108,11 +108,11 @@ fn a_wrong_choice_is_refused_and_may_be_made_again() {
         ),
         (
             "switch 3",
-            "Can't switch: You do not have a Pokémon 3 to switch to",
+            "Can't switch: You do not have a Pokémon in slot 3 to switch to",
         ),
         (
             "switch Mew",
-            "Can't switch: You do not have a Pokémon Mew to switch to",
+            "Can't switch: You do not have a Pokémon named \"Mew\" to switch to",
         ),
         ("dance", "Unrecognized choice: dance"),
         ("", "Unrecognized choice: "),
@@ -163,7 +163,8 @@ fn a_recharge_is_the_only_move() {
     );
     let trapped = "|error|[Invalid choice] Can't switch: The active Pokémon is trapped";
     assert_eq!(messages[6], ["sideupdate", "p1", trapped]);
-    assert_eq!(messages[7][..2], ["update", "|cant|p1a: Bob|recharge"]);
+    let due = ["update", "|", "|cant|p1a: Bob|recharge"];
+    assert_eq!(messages[7][..3], due);
 }
 
 /// A charge and Bide begin without the line of a move, so the request can't name the last one.
@@ -204,7 +205,7 @@ fn a_battle_may_be_ended() {
         (">forcetie", "|tie", ""),
     ] {
         let (_, messages) = played(&[], &[command, ">p1 move 1"]);
-        assert_eq!(messages[3], ["update", line]);
+        assert_eq!(messages[3], ["update", "|", line]);
         assert_eq!(messages[4][0], "end");
         let object: Value = serde_json::from_str(&messages[4][1]).expect("JSON");
         assert_eq!(
@@ -224,10 +225,6 @@ fn a_wrong_command_names_its_line() {
     let start = r#">start {"formatid":"gen1ou"}"#;
     let cases = [
         (
-            ">dance",
-            "line 1: expected a command, such as >start, found \">dance\"",
-        ),
-        (
             ">p1 move 1",
             "line 1: \">p1\" before >start and both >player",
         ),
@@ -238,6 +235,10 @@ fn a_wrong_command_names_its_line() {
         (
             ">start {\"formatid\":\"gen2ou\"}",
             "line 1: expected a \"formatid\" that begins with gen1, found \"gen2ou\"",
+        ),
+        (
+            ">start {\"formatid\":\"gen10ou\"}",
+            "line 1: expected a \"formatid\" that begins with gen1, found \"gen10ou\"",
         ),
         (">start [", "line 1: expected a JSON object, found \"[\""),
         (
@@ -256,6 +257,10 @@ fn a_wrong_command_names_its_line() {
             &format!("{start}\n>player p1 {{\"name\":\"A\",\"team\":\"Mew||||serf|||||||\"}}"),
             "line 2: at .team: member 1, field 5",
         ),
+        (
+            &format!("{start}\n>player p1 {{\"name\":\"A\",\"team\":\"Mew||||surf|||||||\"}}"),
+            "line 2: gen1ou does not allow the team: member 1 (Mew): species that are not banned; found Mew",
+        ),
     ];
     for (input, why) in cases {
         let done = ran(&["showdown"], input.as_bytes());
@@ -270,12 +275,438 @@ fn a_wrong_command_names_its_line() {
     }
 }
 
+/// What the program prints for some lines of input.
+fn printed(options: &[&str], input: &[String]) -> String {
+    let words = [&["showdown"], options].concat();
+    let done = ran(&words, (input.join("\n") + "\n").as_bytes());
+    let told = String::from_utf8_lossy(&done.stderr);
+    assert!(done.status.success() && told.is_empty(), "{told}");
+    String::from_utf8(done.stdout).expect("UTF-8")
+}
+
+/// The commands that begin a battle of two packed teams.
+fn begun(format: &str, seed: Value, teams: [&str; 2]) -> Vec<String> {
+    let player =
+        |name: &str, team: &str| json!({"name": name, "team": team, "avatar": "60"}).to_string();
+    vec![
+        format!(">start {}", json!({"formatid": format, "seed": seed})),
+        format!(">player p1 {}", player("Alice", teams[0])),
+        format!(">player p2 {}", player("Eve", teams[1])),
+    ]
+}
+
+/// Whether a line is as due, where a star stands for any field.
+fn is_like(line: &str, due: &str) -> bool {
+    let (line, due): (Vec<_>, Vec<_>) = (line.split('|').collect(), due.split('|').collect());
+    line.len() == due.len()
+        && line
+            .iter()
+            .zip(due)
+            .all(|(it, due)| due == "*" || *it == due)
+}
+
+/// Plays turns in which each side uses the move of a slot, and looks for lines in their order.
+fn has_lines(teams: [&str; 2], seed: u64, turns: &[[&str; 2]], due: &[&str]) -> String {
+    let seed = json!([0, 0, 0, seed]);
+    let mut input = begun("gen1customgame", seed, teams);
+    for [one, two] in turns {
+        input.extend([format!(">p1 {one}"), format!(">p2 {two}")]);
+    }
+    let text = printed(&[], &input);
+    assert!(!text.contains("|error|"), "{text}");
+    let mut lines = text.lines();
+    for due in due {
+        let found = lines.any(|line| is_like(line, due));
+        assert!(found, "{due} in its place\n{text}");
+    }
+    text
+}
+
+const M1: [&str; 2] = ["move 1", "move 1"];
+const M2: [&str; 2] = ["move 2", "move 2"];
+const GO_ON: [&str; 2] = ["default", "default"];
+
+/// The forms that clients read, by Showdown's documents SIM-PROTOCOL and PROTOCOL and by what its first generation is remembered to send.
+#[test]
+fn moves_have_their_targets_and_what_they_go_on_from() {
+    let snorlax = "Snorlax||||splash|||||||";
+    // A self move names its user, and a miss both.
+    has_lines(
+        [
+            "Chansey||||softboiled,sing|||||||",
+            "Tauros||||bodyslam|||||||",
+        ],
+        1,
+        &[M1, M1],
+        &[
+            "|move|p2a: Tauros|Body Slam|p1a: Chansey",
+            "|-damage|p1a: Chansey|*",
+            "|move|p1a: Chansey|Soft-Boiled|p1a: Chansey",
+            "|-heal|p1a: Chansey|*",
+        ],
+    );
+    has_lines(
+        ["Rhydon||||fissure|||||||", "Electrode||||splash|||||||"],
+        1,
+        &[M1],
+        &[
+            "|move|p2a: Electrode|Splash|p2a: Electrode",
+            "|-activate|p2a: Electrode|move: Splash",
+            "|move|p1a: Rhydon|Fissure|p2a: Electrode|[miss]",
+            "|-miss|p1a: Rhydon|p2a: Electrode",
+        ],
+    );
+    for (user, id, name) in [
+        ("Arbok", "wrap", "Wrap"),
+        ("Kangaskhan", "thrash", "Thrash"),
+        ("Charizard", "rage", "Rage"),
+    ] {
+        has_lines(
+            [&format!("{user}||||{id}|||||||"), snorlax],
+            3,
+            &[M1, GO_ON, GO_ON],
+            &[
+                &format!("|move|p1a: {user}|{name}|p2a: Snorlax"),
+                &format!("|move|p1a: {user}|{name}|p2a: Snorlax|[from] move: {name}"),
+            ],
+        );
+    }
+    has_lines(
+        ["Charizard||||fly,bide|||||||", snorlax],
+        1,
+        &[M1, GO_ON, ["move 2", "move 1"], GO_ON, GO_ON, GO_ON],
+        &[
+            "|move|p1a: Charizard|Fly||[still]",
+            "|-prepare|p1a: Charizard|Fly",
+            "|move|p1a: Charizard|Fly|p2a: Snorlax|[from] move: Fly",
+            "|move|p1a: Charizard|Bide|p1a: Charizard",
+            "|-start|p1a: Charizard|Bide",
+            "|-activate|p1a: Charizard|Bide",
+            "|-end|p1a: Charizard|Bide",
+        ],
+    );
+}
+
+#[test]
+fn status_and_residual_damage_say_where_they_come_from() {
+    let text = has_lines(
+        [
+            "Venusaur||||toxic,leechseed,sleeppowder|||||||",
+            "Tauros||||rest,bodyslam|||||||",
+        ],
+        2,
+        &[
+            ["move 1", "move 2"],
+            ["move 2", "move 2"],
+            ["move 3", "move 1"],
+        ],
+        &[
+            "|-status|p2a: Tauros|tox",
+            "|-start|p2a: Tauros|move: Leech Seed",
+        ],
+    );
+    assert!(text.contains(r#" tox","active":true"#), "{text}");
+    assert!(text.contains(" tox|[from] psn\n"), "{text}");
+    has_lines(
+        [
+            "Venusaur||||leechseed,sleeppowder|||||||",
+            "Tauros||||tackle,splash|||||||",
+        ],
+        2,
+        &[M1, ["move 1", "move 1"], M2, M2, M2],
+        &[
+            "|-damage|p1a: Venusaur|*",
+            "|-damage|p2a: Tauros|*|[from] Leech Seed|[of] p1a: Venusaur",
+            "|-heal|p1a: Venusaur|*|[silent]",
+            "|-status|p2a: Tauros|slp|[from] move: Sleep Powder",
+        ],
+    );
+    has_lines(
+        ["Snorlax||||rest,splash|||||||", "Tauros||||bodyslam|||||||"],
+        2,
+        &[M1, M1, M1, M1],
+        &[
+            "|move|p1a: Snorlax|Rest|p1a: Snorlax",
+            "|-status|p1a: Snorlax|slp|[from] move: Rest",
+            "|-heal|p1a: Snorlax|523/523 slp|[silent]",
+            "|-curestatus|p1a: Snorlax|slp|[msg]",
+        ],
+    );
+    has_lines(
+        [
+            "Exeggutor||||megadrain|||||||",
+            "Rhydon||||doubleedge|||||||",
+        ],
+        2,
+        &[M1, M1],
+        &[
+            "|-damage|p1a: Exeggutor|*",
+            "|-damage|p2a: Rhydon|*|[from] Recoil|[of] p1a: Exeggutor",
+        ],
+    );
+    has_lines(
+        ["Gengar||||megadrain|||||||", "Snorlax||||earthquake|||||||"],
+        2,
+        &[M1, M1],
+        &["|-heal|p1a: Gengar|*|[from] drain|[of] p2a: Snorlax"],
+    );
+}
+
+#[test]
+fn stages_types_and_conditions_are_said_as_clients_read_them() {
+    let snorlax = "Snorlax||||splash,amnesia|||||||";
+    has_lines(
+        [
+            "Porygon||||conversion,splash|||||||",
+            "Starmie||||splash,amnesia|||||||",
+        ],
+        1,
+        &[M1, ["move 2", "move 2"]],
+        &[
+            "|-start|p1a: Porygon|typechange|Water/Psychic|[from] move: Conversion|[of] p2a: Starmie",
+            "|-boost|p2a: Starmie|spa|2",
+            "|-boost|p2a: Starmie|spd|2|[silent]",
+        ],
+    );
+    has_lines(
+        ["Charizard||||rage|||||||", "Snorlax||||bodyslam|||||||"],
+        3,
+        &[M1, GO_ON],
+        &["|-boost|p1a: Charizard|atk|1|[from] Rage"],
+    );
+    has_lines(
+        ["Kangaskhan||||thrash|||||||", snorlax],
+        3,
+        &[M1, GO_ON, GO_ON, GO_ON],
+        &[
+            "|move|p1a: Kangaskhan|Thrash|p2a: Snorlax|[from] move: Thrash",
+            "|-start|p1a: Kangaskhan|confusion|[silent]",
+        ],
+    );
+    has_lines(
+        [
+            "Persian||||focusenergy,substitute|||||||",
+            "Snorlax||||splash,tackle|||||||",
+        ],
+        1,
+        &[M1, M2],
+        &[
+            "|-start|p1a: Persian|move: Focus Energy",
+            "|-start|p1a: Persian|Substitute",
+            "|-activate|p1a: Persian|Substitute|[damage]",
+        ],
+    );
+    has_lines(
+        [
+            "Alakazam||||haze,reflect,confuseray|||||||",
+            "Golbat||||mist,toxic|||||||",
+        ],
+        1,
+        &[
+            ["move 2", "move 1"],
+            ["move 3", "move 2"],
+            ["move 1", "move 1"],
+        ],
+        &[
+            "|-start|p1a: Alakazam|Reflect",
+            "|-start|p2a: Golbat|Mist",
+            "|-start|p2a: Golbat|confusion",
+            "|-activate|p1a: Alakazam|move: Haze",
+            "|-clearallboost|[silent]",
+            "|-end|p1a: Alakazam|Reflect|[silent]",
+            "|-end|p2a: Golbat|confusion|[silent]",
+            "|-end|p2a: Golbat|Mist|[silent]",
+        ],
+    );
+}
+
+/// Only the owner is shown which move is disabled.
+#[test]
+fn a_disabled_move_is_named_to_its_owner() {
+    let text = has_lines(
+        ["Alakazam||||disable|||||||", "Snorlax||||bodyslam|||||||"],
+        2,
+        &[M1],
+        &[
+            "|split|p2",
+            "|-start|p2a: Snorlax|Disable|Body Slam",
+            "|-start|p2a: Snorlax|Disable",
+            "|split|p2",
+            "|cant|p2a: Snorlax|Disable|Body Slam",
+            "|cant|p2a: Snorlax|Disable",
+        ],
+    );
+    assert!(
+        text.contains(r#""move":"Struggle","id":"struggle""#),
+        "{text}"
+    );
+}
+
+/// A member that is asleep is asked for a move of its own, as a client expects; each leads to the same.
+#[test]
+fn a_sleeper_is_offered_its_moves() {
+    let teams = [
+        "Jynx||||lovelykiss|||||||",
+        "Snorlax||||bodyslam,rest|||||||",
+    ];
+    let text = has_lines(
+        teams,
+        2,
+        &[M1],
+        &["|-status|p2a: Snorlax|slp|[from] move: Lovely Kiss"],
+    );
+    let last = text.trim_end().lines().last().expect("a request");
+    let request: Value = serde_json::from_str(last.trim_start_matches("|request|")).expect("JSON");
+    assert_eq!(
+        request["active"][0]["moves"],
+        json!([
+            {"move": "Body Slam", "id": "bodyslam", "pp": 24, "maxpp": 24, "target": "normal", "disabled": false},
+            {"move": "Rest", "id": "rest", "pp": 16, "maxpp": 16, "target": "self", "disabled": false},
+        ])
+    );
+    has_lines(
+        teams,
+        2,
+        &[M1, ["move 1", "move rest"]],
+        &["|cant|p2a: Snorlax|slp"],
+    );
+}
+
+#[test]
+fn a_turn_with_a_fall_has_no_upkeep() {
+    let teams = [
+        "Mew||||explosion|||||||]Tauros||||bodyslam|||||||",
+        "Magikarp||||splash||||||1|]Mew||||splash|||||||",
+    ];
+    let text = has_lines(
+        teams,
+        2,
+        &[M1, ["switch 2", "switch 2"], M1],
+        &["|faint|p1a: Mew"],
+    );
+    let due = "|faint|p2a: Magikarp\n|faint|p1a: Mew\n\n";
+    let other = "|faint|p1a: Mew\n|faint|p2a: Magikarp\n\n";
+    assert!(text.contains(due) || text.contains(other), "{text}");
+    assert!(
+        text.contains("|switch|p2a: Mew|Mew|403/403\n|turn|2\n"),
+        "{text}"
+    );
+    assert!(text.contains("\n|\n|upkeep\n|turn|3\n"), "{text}");
+}
+
+#[test]
+fn other_formats_have_clauses_and_hundredths() {
+    let team = "Jynx||||lovelykiss|||||||";
+    let foes = "Snorlax||||splash|||||||]Chansey||||splash|||||||";
+    let mut input = begun("gen1ou", json!([0, 0, 0, 2]), [team, foes]);
+    for command in [
+        "p1 move 1",
+        "p2 move 1",
+        "p1 move 1",
+        "p2 switch 2",
+        "p1 move 1",
+        "p2 move 1",
+        "p1 move 1",
+        "p2 move 1",
+    ] {
+        input.push(format!(">{command}"));
+    }
+    let text = printed(&[], &input);
+    let head = "|gen|1\n|tier|[Gen 1] OU\n|rule|Sleep Clause Mod: Limit one foe put to sleep\n\
+        |rule|Freeze Clause Mod: Limit one foe frozen\n|rule|Species Clause: Limit one of each Pokémon\n\
+        |rule|OHKO Clause: OHKO moves are banned\n|rule|Evasion Moves Clause: Evasion moves are banned\n\
+        |rule|Invulnerability Clause: Dig and Fly are banned\n|rule|HP Percentage Mod: HP is shown in percentages\n|\n|start\n\
+        |split|p1\n|switch|p1a: Jynx|Jynx|333/333\n|switch|p1a: Jynx|Jynx|100/100\n";
+    assert!(text.contains(head), "{text}");
+    let due = "|-message|Sleep Clause Mod activated.\n|-fail|p1a: Jynx\n";
+    assert!(text.contains(due), "{text}");
+    // 303 of 403 HP are 75.2 hundredths, and more than 99 of them are not all.
+    let mew = ["Mew||||substitute|||||||", "Mew||||splash|||||||"];
+    let mut input = begun("gen1customgame", json!([0, 0, 0, 2]), mew);
+    input.extend([">p1 move 1".into(), ">p2 move 1".into()]);
+    let text = printed(&["--hp", "percent"], &input);
+    assert!(
+        text.contains("|-damage|p1a: Mew|303/403\n|-damage|p1a: Mew|76/100\n"),
+        "{text}"
+    );
+}
+
+#[test]
+fn a_log_of_inputs_plays_the_same_battle() {
+    let teams = [
+        "Tauros||||bodyslam,hyperbeam|||||||]Chansey||||softboiled,sing|||||||]Jynx||||lovelykiss,rest|||||||",
+        "Snorlax||||bodyslam,rest|||||||]Gengar||||hypnosis,megadrain|||||||]Arbok||||wrap,glare|||||||",
+    ];
+    let mut ends = Vec::new();
+    for seed in 0..12 {
+        let mut input = vec![">version 1234".to_string()];
+        input.extend(begun("gen1ou", json!(format!("gen5,{seed:016x}")), teams));
+        for number in 0..40 {
+            // Some of these are refused, and the first choice is taken then.
+            for player in ["p1", "p2"] {
+                let words = ["move 1", "switch 2", "move 2", "switch 3"][(number * 7 + seed) % 4];
+                input.extend([format!(">{player} {words}"), format!(">{player} default")]);
+            }
+        }
+        input.push(">tiebreak".into());
+        let end = |text: &str| {
+            let (_, end) = text.rsplit_once("end\n").expect("an end");
+            end.lines().next().expect("an object").to_string()
+        };
+        let first = end(&printed(&[], &input));
+        let object: Value = serde_json::from_str(&first).expect("JSON");
+        assert_eq!(object["p1team"][1]["species"], "Chansey");
+        let log: Vec<String> = serde_json::from_value(object["inputLog"].clone()).expect("lines");
+        let text = printed(&[], &log);
+        assert!(!text.contains("|error|"), "{text}");
+        assert_eq!(end(&text), first);
+        ends.push(object["winner"].clone());
+    }
+    assert!(ends.iter().any(|winner| *winner == "Alice"), "{ends:?}");
+}
+
+#[test]
+fn commands_of_a_server_are_read() {
+    let teams = ["Tauros||||bodyslam|||||||", "Chansey||||splash|||||||"];
+    let mut input = vec![">version-origin abc".to_string()];
+    input.extend(begun("gen1customgame", json!("sodium,00ff"), teams));
+    input.extend(
+        [
+            ">chat hello",
+            ">chat-inputlogonly hi",
+            ">reseed gen5,00000000000000ff",
+            ">p1 move 1",
+            ">p2 move 1",
+            ">tiebreak",
+        ]
+        .map(String::from),
+    );
+    let text = printed(&["--time"], &input);
+    assert!(text.contains("update\n|chat|hello\n\n"), "{text}");
+    assert!(text.contains("|\n|t:|1"), "{text}");
+    // Tauros has all of its HP, and Chansey was hit.
+    let due = "|message|Time's up! Going to tiebreaker...\n|\n|win|Alice\n";
+    assert!(text.contains(due), "{text}");
+    let done = ran(&["showdown"], b">dance\n>forcewinn p1\n");
+    assert_eq!(
+        (
+            done.status.code(),
+            String::from_utf8_lossy(&done.stderr).as_ref()
+        ),
+        (
+            Some(0),
+            "note: line 1: the command \"dance\" is unknown\n\
+             note: line 2: the command \"forcewinn\" is unknown; did you mean \"forcewin\"?\n"
+        )
+    );
+}
+
 #[test]
 fn a_bot_plays() {
     // GEN1_BATTLES sets another number of battles.
     let battles = std::env::var("GEN1_BATTLES").unwrap_or("20".into());
     let bot = Path::new(env!("CARGO_MANIFEST_DIR")).join("tests/showdown_bot.py");
-    for options in [&[] as &[&str], &["--pixels"]] {
+    for options in [&[] as &[&str], &["--pixels"], &["--hp", "percent"]] {
         let program = gen1().get_program().to_owned();
         let mut run = Command::new("python3");
         run.arg(&bot)

@@ -152,7 +152,7 @@ fn the_winner_is_named_and_the_page_holds_the_log() {
     let input = battle(TAUROS, r#""choices":[[0,0],[17,17],[17,17]]"#);
     let log = printed(&["run", "--showdown"], &input);
     assert!(
-        log.ends_with("|faint|p2a: Tauros\n|win|Side 1\n|\n"),
+        log.ends_with("|faint|p2a: Tauros\n|\n|win|Side 1\n"),
         "{log}"
     );
     let page = printed(&["replay", "--showdown"], &input);
@@ -178,6 +178,67 @@ fn a_page_of_words_holds_the_log_bytes() {
         held.contains(r#"{"log":"0201800164610161010002028001646101610100010100"}"#),
         "{held}"
     );
+}
+
+/// For each of six species a team that the rules allow, and teams with one violation each.
+#[test]
+fn a_team_is_checked_by_the_rules_of_a_format() {
+    let fits = |team: &str, format: &str, more: &[&str]| {
+        let words = [&["team", "--packed", "--format", format], more].concat();
+        let done = ran(&words, team.as_bytes());
+        let told = String::from_utf8(done.stderr).expect("UTF-8");
+        (done.status.code(), told)
+    };
+    let legal = (Some(0), String::new());
+    let due = |why: &str| (Some(1), format!("error: format\n{why}\n"));
+    for species in ["Tauros", "Snorlax", "Starmie", "Persian", "Arbok", "Onix"] {
+        let team = |moves: &str, more: &str| {
+            format!("Ditto||||bind|||||||]{species}||||{moves}|||||||{more}")
+        };
+        let ohko = "OHKO Clause: OHKO moves are banned";
+        let evasion = "Evasion Moves Clause: Evasion moves are banned";
+        let invulnerability = "Invulnerability Clause: Dig and Fly are banned";
+        assert_eq!(fits(&team("bodyslam,rest", ""), "gen1ou", &[]), legal);
+        for (id, name, rule) in [
+            ("fissure", "Fissure", ohko),
+            ("horndrill", "Horn Drill", ohko),
+            ("doubleteam", "Double Team", evasion),
+            ("dig", "Dig", invulnerability),
+        ] {
+            let why = format!("member 2 ({species}): {rule}; found {name}");
+            assert_eq!(
+                fits(&team(&format!("rest,{id}"), ""), "gen1ubers", &[]),
+                due(&why)
+            );
+            assert_eq!(
+                fits(&team(&format!("rest,{id}"), ""), "gen1customgame", &[]),
+                legal
+            );
+        }
+        for banned in ["Mew", "Mewtwo"] {
+            let with = team("rest", &format!("]{banned}||||rest|||||||"));
+            let why = format!("member 3 ({banned}): species that are not banned; found {banned}");
+            assert_eq!(fits(&with, "gen1ou", &[]), due(&why));
+            assert_eq!(fits(&with, "gen1ubers", &[]), legal);
+        }
+        let twice = team("rest", &format!("]{species}||||surf|||||||"));
+        let rule = "Species Clause: Limit one of each Pokémon; found another";
+        let why = format!("member 3 ({species}): {rule} {species}");
+        assert_eq!(fits(&twice, "gen1ou", &[]), due(&why));
+    }
+    let own = r#"{"source": "a league", "date": "2026-01-01", "clauses": [], "learnsets": {"tauros": ["Body Slam"]},
+        "formats": [{"id": "gen1little", "name": "Little", "members": [2, 3], "levels": [5, 50], "clauses": []}]}"#;
+    let own = file_with("formats.json", own);
+    let why = "member 1 (Tauros): level 5 to 50; found 100; member 1 (Tauros): a move of the learnset; found Rest; \
+        team: 2 to 3 members; found 1";
+    let found = fits(
+        "Tauros||||rest,bodyslam|||||||",
+        "gen1little",
+        &["--formats", &own],
+    );
+    assert_eq!(found, due(why));
+    let why = "expected one of gen1ou, gen1ubers, gen1uu, gen1customgame, found \"gen1oo\"";
+    assert_eq!(fits("Tauros||||rest|||||||", "gen1oo", &[]), due(why));
 }
 
 #[test]

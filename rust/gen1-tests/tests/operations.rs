@@ -1582,6 +1582,21 @@ mod odds {
         Ok(())
     }
 
+    // A number above 0 and below one and a half times the level. At level 1 there is none, and a hit ends the battle.
+    #[test]
+    fn psywave_at_low_levels() -> Result<(), Fail> { let rt = gen1_tests::testing::HostRuntime;
+        let levels = [
+            ("teams Tauros 3 Psywave / Tauros 100 Strength", 1, 3),
+            ("teams Tauros 2 Psywave / Tauros 100 Strength", 1, 2),
+            ("teams Tauros 1 Psywave / Tauros 100 Strength", 0, 0),
+        ];
+        for (begins, least, most) in levels {
+            let odds = odds(&set_up(begins)?, "Psywave")?;
+            assert_same(&rt, (begins, odds.least, odds.most), (begins, least, most));
+        }
+        Ok(())
+    }
+
     #[test]
     fn numbers_of_hits() -> Result<(), Fail> { let rt = gen1_tests::testing::HostRuntime;
         let battle = set_up("duel Tauros Tauros")?;
@@ -3187,7 +3202,6 @@ mod script {
         };
 
         /// The battle of a script, what the last call did, and what the next one will draw.
-
         pub(crate) struct Scene {
             pub(crate) battle: Packed,
             /// The battle before the last call.

@@ -681,8 +681,9 @@ mod plain_rooms {
     use gen1::generated::engine::BattleResult;
     use gen1::generated::layout::Packed;
     use gen1::generated::machine::{Outcome, Request, Side};
+    use gen1::generated::rolls::LinkRandom;
     use gen1::generated::room::RoomRefusal;
-    use gen1::generated::room::plain::{PlainRoom, begin, choices, forfeit, result, submit};
+    use gen1::generated::room::plain::{PlainRoom, begin, choices, forfeit, reseed, result, submit};
     use gen1_tests::testing::Abort;
     use gen1_tests::testing::Fail;
 
@@ -723,6 +724,8 @@ mod plain_rooms {
         Step::Submits(TWO, 0, 17, Answer::Waits),
         Step::Forfeits(ONE, TWO_HAS_WON),
     ];
+
+    static ONE_HAS_CHOSEN: [Step; 1] = [Step::Submits(ONE, 0, 17, Answer::Waits)];
 
     static AFTER_A_FORFEIT: [Step; 5] = [
         Step::Forfeits(TWO, ONE_HAS_WON),
@@ -776,6 +779,17 @@ mod plain_rooms {
         Ok(())
     }
 
+    // Bytes 5 to 15 of a battle are the index and the numbers (docs/LAYOUT.md, "Header").
+    #[test]
+    fn a_reseeded_room_keeps_the_choice() -> Result<(), Fail> { let rt = gen1_tests::testing::HostRuntime;
+        let mut room = play(&rt, &ONE_HAS_CHOSEN)?;
+        reseed(&mut room, &LinkRandom::new([9, 8, 7, 6, 5, 4, 3, 2, 1, 0]));
+        let header = [0, 9, 8, 7, 6, 5, 4, 3, 2, 1, 0];
+        assert_same(&rt, &room.battle.header()[5..16], header.as_slice());
+        assert_same(&rt, (room.one, room.two, room.number), (17, 255, 0));
+        Ok(())
+    }
+
     // The log of a win is the byte 26 and the side.
     #[test]
     fn the_other_side_of_a_forfeit_wins() -> Result<(), Fail> { let rt = gen1_tests::testing::HostRuntime;
@@ -822,8 +836,8 @@ mod players {
     //! Psychic).
     use crate::comparing::assert_same;
     use crate::events::Tell::{
-        Boost, Cant, ClearAll, Cure, Damage, End, Faint, Fault, Heal, Move, MustRecharge, Prepare,
-        Start, Status, Switch, Tie, Turn, Unboost, Win,
+        Activate, Boost, Cant, ClearAll, Cure, Damage, End, Faint, Fault, Heal, Move, MustRecharge,
+        Prepare, Start, Status, Switch, Tie, Turn, Unboost, Win,
     };
     use crate::events::{CHANSEY, ONE, STARMIE, TAUROS, TWO, Tell, event};
     use crate::teams::lead_and_chansey;
@@ -877,7 +891,7 @@ mod players {
         Used(Side, u8, usize, u8, u8),
     }
 
-    static PUBLIC: [Row; 12] = [
+    static PUBLIC: [Row; 17] = [
         Row {
             name: "before the first event nothing is public",
             steps: &[
@@ -1066,25 +1080,124 @@ mod players {
             name: "charging ends by what the log shows",
             steps: &[
                 Step::Begin,
-                Step::Tells(Prepare(ONE, 91)),
+                // Razor Wind.
+                Step::Tells(Prepare(ONE, 13)),
                 Step::Announced(ONE, &["charging"]),
-                Step::Tells(Move(ONE, 91)),
+                Step::Tells(Move(ONE, 13)),
                 Step::Announced(ONE, &[]),
-                Step::Tells(Prepare(ONE, 91)),
+                Step::Tells(Prepare(ONE, 13)),
                 Step::Announced(ONE, &["charging"]),
                 Step::Tells(Cant(ONE, CantReason::Disabled)),
                 Step::Announced(ONE, &[]),
-                Step::Tells(Prepare(ONE, 91)),
+                Step::Tells(Prepare(ONE, 13)),
                 Step::Announced(ONE, &["charging"]),
                 Step::Tells(Cant(ONE, CantReason::Paralysed)),
                 Step::Announced(ONE, &[]),
-                Step::Tells(Prepare(ONE, 91)),
+                Step::Tells(Prepare(ONE, 13)),
                 Step::Announced(ONE, &["charging"]),
                 Step::Tells(Damage(ONE, 300, 353, DamageSource::Confusion)),
                 Step::Announced(ONE, &[]),
-                Step::Tells(Prepare(ONE, 91)),
+                Step::Tells(Prepare(ONE, 13)),
                 Step::Tells(Damage(ONE, 290, 353, DamageSource::Direct)),
                 Step::Announced(ONE, &["charging"]),
+            ],
+        },
+        Row {
+            name: "a prepared move is seen and not used",
+            steps: &[
+                Step::Begin,
+                Step::Tells(Prepare(ONE, 13)),
+                Step::Is(Fact::Used(ONE, 1, 0, 13, 0)),
+                Step::Is(Fact::LastMove(ONE, 13)),
+                Step::Tells(Move(ONE, 13)),
+                Step::Is(Fact::Used(ONE, 1, 0, 13, 1)),
+                Step::Tells(Prepare(ONE, 91)),
+                Step::Is(Fact::Used(ONE, 1, 0, 13, 1)),
+                Step::Is(Fact::Used(ONE, 1, 1, 91, 0)),
+                Step::Is(Fact::LastMove(ONE, 91)),
+            ],
+        },
+        Row {
+            name: "Fly and Dig hide their user until a charged move strikes",
+            steps: &[
+                Step::Begin,
+                Step::Tells(Prepare(ONE, 19)),
+                Step::Announced(ONE, &["charging", "invulnerable"]),
+                Step::Tells(Move(ONE, 19)),
+                Step::Announced(ONE, &[]),
+                Step::Tells(Prepare(ONE, 91)),
+                Step::Tells(Cant(ONE, CantReason::Paralysed)),
+                Step::Announced(ONE, &["invulnerable"]),
+                // Strength, and then Razor Wind.
+                Step::Tells(Move(ONE, 70)),
+                Step::Announced(ONE, &["invulnerable"]),
+                Step::Tells(Prepare(ONE, 13)),
+                Step::Announced(ONE, &["charging", "invulnerable"]),
+                Step::Tells(Move(ONE, 13)),
+                Step::Announced(ONE, &[]),
+                Step::Tells(Prepare(ONE, 91)),
+                Step::Tells(Damage(ONE, 300, 353, DamageSource::Confusion)),
+                Step::Announced(ONE, &[]),
+                Step::Tells(Prepare(ONE, 91)),
+                Step::Tells(Switch(ONE, CHANSEY, 2, 703, 703, None)),
+                Step::Announced(ONE, &[]),
+            ],
+        },
+        Row {
+            name: "a hit on itself behind its own Substitute shows by the next event",
+            steps: &[
+                Step::Begin,
+                Step::Tells(Start(ONE, Volatile::Substitute)),
+                Step::Tells(Start(ONE, Volatile::Bide)),
+                Step::Tells(Prepare(ONE, 91)),
+                Step::Tells(Activate(ONE, Volatile::Confusion)),
+                Step::Announced(ONE, &["substitute", "bide", "charging", "invulnerable"]),
+                // The hit landed on nothing.
+                Step::Tells(Turn(2)),
+                Step::Announced(ONE, &["substitute"]),
+                Step::Tells(Start(ONE, Volatile::Bide)),
+                Step::Tells(Activate(ONE, Volatile::Confusion)),
+                // It landed on the Substitute of the foe.
+                Step::Tells(Activate(TWO, Volatile::Substitute)),
+                Step::Announced(ONE, &["substitute"]),
+                Step::Tells(Start(ONE, Volatile::Bide)),
+                Step::Tells(Activate(ONE, Volatile::Confusion)),
+                // Its poison, after the hit.
+                Step::Tells(Damage(ONE, 300, 353, DamageSource::Poison)),
+                Step::Announced(ONE, &["substitute"]),
+            ],
+        },
+        Row {
+            name: "a confused member that acts has not hit itself",
+            steps: &[
+                Step::Begin,
+                Step::Tells(Start(ONE, Volatile::Substitute)),
+                Step::Tells(Start(ONE, Volatile::Bide)),
+                Step::Tells(Activate(ONE, Volatile::Confusion)),
+                Step::Tells(Activate(ONE, Volatile::Bide)),
+                Step::Announced(ONE, &["substitute", "bide"]),
+                // Disable leaves Bide on.
+                Step::Tells(Activate(ONE, Volatile::Confusion)),
+                Step::Tells(Cant(ONE, CantReason::Disabled)),
+                Step::Announced(ONE, &["substitute", "bide"]),
+                Step::Tells(Activate(ONE, Volatile::Confusion)),
+                Step::Tells(End(ONE, Volatile::Bide)),
+                Step::Announced(ONE, &["substitute"]),
+                // Full paralysis leaves it out of reach.
+                Step::Tells(Prepare(ONE, 91)),
+                Step::Tells(Activate(ONE, Volatile::Confusion)),
+                Step::Tells(Cant(ONE, CantReason::Paralysed)),
+                Step::Announced(ONE, &["substitute", "invulnerable"]),
+            ],
+        },
+        Row {
+            name: "without a Substitute a hit on itself is reported",
+            steps: &[
+                Step::Begin,
+                Step::Tells(Start(ONE, Volatile::Bide)),
+                Step::Tells(Activate(ONE, Volatile::Confusion)),
+                Step::Tells(Turn(2)),
+                Step::Announced(ONE, &["bide"]),
             ],
         },
         Row {
@@ -1186,7 +1299,7 @@ mod players {
     }
 
     // Each condition by its name.
-    fn announced(side: &PublicSide) -> [(&'static str, u8); 13] {
+    fn announced(side: &PublicSide) -> [(&'static str, u8); 14] {
         let on = side.announced;
         [
             ("substitute", on.substitute),
@@ -1202,6 +1315,7 @@ mod players {
             ("bide", on.bide),
             ("charging", on.charging),
             ("recharging", on.recharging),
+            ("invulnerable", side.invulnerable),
         ]
     }
 
@@ -1434,6 +1548,7 @@ mod rooms {
     use crate::teams::{SEED, chansey, gengar, lead_and_chansey, tauros};
     use gen1::generated::engine::Battle;
     use gen1::generated::machine::{Outcome, Request, Side};
+    use gen1::generated::rolls::LinkRandom;
     use gen1::generated::room::Reply; use gen1::generated::room::Room; use gen1::generated::room::RoomRefusal; use gen1::generated::room::Submitted;
     use gen1_tests::testing::Abort;
     use gen1_tests::testing::Fail;
@@ -1535,6 +1650,17 @@ mod rooms {
         assert_same(&rt, room.number(), 0);
         assert_same(&rt, room.log(), START.as_slice());
         assert_same(&rt, room.battle().result().request_one, Request::Move);
+        Ok(())
+    }
+
+    // Bytes 5 to 15 of a battle are the index and the numbers (docs/LAYOUT.md, "Header").
+    #[test]
+    fn a_reseeded_room_keeps_the_choice() -> Result<(), Fail> { let rt = gen1_tests::testing::HostRuntime;
+        let mut room = play(&rt, two_tauros()?, &[ONE_FIRST[0]]);
+        room.reseed(&LinkRandom::new([9, 8, 7, 6, 5, 4, 3, 2, 1, 0]));
+        let header = [0, 9, 8, 7, 6, 5, 4, 3, 2, 1, 0];
+        assert_same(&rt, &room.battle().bytes()[5..16], header.as_slice());
+        play(&rt, room, &[ONE_FIRST[1]]);
         Ok(())
     }
 

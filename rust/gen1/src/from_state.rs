@@ -24,14 +24,23 @@ impl fmt::Display for StateFault {
         if self.index > 0 {
             write!(f, " {}", self.index)?;
         }
-        write!(f, " is {}", self.value)?;
-        if self.low == self.high {
-            write!(f, ", not {}", self.low)
-        } else if (self.low..=self.high).contains(&self.value) {
+        let [value, low, high] = [self.value, self.low, self.high].map(|it| given(self.field, it));
+        write!(f, " is {value}")?;
+        if low == high {
+            write!(f, ", not {low}")
+        } else if (low..=high).contains(&value) {
             write!(f, ", which does not fit the other fields")
         } else {
-            write!(f, ", not {} to {}", self.low, self.high)
+            write!(f, ", not {low} to {high}")
         }
+    }
+}
+
+/// A number of a fault as it is in a [`State`], whose stages are from -6.
+fn given(field: StateField, number: u32) -> i64 {
+    match field {
+        StateField::Stage => i64::from((number as u8).wrapping_sub(6) as i8),
+        _ => i64::from(number),
     }
 }
 
@@ -102,7 +111,8 @@ impl Battle {
     ///
     /// # Errors
     ///
-    /// The first field that is wrong, in the order in which loading tests the bytes.
+    /// The first field that is wrong, in the order in which loading tests the bytes. The numbers of a fault about a stage are 6 more than the
+    /// stage, 0 to 12; its text has the stage.
     pub fn from_state(state: &State) -> Result<Self, StateFault> {
         let packed = states::from_state(&plain_state(state))?;
         Ok(Battle { packed })
@@ -206,6 +216,18 @@ impl Battle {
     /// # Errors
     ///
     /// As for [`Battle::from_state`]: the stage is not -6 to 6.
+    ///
+    /// ```
+    /// # use gen1::{Battle, Choice, Side, Stat, Team, member};
+    /// # fn main() -> Result<(), Box<dyn std::error::Error>> {
+    /// # let team = Team::new(&[member("Tauros", &["Body Slam"])?])?;
+    /// # let mut battle = Battle::new(&team, &team, [0; 10]);
+    /// # battle.update(Choice::Pass, Choice::Pass)?;
+    /// let fault = battle.with_stage(Side::One, Stat::Speed, -7).unwrap_err();
+    /// assert_eq!(fault.to_string(), "side 1: stage 3 is -7, not -6 to 6");
+    /// # Ok(())
+    /// # }
+    /// ```
     pub fn with_stage(&self, side: Side, stat: Stat, stage: i8) -> Result<Self, StateFault> {
         self.with_state(|state| {
             if let Some(active) = side_mut(state, side).active.as_mut() {

@@ -254,7 +254,7 @@ fn plain_active(place: u8, types: [Element; 2], stages: [u8; 6]) -> Option<Activ
 
 /// Adds conditions with middle counts to the state of an active member. One that belongs to a current move needs a move that explains it.
 fn put_on(active: &mut ActiveState, on: Conditions, member: &MemberState, last: Option<MoveId>) {
-    const FREE: [Conditions; 8] = [
+    const FREE: [Conditions; 9] = [
         Conditions::MIST,
         Conditions::FOCUS_ENERGY,
         Conditions::SEEDED,
@@ -263,6 +263,7 @@ fn put_on(active: &mut ActiveState, on: Conditions, member: &MemberState, last: 
         Conditions::CONFUSED,
         Conditions::SUBSTITUTE,
         Conditions::BAD_POISON,
+        Conditions::INVULNERABLE,
     ];
     for which in FREE.into_iter().filter(|which| on.has(*which)) {
         active.conditions = active.conditions.with(which, true);
@@ -297,9 +298,6 @@ fn put_on(active: &mut ActiveState, on: Conditions, member: &MemberState, last: 
         active.kept_accuracy = [Conditions::THRASH, Conditions::RAGE]
             .contains(&which)
             .then_some(255);
-        if which == Conditions::CHARGING && on.has(Conditions::INVULNERABLE) {
-            active.conditions = active.conditions.with(Conditions::INVULNERABLE, true);
-        }
         // At most one of them is on.
         return;
     }
@@ -362,6 +360,7 @@ fn announced(foe: &PublicSide, traps: bool) -> Conditions {
         (announced.bide != 0, Conditions::BIDE),
         (announced.charging != 0, Conditions::CHARGING),
         (announced.recharging != 0, Conditions::RECHARGE),
+        (foe.invulnerable != 0, Conditions::INVULNERABLE),
         (traps, Conditions::TRAPPING),
     ];
     let on = all.into_iter().filter(|(is_on, _)| *is_on);

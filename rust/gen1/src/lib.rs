@@ -48,8 +48,8 @@
 //!
 //! # Features
 //!
-//! The crate is `no_std` and needs no allocator. `alloc` adds `Battle::outcomes`, whose list grows; [`Battle::outcomes_into`] and
-//! [`Battle::ways`] do without. `serde` adds `Serialize` and `Deserialize` for members, names, choices, sides, events,
+//! The crate is `no_std`. The feature `alloc`, on by default, adds `Battle::outcomes`, whose list grows; [`Battle::outcomes_into`] and
+//! [`Battle::ways`] do without, and need no allocator with `default-features = false`. `serde` adds `Serialize` and `Deserialize` for members, names, choices, sides, events,
 //! states, outcomes, odds, playouts and battles. A [`Team`] is only deserialized, from a list of members. A member is the object of
 //! [docs/PROGRAM.md][program], a battle its 384 bytes, and a name its text:
 //!
@@ -150,8 +150,8 @@ pub use mask::OfferedMask;
 pub use odds::{Between, Chances, DamageRefusal, HpChange, Odds, ThreeChances};
 #[cfg(feature = "alloc")]
 pub use outcomes::OutcomeList;
-pub use outcomes::{OutcomeOptions, Way, Ways};
-pub use player::{Player, Teller};
+pub use outcomes::{NotProbability, OutcomeOptions, Way, Ways};
+pub use player::{Player, ReportFault, Teller};
 pub use room::Room;
 pub use spectator::Spectator;
 pub use state::{ActiveState, MemberState, SideState, State};

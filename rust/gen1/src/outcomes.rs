@@ -2,6 +2,7 @@
 use crate::generated::outcomes;
 use crate::update::Chosen;
 use crate::{Battle, Chance, Choice, EventList, Outcomes, OutcomesFault, Refusal, Side, Successor};
+use core::fmt;
 use core::iter::FusedIterator;
 
 /// One way of an update: a battle that it can lead to, its probability, and its events.
@@ -196,9 +197,10 @@ impl OutcomeOptions {
     /// These options with at most that many classes of damage for each roll: for a search that wants fewer outcomes.
     ///
     /// The 39 factors from 217 to 255 are divided into that many ranges, and the damages of one range are a class. One damage near the
-    /// middle of each class is listed, with the weight of the whole class. All damages that reach the HP of the target (or of its
-    /// substitute) are one more class, so the chance of a knock-out stays exact, and so does everything other than damage rolls. 0 lists
-    /// each damage, and so does any number from 39 on.
+    /// middle of each class is listed, with the weight of the whole class. All damages that reach the HP of the target are one more class.
+    /// No class holds both damages that break a substitute and damages that don't. So the chance that the first hit of a move knocks out or
+    /// breaks a substitute stays exact, and so does everything other than damage rolls. Only what depends on the amount of damage is that of
+    /// the listed one: later hits of a move, recoil, residual damage. 0 lists each damage, and so does any number from 39 on.
     #[must_use]
     pub const fn with_damage_classes(self, damage_classes: u8) -> Self {
         OutcomeOptions {
@@ -213,8 +215,7 @@ impl OutcomeOptions {
     /// are not left out: at most its full weight. `left_out` of the list is the exact weight of the rest. An outcome without a draw is
     /// always listed. An update with draws may have no outcome left.
     ///
-    /// The probability is rounded down to a multiple of 2^-32. 0, a negative number or NaN leaves nothing out; 1 or more counts as
-    /// 1 - 2^-32.
+    /// The probability is rounded down to a multiple of 2^-32. 0 leaves nothing out, and 1 counts as 1 - 2^-32.
     ///
     /// ```
     /// use gen1::{Battle, Choice, OutcomeOptions, Team, member};
@@ -224,7 +225,7 @@ impl OutcomeOptions {
     /// let two = Team::new(&[member("Slowbro", &["Amnesia"])?])?;
     /// let mut battle = Battle::new(&one, &two, [0; 10]);
     /// battle.update(Choice::Pass, Choice::Pass)?;
-    /// let options = OutcomeOptions::new().with_least_probability(0.01);
+    /// let options = OutcomeOptions::new().with_least_probability(0.01)?;
     /// let ways = battle.ways_with(Choice::MOVE_1, Choice::MOVE_1, &options)?;
     /// let chances = ways.map(|way| way.map(|way| way.chance.probability())).collect::<Result<Vec<f64>, _>>()?;
     /// // It misses with 1 of 256 bytes: that is left out. A paralysed Slowbro then acts or not.
@@ -232,13 +233,17 @@ impl OutcomeOptions {
     /// # Ok(())
     /// # }
     /// ```
-    #[must_use]
-    pub const fn with_least_probability(self, probability: f64) -> Self {
-        // A cast takes NaN for 0, and the nearest number for one that is out of range.
-        OutcomeOptions {
-            least: (probability * 4_294_967_296.0) as u32,
-            ..self
+    ///
+    /// # Errors
+    ///
+    /// The probability is not 0 to 1, or is NaN.
+    pub fn with_least_probability(self, probability: f64) -> Result<Self, NotProbability> {
+        if !(0.0..=1.0).contains(&probability) {
+            return Err(NotProbability(probability));
         }
+        // A cast takes the nearest number for 1, which is out of range.
+        let least = (probability * 4_294_967_296.0) as u32;
+        Ok(OutcomeOptions { least, ..self })
     }
 
     const fn plain(&self) -> outcomes::OutcomeOptions {
@@ -248,6 +253,18 @@ impl OutcomeOptions {
         }
     }
 }
+
+/// A number that is not a probability, 0 to 1.
+#[derive(Clone, Copy, Debug, PartialEq)]
+pub struct NotProbability(pub f64);
+
+impl fmt::Display for NotProbability {
+    fn fmt(&self, f: &mut fmt::Formatter<'_>) -> fmt::Result {
+        write!(f, "the probability is {}, not 0 to 1", self.0)
+    }
+}
+
+impl core::error::Error for NotProbability {}
 
 /// The list of [`Battle::outcomes`].
 #[cfg(feature = "alloc")]
@@ -282,7 +299,7 @@ impl OutcomeList {
     /// let two = Team::new(&[member("Slowbro", &["Amnesia"])?])?;
     /// let mut battle = Battle::new(&one, &two, [0; 10]);
     /// battle.update(Choice::Pass, Choice::Pass)?;
-    /// let options = OutcomeOptions::new().with_least_probability(0.01);
+    /// let options = OutcomeOptions::new().with_least_probability(0.01)?;
     /// let list = battle.outcomes_with(Choice::MOVE_1, Choice::MOVE_1, &options)?;
     /// let listed: u128 = list.successors().iter().map(Successor::weight).sum();
     /// assert_eq!(listed + list.left_out(), list.whole());

@@ -1,6 +1,6 @@
 //! The knowledge that one side of a battle may have.
 use crate::generated::player::{self as plain, OwnSide, Public, PublicSide};
-use crate::{Battle, Choice, Event, LogBuf, LogFault, OfferedMask, Outcome, Side, Team};
+use crate::{Battle, Choice, Event, LogBuf, LogFault, OfferedMask, Outcome, Request, Side, Team};
 use core::fmt;
 
 /// The knowledge that one side of a battle may have ([docs/MECHANICS.md, "Player's view"][view]): its own side in full, and the part of
@@ -68,6 +68,14 @@ impl Player {
     /// Replaces the own side that the player was last shown, and its choices.
     pub fn show(&mut self, own: &OwnSide, offered: OfferedMask) {
         self.inner.show(own, offered.bits());
+    }
+
+    /// Whether a side has the members of the player's own side, by the log.
+    fn has_team(&self, own: &OwnSide) -> bool {
+        let known = self.public(self.side).members.iter();
+        known
+            .zip(&own.members)
+            .all(|(known, own)| (known.species, known.level) == (own.species, own.level))
     }
 
     /// The side that the player plays.
@@ -193,19 +201,70 @@ impl Teller {
     ///
     /// # Errors
     ///
-    /// The bytes are not the log of an update. Then nothing has changed.
+    /// The bytes are not the log of an update; the player is of the other side, or has another team; or the log does not lead to the
+    /// battle's turn, such as one that was skipped or repeated. Then nothing has changed.
     pub fn report(
         &mut self,
         battle: &Battle,
         log: &[u8],
         player: &mut Player,
-    ) -> Result<(), LogFault> {
-        let told = self.tell_log(log)?;
-        player.feed(&told)?;
-        player.show(&battle.own_side(self.side), battle.offered_mask(self.side));
+    ) -> Result<(), ReportFault> {
+        let own = battle.own_side(self.side);
+        if player.side != self.side {
+            return Err(ReportFault::OtherSide);
+        }
+        if !player.has_team(&own) {
+            return Err(ReportFault::OtherTeam);
+        }
+        let (mut teller, mut informed) = (*self, *player);
+        informed.feed(&teller.tell_log(log)?)?;
+        informed.show(&own, battle.offered_mask(self.side));
+        let begins_turn = battle.result().request(self.side) == Request::Move;
+        let follows = player.turn() < informed.turn() && informed.turn() == own.turn;
+        if !informed.has_team(&own) || begins_turn && !follows {
+            return Err(ReportFault::OtherUpdate);
+        }
+        (*self, *player) = (teller, informed);
         Ok(())
     }
 }
+
+/// Why [`Teller::report`] refuses a log.
+#[derive(Clone, Copy, Debug, PartialEq, Eq)]
+#[non_exhaustive]
+pub enum ReportFault {
+    /// The bytes are not the log of an update.
+    Log(LogFault),
+    /// The player is of the other side.
+    OtherSide,
+    /// The battle's side has another team than the player.
+    OtherTeam,
+    /// The log is not that of the battle's last update, or was reported before.
+    OtherUpdate,
+}
+
+impl From<LogFault> for ReportFault {
+    fn from(fault: LogFault) -> Self {
+        ReportFault::Log(fault)
+    }
+}
+
+impl fmt::Display for ReportFault {
+    fn fmt(&self, f: &mut fmt::Formatter<'_>) -> fmt::Result {
+        match self {
+            ReportFault::Log(fault) => fault.fmt(f),
+            ReportFault::OtherSide => f.write_str("the player is not of the teller's side"),
+            ReportFault::OtherTeam => {
+                f.write_str("the battle's side has another team than the player")
+            }
+            ReportFault::OtherUpdate => f.write_str(
+                "the log is not that of the battle's last update, or was reported before",
+            ),
+        }
+    }
+}
+
+impl core::error::Error for ReportFault {}
 
 impl Battle {
     /// A side as it is shown to its own player ([docs/MECHANICS.md, "What a side is shown of itself"][own]). Only `held`, whether the foe's

@@ -1,4 +1,5 @@
 //! Two players who choose independently.
+use crate::generated::rolls::LinkRandom;
 use crate::generated::room::plain::{self, PlainRoom};
 use crate::{Battle, BattleResult, Choice, Choices, Reply, RoomRefusal, Side};
 
@@ -69,7 +70,8 @@ impl Room {
     }
 
     /// The log bytes of the last pair that ended. Before the first, they are those of the battle's start, or empty if the battle had
-    /// already begun. Both players may see them.
+    /// already begun. They are for the host: they hold the foe's places and exact HP. Send a side the bytes that
+    /// [`Teller::tell_log`](crate::Teller::tell_log) returns for them.
     #[must_use]
     pub fn log(&self) -> &[u8] {
         &self.inner.log[..usize::from(self.inner.log_length)]
@@ -94,6 +96,29 @@ impl Room {
     /// As for [`Room::submit`].
     pub fn submit_byte(&mut self, side: Side, number: u32, byte: u8) -> Reply {
         plain::submit(&mut self.inner, side, number, byte)
+    }
+
+    /// Replaces the ten random numbers that the battle draws, of which the first is drawn next, and changes nothing else: a choice that
+    /// was submitted stays.
+    ///
+    /// A host does so before each pair, with bytes of the operating system's source. Otherwise a player that has seen nine draws can
+    /// predict all that follow.
+    ///
+    /// ```
+    /// # use gen1::{Battle, Room, Side, Team, member};
+    /// # fn main() -> Result<(), Box<dyn std::error::Error>> {
+    /// # let team = Team::new(&[member("Tauros", &["Strength"])?])?;
+    /// let mut room = Room::new(Battle::new(&team, &team, [0; 10]));
+    /// let strength = room.choices(Side::One)[0];
+    /// room.submit(Side::One, 0, strength)?;
+    /// room.reseed([1, 36, 255, 7, 31, 100, 179, 254, 127, 10]);
+    /// room.submit(Side::Two, 0, strength)?;
+    /// assert_eq!(room.number(), 1);
+    /// # Ok(())
+    /// # }
+    /// ```
+    pub fn reseed(&mut self, seed: [u8; 10]) {
+        plain::reseed(&mut self.inner, &LinkRandom::new(seed));
     }
 
     /// Ends the current pair by a forfeit of a side: the other side wins, and [`Room::log`] is the event of the win. Choices that were

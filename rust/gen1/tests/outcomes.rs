@@ -1,7 +1,7 @@
 //! Exact outcomes: probabilities worked out from docs/MECHANICS.md, and both forms against each other.
 use gen1::{
-    Battle, CantReason, Chance, Choice, Event, Kind, OutcomeOptions, OutcomesFault, Place, Refusal,
-    Side, Successor, Team, Way, member,
+    Battle, CantReason, Chance, Choice, Event, Kind, NotProbability, OutcomeOptions, OutcomesFault,
+    Place, Refusal, Side, Successor, Team, Way, member,
 };
 
 fn facing(one: (&str, &str), two: (&str, &str)) -> Battle {
@@ -137,6 +137,7 @@ fn what_is_less_probable_is_left_out() {
     let listed = |least: f64| {
         let options = OutcomeOptions::new()
             .with_least_probability(least)
+            .unwrap()
             .with_damage_classes(1);
         let mut places = vec![Successor::from(&battle); 8];
         let found = battle
@@ -166,13 +167,23 @@ fn what_is_less_probable_is_left_out() {
     assert_eq!(listed(0.004), ((1, 256), 2));
     assert_eq!(listed(0.25), ((256 + 63 * 255, 65536), 1));
     assert_eq!(listed(0.76), ((1, 1), 0));
-    // Numbers that are no probability.
-    for none in [f64::NAN, -0.5, f64::NEG_INFINITY] {
-        assert_eq!(listed(none), ((0, 1), 3));
+    assert_eq!(listed(1.0), ((1, 1), 0));
+}
+
+#[test]
+fn what_is_no_probability_is_refused() {
+    for given in [-0.5, 1.5, 2.0, 4.0, f64::INFINITY, f64::NEG_INFINITY] {
+        let refused = OutcomeOptions::new().with_least_probability(given);
+        assert_eq!(refused, Err(NotProbability(given)));
     }
-    for all in [1.0, 7.0, f64::INFINITY] {
-        assert_eq!(listed(all), ((1, 1), 0));
-    }
+    let fault = OutcomeOptions::new()
+        .with_least_probability(f64::NAN)
+        .unwrap_err();
+    assert_eq!(fault.to_string(), "the probability is NaN, not 0 to 1");
+    assert_eq!(
+        NotProbability(2.5).to_string(),
+        "the probability is 2.5, not 0 to 1"
+    );
 }
 
 /// An update with any numbers to draw leads to one of the outcomes.

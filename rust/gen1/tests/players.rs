@@ -1,6 +1,7 @@
 //! Players: battles of a player's view are accepted and offer the same, and nothing hidden reaches a player.
 use gen1::{
-    Battle, Choice, Guess, LogBuf, MemberSpec, MoveId, Player, Side, Species, State, Team, Teller,
+    Battle, Choice, Conditions, DamageSource, Event, Guess, LogBuf, LogFault, MemberSpec, MoveId,
+    Player, ReportFault, Side, Species, State, Team, Teller, UsedMove, Volatile, Who, member,
 };
 
 /// Knuth's generator: the upper bits of its states.
@@ -185,6 +186,60 @@ fn hidden_numbers_change_nothing_that_a_player_is_shown() {
 }
 
 #[test]
+fn a_report_of_another_update_or_team_is_refused() {
+    let [one, two] = ["Tauros", "Chansey"]
+        .map(|name| Team::new(&[member(name, &["Strength"]).unwrap()]).unwrap());
+    let mut battle = Battle::new(&one, &two, [9; 10]);
+    let (mut teller, mut player) = (Teller::new(Side::One), Player::new(Side::One, &one));
+    let first = battle.update(Choice::Pass, Choice::Pass).unwrap().log();
+    teller.report(&battle, &first, &mut player).unwrap();
+    let second = battle.update(Choice::MOVE_1, Choice::MOVE_1).unwrap().log();
+    let told = teller;
+    let report = |battle: &Battle, log: &[u8], player: &mut Player| {
+        let (mut teller, before) = (told, format!("{player:?}"));
+        let found = teller.report(battle, log, player);
+        assert!(found.is_err() && teller == told && format!("{player:?}") == before);
+        found
+    };
+    let mut other = Battle::new(&two, &one, [9; 10]);
+    let theirs = other.update(Choice::Pass, Choice::Pass).unwrap().log();
+    let refused = [
+        (
+            report(&battle, &first, &mut player),
+            ReportFault::OtherUpdate,
+        ),
+        (report(&battle, &[], &mut player), ReportFault::OtherUpdate),
+        (
+            report(&battle, &theirs, &mut player),
+            ReportFault::OtherUpdate,
+        ),
+        (report(&other, &theirs, &mut player), ReportFault::OtherTeam),
+        (
+            report(&battle, &second, &mut Player::new(Side::One, &two)),
+            ReportFault::OtherTeam,
+        ),
+        (
+            report(&battle, &second, &mut Player::new(Side::Two, &two)),
+            ReportFault::OtherSide,
+        ),
+        (
+            report(&battle, &[0], &mut player),
+            ReportFault::Log(LogFault::UnknownTag),
+        ),
+    ];
+    for (found, fault) in refused {
+        assert_eq!(found, Err(fault));
+    }
+    assert_eq!(player.turn(), 1);
+    teller.report(&battle, &second, &mut player).unwrap();
+    assert_eq!(player.turn(), 2);
+    assert_eq!(
+        teller.report(&battle, &second, &mut player),
+        Err(ReportFault::OtherUpdate)
+    );
+}
+
+#[test]
 fn a_side_is_told_neither_places_nor_exact_hp() {
     let mut dice = Dice(5);
     let members: Vec<MemberSpec> = (0..6).map(|_| dice.member()).collect();
@@ -205,4 +260,104 @@ fn a_side_is_told_neither_places_nor_exact_hp() {
         player.public(Side::One).members[0].max,
         team.members()[0].max_hp()
     );
+}
+
+/// Moves that announce or end conditions, some of them more than once: charging moves, then Bide, Substitute and confusion.
+const ANNOUNCING: [u8; 36] = [
+    13, 19, 91, 143, 117, 117, 117, 117, 117, 164, 164, 164, 164, 164, 164, 109, 109, 109, 109, 48,
+    37, 99, 35, 63, 50, 86, 34, 58, 126, 114, 92, 156, 79, 73, 157, 33,
+];
+
+impl Dice {
+    /// A member with four of these moves.
+    fn announcer(&mut self) -> MemberSpec {
+        let mut spec = self.member();
+        spec.level = 100;
+        spec.moves.clear();
+        while spec.moves.len() < 4 {
+            let id = MoveId::new(ANNOUNCING[self.below(ANNOUNCING.len())]).unwrap();
+            if !spec.moves.iter().any(|(known, _)| *known == id) {
+                spec.moves.push((id, 3));
+            }
+        }
+        spec
+    }
+}
+
+/// Whether a side's hit on itself, which no event reported, ended a condition of a move.
+fn count_unseen(events: &[Event], before: &State, after: &State, side: usize) -> usize {
+    let on = |state: &State, which| {
+        let active = state.sides[side].active.as_ref();
+        active.is_some_and(|it| it.conditions.has(which))
+    };
+    let ended = [Conditions::BIDE, Conditions::CHARGING];
+    let has_ended = ended.iter().any(|it| on(before, *it) && !on(after, *it));
+    let is_side = |who: &Who| who.side == Side::BOTH[side];
+    let says_why = events.iter().any(|event| match event {
+        Event::Move(who, ..) | Event::Cant(who, _) => is_side(who),
+        Event::End(who, Volatile::Bide) | Event::Damage(who, _, DamageSource::Confusion) => {
+            is_side(who)
+        }
+        Event::Switch(who, ..) => is_side(who),
+        _ => false,
+    });
+    usize::from(has_ended && !says_why)
+}
+
+#[test]
+fn announced_conditions_are_those_of_the_battle() {
+    let mut dice = Dice(31);
+    let mut unseen = 0;
+    for _ in 0..1_000 {
+        let teams = [0; 2].map(|_| Team::new(&[dice.announcer(), dice.announcer()]).unwrap());
+        let mut battle = Battle::new(&teams[0], &teams[1], dice.numbers());
+        let mut teller = Teller::new(Side::One);
+        let mut player = Player::new(Side::One, &teams[0]);
+        let mut pair = [Choice::Pass; 2];
+        for _ in 0..80 {
+            let before = battle.state();
+            let update = battle.update(pair[0], pair[1]).unwrap();
+            let state = battle.state();
+            teller.report(&battle, &update.log(), &mut player).unwrap();
+            for (at, side) in Side::BOTH.into_iter().enumerate() {
+                let active = state.sides[at].active.as_ref().unwrap();
+                let (public, on) = (player.public(side), active.conditions);
+                let it = public.announced;
+                for (flag, which) in [
+                    (it.bide, Conditions::BIDE),
+                    (it.charging, Conditions::CHARGING),
+                    (public.invulnerable, Conditions::INVULNERABLE),
+                    (it.toxic, Conditions::BAD_POISON),
+                    (it.substitute, Conditions::SUBSTITUTE),
+                    (it.confused, Conditions::CONFUSED),
+                    (it.disabled, Conditions::DISABLED),
+                    (it.rage, Conditions::RAGE),
+                ] {
+                    assert_eq!(
+                        flag == 1,
+                        on.has(which),
+                        "{which:?} of {side:?}: {update:?}"
+                    );
+                }
+                // A flinch ends recharging without an event.
+                assert!(it.recharging == 1 || !on.has(Conditions::RECHARGE));
+                if let (1, UsedMove::Slot(slot)) = (it.charging, active.current_move) {
+                    let member = state.sides[at].member_out().unwrap();
+                    let current = member.moves[usize::from(slot) - 1].id;
+                    assert_eq!(public.last_move(), Some(current));
+                }
+                unseen += count_unseen(update.events(), &before, &state, at);
+            }
+            pair = Side::BOTH
+                .map(|side| {
+                    let choices = battle.choices(side);
+                    choices.get(dice.below(choices.len().max(1))).copied()
+                })
+                .map(|it| it.unwrap_or(Choice::Pass));
+            if battle.is_over() {
+                break;
+            }
+        }
+    }
+    assert!(unseen > 0, "{unseen} hits that no event reported");
 }

@@ -2,7 +2,7 @@
 use crate::pipes::{Mailbox, Process, Said};
 use crate::protocol::{RUBBISH, TOO_MANY, ask_line, log_line};
 use crate::sheet::Sheet;
-use gen1::{Battle, Request, Room, RoomRefusal, Side};
+use gen1::{Battle, Room, RoomRefusal, Side, Teller};
 use std::time::{Duration, Instant};
 
 /// The limits for a player: time, and refusals.
@@ -17,6 +17,8 @@ pub struct Terms {
 /// A player in the room.
 struct Player {
     side: Side,
+    /// It makes the log that the player may see.
+    teller: Teller,
     process: Process,
     /// How often each code was sent, from code 0, which means accepted.
     answers: [u32; 7],
@@ -46,11 +48,15 @@ impl Host {
         terms: Terms,
     ) -> Host {
         let mut sides = Side::BOTH.into_iter();
-        let players = players.map(|process| Player {
-            side: sides.next().expect("there are two sides"),
-            process,
-            answers: [0; 7],
-            out: None,
+        let players = players.map(|process| {
+            let side = sides.next().expect("there are two sides");
+            Player {
+                side,
+                teller: Teller::in_pixels(side),
+                process,
+                answers: [0; 7],
+                out: None,
+            }
         });
         for player in &players {
             player.process.send(format!(
@@ -132,40 +138,35 @@ impl Host {
         }
     }
 
-    /// Sends the log bytes of the last pair to all three processes, and asks each player that has to choose.
+    /// Sends the log of the last pair to the spectator, and to each player as its side may see it. Asks each player that has to choose.
     fn tell_all(&mut self) {
         self.until = Instant::now() + self.terms.patience;
         self.spectator.send(self.room.log());
         for at in 0..2 {
             let side = Side::BOTH[at];
-            let mut text = log_line(self.room.log());
-            if self.is_asked(side) {
-                let choices: Vec<u8> = self
-                    .room
-                    .choices(side)
-                    .iter()
-                    .map(|choice| choice.byte())
-                    .collect();
+            let told = self.players[at].teller.tell_log(self.room.log());
+            let mut text = log_line(&told.expect("the log of a room"));
+            let choices: Vec<u8> = self
+                .room
+                .choices(side)
+                .iter()
+                .map(|choice| choice.byte())
+                .collect();
+            if !choices.is_empty() {
                 text += &ask_line(self.room.number(), &choices);
             }
             self.players[at].process.send(text);
         }
     }
 
-    /// Whether a side has to choose in this pair.
-    fn is_asked(&self, side: Side) -> bool {
-        let result = self.room.battle().result();
-        !result.outcome.is_over() && result.request(side) != Request::Pass
-    }
-
     /// Makes the first choice for a player that is out, and returns whether there was one to make.
     fn choose_for_missing(&mut self) -> bool {
         let number = self.room.number();
         for side in Side::BOTH {
-            if self.player(side).out.is_none() || !self.is_asked(side) {
+            if self.player(side).out.is_none() {
                 continue;
             }
-            // There are no choices left if the player chose before it was out.
+            // There are no choices if the side is not asked, or the player chose before it was out.
             let Some(&first) = self.room.choices(side).first() else {
                 continue;
             };
@@ -182,15 +183,11 @@ impl Host {
     /// Ends the time for this pair: a player that has not chosen is out.
     fn time_is_up(&mut self) {
         for side in Side::BOTH {
-            if self.player(side).out.is_none() && self.is_asked(side) && !self.has_chosen(side) {
+            // A side has choices until it has made one.
+            if self.player(side).out.is_none() && !self.room.choices(side).is_empty() {
                 self.put_out(side, "it was silent");
             }
         }
-    }
-
-    /// Whether a side has chosen for this pair. It submits byte 255, which is never a choice, so this changes nothing.
-    fn has_chosen(&mut self, side: Side) -> bool {
-        self.room.submit_byte(side, self.room.number(), 255) == Err(RoomRefusal::AlreadyChosen)
     }
 
     /// From now on the room chooses for a side.

@@ -6,7 +6,7 @@
 //! |---|---|
 //! | `side N` | first: which side it is, 1 or 2 |
 //! | `team JSON` | second: its own team, as a list of members in docs/PROGRAM.md |
-//! | `log HEX` | for the battle's start and for each pair that ended: its log bytes (docs/MECHANICS.md, "Log bytes") |
+//! | `log HEX` | for the battle's start and for each pair that ended: its log bytes (docs/MECHANICS.md, "Log bytes"), as the side may see them |
 //! | `ask NUMBER BYTE ..` | a choice is due: the number of the current pair, and the offered choices |
 //! | `taken NUMBER` | the player's choice for this pair was accepted |
 //! | `refused CODE NUMBER` | its line was refused, and nothing has changed; NUMBER is that of the current pair |
@@ -15,7 +15,8 @@
 //! 3 already chosen, 4 not offered. Code 5 means that the line is not two numbers separated by one space. Code 6 means that the player
 //! was refused too often; it is the last line that it gets.
 //!
-//! The spectator reads the battle's log bytes, and nothing else.
+//! The spectator reads the battle's log bytes, and nothing else. They have the places and the exact HP of both sides, so they are for the
+//! host's own record. A public spectator gets what the tellers of both sides make of them, one after the other.
 
 /// The longest line of a player, without its line feed: two numbers of ten and three digits.
 pub const LINE_MOST: usize = 14;

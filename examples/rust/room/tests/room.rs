@@ -134,8 +134,13 @@ fn each_gets_what_it_may_know() {
         digits.starts_with(start) && digits.ends_with("1a01"),
         "{digits}"
     );
-    for (side, got) in (1..).zip(&got[..2]) {
-        let known = format!("side {side}\nteam {TAUROS}\nlog {start}\nask 0 17\n");
+    // A player sees its own 353 of 353 HP, and 48 of 48 of the foe.
+    let reported = [
+        "0201800164610161010002028001643000300000010100",
+        "0201800164300030000002028001646101610100010100",
+    ];
+    for ((side, got), log) in (1..).zip(&got[..2]).zip(reported) {
+        let known = format!("side {side}\nteam {TAUROS}\nlog {log}\nask 0 17\n");
         assert_eq!(std::str::from_utf8(got), Ok(known.as_str()));
     }
 }

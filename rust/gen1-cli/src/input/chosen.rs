@@ -1,6 +1,5 @@
 //! Choices as bytes or in words: `move 1`, `move Body Slam`, `switch 3`, `switch Chansey`, `pass`.
-use super::near::{did_you_mean, nearest_name, nearest_word};
-use super::typed::{Misfit, Typed, shown};
+use super::near::{Misfit, Typed, did_you_mean, nearest_name, nearest_word, shown};
 use crate::screen;
 use gen1::{Battle, Choice, MoveId, Side, Species};
 use serde_json::Value;

@@ -1,6 +1,5 @@
 //! Unknown keys of an input.
-use super::near::{did_you_mean, nearest_word};
-use super::typed::shown;
+use super::near::{did_you_mean, nearest_word, shown};
 use serde_json::Value;
 
 /// The keys of an object of `run` and of `room`.

@@ -1,20 +1,17 @@
 //! The program's inputs (docs/PROGRAM.md, "Input", "Text in place of JSON").
 pub mod chosen;
 pub mod keys;
-pub mod near;
 mod options;
-mod teams;
-mod typed;
 
 use crate::fault::Fault;
 use crate::files;
 use chosen::Chosen;
 use gen1::{Battle, MemberSpec, Rules, Team, TurnLimit};
+pub use gen1_showdown::Members;
+pub use gen1_showdown::reading::{self as near, Misfit, Typed, key, optional_key, shown};
 pub use options::{Input, ReadTerms, Seed, Terms, seed_in};
 use serde_json::Value;
 use std::path::Path;
-pub use teams::Members;
-pub use typed::{Misfit, Typed, key, optional_key, shown};
 
 /// An input before it is read: a JSON object, or a text of choices; and the command line's values in place of its keys.
 pub struct Given {

@@ -1,5 +1,5 @@
 //! Arguments that several subcommands share.
-use super::teams::Members;
+use super::Members;
 use crate::fault::Fault;
 use crate::files;
 use crate::random::Random;

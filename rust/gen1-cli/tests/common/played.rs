@@ -67,7 +67,7 @@ pub fn is_played_by_showdown(input: &Value) -> bool {
 /// The commands that play an input in `gen1 showdown`.
 pub fn commands(input: &Value) -> String {
     let format = if input["rules"] == 3 {
-        "gen1ou"
+        "gen1link"
     } else {
         "gen1customgame"
     };
@@ -86,7 +86,8 @@ pub fn commands(input: &Value) -> String {
         for ((side, byte), order) in Side::BOTH.into_iter().zip([one, two]).zip(&mut orders) {
             let word = match Choice::from_byte(byte).expect("a choice") {
                 Choice::Pass => continue,
-                Choice::Move(slot) => format!("move {}", slot.number().max(1)),
+                Choice::MOVE_0 => "default".into(),
+                Choice::Move(slot) => format!("move {slot}"),
                 Choice::Switch(place) => {
                     let place = usize::from(place.number());
                     let at = order.iter().position(|it| *it == place).expect("a place");

@@ -1,8 +1,9 @@
 //! Lists of outcomes in memory that grows, and independent bytes.
+use gen1::generated::events::LogBuf;
 use gen1::generated::layout::Packed;
 use gen1::generated::machine::{Choice, Side};
 use gen1::generated::outcomes::{
-    OutcomeOptions, Outcomes, OutcomesFault, Successor, list_outcomes,
+    OutcomeOptions, Outcomes, OutcomesFault, Successor, Ways, list_outcomes,
 };
 use gen1::generated::rolls::Rolls;
 use std::collections::HashMap;
@@ -127,6 +128,27 @@ impl List {
         );
         assert!(self.table.len() >= self.outcomes.count);
         weights
+    }
+}
+
+/// A list has the battles that single ways lead to, each with the sum of their probabilities. Each of those ways plays the whole update.
+pub fn expect_sums_of_ways(options: OutcomeOptions, battle: &Packed, one: Choice, two: Choice) {
+    let list = List::with(options, battle, one, two);
+    let weights = list.weights();
+    let mut ways = Ways::new(battle, one, two, options).unwrap();
+    let mut sums: HashMap<Vec<u8>, u128> = HashMap::new();
+    let mut next = battle.clone();
+    let mut played = 0;
+    while let Some(chance) = ways.next(&mut next, &mut LogBuf::new()).unwrap() {
+        assert_eq!(list.outcomes.whole % chance.whole, 0);
+        *sums.entry(next.as_bytes().to_vec()).or_default() +=
+            chance.num * (list.outcomes.whole / chance.whole);
+        played += 1;
+    }
+    assert_eq!(played, list.outcomes.ways);
+    assert_eq!(sums.len(), weights.len());
+    for (bytes, sum) in sums {
+        assert_eq!(Some(&sum), weights.get(&bytes[..]));
     }
 }
 

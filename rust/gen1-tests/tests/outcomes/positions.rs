@@ -1,5 +1,5 @@
 //! Positions of random battles: their outcomes against all strings of bytes, against samples, and against their ways.
-use crate::lists::{ALL, Bytes, List, ONE, TWO};
+use crate::lists::{ALL, Bytes, List, ONE, TWO, expect_sums_of_ways};
 use gen1::generated::events::{LogBuf, Silent};
 use gen1::generated::layout::Packed;
 use gen1::generated::machine::{Choice, Request, Side};
@@ -257,26 +257,12 @@ fn many_samples_by_independent_bytes() {
 #[test]
 fn ways_sum_to_the_outcomes() {
     for it in positions(60, &mut Bytes::new(7)) {
-        let list = List::of(&it.battle, it.one, it.two);
-        let weights = list.weights();
-        let mut ways = Ways::new(&it.battle, it.one, it.two, ALL).unwrap();
-        let mut sums: HashMap<Vec<u8>, u128> = HashMap::new();
-        let mut next = it.battle.clone();
-        let mut played = 0;
-        loop {
-            let mut log = LogBuf::new();
-            let Some(chance) = ways.next(&mut next, &mut log).unwrap() else {
-                break;
+        for damage_classes in [0, 1, 3] {
+            let options = OutcomeOptions {
+                damage_classes,
+                ..ALL
             };
-            assert_eq!(list.outcomes.whole % chance.whole, 0);
-            *sums.entry(next.as_bytes().to_vec()).or_default() +=
-                chance.num * (list.outcomes.whole / chance.whole);
-            played += 1;
-        }
-        assert_eq!(played, list.outcomes.ways);
-        assert_eq!(sums.len(), weights.len());
-        for (bytes, sum) in sums {
-            assert_eq!(sum, weights[&bytes[..]]);
+            expect_sums_of_ways(options, &it.battle, it.one, it.two);
         }
     }
 }

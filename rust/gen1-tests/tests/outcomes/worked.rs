@@ -1,9 +1,9 @@
 //! Outcomes of updates that were worked by hand.
-use crate::lists::{ALL, Fraction, List, ONE, TWO, reduced};
+use crate::lists::{ALL, Fraction, List, ONE, TWO, expect_sums_of_ways, reduced};
 use gen1::generated::engine::Refusal;
 use gen1::generated::events::Silent;
-use gen1::generated::layout::Packed;
-use gen1::generated::machine::{Choice, UsedMove};
+use gen1::generated::layout::{Conditions, Packed};
+use gen1::generated::machine::{Choice, Side, UsedMove};
 use gen1::generated::odds::odds_of;
 use gen1::generated::outcomes::{
     OutcomeOptions, Outcomes, OutcomesFault, Successor, list_outcomes,
@@ -251,6 +251,86 @@ fn equal_speed() {
     );
 }
 
+/// What may keep a Snorlax from using Splash, the slot that it chooses, and in how many of 512 cases it uses Splash.
+type Hindrance = (fn(&mut Packed, Side), u8, u128);
+
+fn paralyse(battle: &mut Packed, side: Side) {
+    battle.put_status(side, Status::Paralysed);
+}
+
+fn confuse(battle: &mut Packed, side: Side) {
+    battle.put_confused(side, Some(3));
+}
+
+fn put_to_sleep(battle: &mut Packed, side: Side) {
+    let asleep = Status::Asleep {
+        turns: 3,
+        marked: false,
+    };
+    battle.put_status(side, asleep);
+}
+
+#[test]
+fn equal_speed_of_two_that_may_not_act() {
+    let hindrances: [Hindrance; 4] = [
+        (paralyse, 1, 386),
+        (confuse, 1, 256),
+        (put_to_sleep, 0, 0),
+        (|battle, side| battle.put_status(side, Status::Frozen), 0, 0),
+    ];
+    for (hinder, slot_one, mine) in hindrances {
+        for (hinder_other, slot_two, others) in hindrances {
+            let mut battle = uses("Snorlax", "Splash", "Snorlax");
+            hinder(&mut battle, ONE);
+            hinder_other(&mut battle, TWO);
+            // Both paralysed: one acts and the other does not by 386 * 126 of 262,144 each, which is 18.55 %.
+            let wanted = [(true, mine), (false, 512 - mine)]
+                .into_iter()
+                .flat_map(|(one, cases)| {
+                    [(true, others), (false, 512 - others)]
+                        .map(|(two, more)| ([one, two], (cases * more, 512 * 512)))
+                })
+                .filter(|(_, (num, _))| *num > 0);
+            let choices = (slot(slot_one), slot(slot_two));
+            expect_of(
+                &battle,
+                choices,
+                |next| [ONE, TWO].map(|side| next.pp(side, 1) < battle.pp(side, 1)),
+                wanted,
+            );
+            expect_sums_of_ways(ALL, &battle, choices.0, choices.1);
+        }
+    }
+}
+
+#[test]
+fn a_flinch_from_the_turn_before_has_ended() {
+    // Snorlax flinches after its Quick Attack. Then Bite, which hits with 255 of 256, makes it flinch with 26 of 256.
+    let jolteon = member("Jolteon", &["Bite"]);
+    let snorlax = member("Snorlax", &["Quick Attack", "Splash"]);
+    let flinching = (255 * 26, 65536);
+    for (biter, bitten) in [(ONE, TWO), (TWO, ONE)] {
+        let (start, choices) = if biter == ONE {
+            (begun(jolteon.clone(), snorlax.clone()), (slot(1), slot(2)))
+        } else {
+            (begun(snorlax.clone(), jolteon.clone()), (slot(2), slot(1)))
+        };
+        let flinched = List::of(&start, slot(1), slot(1))
+            .successors
+            .into_iter()
+            .find(|next| next.battle.is_on(bitten, Conditions::FLINCH))
+            .unwrap()
+            .battle;
+        expect_of(
+            &flinched,
+            choices,
+            |next| next.pp(bitten, 2) == flinched.pp(bitten, 2),
+            [(true, flinching), (false, (65536 - flinching.0, 65536))],
+        );
+        expect_sums_of_ways(ALL, &flinched, choices.0, choices.1);
+    }
+}
+
 #[test]
 fn psywave() {
     // 80 % is 204. At level 100 the damage is 1 to 149.
@@ -262,6 +342,51 @@ fn psywave() {
         |next| 703 - next.hp(TWO),
         wanted,
     );
+}
+
+#[test]
+fn classes_of_damage_after_a_search() {
+    // A search that rejects the byte of a draw that is not known comes before a roll of damage.
+    for name in ["Psywave", "Disable"] {
+        let battle = begun(
+            member("Alakazam", &[name]),
+            member("Snorlax", &["Body Slam"]),
+        );
+        for damage_classes in [1, 3] {
+            let options = OutcomeOptions {
+                damage_classes,
+                ..ALL
+            };
+            expect_sums_of_ways(options, &battle, slot(1), slot(1));
+        }
+    }
+}
+
+/// The probability that the update of both first moves breaks the Substitute of side 2.
+fn breaks(options: OutcomeOptions, battle: &Packed) -> Fraction {
+    let list = List::with(options, battle, slot(1), slot(1));
+    let broken = list
+        .successors
+        .iter()
+        .filter(|next| next.battle.substitute(TWO).is_none());
+    reduced(broken.map(Successor::weight).sum(), list.outcomes.whole)
+}
+
+#[test]
+fn a_substitute_breaks_as_often_with_classes_of_damage() {
+    // Headbutt of Tauros on Tauros is 93 at most. It breaks a Substitute of 88 HP by 89 or more: by the factors from 245 on, or
+    // if it is critical, for which the bound is 55.
+    let mut battle = uses("Tauros", "Headbutt", "Tauros");
+    battle.put_substitute(TWO, Some(88));
+    let wanted = reduced(255 * (201 * 11 + 55 * 39), 65536 * 39);
+    for damage_classes in 0..=39 {
+        let options = OutcomeOptions {
+            damage_classes,
+            ..ALL
+        };
+        assert_eq!(breaks(options, &battle), wanted, "{damage_classes}");
+        expect_sums_of_ways(options, &battle, slot(1), slot(1));
+    }
 }
 
 #[test]

@@ -6,9 +6,15 @@
 pub mod alloc;
 pub mod bitflags;
 pub mod io;
-pub mod marker;
 pub mod prelude;
 #[cfg(feature = "serde")]
 mod serde_text;
 #[cfg(feature = "serde")]
 pub(crate) use serde_text::{serde_as_number, serde_as_text};
+
+/// Names that only proofs need.
+pub mod marker {
+    /// The type argument at calls of functions that are generic in a name that only proofs use. It is never constructed.
+    #[derive(Clone, Copy, Debug)]
+    pub struct Brand;
+}

@@ -17,7 +17,7 @@ impl Seen {
         Kind::from_number(self.status)
     }
 
-    /// The moves that it was seen to use, and how often: 1 to 255, where 255 means 255 or more.
+    /// The moves that it was seen to prepare or to use, and how often it used them: 0 to 255, where 255 means 255 or more.
     pub fn moves(&self) -> impl Iterator<Item = (MoveId, u8)> + '_ {
         self.moves
             .iter()
@@ -38,7 +38,8 @@ impl PublicSide {
         elements_at([self.first_type, self.second_type])
     }
 
-    /// The move that the active member used last; `None` if it has used none since it came out.
+    /// The move that the active member used or prepared last; `None` if none since it came out. While it is charging, this is the
+    /// move that it charges.
     #[must_use]
     pub fn last_move(&self) -> Option<MoveId> {
         MoveId::new(self.last_move)

@@ -15,7 +15,6 @@ mod device {
     use crate::adapter::io::Read; use crate::adapter::io::Write;
 
     /// A sink over one of std's writers, or a source over one of its readers.
-
     pub struct Device<T> {
         inner: T,
         has_failed: bool,
@@ -138,9 +137,7 @@ mod io {
     /// A destination for bytes.
     pub trait Sink {
         // The bytes that were written so far, if the sink reports them.
-
         // Whether some write has failed.
-
         /// Writes a prefix of the bytes, and returns its length.
         ///
         /// A write fails by an error, or by returning 0 when there were bytes to write.
@@ -153,9 +150,7 @@ mod io {
     /// An origin of bytes.
     pub trait Source {
         // The bytes that are left, if the source reports them.
-
         // Whether some read has failed.
-
         /// Reads bytes into the beginning of the slice, and returns how many. The result is 0 only at the end of the
         /// source, or if the slice is empty.
         ///

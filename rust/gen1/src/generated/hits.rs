@@ -340,15 +340,18 @@ mod factors {
     /// Damage of 0 and 1 stays as it is, without a draw. Otherwise it draws until a byte is a factor, at most `R::SPAN`
     /// times.
     pub fn factor<R: Rolls>(damage: u16, random: &mut R) -> u16 {
-        factor_up_to(damage, u16::MAX, random)
+        factor_up_to(damage, u16::MAX, false, random)
     }
 
-    /// The same for a caller to whom all damage from `limit` on is alike, as it is where the foe has so many HP.
-    pub fn factor_up_to<R: Rolls>(damage: u16, limit: u16, random: &mut R) -> u16 {
+    /// The same for a hit that does more from `edge` on: it fells the foe, or breaks its substitute.
+    ///
+    /// `cut`: to the caller all damage from there on is alike. So the result may be another damage that is at least `edge`,
+    /// if the drawn one is.
+    pub fn factor_up_to<R: Rolls>(damage: u16, edge: u16, cut: bool, random: &mut R) -> u16 {
         if damage <= 1 {
             return damage;
         }
-        match random.until_as(is_factor, Look::Factor { damage, limit }) {
+        match random.until_as(is_factor, Look::Factor { damage, edge, cut }) {
             Some(byte) => times_factor(rotated(byte), damage),
             None => unreachable!(),
         }

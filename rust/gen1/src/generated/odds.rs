@@ -154,7 +154,7 @@ mod fixed_damage {
             return (40, 40);
         }
         if number == PSYWAVE {
-            return (1, psywave_most(battle.level(side)));
+            return psywave_range(battle.level(side));
         }
         if number == SUPER_FANG {
             return twin(half_hp(battle, side.other()));
@@ -162,8 +162,10 @@ mod fixed_damage {
         twin(u16::from(battle.level(side)))
     }
 
-    fn psywave_most(level: u8) -> u16 {
-        (u16::from(level) * 3 / 2).saturating_sub(1).max(1)
+    // Zeros at level 1, where the battle ends with a fault.
+    fn psywave_range(level: u8) -> (u16, u16) {
+        let most = (u16::from(level) * 3 / 2).saturating_sub(1);
+        (most.min(1), most)
     }
 
     fn half_hp(battle: &Packed, side: Side) -> u16 {
@@ -184,7 +186,6 @@ mod fixed_uses {
     use crate::generated::odds::ways::{HpChange, changed, mixed, mixed_wide, over};
 
     /// Uses against a foe.
-
     pub(crate) struct Fixed {
         pub odds: Odds,
         /// Whether a use takes half of the HP that are left.
@@ -205,7 +206,6 @@ mod fixed_uses {
     }
 
     // One use
-
     pub(crate) fn once_fixed(odds: &Odds, halves: bool, need: u16) -> u64 {
         let hit = once_ranged(odds, halves, need);
         mixed(odds.hit_draws, hit, if_missed(odds, over(need)))
@@ -244,7 +244,6 @@ mod fixed_uses {
     }
 
     // Two uses
-
     pub(crate) fn twice_fixed(uses: &Fixed, change: HpChange, need: u16) -> u64 {
         let hit = twice_ranged(uses, change, need);
         let missed = if_missed(&uses.odds, once_after(uses, change, need));
@@ -262,7 +261,6 @@ mod fixed_uses {
     }
 
     // Three uses
-
     pub(crate) fn thrice_fixed(uses: &Fixed, between: &Between, need: u16) -> u128 {
         let hit = thrice_ranged(uses, between, need);
         let missed = twice_after(uses, between, need);
@@ -520,7 +518,6 @@ mod knock_outs {
     }
 
     // What uses against the foe have to do.
-
     struct Target {
         need: u16,
         most: u16,
@@ -594,7 +591,6 @@ mod knock_outs {
     }
 
     // The usual damage
-
     fn usual_chances(odds: &Odds, count: HitCount, need: u16, breaks_substitute: u8) -> Chances {
         let uses = Usual {
             odds: *odds,
@@ -640,7 +636,6 @@ mod knock_outs {
     }
 
     // Damage by a rule of its own
-
     fn fixed_chances(odds: &Odds, halves: bool, need: u16, breaks_substitute: u8) -> Chances {
         let ways = 256 * fixed_ways(odds);
         let uses = Fixed {
@@ -1363,7 +1358,6 @@ mod usual_uses {
     pub(crate) const WAYS: u64 = 256 * 256 * 39 * 8;
 
     /// Uses against a foe.
-
     pub(crate) struct Usual {
         pub odds: Odds,
         pub count: HitCount,
@@ -1379,7 +1373,6 @@ mod usual_uses {
     }
 
     // One use
-
     pub(crate) fn once(odds: &Odds, count: HitCount, need: u16) -> u64 {
         let hit = once_counted(odds, count, need);
         mixed(odds.hit_draws, hit, 79872 * over(need))
@@ -1431,7 +1424,6 @@ mod usual_uses {
     }
 
     // Two uses
-
     pub(crate) fn twice(uses: &Usual, change: HpChange, need: u16) -> u64 {
         let hit = twice_counted(uses, change, need);
         mixed(
@@ -1469,7 +1461,6 @@ mod usual_uses {
     }
 
     // Three uses
-
     pub(crate) fn thrice(uses: &Usual, between: &Between, need: u16) -> u128 {
         let hit = thrice_counted(uses, between, need);
         let missed = u128::from(twice_after(uses, between, need));

@@ -146,12 +146,7 @@ mod beginning {
     }
 
     /// Plays a turn in which both sides use a move, up to the second action.
-    pub(crate) fn begin<R: Rolls>(
-        battle: &mut Packed,
-        one: Choice,
-        two: Choice,
-        random: &mut R,
-    ) -> Rest {
+    pub(crate) fn begin<R: Rolls>(battle: &mut Packed, one: Choice, two: Choice, random: &mut R) -> Rest {
         end_flinch(battle, Side::One);
         end_flinch(battle, Side::Two);
         let mine = pick(battle, Side::One, one);
@@ -194,6 +189,11 @@ mod byte_set {
             ByteSet {
                 words: [u64::MAX; 4],
             }
+        }
+
+        /// Whether the set has all 256 bytes.
+        pub fn is_all(&self) -> bool {
+            *self == ByteSet::all()
         }
 
         /// The bytes whose place among 64 neighbours is set in the word.
@@ -369,21 +369,26 @@ mod classes {
 
     /// What of the byte is told apart, as a number: what the look sees, or with classes of damage the class of the damage.
     ///
-    /// There are as many classes as the first number says, or with 0 as many as there are damages. A damage from the limit
-    /// on is in none of them: all of these are told apart from the others, and not from each other.
+    /// There are as many classes as the first number says, or with 0 as many as there are damages. Damage below the edge and
+    /// damage from it on are in different classes, so the weight of each class counts only one of them.
     pub fn told(damage_classes: u8, look: Look, byte: u8) -> u32 {
         let seen = look.sees(byte);
         match look {
-            Look::Factor { damage, limit } => {
-                if damage_classes == 0 {
-                    u32::from(seen)
-                } else if seen >= limit {
-                    u32::from(damage_classes)
-                } else {
-                    class_of(damage_classes, damage, seen)
-                }
-            }
+            Look::Factor { damage, edge, .. } => part_told(damage_classes, damage, edge, seen),
             _ => u32::from(seen),
+        }
+    }
+
+    // What is told apart of a part of the damage. From the edge on the classes are numbered after those below it.
+    fn part_told(damage_classes: u8, damage: u16, edge: u16, part: u16) -> u32 {
+        if damage_classes == 0 {
+            return u32::from(part);
+        }
+        let class = class_of(damage_classes, damage, part);
+        if part >= edge {
+            u32::from(damage_classes) + class
+        } else {
+            class
         }
     }
 
@@ -408,6 +413,8 @@ mod explorer {
 
     /// What draws are noted in. Nothing but [`After`] is; a type parameter lets the explorer hold a reference.
     pub(crate) trait Notes {
+        // The next draw is one that no way had before, or it need not be noted.
+        // What becomes of it when a draw has this byte, of those that it may have.
         /// Whether the next draw is one that no way had before.
         fn is_new(&self) -> bool;
 
@@ -416,7 +423,6 @@ mod explorer {
     }
 
     /// Nodes for the draws after a first part of the update, which may have no draw. The draws of the first part are not noted.
-
     pub(crate) struct After<'a> {
         /// How many draws of the first part are still to come.
         pub(crate) left: usize,
@@ -448,7 +454,6 @@ mod explorer {
     /// A script that notes the draws that are taken from it.
     ///
     /// For contracts it is its script. What it notes changes no byte that it draws.
-
     pub(crate) struct Explorer<N> {
         script: Script,
         notes: N,
@@ -711,26 +716,44 @@ mod merging {
     /// A number of 32 bits that is equal for equal bytes.
     pub(crate) fn hash(battle: &Packed) -> u64 {
         let bytes = battle.as_bytes();
-        let mut hash: u64 = 0;
-        for word in 0..48 {
-            hash = hash
-                .wrapping_mul(0x9E37_79B9_7F4A_7C15)
-                .wrapping_add(word_at(bytes, 8 * word));
-        }
-        hash.wrapping_mul(0x9E37_79B9_7F4A_7C15) >> 32
+        let header = mixed(word_at(bytes, 0), word_at(bytes, 16));
+        let one = with_side(header, bytes, 24);
+        mixed(with_side(one, bytes, 204), 0) / 0x1_0000_0000
+    }
+
+    // With the words of a side that most updates change: its active member and its active block.
+    fn with_side(hash: u64, bytes: &[u8], at: usize) -> u64 {
+        let place = usize::from(bytes[at + 144]).saturating_sub(1).min(5);
+        with_block(with_member(hash, bytes, at + 24 * place), bytes, at + 144)
+    }
+
+    // Its level, HP, status, moves and PP.
+    fn with_member(hash: u64, bytes: &[u8], at: usize) -> u64 {
+        let more = mixed(hash, word_at(bytes, at));
+        mixed(
+            mixed(more, word_at(bytes, at + 14)),
+            word_at(bytes, at + 16),
+        )
+    }
+
+    // All but the four bytes that are always 0.
+    fn with_block(hash: u64, bytes: &[u8], at: usize) -> u64 {
+        let half = mixed(mixed(hash, word_at(bytes, at)), word_at(bytes, at + 8));
+        mixed(
+            mixed(half, word_at(bytes, at + 16)),
+            word_at(bytes, at + 24),
+        )
+    }
+
+    fn mixed(hash: u64, word: u64) -> u64 {
+        hash.wrapping_mul(0x9E37_79B9_7F4A_7C15).wrapping_add(word)
     }
 
     fn word_at(bytes: &[u8], at: usize) -> u64 {
-        u64::from_le_bytes([
-            bytes[at],
-            bytes[at + 1],
-            bytes[at + 2],
-            bytes[at + 3],
-            bytes[at + 4],
-            bytes[at + 5],
-            bytes[at + 6],
-            bytes[at + 7],
-        ])
+        match bytes[at..].first_chunk::<8>() {
+            Some(word) => u64::from_le_bytes(*word),
+            None => 0,
+        }
     }
 
     // The probability over the common denominator, which grows where it has to.
@@ -739,6 +762,9 @@ mod merging {
         tally: &mut Tally,
         chance: Chance,
     ) -> Result<u128, OutcomesFault> {
+        if tally.whole == chance.whole {
+            return Ok(chance.num);
+        }
         if tally.whole % chance.whole != 0 {
             let more = chance.whole / common_divisor(tally.whole, chance.whole);
             scale(successors, tally, more)?;
@@ -1024,6 +1050,29 @@ mod nodes {
 
         /// A draw that may have these bytes, and has this one of them.
         pub fn new(byte: u8, look: Look, damage_classes: u8, above: Chance, may_have: &ByteSet) -> Self {
+            match look {
+                Look::Below(bound) if may_have.is_all() => {
+                    Node::of_bound(byte, bound, damage_classes, above)
+                }
+                _ => Node::of(byte, look, damage_classes, above, may_have),
+            }
+        }
+
+        // A draw of any byte, of which only is looked at whether it is below the bound. Nothing has to be counted.
+        fn of_bound(byte: u8, bound: u8, damage_classes: u8, above: Chance) -> Self {
+            let (rest, count) = other_side(byte, bound);
+            Node {
+                byte,
+                look: Look::Below(bound),
+                damage_classes,
+                above,
+                rest,
+                total: 256,
+                count,
+            }
+        }
+
+        fn of(byte: u8, look: Look, damage_classes: u8, above: Chance, may_have: &ByteSet) -> Self {
             let mut node = Node {
                 byte,
                 look,
@@ -1068,7 +1117,7 @@ mod nodes {
                     let class = alike_to(self.damage_classes, self.look, first, &self.rest);
                     // The bytes that a roll of damage accepts are odd.
                     let middle = first.wrapping_add(
-                        class.count().saturating_sub(1).min(38) as u8 & 0xFE,
+                        class.count().saturating_sub(1).min(38) as u8 / 2 * 2,
                     );
                     if self.rest.contains(middle) {
                         middle
@@ -1081,7 +1130,6 @@ mod nodes {
         }
 
         // The probability of the draws up to this one. `None` if 128 bits do not hold it.
-
         fn chance(&self) -> Option<Chance> {
             let (num, whole) = self.part();
             Some(Chance {
@@ -1106,8 +1154,17 @@ mod nodes {
         }
     }
 
-    // Half of both, if both are even.
+    // The bytes on the other side of the bound, and how many are on the side of this byte.
+    fn other_side(byte: u8, bound: u8) -> (ByteSet, u16) {
+        let below = ByteSet::below(bound);
+        if byte < bound {
+            (ByteSet::all().without(&below), u16::from(bound))
+        } else {
+            (below, 256 - u16::from(bound))
+        }
+    }
 
+    // Half of both, if both are even.
     fn halved(num: u16, whole: u16) -> (u16, u16) {
         if num % 2 == 0 && whole % 2 == 0 {
             (num / 2, whole / 2)
@@ -1210,9 +1267,9 @@ mod nodes {
             false
         }
 
-        /// The bytes of the way. The places after them have the byte of the middle factor of the last class of damage.
+        /// The bytes of the way. The places after them have those of draws that are not known yet.
         pub fn path(&self) -> [u8; DEPTH] {
-            let mut path = [middle_of_last(self.options.damage_classes); DEPTH];
+            let mut path = not_known(middle_of_last(self.options.damage_classes));
             for place in 0..self.len {
                 path[place] = self.list[place].byte;
             }
@@ -1231,13 +1288,22 @@ mod nodes {
         }
     }
 
+    // The bytes of draws that are not known yet: the one that a roll of damage is to have. A search that does not accept it
+    // finds one of the small numbers near the end, and a roll of damage after it still finds its byte.
+    fn not_known(damage: u8) -> [u8; DEPTH] {
+        let it = damage;
+        [
+            it, it, it, it, it, it, it, it, it, it, it, it, 0, it, 1, it, 2, it, 3, it, 4, it, 5, it,
+        ]
+    }
+
     // The byte whose factor is the middle one of the last class of damage. Without classes it is 255, whose factor is the
     // last. Bytes of two neighbouring factors are 2 apart.
     fn middle_of_last(damage_classes: u8) -> u8 {
         if damage_classes == 0 {
             255
         } else {
-            255 - (39 / damage_classes & 0xFE)
+            255 - 39 / damage_classes / 2 * 2
         }
     }
 }
@@ -1250,8 +1316,8 @@ mod options {
     pub struct OutcomeOptions {
         /// In how many classes a roll of damage is told apart, 1 to 39. 0: each damage.
         ///
-        /// A class has neighbouring damages below the HP that is left, and one of them near its middle is played for all. All
-        /// damages from the HP on are one class more.
+        /// A class has neighbouring damages, and one of them near its middle is played for all. All damages from the HP of the
+        /// target on are one class more. No class has damages that break a substitute and damages that don't.
         pub damage_classes: u8,
         /// A branch of the draws is left out as soon as its probability is below `least` / 2^32. 0: none is.
         pub least: u32,
@@ -1311,21 +1377,18 @@ mod outcomes {
             Err(why) => Err(OutcomesFault::Refused(why)),
             Ok(ways) => {
                 clear(table);
-                let mut ways = ways;
-                list_ways(&mut ways, successors, table)
+                list_ways(&ways, successors, table)
             }
         }
     }
 
     fn clear(table: &mut [u32]) {
-        for number in table.iter_mut() {
-            *number = 0;
-        }
+        table.fill(0);
     }
 
     // The same for the ways of an update, with an empty table.
     fn list_ways(
-        ways: &mut Ways,
+        ways: &Ways,
         successors: &mut [Successor],
         table: &mut [u32],
     ) -> Result<Outcomes, OutcomesFault> {
@@ -1341,7 +1404,7 @@ mod outcomes {
     }
 
     fn add_all(
-        ways: &mut Ways,
+        ways: &Ways,
         successors: &mut [Successor],
         table: &mut [u32],
         tally: &mut Tally,
@@ -1354,7 +1417,7 @@ mod outcomes {
 
     // First, the ways up to the second action. Ways that reach the same position are played on once.
     fn add_in_parts(
-        ways: &mut Ways,
+        ways: &Ways,
         successors: &mut [Successor],
         table: &mut [u32],
         tally: &mut Tally,
@@ -1390,7 +1453,7 @@ mod outcomes {
 
     // If no place is left, adds what each position leads to, and removes them.
     fn make_room(
-        ways: &mut Ways,
+        ways: &Ways,
         middles: &mut Middles,
         successors: &mut [Successor],
         table: &mut [u32],
@@ -1405,7 +1468,7 @@ mod outcomes {
 
     // Adds what each position leads to.
     fn go_on_from(
-        ways: &mut Ways,
+        ways: &Ways,
         middles: &Middles,
         successors: &mut [Successor],
         table: &mut [u32],
@@ -1419,19 +1482,19 @@ mod outcomes {
 
     // Adds what one position leads to.
     fn finish(
-        ways: &mut Ways,
+        ways: &Ways,
         middle: &Middle,
         successors: &mut [Successor],
         table: &mut [u32],
         tally: &mut Tally,
     ) -> Result<(), OutcomesFault> {
-        ways.restart(middle);
+        let mut nodes = ways.restart(middle);
         let mut next = copy_of(ways.start());
         for _ in 0..u32::MAX {
-            let chance = ways.go_on(middle, &mut next)?;
+            let chance = ways.go_on(&mut nodes, middle, &mut next)?;
             add(successors, table, tally, &next, chance)?;
             tally.count_ways(middle.ways)?;
-            if !ways.advance() {
+            if !nodes.advance() {
                 return Ok(());
             }
         }
@@ -1494,9 +1557,9 @@ pub mod plain {
         pub total: u16,
         /// How many of them are alike to `byte`.
         pub count: u16,
-        /// The numbers of what is looked at: the bound or the divisor; or the damage, and its limit.
+        /// The numbers of what is looked at: the bound or the divisor; or the damage, and its edge.
         pub look: [u16; 2],
-        /// What is looked at: 0 `Below`, 1 `RotatedBelow`, 2 `Remainder`, 3 `Factor`.
+        /// What is looked at: 0 `Below`, 1 `RotatedBelow`, 2 `Remainder`; `Factor`: 3 where it is cut, and else 4.
         pub kind: u8,
         /// The byte that it has on the next way.
         pub byte: u8,
@@ -1506,7 +1569,6 @@ pub mod plain {
 
     /// The ways of an update that are still to be played. Only `next` changes it.
     #[repr(C)]
-
     pub struct PlainWalk {
         /// The battle before the update.
         pub battle: Packed,
@@ -1667,11 +1729,17 @@ pub mod plain {
             0 => Some(Look::Below(look[0].min(255) as u8)),
             1 => Some(Look::RotatedBelow(look[0].min(255) as u8)),
             2 => Some(Look::Remainder(look[0])),
-            3 => Some(Look::Factor {
-                damage: look[0],
-                limit: look[1],
-            }),
+            3 => Some(factor_of(look, true)),
+            4 => Some(factor_of(look, false)),
             _ => None,
+        }
+    }
+
+    fn factor_of(look: [u16; 2], cut: bool) -> Look {
+        Look::Factor {
+            damage: look[0],
+            edge: look[1],
+            cut,
         }
     }
 
@@ -1680,7 +1748,16 @@ pub mod plain {
             Look::Below(bound) => (0, [u16::from(bound), 0]),
             Look::RotatedBelow(bound) => (1, [u16::from(bound), 0]),
             Look::Remainder(divisor) => (2, [divisor, 0]),
-            Look::Factor { damage, limit } => (3, [damage, limit]),
+            Look::Factor {
+                damage,
+                edge,
+                cut: true,
+            } => (3, [damage, edge]),
+            Look::Factor {
+                damage,
+                edge,
+                cut: false,
+            } => (4, [damage, edge]),
         }
     }
 
@@ -1798,7 +1875,6 @@ mod successor {
     use crate::generated::layout::Packed;
 
     /// A battle that an update leads to, with its weight.
-
     #[repr(C)]
     pub struct Successor {
         /// The battle after the update. The index and the numbers of its header are those from before.
@@ -1860,7 +1936,6 @@ mod ways {
     /// The ways of an update. Each plays it with other bytes for its draws, which exclude those of all other ways.
     ///
     /// For contracts it is the battle with the choices.
-
     pub struct Ways {
         start: Packed,
         one: Choice,
@@ -1941,6 +2016,7 @@ mod ways {
             let mut explorer = Explorer::new(path, After::of(&mut *nodes));
             let one = copied(&self.one);
             let two = copied(&self.two);
+            explorer.draws_a_stream();
             let rest = begin(&mut battle, one, two, &mut explorer);
             match nodes.chance() {
                 Some(chance) => Some(Middle::new(&battle, rest, nodes, chance)),
@@ -1948,37 +2024,35 @@ mod ways {
             }
         }
 
-        /// Begins with the first of the ways that lead there and go on.
-        pub(crate) fn restart(&mut self, middle: &Middle) {
-            self.nodes.clear(middle.chance);
+        /// No draw yet of the ways that lead there and go on.
+        pub(crate) fn restart(&self, middle: &Middle) -> Nodes {
+            let mut nodes = Nodes::new(self.options);
+            nodes.clear(middle.chance);
+            nodes
         }
 
-        /// Plays the update in a way that leads there and then goes on, and returns its probability.
+        /// Plays the update in the way that leads there and then has these draws, and returns its probability.
         ///
         /// # Errors
         ///
         /// `Size`, if the way has too many draws, or if 128 bits do not hold the probability.
         pub(crate) fn go_on(
-            &mut self,
+            &self,
+            nodes: &mut Nodes,
             middle: &Middle,
             battle: &mut Packed,
         ) -> Result<Chance, OutcomesFault> {
             *battle = copy_of(&self.start);
-            let path = middle.path_to(&self.nodes.path());
+            let path = middle.path_to(&nodes.path());
             let notes = After {
                 left: middle.draws,
-                nodes: &mut self.nodes,
+                nodes: &mut *nodes,
             };
             let explorer = Explorer::new(path, notes);
             let one = copied(&self.one);
             let two = copied(&self.two);
             play_way(battle, one, two, explorer, &mut Silent);
-            middle.chance_with(&self.nodes)
-        }
-
-        /// Goes to the next of these ways. Returns whether there is one.
-        pub(crate) fn advance(&mut self) -> bool {
-            self.nodes.advance()
+            middle.chance_with(nodes)
         }
 
         /// Whether both sides use a move, so that the update has two actions.

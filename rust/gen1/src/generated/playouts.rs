@@ -54,7 +54,6 @@ mod choice_generator {
     //! The generator of playouts (include/gen1.h, "many battles").
 
     /// A linear congruential generator modulo 2 to the power of 64. A draw is the upper 32 bits of its state.
-
     pub struct ChoiceGenerator {
         /// The state, which is the seed at first.
         pub state: u64,

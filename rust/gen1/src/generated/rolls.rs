@@ -165,8 +165,9 @@ mod look {
         RotatedBelow(u8),
         /// The remainder of the byte by a number: by 2, 4 and 8 its lowest bits, by 256 the whole byte, by 1 nothing of it.
         Remainder(u16),
-        /// The damage times the byte, rotated right by 1 bit, in 255ths, up to the limit. From there on all damage is alike.
-        Factor { damage: u16, limit: u16 },
+        /// The damage times the byte, rotated right by 1 bit, in 255ths. From the edge on it fells the foe, or breaks its
+        /// substitute. `cut`: all damage from there on is alike.
+        Factor { damage: u16, edge: u16, cut: bool },
     }
 
     impl Look {
@@ -179,7 +180,10 @@ mod look {
                 Look::RotatedBelow(bound) => u16::from(rotated_left_3(byte) < bound),
                 Look::Remainder(0) => u16::from(byte),
                 Look::Remainder(divisor) => u16::from(byte) % divisor,
-                Look::Factor { damage, limit } => scaled(damage, rotated_right_1(byte)).min(limit),
+                Look::Factor { damage, edge, cut } => {
+                    let limit = if cut { edge } else { u16::MAX };
+                    scaled(damage, rotated_right_1(byte)).min(limit)
+                }
             }
         }
 
@@ -216,7 +220,6 @@ mod rolls {
         const SPAN: usize;
 
         // The byte that is drawn next, the generator after a draw, and how many draws in a row hold every byte.
-
         /// Draws the next byte.
         ///
         /// The draws from this one on are a stream: bytes, of which any `SPAN` in a row hold every number from 0 to 255.
@@ -224,12 +227,15 @@ mod rolls {
 
         /// Draws the next byte, of which no more is looked at than the look sees.
         ///
-        /// A generator that goes through all results of a draw writes its own. Others draw as by `draw`.
+        /// The contract allows any byte of which the look sees the same, so a caller is proved only if its look is right. A
+        /// generator that goes through all results of a draw writes its own. Others draw as by `draw`.
         fn draw_as(&mut self, _look: Look) -> u8 {
             self.draw()
         }
 
         /// Draws until a byte passes the test, and returns that byte, of which no more is looked at than the look sees.
+        ///
+        /// As with `draw_as`, the contract allows any byte that passes and of which the look sees the same.
         ///
         /// Returns `None` after `SPAN` draws, if no byte from 0 to 255 passes. The result of the test must depend on the
         /// byte alone.

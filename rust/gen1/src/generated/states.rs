@@ -281,7 +281,6 @@ mod bytes {
     pub(crate) type Bytes = ArrayVec<u8, 384>;
 
     /// The bytes of a state whose current stats are complete.
-
     pub(crate) fn bytes_of(state: &BattleState) -> Bytes {
         let mut bytes = Bytes::new();
         put(&mut bytes, &header_bytes(state));
@@ -582,7 +581,6 @@ mod fault {
     }
 
     /// The first test that fails.
-
     pub(crate) fn first_of(tests: &[Test]) -> Result<(), Test> {
         for test in tests {
             if !test.passes {
@@ -648,7 +646,6 @@ mod member_tests {
     use crate::generated::tables::{Effect, MoveId};
 
     /// The first field of a side's members that is wrong.
-
     pub(crate) fn test_members(side: &SideState, number: u8, rules: u8) -> Result<(), StateFault> {
         at(number, 1, test_member(member_at(side, 0), 1, 151, rules))?;
         at(
@@ -684,7 +681,6 @@ mod member_tests {
     }
 
     // The first field of a member that is wrong, if its species may be from one number to another.
-
     fn test_member(member: &MemberState, least: u32, most: u32, rules: u8) -> Result<(), Test> {
         first_of(&number_tests(member, least, most))?;
         first_of(&own_stat_tests(member))?;
@@ -1080,7 +1076,6 @@ mod request_tests {
     use crate::generated::states::plain::{BattleState, MemberState, SideState, first_side, member_at, second_side};
 
     /// The first of outcome, requests, turn and the first members' HP that does not fit.
-
     pub(crate) fn test_requests(state: &BattleState) -> Result<(), StateFault> {
         let (one, two) = (first_side(state), second_side(state));
         let (due_one, due_two) = requests_due(state);
@@ -1235,7 +1230,6 @@ mod stat_tests {
     }
 
     // Whether a number becomes another one when it is divided at most this many times, each time to at least 1.
-
     fn comes_from(whole: u16, divisor: u16, stat: u16, most: u8) -> bool {
         whole == stat || most > 0 && comes_from((whole / divisor).max(1), divisor, stat, most - 1)
     }
@@ -1323,7 +1317,6 @@ mod whole_tests {
 
     /// The first field of a state that is wrong: of the whole battle, of the members, of the active members, of their
     /// current stats, then of turn, outcome and requests together.
-
     pub(crate) fn test_state(state: &BattleState) -> Result<(), StateFault> {
         let (one, two) = (first_side(state), second_side(state));
         let begun = state.turn != 0;

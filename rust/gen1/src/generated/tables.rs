@@ -797,13 +797,11 @@ mod names {
     }
 
     // The name at a place of a list, counted from 1.
-
     pub(crate) fn name_at(names: &'static [&'static str], place: u8) -> &'static str {
         names[place as usize - 1]
     }
 
     // The place of a text in a list of names, counted from 1.
-
     pub(crate) fn place_of(names: &[&'static str], text: &str) -> Option<u8> {
         let index = index_of(names, text)?;
         Some(index as u8 + 1)

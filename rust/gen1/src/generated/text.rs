@@ -20,7 +20,6 @@ mod cuts {
     }
 
     // What follows a key, if the line begins with it.
-
     pub(crate) fn text_after<'a>(line: &'a [u8], key: &[u8]) -> Option<&'a [u8]> {
         if line.starts_with(key) {
             Some(&line[key.len()..])
@@ -67,7 +66,6 @@ mod cuts {
     }
 
     // The pieces between separators, from the first on, each without the white space around it.
-
     pub(crate) struct Pieces<'a> {
         rest: Option<&'a [u8]>,
         separator: u8,
@@ -328,7 +326,6 @@ mod member {
     use crate::generated::tables::Species;
 
     // The member that a first line describes.
-
     pub(crate) fn headed(line: &[u8]) -> Result<MemberSpec, MemberFault> {
         if has_inside(line, b" @ ") {
             return Err(MemberFault::Item);
@@ -337,7 +334,6 @@ mod member {
     }
 
     // The member of a species that a text names.
-
     pub(crate) fn named(text: &[u8]) -> Result<MemberSpec, MemberFault> {
         match species_called(text) {
             Some(species) => Ok(fresh(species)),
@@ -354,7 +350,6 @@ mod member {
     }
 
     // The species of a first line: in brackets after a nickname, or the line itself.
-
     fn species_text(line: &[u8]) -> &[u8] {
         if !line.ends_with(b")") {
             return line;
@@ -378,7 +373,6 @@ mod member {
     }
 
     // What a line after the first does to a member.
-
     pub(crate) fn changed(member: MemberSpec, line: &[u8]) -> Result<MemberSpec, MemberFault> {
         if let Some(text) = text_after(line, b"Level:") {
             with_level(member, trimmed(text))
@@ -425,7 +419,6 @@ mod member {
     }
 
     // One more move, with three PP ups.
-
     pub(crate) fn with_move(member: MemberSpec, name: &[u8]) -> Result<MemberSpec, MemberFault> {
         let mut member = member;
         if member.moves.is_full() {
@@ -441,7 +434,6 @@ mod member {
     }
 
     // Whether a line is about something that the first generation does not have.
-
     fn is_idle(line: &[u8]) -> bool {
         line.starts_with(b"Ability:")
             || line.starts_with(b"Shiny:")
@@ -515,7 +507,6 @@ mod packed {
     }
 
     // What the fields of a member say, in order.
-
     fn unpacked(text: &[u8], member: usize) -> Result<MemberSpec, PackedFault> {
         if piece_count(text, b'|') != 12 {
             return Err(PackedFault::Fields { member });
@@ -568,7 +559,6 @@ mod packed_field {
     }
 
     // The species, or the nickname if that is empty.
-
     pub(crate) fn species_field(member: &[u8]) -> &[u8] {
         let species = field(member, 1);
         if species.is_empty() {
@@ -622,7 +612,6 @@ mod packed_field {
     }
 
     // The EVs of a field: all at the highest if it is empty, and all 0 for a lone 0.
-
     pub(crate) fn with_packed_evs(spec: MemberSpec, text: &[u8]) -> Result<MemberSpec, MemberFault> {
         if text.is_empty() {
             return Ok(spec);
@@ -672,7 +661,6 @@ mod spread {
     pub(crate) type Spread = [Option<u8>; 6];
 
     // What parts between slashes say, each a number of at most `most` and a stat.
-
     pub(crate) fn spread_in(text: &[u8], most: u8) -> Option<Spread> {
         let mut spread = [None; 6];
         for part in Pieces::new(text, b'/') {
@@ -683,7 +671,6 @@ mod spread {
     }
 
     // What a part says: a stat, and its number.
-
     fn part_in(part: &[u8], most: u8) -> Option<(usize, u8)> {
         let number = number_in(text_before(part, b' '), most)?;
         let stat = stat_named(text_behind(part, b' '))?;
@@ -691,7 +678,6 @@ mod spread {
     }
 
     // The place of a stat in a spread.
-
     fn stat_named(name: &[u8]) -> Option<usize> {
         if is_text(name, b"HP") {
             Some(0)
@@ -715,7 +701,6 @@ mod spread {
     }
 
     // The experience of HP, Attack, Defense, Speed and Special: each the square of its EV.
-
     pub(crate) fn exp_of_evs(evs: Spread) -> Result<[u16; 5], MemberFault> {
         let [hp, attack, defense, special, special_defense, speed] = evs;
         let special = special.unwrap_or(0);
@@ -736,7 +721,6 @@ mod spread {
     }
 
     // The DVs of Attack, Defense, Speed and Special: each half its IV.
-
     pub(crate) fn dvs_of_ivs(ivs: Spread) -> Result<[u8; 4], MemberFault> {
         let [hp, attack, defense, special, special_defense, speed] = ivs;
         let special_iv = special.unwrap_or(31);
@@ -812,7 +796,6 @@ mod text {
     }
 
     // Whether a line separates members: it is empty, or the title of a team.
-
     fn parts_members(line: &[u8]) -> bool {
         line.is_empty() || line.starts_with(b"===")
     }

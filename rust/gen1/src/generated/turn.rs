@@ -117,7 +117,8 @@ mod action_damage {
         }
     }
 
-    // Finds the damage of a move, and whether it hits. Returns whether a fault ended the battle.
+    // Finds the damage of a move, and whether it hits. Returns whether a fault ended the battle. The last damage may be
+    // another one than the machine's that does the same to the foe.
     pub(crate) fn damage_of<R: Rolls>(
         battle: &mut Packed,
         side: Side,
@@ -174,17 +175,18 @@ mod action_damage {
         let after = type_steps(before, &numbers);
         known.through_types = true;
         known.missed = after == 0;
-        let limit = damage_limit(battle, side.other());
-        let varied = factor_up_to(after, limit, random);
+        let (edge, cut) = damage_edge(battle, side.other());
+        let varied = factor_up_to(after, edge, cut, random);
         battle.put_last_damage(varied);
         false
     }
 
-    // All damage from here on is alike: it fells the foe. A Substitute takes damage uncut.
-    fn damage_limit(battle: &Packed, foe: Side) -> u16 {
+    // The damage from which on a hit fells the foe, or breaks its Substitute, and whether all damage from there on is alike.
+    // A Substitute takes damage uncut.
+    fn damage_edge(battle: &Packed, foe: Side) -> (u16, bool) {
         match battle.substitute(foe) {
-            Some(_) => u16::MAX,
-            None => battle.hp(foe),
+            Some(left) => (u16::from(left) + 1, false),
+            None => (battle.hp(foe), true),
         }
     }
 }
@@ -315,7 +317,6 @@ mod by_side {
     /// Code that is generic in its generator is compiled once for each type. Side 1's action draws from `.0`, and side
     /// 2's from this type, so the two are separate code. In each of them the side, and with it every address, is a
     /// constant ([docs/SPEED.md, "An action for each side"](https://hibsuloy.example/gen1/blob/main/docs/SPEED.md#an-action-for-each-side)).
-
     pub(crate) struct BySide<R>(pub(crate) R);
 
     impl<R: Rolls> Rolls for BySide<R> {

@@ -1,6 +1,5 @@
 //! The fields of a line, as values.
-use crate::input::near::{did_you_mean, nearest_word};
-use crate::input::shown;
+use crate::reading::{did_you_mean, nearest_word, shown};
 use gen1::{CantReason, DamageSource, Health, Kind, Level, MoveId, Side, Species, Stat, Volatile};
 
 /// Words with their values.

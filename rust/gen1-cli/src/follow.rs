@@ -1,11 +1,126 @@
-//! The knowledge of a player, for programs and for people.
-use super::reader::Reader;
-use super::roster::Entry;
-use crate::json::EventObject;
+//! `gen1 follow`: a battle log of Showdown, read back as the knowledge of a player (docs/PROGRAM.md, "follow").
+use crate::commands::state_json;
+use crate::fault::{self, Fault};
+use crate::files::{self, put};
+use crate::input::{Seed, seed_in, team_named};
+use crate::json::{EventObject, line_of};
+use crate::random::Random;
 use crate::screen::bar;
-use crate::showdown::index;
-use gen1::{Announced, Conditions, Element, Kind, MoveId, Outcome, Player, PublicSide, Seen, Side};
+use clap::{Args, ValueEnum};
+use gen1::{
+    Announced, Battle, Conditions, Element, Kind, MoveId, Outcome, Player, PublicSide, Seen, Side,
+};
+use gen1_showdown::{Follower, Note};
 use serde::Serialize;
+use std::path::PathBuf;
+
+/// The arguments of `follow`.
+#[derive(Args)]
+pub struct Follow {
+    /// The side of the player that follows the battle
+    #[arg(long, value_enum, default_value = "p1")]
+    side: Followed,
+    /// The team of that side: a file with an export text, a packed line or JSON; or the text itself
+    #[arg(long, value_name = "TEAM")]
+    team: Option<PathBuf>,
+    /// Prints an object with what the player knows, and the events
+    #[arg(long)]
+    json: bool,
+    /// Writes the events as bytes, the log, which print and a player of the libraries read
+    #[arg(long, conflicts_with = "json")]
+    log: bool,
+    /// Writes the 384 bytes of a battle that fits what the player knows, or with --json its state
+    #[arg(long, requires_all = ["team", "guess"], conflicts_with = "log")]
+    battle: bool,
+    /// With --battle: the foe's whole team as it is guessed, in the forms of --team
+    #[arg(long, value_name = "TEAM", requires = "battle")]
+    guess: Option<PathBuf>,
+    /// With --battle: the numbers that it draws, as ten numbers separated by commas, or one from which they are made; random by default
+    #[arg(long, value_parser = seed_in, requires = "battle")]
+    seed: Option<Seed>,
+    /// Refuses unknown lines that may concern the battle; without it a note names them
+    #[arg(long)]
+    strict: bool,
+    /// A battle log, a replay page, or what gen1 showdown prints; without FILE, or with -, standard input
+    file: Option<PathBuf>,
+}
+
+#[derive(Clone, Copy, ValueEnum)]
+enum Followed {
+    P1,
+    P2,
+}
+
+impl Followed {
+    fn side(self) -> Side {
+        match self {
+            Followed::P1 => Side::One,
+            Followed::P2 => Side::Two,
+        }
+    }
+}
+
+/// Reads a log, and prints what the player of a side knows after it.
+pub fn follow(asked: &Follow) -> Result<(), Fault> {
+    one_standard_input(asked)?;
+    let (file, side) = (asked.file.as_deref(), asked.side.side());
+    let own = asked.team.as_deref().map(team_named).transpose()?;
+    let guess = asked.guess.as_deref().map(team_named).transpose();
+    let mut follower = Follower::new(side, own)?;
+    if asked.battle {
+        follower = follower.with_requests();
+    }
+    let guess = guess?;
+    let bytes = files::read_battle_log(file)?;
+    let name = files::name_of(file);
+    let refused = |why| Fault::from(why).within(&name);
+    follower.read(&bytes).map_err(refused)?;
+    if let Some(Note { line, why }) = follower.notes().next().filter(|_| asked.strict) {
+        return Err(Fault::protocol(line, &why).within(&name));
+    }
+    match &guess {
+        Some(guess) => {
+            let seed = asked
+                .seed
+                .map_or_else(|| Random::any().seed(), |seed| seed.0);
+            let battle = follower.battle(guess, seed);
+            put_battle(asked, &battle.map_err(refused)?)?;
+        }
+        None => put_known(asked, &follower)?,
+    }
+    for Note { line, why } in follower.notes() {
+        fault::note(&format!("line {line}: {why}"));
+    }
+    Ok(())
+}
+
+/// Refuses two inputs that are standard input.
+fn one_standard_input(asked: &Follow) -> Result<(), Fault> {
+    let named = [&asked.team, &asked.guess].into_iter().flatten();
+    let streams = named.filter(|path| files::named(Some(path)).is_none());
+    match streams.count() + usize::from(files::named(asked.file.as_deref()).is_none()) {
+        0 | 1 => Ok(()),
+        _ => Err(Fault::one_standard_input()),
+    }
+}
+
+fn put_battle(asked: &Follow, battle: &Battle) -> Result<(), Fault> {
+    match asked.json {
+        true => put(state_json(battle)),
+        false => put(battle.as_bytes()),
+    }
+}
+
+fn put_known(asked: &Follow, follower: &Follower) -> Result<(), Fault> {
+    if asked.log {
+        return put(follower.log());
+    }
+    let known = Known::of(&follower.player()?, follower);
+    put(match asked.json {
+        true => line_of(&known),
+        false => known.text(),
+    })
+}
 
 /// A player's knowledge of a battle.
 #[derive(Serialize)]
@@ -37,7 +152,7 @@ struct KnownMember {
     hp: u16,
     max_hp: u16,
     status: Option<Kind>,
-    /// The moves that it was seen to use.
+    /// The moves that it was seen to prepare or to use.
     moves: Vec<KnownUse>,
 }
 
@@ -57,14 +172,13 @@ struct KnownActive {
 }
 
 impl Known {
-    pub fn of(player: &Player, read: &Reader) -> Known {
+    pub fn of(player: &Player, follower: &Follower) -> Known {
         let side = |side: Side| {
-            let (roster, name) = (&read.sides[index(side)], &read.names[index(side)]);
-            let public = player.public(side);
-            let both = public.members.iter().zip(&roster.entries);
+            let (public, name) = (player.public(side), follower.name(side));
+            let both = public.members.iter().zip(follower.members(side));
             KnownSide {
-                player: (!name.is_empty()).then(|| name.clone()),
-                count: roster.count,
+                player: (!name.is_empty()).then(|| name.into()),
+                count: follower.count(side),
                 members: both.filter_map(member).collect(),
                 active: active(public),
             }
@@ -75,14 +189,14 @@ impl Known {
             outcome: player.outcome(),
             own: side(player.side()),
             foe: side(player.side().other()),
-            events: read.events.iter().map(EventObject::of).collect(),
+            events: follower.events().iter().map(EventObject::of).collect(),
         }
     }
 }
 
-fn member((seen, entry): (&Seen, &Entry)) -> Option<KnownMember> {
+fn member((seen, name): (&Seen, &str)) -> Option<KnownMember> {
     Some(KnownMember {
-        name: entry.name.clone(),
+        name: name.into(),
         species: seen.species()?,
         level: seen.level,
         hp: seen.hp,
@@ -110,7 +224,8 @@ fn active(public: &PublicSide) -> KnownActive {
         types: public.types(),
         // 6 is an unchanged stage.
         stages: stages.map(|stage| stage as i8 - 6),
-        conditions: announced(&public.announced),
+        conditions: announced(&public.announced)
+            .with(Conditions::INVULNERABLE, public.invulnerable == 1),
         last_move: public.last_move(),
     }
 }

@@ -1,14 +1,13 @@
 //! The events of a log, one line after the other.
+use super::battle::Placed;
 use super::fields::{
     KINDS, REASONS, SOURCES, STATS, VOLATILES, details_in, health_in, known_value, member_in,
     move_in, number_in, side_in, unexpected, value_of,
 };
-use super::own::Placed;
 use super::request::request_in;
 use super::roster::{Entry, Roster};
-use crate::input::near::{did_you_mean, nearest_word};
-use crate::input::shown;
-use crate::showdown::index;
+use crate::index;
+use crate::reading::{did_you_mean, nearest_word, shown};
 use gen1::{
     DamageSource, Event, FaultCode, Health, HitCount, Rules, Side, StageCount, TurnNumber, Who,
 };
@@ -17,7 +16,7 @@ use gen1::{
 const PASSED_OVER: &str = "\
     start upkeep tier rated t: request error c c: chat j J join l L leave n N name raw html \
     uhtml uhtmlchange inactive inactiveoff init title debug bigerror askreg message -hint -center \
-    -nothing -notarget -anim clearpoke poke teampreview";
+    -nothing -notarget -anim clearpoke poke teampreview done noinit deinit expire";
 /// Words of lines that are read.
 const WORDS: &str = "\
     player teamsize gametype gen rule split turn win tie switch drag move cant faint -damage -heal -crit \
@@ -78,6 +77,24 @@ impl<'a> Fields<'a> {
 
     fn health(&self, before: Option<Health>) -> Result<Health, String> {
         health_in(self.at(1, "HP")?, before)
+    }
+
+    fn has(&self, tag: &str) -> bool {
+        self.0.contains(&tag)
+    }
+
+    /// Whether a line says what other lines say too: the move of a charge or of Bide, which another line begins; and what Haze ends, and
+    /// Haze itself.
+    fn is_told_otherwise(&self, word: &str) -> Result<bool, String> {
+        Ok(match word {
+            "move" => {
+                let effect = move_in(self.at(1, "a move")?)?.effect();
+                effect.bides() || effect.charges() && self.has("[still]")
+            }
+            "-end" | "-status" => self.has("[silent]"),
+            "-activate" => self.has("move: Haze") || self.has("move: Struggle"),
+            _ => false,
+        })
     }
 
     /// The source of a hit. An unknown tag means a direct hit.
@@ -286,6 +303,9 @@ impl Reader {
         fields: &Fields,
     ) -> Result<Option<Event>, String> {
         let second = |expected| fields.at(1, expected);
+        if fields.is_told_otherwise(word)? {
+            return Ok(None);
+        }
         Ok(Some(match word {
             "move" => Event::Move(who, move_in(second("a move")?)?, self.foe_of(who)?),
             "-prepare" => Event::Prepare(who, move_in(second("a move")?)?),

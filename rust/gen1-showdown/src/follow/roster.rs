@@ -1,6 +1,6 @@
 //! The members of a side, distinguished by their lines in a log.
-use crate::input::{Members, shown};
-use crate::showdown::numbered;
+use crate::reading::shown;
+use crate::{Members, numbered};
 use gen1::{Health, Level, Place, Side, Species, Team, Who};
 
 /// A member of a side.

@@ -1,7 +1,7 @@
 //! A request of a player, read back (docs/PROGRAM.md, "Requests").
 use super::fields::{details_in, health_in, member_in, move_in};
-use crate::input::{Misfit, Typed, key, optional_key};
-use crate::showdown::player_of;
+use crate::player_of;
+use crate::reading::{Misfit, Typed, key, optional_key};
 use gen1::{Health, Level, MoveId, Side, Species};
 use serde_json::Value;
 
@@ -21,6 +21,8 @@ pub enum Asked {
     Move {
         moves: Vec<ListedMove>,
         is_trapped: bool,
+        /// Whether the foe's trapping move holds the member, which only this program writes.
+        is_held: bool,
     },
 }
 
@@ -88,6 +90,7 @@ fn read(side: Side, value: &Value) -> Result<Option<Request>, Misfit> {
         Asked::Move {
             moves: active.moves,
             is_trapped: active.is_trapped,
+            is_held: active.is_held,
         }
     };
     Ok(Some(Request { asked, members }))
@@ -124,14 +127,20 @@ impl Typed for Sided {
 struct Active {
     moves: Vec<ListedMove>,
     is_trapped: bool,
+    is_held: bool,
 }
 
 impl Typed for Active {
     fn of(value: &Value) -> Result<Self, Misfit> {
         let moves: Vec<ListedMove> = key(value, "moves")?;
         let is_trapped = optional_key(value, "trapped")?;
+        let is_held = optional_key(value, "held")?;
         match moves.len() {
-            1..=4 => Ok(Active { moves, is_trapped }),
+            1..=4 => Ok(Active {
+                moves,
+                is_trapped,
+                is_held,
+            }),
             _ => Err(misfit(value, "moves", "a list of 1 to 4 moves")),
         }
     }

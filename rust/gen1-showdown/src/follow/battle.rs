@@ -1,9 +1,13 @@
-//! The own side as it is shown to a player, from its requests and the events between them.
+//! A battle that fits a player's knowledge: the own side as it is shown, from the requests and the events between them, and a guess of the
+//! foe's team.
 use super::reader::Reader;
 use super::request::{Asked, Listed, ListedMove, ListedName, Request};
+use super::roster::{Entry, Roster};
+use crate::{Fault, Members, index, names_of, team};
 use gen1::{
-    CantReason, Choice, Conditions, DamageSource, Effect, Event, Kind, Member, MoveId, OwnMember,
-    OwnSide, Player, PublicSide, Side, Team, Volatile,
+    Battle, CantReason, Choice, Conditions, DamageSource, Effect, Event, Guess, GuessFault, Kind,
+    Member, MemberSpec, MoveId, OfferedMask, OwnMember, OwnSide, Player, PublicSide, Seen, Side,
+    Team, TurnLimit, Volatile,
 };
 
 /// A request with its place in the log.
@@ -37,8 +41,6 @@ struct Own<'a> {
     goes_on: Option<Effect>,
     /// Whether Thrash continues.
     thrashes: bool,
-    /// The move that is charged.
-    prepared: Option<MoveId>,
     /// Whether the last event is a use of the own side.
     has_just_used: bool,
 }
@@ -98,7 +100,6 @@ impl<'a> Own<'a> {
             disabled_slot: 0,
             goes_on: None,
             thrashes: false,
-            prepared: None,
             has_just_used: false,
         }
     }
@@ -139,7 +140,6 @@ impl<'a> Own<'a> {
             }
             // Thrash ends with it, right after the move.
             Event::Start(_, Volatile::Confusion) if has_used => self.thrashes = false,
-            Event::Prepare(_, id) => self.prepared = Some(*id),
             Event::Cant(_, CantReason::Paralysed)
             | Event::Damage(_, _, DamageSource::Confusion)
             | Event::Faint(_) => self.thrashes = false,
@@ -152,7 +152,7 @@ impl<'a> Own<'a> {
             self.order.swap(0, at);
         }
         self.disabled_slot = 0;
-        (self.goes_on, self.thrashes, self.prepared) = (None, false, None);
+        (self.goes_on, self.thrashes) = (None, false);
     }
 
     fn use_move(&mut self, id: MoveId) {
@@ -269,9 +269,9 @@ impl<'a> Own<'a> {
         own.disabled_slot = self.disabled(public);
         let cannot_act = own.members[self.out()].status();
         let cannot_act = matches!(cannot_act, Some(Kind::Sleep | Kind::Freeze));
-        if let Asked::Move { moves, .. } = &request.asked {
-            let is_held = only_move(moves) == Some(ListedName::Fight) && !cannot_act;
-            own.held = u8::from(is_held);
+        if let Asked::Move { moves, is_held, .. } = &request.asked {
+            let fights = only_move(moves) == Some(ListedName::Fight) && !cannot_act;
+            own.held = u8::from(*is_held || fights);
         }
         own.request = match request.asked {
             Asked::Nothing => 0,
@@ -330,6 +330,7 @@ impl<'a> Own<'a> {
             (it.seeded, Conditions::SEEDED),
             (it.toxic, Conditions::BAD_POISON),
             (it.disabled, Conditions::DISABLED),
+            (public.invulnerable, Conditions::INVULNERABLE),
         ]);
         let of_move = match asked {
             Asked::Move { moves, .. } => {
@@ -343,9 +344,7 @@ impl<'a> Own<'a> {
                 (u8::from(self.thrashes), Conditions::THRASH),
             ]),
         };
-        let goes_away = self.prepared.map(MoveId::effect) == Some(Effect::ChargeInvulnerable);
-        let is_away = goes_away && of_move.has(Conditions::CHARGING);
-        (on | of_move).with(Conditions::INVULNERABLE, is_away)
+        on | of_move
     }
 
     /// The slot that Disable blocks. If no request has listed it, it is assumed to be the first with PP.
@@ -362,14 +361,17 @@ impl<'a> Own<'a> {
         let others = (0..self.team.len()).filter(|place| *place != self.out());
         let living = others.filter(|place| own.members[*place].hp > 0);
         let switches = living.filter_map(|place| Choice::from_byte(0x21 + place as u8));
-        let Asked::Move { moves, is_trapped } = asked else {
+        let Asked::Move {
+            moves, is_trapped, ..
+        } = asked
+        else {
             return match asked {
                 Asked::Switch => switches.collect(),
                 _ => vec![Choice::Pass],
             };
         };
         let mut choices = Vec::new();
-        if only_move(moves).is_none() && !cannot_act {
+        if only_move(moves).is_none() && !cannot_act && own.held == 0 {
             let offered = moves
                 .iter()
                 .filter(|it| !it.is_disabled && it.pp != Some(0));
@@ -429,6 +431,119 @@ fn all_of(flags: &[(u8, Conditions)]) -> Conditions {
 
 fn not_in_team(listed: &Listed) -> String {
     let (name, species, level) = (&listed.name, listed.species, listed.level);
-    let name = crate::input::shown(name);
+    let name = crate::reading::shown(name);
     format!("expected a member of the team, found {name} ({species}, L{level})")
+}
+
+/// The number of parts in which the foe's HP may be reported.
+const PARTS: [u16; 2] = [48, 100];
+
+/// A battle that fits a player's knowledge and a guess of the foe's team, in any order. Its choices are those of the request.
+pub fn fitting(
+    mut player: Player,
+    shown: &Shown,
+    read: &Reader,
+    guess: &Members,
+    seed: [u8; 10],
+) -> Result<Battle, Fault> {
+    let side = player.side();
+    let team = guessed_team(&player, &read.sides[index(side.other())], guess)?;
+    // The choices follow from the rest.
+    player.show(&shown.own, OfferedMask::default());
+    let mut guess = Guess::new(team, seed);
+    guess.rules = read.rules();
+    if player.turn() > guess.limit.number() {
+        guess.limit = TurnLimit::new(9999).unwrap_or_default();
+    }
+    let battle = Battle::from_player(&player, &guess).map_err(|why| match why {
+        GuessFault::NotGoingOn => Fault::Line {
+            line: read.last_line,
+            why: why.to_string(),
+        },
+        _ => Fault::Guess(why.to_string()),
+    })?;
+    let offered = battle.choices(side);
+    if *offered != *shown.choices {
+        let [due, found] = [&offered[..], &shown.choices[..]].map(words);
+        let why =
+            format!("in |request|: the choices are {found}, but those of the battle are {due}");
+        return Err(Fault::Line {
+            line: shown.line,
+            why,
+        });
+    }
+    Ok(battle)
+}
+
+fn words(choices: &[Choice]) -> String {
+    let each = choices.iter().map(|choice| choice.to_string());
+    each.collect::<Vec<_>>().join(", ")
+}
+
+/// The guessed team, with the members that have been out first, in the order in which they came out.
+fn guessed_team(player: &Player, roster: &Roster, guess: &Members) -> Result<Team, Fault> {
+    let side = player.side().other();
+    let team_as_given = team(side, guess)?;
+    let count = guess.specs.len();
+    if let Some(due) = roster.count.filter(|due| usize::from(*due) != count) {
+        return Err(Fault::Guess(format!(
+            "expected {due} members, as the log says, found {count}"
+        )));
+    }
+    let names = names_of(guess);
+    let mut order: Vec<usize> = Vec::new();
+    for (entry, seen) in roster.entries.iter().zip(&player.foe().members) {
+        let member = |at: &usize| &team_as_given.members()[*at];
+        let same = |at: &usize| {
+            let both = (member(at).species(), member(at).level());
+            both == (entry.species, entry.level.number()) && !order.contains(at)
+        };
+        let differs = |at: &usize| {
+            (
+                unknown_move(member(at), seen).is_some(),
+                names[*at] != entry.name,
+            )
+        };
+        let Some(at) = (0..count).filter(same).min_by_key(differs) else {
+            return Err(contradiction(
+                entry,
+                "which has been out, is not in the guess",
+            ));
+        };
+        check(member(&at), entry, seen)?;
+        order.push(at);
+    }
+    let rest: Vec<usize> = (0..count).filter(|at| !order.contains(at)).collect();
+    let ordered = order.iter().chain(&rest).map(|at| guess.specs[*at].clone());
+    let ordered = ordered.collect::<Vec<MemberSpec>>();
+    Team::new(&ordered).map_err(|why| Fault::Team { side, why })
+}
+
+/// Compares a guessed member with the log.
+fn check(member: &Member, entry: &Entry, seen: &Seen) -> Result<(), Fault> {
+    if let Some(id) = unknown_move(member, seen) {
+        return Err(contradiction(
+            entry,
+            &format!("doesn't know {id}, which it used"),
+        ));
+    }
+    let max = member.max_hp();
+    if seen.max != max && !PARTS.contains(&seen.max) {
+        let why = format!("has a maximum of {max} HP, but {} in the log", seen.max);
+        return Err(contradiction(entry, &why));
+    }
+    Ok(())
+}
+
+/// A move that was seen and that the guessed member doesn't know.
+fn unknown_move(member: &Member, seen: &Seen) -> Option<MoveId> {
+    let knows = |id: MoveId| member.moves().iter().any(|known| known.id == id);
+    let used = seen.moves().map(|(id, _)| id);
+    used.filter(|id| *id != MoveId::STRUGGLE)
+        .find(|id| !knows(*id))
+}
+
+fn contradiction(entry: &Entry, why: &str) -> Fault {
+    let (species, level) = (entry.species, entry.level);
+    Fault::Guess(format!("{species}, L{level}, {why}"))
 }

@@ -1,6 +1,5 @@
 //! Teams as text: an export text or a packed line (docs/TEAM_TEXT.md), or JSON.
-use super::near::{did_you_mean, nearest_name};
-use super::typed::{Misfit, Typed, shown};
+use crate::reading::{Misfit, Typed, did_you_mean, nearest_name, shown};
 use gen1::text::{MemberFault, PackedFault, TextFault, members_in_packed, members_in_text};
 use gen1::{MemberSpec, MoveId, Species};
 use serde_json::Value;
@@ -157,4 +156,38 @@ fn wrong_move(names: &str) -> (&str, Option<&'static str>) {
     let wrong = wrong.find(|name| !name.is_empty() && name.parse::<MoveId>().is_err());
     let wrong = wrong.unwrap_or(names);
     (wrong, nearest_name::<MoveId>(wrong))
+}
+
+/// The names of a team's members: the nickname, or the species.
+pub fn names_of(members: &Members) -> Vec<String> {
+    let both = members.specs.iter().zip(&members.nicknames);
+    let named = both.map(|(spec, nickname)| {
+        let name = nickname.as_deref().map(clean).unwrap_or_default();
+        match name.is_empty() {
+            true => spec.species.to_string(),
+            false => name,
+        }
+    });
+    named.collect()
+}
+
+/// The names of a team's members, with a number where others have the same name.
+pub fn numbered(members: &Members) -> Vec<String> {
+    let mut names: Vec<String> = Vec::new();
+    for base in names_of(members) {
+        let is_taken = |name: &String| names.contains(name);
+        let numbers = (2..).map(|number| format!("{base} {number}"));
+        let name = std::iter::once(base.clone())
+            .chain(numbers)
+            .find(|name| !is_taken(name));
+        names.push(name.unwrap_or(base));
+    }
+    names
+}
+
+/// A name without characters that end a field or a line.
+pub fn clean(name: &str) -> String {
+    name.chars()
+        .filter(|letter| *letter != '|' && !letter.is_control())
+        .collect()
 }

@@ -1,0 +1,111 @@
+//! The value of a battle without a search: from HP, status, stages and conditions, with weights that were fitted to battles.
+//!
+//! Offsets are those of [docs/LAYOUT.md](https://hibsuloy.example/gen1/blob/main/docs/LAYOUT.md).
+use gen1::{Battle, Side};
+
+/// The number of features.
+pub const COUNT: usize = 20;
+
+/// The weights of the features, in the order of [`features`].
+///
+/// Each is the change of [`score`] by 1 of the feature. They are the result of `cargo run --release --example league -- fit 400 2`: a
+/// logistic regression on battles of the bot against itself, between sample teams, with 1,000 nodes for each choice.
+pub const WEIGHTS: [f64; COUNT] = [
+    0.29, 1.01, -0.42, -0.35, -0.33, -0.17, 0.0, -0.06, 0.0, 0.2, 0.05, 0.0, 0.0, 0.04, 0.0, -0.27,
+    0.08, 0.0, -0.18, 0.11,
+];
+
+/// The differences between side 1 and side 2, side 1's first, in these features:
+///
+/// 0 living members, 1 their HP as shares of the maximum; how many of them are 2 asleep, 3 frozen, 4 paralysed, 5 burned, 6 poisoned; of the
+/// active member the stages of 7 Attack, 8 Defense, 9 Speed, 10 Special, 11 accuracy and 12 evasion, and whether it has 13 a Substitute,
+/// 14 Leech Seed, 15 confusion, 16 Reflect, 17 Light Screen, 18 to recharge; and 19 its HP as a share of the maximum.
+#[must_use]
+pub fn features(battle: &Battle) -> [f64; COUNT] {
+    let bytes = battle.as_bytes();
+    let (one, two) = (side(&bytes[24..204]), side(&bytes[204..384]));
+    core::array::from_fn(|at| f64::from(one[at] - two[at]))
+}
+
+/// The features of one side.
+fn side(bytes: &[u8]) -> [f32; COUNT] {
+    let mut found = [0.0; COUNT];
+    let active = &bytes[144..];
+    for (at, member) in bytes[..144].chunks_exact(24).enumerate() {
+        let hp = u16::from_le_bytes([member[4], member[5]]);
+        if hp == 0 {
+            continue;
+        }
+        let share = f32::from(hp) / f32::from(u16::from_le_bytes([member[2], member[3]]));
+        found[0] += 1.0;
+        found[1] += share;
+        let status = match member[14] {
+            0 => None,
+            1..8 => Some(2),
+            32 => Some(3),
+            64 => Some(4),
+            16 => Some(5),
+            _ => Some(6),
+        };
+        if let Some(status) = status {
+            found[status] += 1.0;
+        }
+        if at + 1 == usize::from(active[0]) {
+            found[19] = share;
+            of_active(active, &mut found);
+        }
+    }
+    found
+}
+
+/// The features of an active member that lives.
+fn of_active(block: &[u8], found: &mut [f32; COUNT]) {
+    for (at, stage) in block[3..9].iter().enumerate() {
+        found[7 + at] = f32::from(*stage) - 6.0;
+    }
+    let conditions = u32::from_le_bytes([block[17], block[18], block[19], block[20]]);
+    for (at, bit) in [(13, 9), (14, 12), (15, 6), (16, 15), (17, 14), (18, 10)] {
+        found[at] = (conditions >> bit & 1) as f32;
+    }
+}
+
+/// The weighted sum of the features: above 0 if side 1 is better off.
+#[must_use]
+pub fn score(features: &[f64; COUNT], weights: &[f64; COUNT]) -> f64 {
+    features
+        .iter()
+        .zip(weights)
+        .map(|(feature, weight)| feature * weight)
+        .sum()
+}
+
+/// The value of a score, from 0 to 1: at most 0.012 from the logistic function, as a quotient that needs no exponential.
+///
+/// ```
+/// use gen1_search::leaf::squashed;
+///
+/// assert_eq!(squashed(0.0), 0.5);
+/// for score in [-8.0f64, -3.0, -1.0, 0.5, 2.0, 6.0] {
+///     assert!((squashed(score) - 1.0 / (1.0 + (-score).exp())).abs() < 0.012);
+/// }
+/// ```
+#[must_use]
+pub fn squashed(score: f64) -> f64 {
+    // tanh(x) is near x (27 + x^2) / (27 + 9 x^2) up to x = 3, where that is 1.
+    let half = (score / 2.0).clamp(-3.0, 3.0);
+    let square = half * half;
+    0.5 + 0.5 * half * (27.0 + square) / (27.0 + 9.0 * square)
+}
+
+/// How often side 1 is estimated to win.
+#[must_use]
+pub fn value(battle: &Battle) -> f64 {
+    match battle.outcome() {
+        gen1::Outcome::Ongoing => squashed(score(&features(battle), &WEIGHTS)),
+        outcome => match outcome.winner() {
+            Some(Side::One) => 1.0,
+            Some(Side::Two) => 0.0,
+            None => 0.5,
+        },
+    }
+}

@@ -1,0 +1,230 @@
+//! What the foe may have: teams with weights, and guesses from them that fit what was seen.
+use crate::Dice;
+use crate::sample_texts::TEXTS;
+use alloc::vec::Vec;
+use core::fmt;
+use gen1::{ArrayVec, MemberSpec, MoveId, Player, Seen, Species, Team, TeamRefusal, text};
+
+/// How often a guess takes single members even if a whole team fits: one time in this many.
+const APART: usize = 8;
+
+/// Teams that the foe may have, with weights: what a search believes before the battle.
+///
+/// ```
+/// use gen1_search::Prior;
+///
+/// let tauros = gen1::member("Tauros", &["Body Slam", "Hyper Beam"]).unwrap();
+/// assert!(Prior::new(vec![(vec![tauros], 1.0)]).is_ok());
+/// assert!(Prior::new(vec![]).is_err());
+/// ```
+#[derive(Clone, Debug)]
+pub struct Prior {
+    teams: Vec<(Vec<MemberSpec>, f64)>,
+}
+
+/// Why teams are not a prior.
+#[derive(Clone, Copy, Debug, PartialEq, Eq)]
+#[non_exhaustive]
+pub enum PriorFault {
+    /// There is no team.
+    Empty,
+    /// The team with this number, from 1, is refused.
+    Team(usize, TeamRefusal),
+    /// The weight of the team with this number is not a number above 0.
+    Weight(usize),
+}
+
+impl fmt::Display for PriorFault {
+    fn fmt(&self, f: &mut fmt::Formatter<'_>) -> fmt::Result {
+        match self {
+            PriorFault::Empty => f.write_str("a prior needs a team"),
+            PriorFault::Team(number, why) => write!(f, "team {number}: {why}"),
+            PriorFault::Weight(number) => {
+                write!(f, "team {number}: its weight is not a number above 0")
+            }
+        }
+    }
+}
+
+impl core::error::Error for PriorFault {}
+
+impl Prior {
+    /// Teams with weights. A team is as probable as its weight over the sum of all.
+    ///
+    /// # Errors
+    ///
+    /// The first [`PriorFault`] that applies.
+    pub fn new(teams: Vec<(Vec<MemberSpec>, f64)>) -> Result<Self, PriorFault> {
+        if teams.is_empty() {
+            return Err(PriorFault::Empty);
+        }
+        for (at, (specs, weight)) in teams.iter().enumerate() {
+            Team::new(specs).map_err(|why| PriorFault::Team(at + 1, why))?;
+            if !(*weight > 0.0 && weight.is_finite()) {
+                return Err(PriorFault::Weight(at + 1));
+            }
+        }
+        Ok(Prior { teams })
+    }
+
+    /// The sample teams of the repository (examples/teams), all as probable.
+    #[must_use]
+    pub fn samples() -> Self {
+        let read = |text: &&str| text::members_in_text(text.as_bytes()).ok();
+        let teams = TEXTS.iter().filter_map(read);
+        Prior {
+            teams: teams.map(|specs| (specs.to_vec(), 1.0)).collect(),
+        }
+    }
+
+    /// The teams with their weights.
+    #[must_use]
+    pub fn teams(&self) -> &[(Vec<MemberSpec>, f64)] {
+        &self.teams
+    }
+
+    /// A team that the foe of a player may have: first the members that appeared, in their order, then others.
+    ///
+    /// It is a team of the prior that has all that was seen, if there is one; one time in eight, and if there is none, its members are
+    /// taken from different teams. Moves that were seen and that no team has are completed by others of the species.
+    ///
+    /// # Errors
+    ///
+    /// The guessed members are no team. This is not known to happen.
+    pub fn guess(&self, player: &Player, dice: &mut Dice) -> Result<Team, TeamRefusal> {
+        let seen: Vec<&Seen> = player
+            .foe()
+            .members
+            .iter()
+            .filter(|it| it.species().is_some())
+            .collect();
+        let mut members: ArrayVec<MemberSpec, 6> = ArrayVec::new();
+        let count = usize::from(player.foes().unwrap_or(6)).max(seen.len());
+        let whole = self.fitting(&seen, dice);
+        for seen in &seen {
+            let of_team = whole.and_then(|specs| specs.iter().find(|spec| fits(spec, seen)));
+            let spec = of_team
+                .cloned()
+                .unwrap_or_else(|| self.member_like(seen, dice));
+            members.push(MemberSpec {
+                level: seen.level,
+                ..spec
+            });
+        }
+        if let Some(specs) = whole {
+            let mut others: Vec<&MemberSpec> = specs
+                .iter()
+                .filter(|spec| !has(&members, spec.species))
+                .collect();
+            while members.len() < count && !others.is_empty() {
+                members.push(others.swap_remove(dice.below(others.len())).clone());
+            }
+        }
+        self.complete(&mut members, count, dice);
+        Team::new(&members)
+    }
+
+    /// A team that has all that was seen; sometimes none though there is one.
+    fn fitting(&self, seen: &[&Seen], dice: &mut Dice) -> Option<&[MemberSpec]> {
+        let teams = self.teams.iter().filter(|(specs, _)| has_all(specs, seen));
+        let (teams, weights): (Vec<_>, Vec<f64>) =
+            teams.map(|(specs, weight)| (specs, *weight)).unzip();
+        let is_apart = teams.is_empty() || dice.below(APART) == 0;
+        (!is_apart).then(|| teams[dice.pick(&weights)].as_slice())
+    }
+
+    /// Adds members of any teams, with species that are not there yet while there are such.
+    fn complete(&self, members: &mut ArrayVec<MemberSpec, 6>, count: usize, dice: &mut Dice) {
+        while members.len() < count {
+            let (mut specs, mut weights) = (Vec::new(), Vec::new());
+            for (team, weight) in &self.teams {
+                for spec in team.iter().filter(|spec| !has(members, spec.species)) {
+                    specs.push(spec);
+                    weights.push(*weight);
+                }
+            }
+            if specs.is_empty() {
+                return;
+            }
+            members.push(specs[dice.pick(&weights)].clone());
+        }
+    }
+
+    /// A member of a species that knows the moves that were seen.
+    fn member_like(&self, seen: &Seen, dice: &mut Dice) -> MemberSpec {
+        let species = seen.species().unwrap_or_default();
+        let (mut sets, mut weights) = (Vec::new(), Vec::new());
+        for (team, weight) in &self.teams {
+            for spec in team.iter().filter(|spec| spec.species == species) {
+                sets.push(spec);
+                weights.push(if fits(spec, seen) { *weight } else { 0.0 });
+            }
+        }
+        if weights.iter().any(|weight| *weight > 0.0) {
+            return sets[dice.pick(&weights)].clone();
+        }
+        let of_sets = sets
+            .iter()
+            .flat_map(|spec| spec.moves.iter().map(|(id, _)| *id));
+        let mut moves: ArrayVec<(MoveId, u8), 4> = ArrayVec::new();
+        for id in used(seen).chain(of_sets).chain(usual(species)) {
+            if moves.iter().all(|(known, _)| *known != id) && moves.try_push((id, 3)).is_err() {
+                break;
+            }
+        }
+        MemberSpec {
+            species,
+            level: seen.level,
+            dvs: [15; 4],
+            exp: [65535; 5],
+            moves,
+        }
+    }
+}
+
+fn has(members: &[MemberSpec], species: Species) -> bool {
+    members.iter().any(|spec| spec.species == species)
+}
+
+/// The moves that a member was seen to use, without Struggle.
+fn used(seen: &Seen) -> impl Iterator<Item = MoveId> + '_ {
+    seen.moves()
+        .map(|(id, _)| id)
+        .filter(|id| *id != MoveId::STRUGGLE)
+}
+
+fn fits(spec: &MemberSpec, seen: &Seen) -> bool {
+    let knows = |id| spec.moves.iter().any(|(known, _)| *known == id);
+    Some(spec.species) == seen.species() && used(seen).all(knows)
+}
+
+fn has_all(specs: &[MemberSpec], seen: &[&Seen]) -> bool {
+    seen.iter()
+        .all(|seen| specs.iter().any(|spec| fits(spec, seen)))
+}
+
+/// Moves to assume of a species that no team has: a strong one of each of its types, and two that many have.
+fn usual(species: Species) -> impl Iterator<Item = MoveId> {
+    /// In the order of the types' numbers.
+    const STRONG: [MoveId; 15] = [
+        MoveId::BODY_SLAM,
+        MoveId::SUBMISSION,
+        MoveId::DRILL_PECK,
+        MoveId::SLUDGE,
+        MoveId::EARTHQUAKE,
+        MoveId::ROCK_SLIDE,
+        MoveId::TWINEEDLE,
+        MoveId::NIGHT_SHADE,
+        MoveId::FIRE_BLAST,
+        MoveId::SURF,
+        MoveId::RAZOR_LEAF,
+        MoveId::THUNDERBOLT,
+        MoveId::PSYCHIC,
+        MoveId::BLIZZARD,
+        MoveId::DRAGON_RAGE,
+    ];
+    let of_types = species.types().map(|it| STRONG[usize::from(it.number())]);
+    of_types
+        .into_iter()
+        .chain([MoveId::BODY_SLAM, MoveId::REST])
+}

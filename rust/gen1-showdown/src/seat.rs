@@ -1,0 +1,237 @@
+//! A player of a battle: what it knows, and its names for members and moves.
+use crate::lines::Hp;
+use crate::{Fault, Members, names_of};
+use gen1::{
+    Battle, Choice, Conditions, Event, EventList, Kind, LogBuf, MoveId, Player, Side, Team, Teller,
+    Volatile, events_of, write_log,
+};
+
+/// A player of a battle. Requests and choices are made only from these fields, which hold nothing that the player may not know.
+pub struct Seat {
+    /// The side of the player.
+    pub side: Side,
+    /// The name of the player.
+    pub name: String,
+    /// The names of the members by their places.
+    pub members: Vec<String>,
+    /// What the player knows of the battle.
+    pub player: Player,
+    teller: Teller,
+    hp: Hp,
+    /// The places in the order of the request: the active member is first, and each switch swaps two of them.
+    pub order: Vec<usize>,
+    /// The move that the active member used last, or began without a use: Bide, and a move that it charges.
+    current: Option<MoveId>,
+    /// The foe's last use of a move.
+    foes_use: Option<MoveId>,
+    is_toxic: bool,
+    /// The PP of each member's moves at the start of the battle.
+    most_pp: Vec<[u8; 4]>,
+    /// The choice of the player, until the other side has chosen too.
+    pub chosen: Option<Choice>,
+}
+
+/// A move that a request lists.
+pub struct Slot {
+    /// The name of the move, or `Recharge`.
+    pub name: &'static str,
+    /// The move; `None` for a recharge.
+    pub id: Option<MoveId>,
+    /// PP and their maximum; `None` for a move that is not one of the four.
+    pub pp: Option<[u8; 2]>,
+    /// The choice, if it is offered.
+    pub choice: Option<Choice>,
+}
+
+impl Seat {
+    /// A player with a name and a team, who is shown the foe's HP in some form.
+    #[must_use]
+    pub fn new(side: Side, name: String, members: &Members, team: &Team, hp: Hp) -> Seat {
+        let names = names_of(members);
+        Seat {
+            side,
+            name,
+            order: (0..names.len()).collect(),
+            members: names,
+            player: Player::new(side, team),
+            teller: Teller::new(side),
+            hp,
+            current: None,
+            foes_use: None,
+            is_toxic: false,
+            most_pp: Vec::new(),
+            chosen: None,
+        }
+    }
+
+    /// Reports an update to the player: the battle after it, and its log bytes.
+    ///
+    /// # Errors
+    ///
+    /// The bytes are not a log.
+    pub fn tell(&mut self, battle: &Battle, log: &[u8]) -> Result<(), Fault> {
+        let told = self.teller.tell_log(log)?;
+        let mut events = EventList::new();
+        for event in events_of(&told) {
+            // An update has at most as many events as the list holds.
+            let _ = events.try_push(self.shown(event?));
+        }
+        let mut told = LogBuf::new();
+        write_log(&events, &mut told);
+        self.player.feed(&told)?;
+        let offered = battle.offered_mask(self.side);
+        self.player.show(&battle.own_side(self.side), offered);
+        let own = *self.player.own();
+        if self.most_pp.is_empty() {
+            self.most_pp = own.members.iter().map(|member| member.pp).collect();
+        }
+        let out = usize::from(own.place).saturating_sub(1);
+        if let Some(at) = self.order.iter().position(|place| *place == out) {
+            self.order.swap(0, at);
+        }
+        let choices = self.player.choices();
+        let passes = choices.as_slice() == [Choice::Pass];
+        self.chosen = passes.then_some(Choice::Pass);
+        self.note(&events);
+        Ok(())
+    }
+
+    /// An event with the foe's HP in their form.
+    fn shown(&self, event: Event) -> Event {
+        match event {
+            Event::Switch(who, place, level, it) if who.side != self.side => {
+                Event::Switch(who, place, level, self.hp.shown(it))
+            }
+            Event::Damage(who, it, source) if who.side != self.side => {
+                Event::Damage(who, self.hp.shown(it), source)
+            }
+            Event::Heal(who, it) if who.side != self.side => Event::Heal(who, self.hp.shown(it)),
+            other => other,
+        }
+    }
+
+    fn note(&mut self, events: &[Event]) {
+        for event in events {
+            let is_own = event.who().is_some_and(|who| who.side == self.side);
+            match event {
+                Event::Switch(..) if is_own => (self.current, self.is_toxic) = (None, false),
+                Event::Switch(..) => self.foes_use = None,
+                Event::Move(_, id, _) | Event::Prepare(_, id) if is_own => self.current = Some(*id),
+                Event::Move(_, id, _) | Event::Prepare(_, id) => self.foes_use = Some(*id),
+                Event::Start(_, Volatile::Bide) if is_own => self.current = Some(MoveId::BIDE),
+                Event::Status(_, Kind::Poison) if is_own => {
+                    self.is_toxic = self.foes_use == Some(MoveId::TOXIC);
+                }
+                Event::Status(..) if is_own => self.is_toxic = false,
+                Event::ClearAll => self.is_toxic = false,
+                _ => (),
+            }
+        }
+    }
+
+    /// Whether the active member is poisoned by Toxic.
+    #[must_use]
+    pub fn is_toxic(&self) -> bool {
+        self.is_toxic
+    }
+
+    /// Whether the player has nothing to choose.
+    #[must_use]
+    pub fn waits(&self) -> bool {
+        self.player.choices().iter().all(|it| *it == Choice::Pass)
+    }
+
+    /// Whether the player is offered a choice.
+    #[must_use]
+    pub fn offers(&self, choice: Choice) -> bool {
+        self.player.choices().contains(&choice)
+    }
+
+    /// The moves that the request lists; none if it asks for no move.
+    #[must_use]
+    pub fn slots(&self) -> Vec<Slot> {
+        let own = self.player.own();
+        let asks = self.player.choices().iter().any(|it| it.byte() >> 4 == 1);
+        let Some(active) = own.member_out().filter(|_| asks) else {
+            return Vec::new();
+        };
+        let most = self.most_pp.get(usize::from(own.place) - 1);
+        let is_moved = self.offers(Choice::MOVE_0);
+        let listed = (1u8..).zip(active.moves()).map(|(at, (id, pp))| {
+            let choice = match is_moved {
+                true => Some(Choice::MOVE_0).filter(|_| pp > 0 && own.disabled_slot != at),
+                false => Choice::from_byte(0x10 + at).filter(|choice| self.offers(*choice)),
+            };
+            let most = most.map_or(pp, |most| most[usize::from(at) - 1]);
+            let (name, id, pp) = (id.name(), Some(id), Some([pp, most]));
+            Slot {
+                name,
+                id,
+                pp,
+                choice,
+            }
+        });
+        let listed: Vec<_> = listed.collect();
+        let can_be_chosen = || listed.iter().any(|slot| slot.choice.is_some());
+        if !is_moved || (self.cannot_act() && !self.goes_on() && can_be_chosen()) {
+            return listed;
+        }
+        let id = self.only_move();
+        vec![Slot {
+            name: id.map_or("Recharge", MoveId::name),
+            id,
+            pp: None,
+            choice: Some(Choice::MOVE_0),
+        }]
+    }
+
+    /// Whether the active member is asleep, frozen or held. Showdown lists its moves then, of which any leads to the same.
+    fn cannot_act(&self) -> bool {
+        let own = self.player.own();
+        let status = own.member_out().and_then(|member| member.status());
+        own.held == 1 || matches!(status, Some(Kind::Sleep | Kind::Freeze))
+    }
+
+    fn is_on(&self, which: Conditions) -> bool {
+        self.player.own().conditions & which.bits() != 0
+    }
+
+    /// Whether the active member recharges, or goes on with a move.
+    fn goes_on(&self) -> bool {
+        let goes_on = [
+            Conditions::RECHARGE,
+            Conditions::BIDE,
+            Conditions::THRASH,
+            Conditions::TRAPPING,
+            Conditions::CHARGING,
+            Conditions::RAGE,
+        ];
+        goes_on.into_iter().any(|which| self.is_on(which))
+    }
+
+    /// The move of a member that has no slot to choose; `None` for a recharge.
+    fn only_move(&self) -> Option<MoveId> {
+        match (self.is_on(Conditions::RECHARGE), self.goes_on()) {
+            (true, _) => None,
+            (_, true) => self.current.or(Some(MoveId::STRUGGLE)),
+            _ => Some(MoveId::STRUGGLE),
+        }
+    }
+
+    /// Whether the active member keeps living members from coming out.
+    #[must_use]
+    pub fn is_trapped(&self) -> bool {
+        let own = self.player.own();
+        let may_come = |place: usize| own.members[place].hp > 0;
+        let bench = self.order.iter().skip(1).any(|place| may_come(*place));
+        let switches = self.player.choices().iter().any(|it| it.byte() >> 4 == 2);
+        bench && !switches && !self.waits()
+    }
+
+    /// How many members have HP.
+    #[must_use]
+    pub fn left(&self) -> usize {
+        let own = self.player.own();
+        own.members.iter().filter(|member| member.hp > 0).count()
+    }
+}
