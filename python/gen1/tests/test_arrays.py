@@ -11,7 +11,18 @@ from conftest import LIB, random_team
 
 np = pytest.importorskip("numpy")
 
-from gen1 import BadArgument, BadType, Battle, BattleArray, Conditions, Error, Member, Refusal  # noqa: E402
+from gen1 import (
+    BadArgument,
+    BadType,
+    Battle,
+    BattleArray,
+    Choice,
+    Conditions,
+    Error,
+    Member,
+    Move,
+    Refusal,
+)  # noqa: E402
 from gen1.arrays import ACTIONS, CHOICES, bits  # noqa: E402
 from gen1.layout import ACTIVE, BATTLE, MEMBER  # noqa: E402
 from gen1.observations import COLUMNS  # noqa: E402
@@ -251,6 +262,16 @@ def test_choices_of_a_wrong_type(battle, wrong):
     with pytest.raises(BadType):
         array.step(wrong, [0x11] * 5)
     assert array == BattleArray(5, battle)
+
+
+def test_choices_that_are_other_enums(battle):
+    """17 is move 1, and the number of a move of the tables."""
+    array = BattleArray(2, battle)
+    with pytest.raises(BadType) as fault:
+        array.step([Choice.MOVE_1, Move(17)], [17, 17])
+    assert str(fault.value).startswith("ones[1] must be a Choice or a whole number, not Move.")
+    array.step([Choice.MOVE_1, 17], [17, 17])
+    assert not array.codes.any()
 
 
 def test_other_arguments_that_are_wrong(battle):

@@ -382,29 +382,71 @@ def test_with_gymnasium_its_spaces_are_taken(monkeypatch):
     assert spaces.made() == (Discrete, Box, Env) and spaces.made_for_vectors() == (MultiDiscrete, Env, AutoresetMode)
 
 
-# The published checkers, if they are installed. They ignore masks, so an action that is not offered is replaced by one that is.
+def test_actions_that_are_not_offered_are_replaced():
+    """With `invalid="random"` an episode takes any action, is repeated by its seed, and each offered action comes up."""
+    env, chosen = BattleEnv(invalid="random"), set()
+    for episode in range(2):
+        env.reset(seed=7)
+        told = [env.step(0) for _ in range(10)]
+        if episode:
+            assert same(told, first)
+        first = told
+    for seed in range(60):
+        env.reset(seed=seed)
+        env.step(0)
+        chosen.add(env.battle.state.one.active.picked_move if env.battle.state.one.active.place == 1 else -1)
+    # The first of three members has four moves, and can be switched; none is left out in 60 draws but with a chance below 1e-5.
+    assert chosen >= {-1, 1, 2, 3, 4}
+    pair = TwoPlayerEnv(invalid="random")
+    pair.reset(seed=1)
+    assert pair.step({"one": 0, "two": 11})[0].keys() == {"one", "two"}
+    for invalid in ("mask", None, True):
+        with pytest.raises(BadArgument, match="invalid must be 'refuse' or 'random'"):
+            BattleEnv(invalid=invalid)
+    with pytest.raises(BadArgument):
+        env.step(12)
 
 
-def offered(mask, action):
-    return int(np.flatnonzero(mask)[action % mask.sum()])
+def test_with_pettingzoo_its_base_class_is_taken(monkeypatch):
+    from importlib.machinery import ModuleSpec
+
+    from gen1 import spaces
+
+    fake = types.ModuleType("pettingzoo")
+    fake.__spec__, fake.ParallelEnv = ModuleSpec("pettingzoo", None), type("ParallelEnv", (), {})
+    assert spaces.made_for_pairs() is object or "pettingzoo" in sys.modules
+    monkeypatch.setitem(sys.modules, "pettingzoo", fake)
+    assert spaces.made_for_pairs() is fake.ParallelEnv
+
+
+def test_the_registered_id(monkeypatch):
+    """Gymnasium finds the function by the entry point, and is passed classes that exist."""
+    from importlib import import_module
+
+    from gen1.environments import register
+
+    known = {}
+    fake = types.ModuleType("gymnasium.envs.registration")
+    fake.register = lambda id, **places: known.update({id: places})
+    for name in ("gymnasium", "gymnasium.envs"):
+        monkeypatch.setitem(sys.modules, name, types.ModuleType(name))
+    monkeypatch.setitem(sys.modules, "gymnasium.envs.registration", fake)
+    register()
+    assert list(known) == ["gen1/Battle-v1"]
+    names = [place.partition(":")[::2] for place in known["gen1/Battle-v1"].values()]
+    assert [getattr(import_module(module), name).__name__ for module, name in names] == ["BattleEnv", "VectorEnv"]
+
+
+# The published checkers, if they are installed. They ignore masks.
 
 
 def test_gymnasiums_own_checker():
     checker = pytest.importorskip("gymnasium.utils.env_checker")
-
-    class Lenient(BattleEnv):
-        def step(self, action):
-            return super().step(offered(self.action_masks(), action))
-
-    checker.check_env(Lenient(), skip_render_check=True)
+    checker.check_env(BattleEnv(invalid="random"), skip_render_check=True)
 
 
 def test_pettingzoos_own_checker():
     pytest.importorskip("pettingzoo")
     from pettingzoo.test import parallel_api_test
 
-    class Lenient(TwoPlayerEnv):
-        def step(self, actions):
-            return super().step({agent: offered(self.action_masks(agent), it) for agent, it in actions.items()})
-
-    parallel_api_test(Lenient(), num_cycles=300)
+    parallel_api_test(TwoPlayerEnv(invalid="random"), num_cycles=300)

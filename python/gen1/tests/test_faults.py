@@ -127,6 +127,75 @@ def test_no_numbers(battle, team, it):
     assert battle.bytes == before
 
 
+def test_enums_of_another_kind(battle, team, tauros):
+    """Each enum is a number too, but that of another kind: 57 is the move Surf and the species Primeape."""
+    assert (Move.SURF, Species.PRIMEAPE) == (57, 57)
+    before, begun = battle.bytes, battle.own_side(1)
+    member = battle.state.one.members[0]
+    calls = {
+        "species must be a Species, its name or its number": (
+            lambda: Member(Move.SURF, ["Surf"]),
+            lambda: Team([{"species": Move.SURF, "moves": ["Surf"]}]),
+            lambda: gen1.base(Move.SURF),
+        ),
+        "must be a Move, its name or its number": (
+            lambda: Member("Tauros", [Species.PRIMEAPE]),
+            lambda: battle.odds(1, Species.PRIMEAPE),
+            lambda: battle.knock_out(1, gen1.SeenMove(Move.SURF, 1)),
+            lambda: gen1.odds(tauros, tauros, Species.PRIMEAPE),
+            lambda: gen1.move_data(gen1.Type.WATER),
+            lambda: battle.playout(1, 1, weights={Species.PRIMEAPE: 2}),
+        ),
+        "side must be a Side or a whole number": (
+            lambda: battle.choices(gen1.Status.SLEEP),
+            lambda: gen1.Player(gen1.Status.SLEEP, team),
+            lambda: gen1.log_bytes([gen1.WinEvent(gen1.Status.SLEEP)]),
+        ),
+        "choice must be a Choice or a whole number": (
+            lambda: battle.update(Move.MEGA_KICK, Choice.MOVE_1),
+            lambda: battle.update_silent("move 1", Choice.MOVE_1),
+            lambda: battle.outcomes(Move.MEGA_KICK, Choice.MOVE_1),
+            lambda: gen1.Room(battle).submit(1, 0, Move.MEGA_KICK),
+        ),
+        "offered[0] must be a Choice or a whole number": (lambda: gen1.Player(1, team).show(begun, [Move.MEGA_KICK]),),
+        "rules must be a Rules or a whole number": (
+            lambda: Battle(team, team, bytes(10), rules=gen1.Conditions(1)),
+            lambda: battle.with_state(rules=gen1.Side.ONE),
+        ),
+        "status must be a Status or a whole number": (
+            lambda: battle.with_status(1, 1, gen1.Stat.SPEED),
+            lambda: Battle.from_state(battle.state.with_member(1, 1, status=gen1.Side.ONE)),
+        ),
+        "stat must be a Stat or a whole number": (
+            lambda: battle.with_stage(1, gen1.Status.SLEEP, 1),
+            lambda: begun.stage(gen1.Status.SLEEP),
+            lambda: battle.state.one.active.stage(gen1.Status.SLEEP),
+            lambda: gen1.Player(1, team).foe.stage(gen1.Status.SLEEP),
+            lambda: gen1.Spectator(team, team).state.one.stage(gen1.Status.SLEEP),
+        ),
+        "outcome must be an Outcome or a whole number": (lambda: battle.with_state(outcome=gen1.Side.ONE),),
+        "attack must be a Type or a whole number": (lambda: gen1.effectiveness(Move.SURF, gen1.Type.FIRE),),
+        "moves[0] must be a Move or a whole number": (
+            lambda: Battle.from_state(battle.state.with_member(1, 1, moves=(Species.MEW, *member.moves[1:]))),
+        ),
+        "level must be a whole number": (lambda: Member("Tauros", ["Surf"], level=Species.PRIMEAPE),),
+        "slot must be a whole number": (lambda: Choice.move(Move.POUND),),
+    }
+    for lawful, wrong in calls.items():
+        for call in wrong:
+            with pytest.raises(BadType) as fault:
+                call()
+            assert isinstance(fault.value, TypeError) and f"{lawful}, not " in said(fault) and battle.bytes == before
+
+
+def test_stages_of_no_stat(battle):
+    """A stat is 1 to 6; 0 is not the last stage."""
+    for stat in (0, -1, 7):
+        with pytest.raises(BadArgument) as fault:
+            battle.own_side(1).stage(stat)
+        assert said(fault) == f"stat must be 1 to 6, not {stat}"
+
+
 def test_pp_ups_of_a_wrong_type():
     for it in NO_NUMBERS[1:]:
         with pytest.raises(BadType):

@@ -16,8 +16,9 @@ def test_guesses_fit_what_the_player_knows():
     example, dice = runpy.run_path(str(FOLDER / "__main__.py")), random.Random(4)
     teams = list(sample_teams().values())
     for _ in range(6):
-        battle = Battle(dice.choice(teams), dice.choice(teams), dice.randbytes(10))
-        player, teller = Player(Side.ONE, teams[0], foes=6), Teller(Side.ONE)
+        one = dice.choice(teams)
+        battle = Battle(one, dice.choice(teams), dice.randbytes(10))
+        player, teller = Player(Side.ONE, one, foes=6), Teller(Side.ONE)
         update = battle.update(Choice.PASS, Choice.PASS)
         while not update.result.is_over:
             teller.report(battle, update.log, player)

@@ -117,6 +117,10 @@ def test_fixed_damage_hits_and_charging():
     }
     for move, damage_of in {**fixed, "Strength": (0, 0), "Splash": (0, 0)}.items():
         assert odds(gengar, chansey, move).fixed == damage_of, move
+    # Psywave draws a number above 0 and below one and a half times the level.
+    for level, damage_of, reason in ((1, (0, 0), OddsReason.FAULT), (2, (1, 2), None), (3, (1, 3), None)):
+        found = odds(Member("Mew", ["Psywave"], level=level), chansey, "Psywave")
+        assert (found.fixed, found.reason) == (damage_of, reason), level
     # Of the two low bits of a draw, 2 and 3 are drawn once more: 2 and 3 hits have 1/4 + 1/2 * 1/4, 4 and 5 hits 1/2 * 1/4.
     hits = {
         "Strength": (0, 8, 0, 0, 0, 0),

@@ -138,9 +138,9 @@ def test_what_events_make_public(player):
     assert foe.last_move is Move.HYDRO_PUMP and foe.members == (foe.active,)
     foe = seen_by(player, [15, 2, 130, 2, 2], [16, 2, 130, 3, 1], [18, 2, 130, 1], [18, 2, 130, 9], [21, 2, 130, 19])
     assert (foe.stages, foe.stage(Stat.DEFENSE), foe.stage(Stat.SPEED)) == ((0, 2, -1, 0, 0, 0), 2, -1)
-    assert foe.announced == dataclasses.replace(NOTHING, confused=True, disabled=True, charging=True)
+    assert foe.announced == dataclasses.replace(NOTHING, confused=True, disabled=True, charging=True, invulnerable=True)
     foe = seen_by(player, [19, 2, 130, 1], [17])
-    assert (foe.stages, foe.announced) == ((0,) * 6, dataclasses.replace(NOTHING, charging=True))
+    assert (foe.stages, foe.announced) == ((0,) * 6, dataclasses.replace(NOTHING, charging=True, invulnerable=True))
     foe = seen_by(player, [14, 2, 130, 5], switch(2, 113, 2, 703, 703, 2))
     assert (foe.place, foe.last_move, foe.announced, foe.types) == (2, None, NOTHING, (Type.NORMAL, Type.NORMAL))
     assert [(it.species, it.hp, it.status) for it in foe.members] == [
@@ -170,7 +170,7 @@ def test_each_condition_that_is_announced():
     }
     for events, name in (
         *((bytes([18, 2, 130, number]), name) for number, name in starts.items()),
-        (bytes([21, 2, 130, 19]), "charging"),
+        (bytes([21, 2, 130, 13]), "charging"),
         (bytes([22, 2, 130]), "recharging"),
         (bytes([3, 1, 128, Move.TOXIC, 2, 130, 13, 2, 130, 2]), "toxic"),
     ):
@@ -196,7 +196,7 @@ def test_what_a_side_is_shown_of_itself():
     )
     tauros = own.members[0]
     assert (
-        own.active == tauros
+        own.active is tauros
         and tauros.stats[:3] == (298, 288, 318)
         and (tauros.moves, tauros.pp) == ((Move.STRENGTH,), (24,))
     )
@@ -469,6 +469,39 @@ def test_wrong_arguments(player):
     with pytest.raises(BadTeam) as fault:
         Player(1, [TAUROS, TAUROS.to_dict() | {"level": 0}])
     assert fault.value.member == 2
+
+
+def test_reports_that_are_not_of_the_players_battle():
+    """A log that was skipped, repeated or is another battle's, and a side of another team: each is refused, and nothing changes."""
+    battle, teller, player = Battle([TAUROS, CHANSEY], [GYARADOS], SEED), Teller(1), Player(1, [TAUROS, CHANSEY])
+    logs = [battle.update(0, 0).log]
+    teller.report(battle, logs[0], player)
+    logs += [battle.update(17, 17).log for _ in range(2)]
+    other = Battle([CHANSEY], [GYARADOS], SEED)
+    started = other.update(0, 0).log
+    before = player.copy(), teller.copy()
+    asked = (
+        (lambda: teller.report(battle, logs[0], player), "log is not that of the battle's last update"),
+        (lambda: teller.report(battle, logs[1], player), "is at 2 after the log, and the battle at 3"),
+        (lambda: teller.report(battle, b"", player), "was reported before"),
+        (
+            lambda: teller.report(other, started, player),
+            "own must be the side of the player's team, Tauros at level 100, Chansey at level 100, not Chansey at level 100",
+        ),
+        (lambda: teller.report(battle, started, player), "log is not that of the battle's last update"),
+        (lambda: player.show(battle.own_side(2), ()), "not Gyarados at level 100"),
+    )
+    for call, text in asked:
+        with pytest.raises(BadArgument) as fault:
+            call()
+        assert text in str(fault.value) and (player, teller) == before
+    for log in logs[1:]:
+        player.feed(teller.tell(log))
+    player.show(battle.own_side(1), battle.choices(1))
+    assert player.turn == 3
+    with pytest.raises(BadArgument):
+        teller.report(battle, logs[2], player)
+    teller.report(battle, battle.update(17, 17).log, player)
 
 
 def test_nothing_can_be_assigned(player):

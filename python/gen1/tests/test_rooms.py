@@ -265,6 +265,11 @@ def test_random_rooms():
                 count = LIB.gen1_room_choices(ctypes.byref(raw), it, front) & 0xFF
                 offered.append(list(front[:count]))
                 assert list(room.choices(it)) == offered[-1]
+            if dice.random() < 0.2:
+                seed = dice.randbytes(10)
+                room.reseed(seed)
+                battle.reseed(seed)
+                raw.battle[:] = room.battle.bytes
             number = room.number if dice.random() < 0.9 else dice.choice((0, room.number + 1, (1 << 32) - 1))
             choice = (
                 dice.choice(offered[side - 1]) if offered[side - 1] and dice.random() < 0.9 else dice.randint(0, 255)

@@ -219,6 +219,28 @@ def test_texts_with_a_fault(text, line, code):
     )
 
 
+@pytest.mark.parametrize(
+    "text, found, near",
+    [
+        ("Tauros\n- Body Slm\n", "Body Slm", "Body Slam"),
+        ("Starmie\n\nBob (Taurus) (M)\n", "Taurus", "Tauros"),
+        ("Missingno.\n", "Missingno.", None),
+        ("Tauros\nLevel: 101\n", "Level: 101", None),
+        ("Bob|Tuaros|||pound|||||||", "Tuaros", "Tauros"),
+        ("Tuaros||||pound|||||||", "Tuaros", "Tauros"),
+        ("Tauros||||pound|||||||]Starmie||||surf,thnderbolt,pond|||||||", "thnderbolt", "Thunderbolt"),
+        ("Tauros\n- Pound\n- Cut\n- Surf\n- Fly\n- Dig\n", "", None),
+    ],
+)
+def test_texts_with_a_wrong_word(text, found, near):
+    """The error has the word, and the name that it is a letter or two from."""
+    with pytest.raises(BadText) as fault:
+        (Team.from_packed if "|" in text else Team.from_text)(text)
+    assert (fault.value.found, fault.value.near) == (found, near)
+    end = f", not {found!r}" * bool(found) + f"; did you mean {near!r}?" * bool(near)
+    assert str(fault.value).endswith(end) and str(fault.value).count("member") <= 1 + ("at most" in str(fault.value))
+
+
 def test_texts_that_are_no_team():
     mimic = "Tauros\n- Mimic\n"
     for text, member, code in (

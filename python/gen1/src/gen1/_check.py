@@ -2,6 +2,7 @@
 
 import operator
 from collections.abc import Iterable, Sequence
+from enum import Enum
 from itertools import islice
 from math import inf
 from numbers import Real
@@ -9,24 +10,40 @@ from typing import TypeVar
 
 from gen1 import _library
 from gen1.errors import BadArgument, BadPlace, BadTeam, BadType
-from gen1.names import Move, Named, NewFault, Species
+from gen1.names import Move, Named, NamedType, NewFault, Species
 
 N = TypeVar("N", bound=Named)
 
 
-def whole(value: object, what: str) -> int:
-    """A whole number of any size; not a bool, which Python counts as one."""
+def whole(value: object, what: str, kind: type[Enum] | None = None) -> int:
+    """A whole number of any size; not a bool, which Python counts as one.
+
+    With `kind` it may be a member of that enum, but of no other; without, it may be of none of this package.
+    """
     if isinstance(value, bool):
-        raise BadType(f"{what} must be a whole number, not {value}")
+        raise BadType(f"{what} must be {_lawful(kind)}, not {value}")
+    if isinstance(value, Enum) and not _counts(value, kind):
+        raise BadType(f"{what} must be {_lawful(kind)}, not {shown(value)}")
     try:
         return operator.index(value)  # type: ignore[arg-type]
     except TypeError:
-        raise BadType(f"{what} must be a whole number, not {shown(value)}") from None
+        raise BadType(f"{what} must be {_lawful(kind)}, not {shown(value)}") from None
 
 
-def within(value: object, what: str, low: int, high: int) -> int:
-    """A whole number from `low` to `high`."""
-    number = whole(value, what)
+def _lawful(kind: type[Enum] | None) -> str:
+    return (
+        f"{'an' * (kind.__name__[0] in 'AEIOU') or 'a'} {kind.__name__} or a whole number" if kind else "a whole number"
+    )
+
+
+def _counts(value: Enum, kind: type[Enum] | None) -> bool:
+    """Whether a member of an enum may stand for its number."""
+    return isinstance(value, kind) if kind else not isinstance(type(value), NamedType)
+
+
+def within(value: object, what: str, low: int, high: int, kind: type[Enum] | None = None) -> int:
+    """A whole number from `low` to `high`; `kind` is as in `whole`."""
+    number = whole(value, what, kind)
     if not low <= number <= high:
         raise BadArgument(f"{what} must be {low:,} to {high:,}, not {digits(number)}")
     return number
@@ -106,7 +123,7 @@ def seed_bytes(value: object) -> bytes:
 
 
 def named(kind: type[N], value: object, field: str) -> N:
-    """A species or a move from its name, its number, or itself. Raises `BadTeam` for any other value."""
+    """A species or a move from its name, its number, or itself. Raises `BadTeam` for an unknown one, `BadType`."""
     if isinstance(value, kind):
         return value
     code = NewFault.NO_SUCH_SPECIES if issubclass(kind, Species) else NewFault.NO_SUCH_MOVE
@@ -117,7 +134,10 @@ def named(kind: type[N], value: object, field: str) -> N:
         near = nearest(value, [it.label for it in kind])
         meant = f"; did you mean {near!r}?" if near else ""
         raise BadTeam(f"{field}: there is no {cut(repr(value))}{meant}", field=field, code=code)
-    number = whole(value, field)
+    try:
+        number = whole(value, field, kind)
+    except BadType:
+        raise BadType(f"{field} must be a {kind.__name__}, its name or its number, not {shown(value)}") from None
     try:
         return kind(number)
     except ValueError:
@@ -140,7 +160,8 @@ def with_genders(text: str) -> str:
 def nearest(text: str, names: Iterable[str]) -> str | None:
     """The name that differs from a text in the fewest letters; None if that is more than a third of them."""
     wanted = _letters(text)
-    away, name = min(((_distance(wanted, _letters(it)), it) for it in names), key=operator.itemgetter(0))
+    rated = ((_distance(wanted, _letters(it)), it) for it in names)
+    away, name = min(rated, key=operator.itemgetter(0), default=(len(wanted) + 1, ""))
     return name if away * 3 <= len(wanted) else None
 
 

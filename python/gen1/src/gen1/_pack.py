@@ -1,11 +1,13 @@
 """States as the struct gen1_state, and the library's reports about wrong ones as `BadState`."""
 
+from enum import Enum
 from typing import Any
 
 from gen1._check import count_text, digits, listed, shown, truth, whole
 from gen1._structs import ActiveStateStruct, MemberStateStruct, SideStateStruct, StateFaultStruct, StateStruct
+from gen1.choices import Rules
 from gen1.errors import BadArgument, BadState, BadType
-from gen1.names import Conditions, StateField
+from gen1.names import Conditions, Move, Outcome, Request, Species, StateField, Status, Type
 from gen1.states import ActiveState, MemberState, SideState, State
 
 BYTE, SHORT, LONG = 255, (1 << 16) - 1, (1 << 32) - 1
@@ -21,6 +23,14 @@ ACTIVE = {
     "disabled_turns": BYTE,
     "bad_poison": BYTE,
     "turns": BYTE,
+}
+# The enums of fields; all other fields are plain numbers.
+KINDS: dict[str, type[Enum]] = {
+    "species": Species,
+    "status": Status,
+    "conditions": Conditions,
+    "rules": Rules,
+    "outcome": Outcome,
 }
 # The names of fields in the dataclasses where they differ from the library's.
 NAMES = {
@@ -43,9 +53,9 @@ def packed(state: State) -> StateStruct:
     for number, side in enumerate((state.one, state.two), 1):
         _put_side(to.sides[number - 1], side, number)
     for name, most in {"turn": SHORT, "limit": SHORT, "rules": BYTE, "outcome": BYTE, "index": BYTE}.items():
-        setattr(to, name, _number(getattr(state, name), name, most))
+        setattr(to, name, _number(getattr(state, name), name, most, KINDS.get(name)))
     to.last_damage = _exact(state.last_damage, "last_damage", SHORT)
-    to.requests[:] = _row(state.requests, "requests", 2, BYTE)
+    to.requests[:] = _row(state.requests, "requests", 2, BYTE, Request)
     to.numbers[:] = [_exact(it, f"numbers[{at}]", BYTE) for at, it in enumerate(_items(state.numbers, "numbers", 10))]
     return to
 
@@ -130,14 +140,14 @@ def _put_member(to: MemberStateStruct, member: object, where: str) -> None:
     if not isinstance(member, MemberState):
         raise BadType(f"{where} must be a MemberState, not {shown(member)}")
     for name, most in MEMBER.items():
-        setattr(to, name, _number(getattr(member, name), f"{where}: {name}", most))
+        setattr(to, name, _number(getattr(member, name), f"{where}: {name}", most, KINDS.get(name)))
     to.species = to.species or BYTE
     to.marked = truth(member.marked, f"{where}: marked")
     to.stats[:] = _row(member.stats, f"{where}: stats", 4, SHORT)
     moves = listed(member.moves, f"{where}: moves", 4)
     if len(moves) > 4:
         raise BadArgument(f"{where}: moves must be 1 to 4, not {count_text(member.moves, moves, 4)}")
-    to.moves[: len(moves)] = [it or BYTE for it in _row(moves, f"{where}: moves", len(moves), BYTE)]
+    to.moves[: len(moves)] = [it or BYTE for it in _row(moves, f"{where}: moves", len(moves), BYTE, Move)]
     to.pp[: len(moves)] = _row(member.pp, f"{where}: pp", len(moves), BYTE)
 
 
@@ -146,19 +156,19 @@ def _put_active(to: ActiveStateStruct, active: object, side: int) -> None:
     if not isinstance(active, ActiveState):
         raise BadType(f"{where} must be an ActiveState or None, not {shown(active)}")
     for name, most in ACTIVE.items():
-        setattr(to, name, _number(getattr(active, name), f"{where}.{name}", most))
+        setattr(to, name, _number(getattr(active, name), f"{where}.{name}", most, KINDS.get(name)))
     to.place = to.place or BYTE
     to.energy = _exact(active.energy, f"{where}.energy", SHORT, StateField.ENERGY, side)
     to.kept_accuracy = _exact(active.kept_accuracy, f"{where}.kept_accuracy", BYTE, StateField.KEPT_ACCURACY, side)
-    to.types[:] = _row(active.types, f"{where}.types", 2, BYTE)
+    to.types[:] = _row(active.types, f"{where}.types", 2, BYTE, Type)
     to.stats[:] = _row(active.stats, f"{where}.stats", 4, SHORT)
     stages = _items(active.stages, f"{where}.stages", 6)
     to.stages[:] = [_number(whole(it, f"{where}.stages[{at}]") + 6, "a stage", BYTE) for at, it in enumerate(stages)]
 
 
-def _number(value: object, what: str, most: int) -> int:
-    """A whole number for a field that holds 0 to `most`; `most` if the field cannot hold it."""
-    number = whole(value, what)
+def _number(value: object, what: str, most: int, kind: type[Enum] | None = None) -> int:
+    """A whole number for a field that holds 0 to `most`; `most` if the field cannot hold it. `kind` is as in `whole`."""
+    number = whole(value, what, kind)
     return number if 0 <= number <= most else most
 
 
@@ -182,5 +192,5 @@ def _items(values: object, what: str, count: int) -> list[object]:
     return given
 
 
-def _row(values: object, what: str, count: int, most: int) -> list[int]:
-    return [_number(it, f"{what}[{at}]", most) for at, it in enumerate(_items(values, what, count))]
+def _row(values: object, what: str, count: int, most: int, kind: type[Enum] | None = None) -> list[int]:
+    return [_number(it, f"{what}[{at}]", most, kind) for at, it in enumerate(_items(values, what, count))]

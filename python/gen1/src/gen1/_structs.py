@@ -312,14 +312,14 @@ class PublicSideStruct(Structure):
         ("first_type", c_uint8),
         ("second_type", c_uint8),
         ("last_move", c_uint8),
-        ("unused", c_uint8),
+        ("invulnerable", c_uint8),
     ]
 
 
 class PublicStruct(Structure):
     """gen1_public."""
 
-    _fields_ = [("sides", PublicSideStruct * 2), ("turn", c_uint16), ("outcome", c_uint8), ("unused", c_uint8)]
+    _fields_ = [("sides", PublicSideStruct * 2), ("turn", c_uint16), ("outcome", c_uint8), ("may_hit_itself", c_uint8)]
 
 
 class OwnMemberStruct(Structure):

@@ -4,13 +4,14 @@ from __future__ import annotations
 
 from collections.abc import Iterable, Iterator
 from ctypes import byref, c_size_t, c_uint8, c_void_p
+from enum import Enum
 from typing import Any, TypeAlias
 
 import numpy as np
 from numpy.typing import ArrayLike, NDArray
 
 from gen1 import _library
-from gen1._check import listed, place, shown, within
+from gen1._check import listed, place, shown, whole, within
 from gen1._outcomes import options_of
 from gen1._threads import in_parts
 from gen1.battle import Battle
@@ -313,6 +314,10 @@ class BattleArray:
         return _all_bytes(given, "seeds")
 
     def _choices(self, given: ArrayLike, name: str) -> Bytes:
+        if isinstance(given, (list, tuple)):
+            for at, it in enumerate(given):
+                if isinstance(it, Enum):
+                    whole(it, f"{name}[{at}]", Choice)
         taken = _array(given, name)
         if taken.dtype.kind not in "ui":
             raise BadType(f"{name} must be whole numbers, not {taken.dtype}")

@@ -129,7 +129,7 @@ class Battle:
         `seed` is ten bytes, `rules` 0 to 3 (`Rules`), and `limit` the last
         turn, 1 to 9,999. Raises `BadTeam`, `BadArgument`, `BadType`.
         """
-        asked_rules, asked_limit = whole(rules, "rules"), whole(limit, "limit")
+        asked_rules, asked_limit = whole(rules, "rules", Rules), whole(limit, "limit")
         terms = a_byte(asked_rules), min(max(asked_limit, 0), 65535)
         numbers, sides = seed_bytes(seed), sides_of(one, two)
         self._held = BattleBytes()
@@ -308,7 +308,7 @@ class Battle:
         to 7, or the member has fainted; `BadArgument` for a place without a
         member.
         """
-        number, sleep = within(status, "status", 0, 5), whole(turns, "turns")
+        number, sleep = within(status, "status", 0, 5, Status), whole(turns, "turns")
         state = self.state.with_member(
             side, place, status=Status(number), sleep=sleep if number == Status.SLEEP else 0, marked=False
         )
@@ -325,7 +325,7 @@ class Battle:
         Raises `BadState` if the stage is not -6 to 6; `BadArgument` for a
         stat that is not 1 to 6, and before the first update.
         """
-        at, state = within(stat, "stat", 1, 6), self.state.with_active(side, stats=(0, 0, 0, 0))
+        at, state = within(stat, "stat", 1, 6, Stat), self.state.with_active(side, stats=(0, 0, 0, 0))
         before = state.side(side).active
         stages = before.stages if before else ()
         return self.from_state(state.with_active(side, stages=(*stages[: at - 1], stage, *stages[at:])))
@@ -432,9 +432,12 @@ class Battle:
         to 255 are divided into that many ranges, and the damages of one
         range are a class. One damage near the middle of each class is
         listed, with the weight of the whole class. All damages that reach
-        the HP of the target (or of its substitute) are one more class, so
-        the chance of a knock-out stays exact, and so does everything other
-        than damage rolls.
+        the HP of the target are one more class. No class holds both damages
+        that break a substitute and damages that don't. So the chance that
+        the first hit of a move knocks out or breaks a substitute stays
+        exact, and so does everything other than damage rolls. Only what
+        depends on the amount of damage is that of the listed one: later
+        hits of a move, recoil, residual damage.
 
         With `least_probability`, 0 to 1, a course of the update is left out
         as soon as its draws so far are less probable than that together. A

@@ -87,7 +87,7 @@ class Choice(Named):
 
 def a_side(value: object) -> int:
     """A side, 1 or 2."""
-    number = whole(value, "side")
+    number = whole(value, "side", Side)
     if number not in (1, 2):
         raise BadArgument(f"side must be 1 or 2, not {digits(number)}")
     return number
@@ -97,7 +97,7 @@ def a_choice(value: object, side: int) -> int:
     """The byte of a choice, whether offered or not."""
     if type(value) is Choice:
         return int(value)
-    return within(value, f"side {side}'s choice", 0, 255)
+    return within(value, f"side {side}'s choice", 0, 255, Choice)
 
 
 def choice_text(byte: int) -> str:

@@ -134,10 +134,10 @@ def _public(side: int) -> int:
 
 
 def _shown_moves(name: str, seen: int) -> Iterator[_Cell]:
-    """The moves that a member was seen to use, in the order of their first use."""
+    """The moves that a member was seen to prepare or to use, in this order."""
     for at in range(5):
         place = seen + SeenStruct.moves.offset + 2 * at
-        yield _category(f"{name} seen move {at + 1}", place, MOVES, "a move that it was seen to use")
+        yield _category(f"{name} seen move {at + 1}", place, MOVES, "a move that it was seen to prepare or to use")
         yield _share(f"{name} seen move {at + 1} uses", place + 1, 64, "how often it was seen to use it, at most 64")
 
 
@@ -200,7 +200,7 @@ def _own_active(side: int) -> Iterator[_Cell]:
         "own last move",
         _public(side) + PublicSideStruct.last_move.offset,
         MOVES,
-        "the move that the active member used last",
+        "the move that the active member used or prepared last",
     )
 
 
@@ -212,7 +212,9 @@ def _foe_active(foe: int) -> Iterator[_Cell]:
         yield _stage(f"foe {stat}", of + it.stages.offset + at)
     for at, place in enumerate((it.first_type.offset, it.second_type.offset)):
         yield _category(f"foe type {at + 1}", of + place, TYPES, "a type of the active member")
-    yield _category("foe last move", of + it.last_move.offset, MOVES, "the move that the active member used last")
+    yield _category(
+        "foe last move", of + it.last_move.offset, MOVES, "the move that the active member used or prepared last"
+    )
 
 
 def _whole(side: int) -> Iterator[_Cell]:

@@ -2,7 +2,8 @@
 with PettingZoo's parallel API.
 
 Neither package is needed. If gymnasium is installed, its spaces and its
-`Env` are used. An action is a number from 0 to 11, the bit of a choice: 0
+`Env` are used, and `gymnasium.make("gen1/Battle-v1")` makes a `BattleEnv`;
+if PettingZoo is, `TwoPlayerEnv` is a `ParallelEnv`. An action is a number from 0 to 11, the bit of a choice: 0
 is pass, 1 to 5 are moves 0 to 4, 6 to 11 are switches to 1 to 6. An
 observation is a row of `gen1.encodings`: the knowledge of the player.
 `gen1.vectors` has environments of many battles at once.
@@ -32,6 +33,7 @@ from gen1.players import Player
 from gen1.spaces import AutoresetMode
 
 _Discrete, _Box, _Base = spaces.made()
+_Parallel = spaces.made_for_pairs()
 # The numbers of the choices, how many choices each mask has, and the n-th of them: as bytes, whose items are faster to read than numpy's.
 _NUMBERS, _COUNTS, _NTH = CHOICES.tobytes(), COUNTS.astype(np.uint8).tobytes(), NTH.tobytes()
 _ALL_MASKS: Masks = np.arange(1 << ACTIONS, dtype=np.uint16)
@@ -45,8 +47,8 @@ _REWARDS = tuple({Outcome.WIN_ONE: 1.0, Outcome.WIN_TWO: -1.0}.get(it, 0.0) for 
 class _Single:
     """The one battle of an environment, stepped without numpy's cost per call: an array of one battle, its addresses and its views."""
 
-    def __init__(self, episodes: Episodes) -> None:
-        self.episodes = episodes
+    def __init__(self, episodes: Episodes, replaces: bool) -> None:
+        self.episodes, self.replaces = episodes, replaces
         players = episodes.players
         places, encoding = players._places(), episodes.encoding
         self.words = players._players.view(np.uint16).reshape(-1).data
@@ -71,21 +73,27 @@ class _Single:
         return self.seen[side - 1].copy()
 
     def choice(self, number: int, side: int) -> int:
-        """The choice that an action means. Raises `Refused` if it is not
+        """The choice that an action means, or a random one if it is not
+        offered and `replaces` is true. Raises `Refused` if it is not
         offered, or if the battle is over.
         """
         mask = self.mask(side)
         if not mask >> number & 1:
             if not mask:
                 raise Refused(Refusal.OVER, f"the battle is over: {Outcome(self.updates[2] & 7).label}; call reset()")
+            if self.replaces:
+                return self.random(mask)
             refuse(mask, _NUMBERS[number], side)
         return _NUMBERS[number]
+
+    def random(self, mask: int) -> int:
+        """One of the choices in a mask, all equally likely."""
+        return _NTH[16 * mask + int(self.episodes.dice.random() * _COUNTS[mask])]
 
     def answer(self, chooser: Chooser) -> int:
         """The opponent's choice for side 2."""
         if chooser is random_choices:
-            mask = self.mask(2)
-            return _NTH[16 * mask + int(self.episodes.dice.random() * _COUNTS[mask])]
+            return self.random(self.mask(2))
         return int(chooser(self.episodes.players, 2, self.episodes.encoding, self.episodes.dice)[0])
 
     def update(self, one: int, two: int) -> int:
@@ -115,8 +123,16 @@ class _Environment:
     _single: _Single | None = None
 
     def _prepare(
-        self, teams: TeamSources, terms: tuple[int, int], render_mode: str | None, observations: Encoding | str
+        self,
+        teams: TeamSources,
+        terms: tuple[int, int],
+        render_mode: str | None,
+        observations: Encoding | str,
+        invalid: str,
     ) -> None:
+        if invalid not in ("refuse", "random"):
+            raise BadArgument(f"invalid must be 'refuse' or 'random', not {shown(invalid)}")
+        self._replaces = invalid == "random"
         if render_mode not in (None, "ansi"):
             raise BadArgument(f"render_mode must be None or 'ansi', not {shown(render_mode)}")
         self.render_mode, encoding = render_mode, encoding_of(observations)
@@ -133,7 +149,7 @@ class _Environment:
         if self._single is None:
             if not self._episodes.begun:
                 raise ResetNeeded(BEFORE)
-            self._single = _Single(self._episodes)
+            self._single = _Single(self._episodes, self._replaces)
         return self._single
 
     def __getstate__(self) -> dict[str, Any]:
@@ -180,8 +196,10 @@ class BattleEnv(_Environment, _Base):  # type: ignore[misc, valid-type]
 
     An action that is not offered raises `Refused`, before the opponent is
     asked, and changes nothing: use `action_masks()`, and pass a mask to
-    `action_space.sample()`. If a function returns an action that is not
-    offered, `Refused` is raised for side 2; the battle is unchanged.
+    `action_space.sample()`. With `invalid="random"` an offered action
+    replaces it, all equally likely, for programs that ignore masks. If a
+    function returns an action that is not offered, `Refused` is raised for
+    side 2; the battle is unchanged.
     """
 
     spec = None
@@ -195,9 +213,10 @@ class BattleEnv(_Environment, _Base):  # type: ignore[misc, valid-type]
         limit: int = 1000,
         render_mode: str | None = None,
         observations: Encoding | str = "player",
+        invalid: str = "refuse",
     ) -> None:
         self._opponent = opponent_of(opponent)
-        self._prepare((one, two), (rules, limit), render_mode, observations)
+        self._prepare((one, two), (rules, limit), render_mode, observations, invalid)
         self.observation_space, self.action_space = self._space, self._actions
 
     def reset(
@@ -235,8 +254,9 @@ class BattleEnv(_Environment, _Base):  # type: ignore[misc, valid-type]
         return (self._single or self._begun()).truths(1)
 
 
-class TwoPlayerEnv(_Environment):
-    """Two players, "one" and "two", with PettingZoo's parallel API.
+class TwoPlayerEnv(_Environment, _Parallel):  # type: ignore[misc, valid-type]
+    """Two players, "one" and "two", with PettingZoo's parallel API. If
+    PettingZoo is installed, it is a `ParallelEnv`.
 
     Both act in each step; a side without a request takes action 0, pass.
     When the battle is over, `agents` becomes empty. The arguments are those
@@ -253,8 +273,9 @@ class TwoPlayerEnv(_Environment):
         limit: int = 1000,
         render_mode: str | None = None,
         observations: Encoding | str = "player",
+        invalid: str = "refuse",
     ) -> None:
-        self._prepare((one, two), (rules, limit), render_mode, observations)
+        self._prepare((one, two), (rules, limit), render_mode, observations, invalid)
         self.possible_agents = ["one", "two"]
         self.agents: list[str] = []
         self.action_spaces = dict.fromkeys(self.possible_agents, self._actions)
@@ -331,3 +352,14 @@ class TwoPlayerEnv(_Environment):
 
     def _info(self, side: int) -> dict[str, Any]:
         return {"action_mask": self._begun().truths(side)}
+
+
+def register() -> None:
+    """Registers `gen1/Battle-v1` with Gymnasium: `BattleEnv`, and `VectorEnv`
+    for many. An installed package is registered without this call.
+    """
+    from gymnasium.envs.registration import register as registered  # type: ignore[import]
+
+    registered(
+        id="gen1/Battle-v1", entry_point="gen1.environments:BattleEnv", vector_entry_point="gen1.vectors:VectorEnv"
+    )

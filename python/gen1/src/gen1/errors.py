@@ -197,13 +197,25 @@ class BadText(BadTeam):
     `line` is the wrong line, from 1, or 0 if the error is not about one
     line. `member` and `column` are the member and its field in a packed
     line, from 1, else 0. `text_code` is the form that was expected there.
+    `found` is the name, line or field that is wrong, or empty if the error
+    is about several, and `near` the name nearest to it, or None.
     """
 
     def __init__(
-        self, said: str, text_code: TextFault, *, line: int, member: int, column: int, code: NewFault | None
+        self,
+        said: str,
+        text_code: TextFault,
+        *,
+        line: int,
+        member: int,
+        column: int,
+        code: NewFault | None,
+        found: str = "",
+        near: str | None = None,
     ) -> None:
         super().__init__(said, member=member, code=code)
         self.text_code, self.line, self.column = text_code, line, column
+        self.found, self.near = found, near
 
 
 def _restored(kind: type[Error], args: tuple[Any, ...], held: dict[str, Any]) -> Error:

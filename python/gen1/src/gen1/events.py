@@ -416,7 +416,8 @@ def log_bytes(given: Iterable[Event]) -> bytes:
         of = _library.EventStruct(tag=it.kind)
         for name, value in _numbers(it, f"events[{at}]"):
             most = 65_535 if name in ("hp", "max_hp", "turn") else 255
-            number = whole(value, f"events[{at}]: {name}")
+            number = whole(value, f"events[{at}]: {name}", _KINDS.get(name.removeprefix("target_")))
+            name = _DETAILS.get(name, name)
             setattr(of, name, number if 0 <= number <= most else most)
         code = _bytes_of(of)
         if not code:
@@ -426,7 +427,7 @@ def log_bytes(given: Iterable[Event]) -> bytes:
 
 
 def _numbers(event: Event, what: str) -> Iterator[tuple[str, Any]]:
-    """The fields of an event, with their names in the library's struct."""
+    """The fields of an event by name; those of its foe begin with "target_"."""
     for name in (it.name for it in fields(event)):
         value = getattr(event, name)
         for part, kind in (("who", Who), ("foe", Who), ("health", Health)):
@@ -438,9 +439,20 @@ def _numbers(event: Event, what: str) -> Iterator[tuple[str, Any]]:
         elif isinstance(value, Health):
             yield from (("hp", value.hp), ("max_hp", value.max_hp), ("status", value.status))
         else:
-            yield _DETAILS.get(name, name), value
+            yield name, value
 
 
+_KINDS = {
+    "side": Side,
+    "species": Species,
+    "status": Status,
+    "move": Move,
+    "reason": Reason,
+    "source": Source,
+    "volatile": Volatile,
+    "stat": Stat,
+}
+# The names of fields in the library's struct where they differ.
 _DETAILS = {
     **dict.fromkeys(("reason", "source", "volatile", "stat", "fault"), "detail"),
     **dict.fromkeys(("stages", "hits"), "amount"),

@@ -26,6 +26,7 @@ FREE = (
     | Conditions.CONFUSED
     | Conditions.SUBSTITUTE
     | Conditions.BAD_POISON
+    | Conditions.INVULNERABLE
 )
 TIED = {
     Conditions.BIDE: (Effect.BIDE,),
@@ -48,6 +49,7 @@ ANNOUNCED = {
     "bide": Conditions.BIDE,
     "charging": Conditions.CHARGING,
     "recharging": Conditions.RECHARGE,
+    "invulnerable": Conditions.INVULNERABLE,
 }
 
 
@@ -154,10 +156,9 @@ def _under(active: ActiveState, on: Conditions, member: MemberState, last: Move 
         slots = [at for at, it in enumerate(member.moves, 1) if move_data(it).effect in effects]
         if on & which and slots:
             slot = used if used in slots else slots[0]
-            hidden = on & Conditions.INVULNERABLE if which is Conditions.CHARGING else Conditions.NONE
             return replace(
                 active,
-                conditions=active.conditions | which | hidden,
+                conditions=active.conditions | which,
                 current_move=slot,
                 picked_move=slot,
                 turns=UNDERWAY if which in (Conditions.BIDE, Conditions.THRASH, Conditions.TRAPPING) else 0,

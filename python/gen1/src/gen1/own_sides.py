@@ -4,14 +4,17 @@ shown of itself").
 
 from __future__ import annotations
 
-from ctypes import byref
+from ctypes import byref, sizeof
 from dataclasses import dataclass
+from functools import lru_cache
+from struct import Struct
 from typing import Any
 
 from gen1 import _library
-from gen1._structs import OwnMemberStruct, OwnSideStruct
+from gen1._check import by_number
+from gen1._structs import OwnMemberStruct, OwnSideStruct, reader
 from gen1.names import Conditions, Move, Outcome, Request, Species, Stat, Status, Type
-from gen1.states import stages_of
+from gen1.states import KEPT, stage_in, stages_of
 
 
 @dataclass(frozen=True)
@@ -42,13 +45,17 @@ class OwnSide:
     zeros.
     """
 
-    __slots__ = ("_held",)
+    __slots__ = ("_held", "_members")
     _held: OwnSideStruct
+    # None before the first use of `members`.
+    _members: tuple[OwnMember, ...] | None
 
     @property
     def members(self) -> tuple[OwnMember, ...]:
-        """Its members in the order of their places."""
-        return tuple(_own_member(it) for it in self._held.members[: self._held.count])
+        """Its members in the order of their places, decoded on first use."""
+        if self._members is None:
+            self._members = tuple([_own_member(it) for it in _MEMBERS(self._held)[: self._held.count]])
+        return self._members
 
     @property
     def place(self) -> int:
@@ -112,8 +119,8 @@ class OwnSide:
         return Outcome(self._held.outcome)
 
     def stage(self, stat: Stat) -> int:
-        """The stage of a stat, -6 to 6."""
-        return self.stages[stat - 1]
+        """The stage of a stat, -6 to 6. Raises `BadArgument`, `BadType`."""
+        return stage_in(self.stages, stat)
 
     def __reduce__(self) -> tuple[Any, ...]:
         return own_side_from, (bytes(self._held),)
@@ -131,22 +138,42 @@ class OwnSide:
         return f"<OwnSide, turn {self.turn}, {out.species.label if out else 'nobody'} out, asked {self.request}>"
 
 
-def _own_member(of: OwnMemberStruct) -> OwnMember:
-    slots = [at for at in range(4) if of.moves[at]]
-    moves, pp = tuple(Move(of.moves[at]) for at in slots), tuple(of.pp[at] for at in slots)
-    return OwnMember(Species(of.species), of.level, Status(of.status), moves, pp, of.hp, of.max_hp, tuple(of.stats))
+@lru_cache(KEPT)
+def _own_member(held: bytes) -> OwnMember:
+    """The member with these bytes. Most members did not change since they were last shown."""
+    of = _MEMBER(held)
+    pairs = [(_MOVE[move], pp) for move, pp in zip(of["moves"], of["pp"]) if move]
+    return OwnMember(
+        species=_SPECIES[of["species"]],
+        level=of["level"],
+        status=_STATUS[of["status"]],
+        moves=tuple([move for move, _ in pairs]),
+        pp=tuple([pp for _, pp in pairs]),
+        hp=of["hp"],
+        max_hp=of["max_hp"],
+        stats=_STATS(of["stats"]),
+    )
 
 
 def own_side_of(held: Any, side: int) -> OwnSide:
     """A side of the battle with these 384 bytes, as it is shown to its own player."""
-    made = OwnSide.__new__(OwnSide)
-    made._held = OwnSideStruct()
-    _library.get_own_side(byref(held), side, byref(made._held))
-    return made
+    shown = OwnSideStruct()
+    _library.get_own_side(byref(held), side, byref(shown))
+    return _made(shown)
 
 
 def own_side_from(held: bytes) -> OwnSide:
     """The `OwnSide` with the bytes of this struct."""
+    return _made(OwnSideStruct.from_buffer_copy(held))
+
+
+def _made(held: OwnSideStruct) -> OwnSide:
     made = OwnSide.__new__(OwnSide)
-    made._held = OwnSideStruct.from_buffer_copy(held)
+    made._held, made._members = held, None
     return made
+
+
+_SPECIES, _MOVE, _STATUS = by_number(Species), by_number(Move), by_number(Status)
+_MEMBER, _STATS = reader(OwnMemberStruct), Struct("=4H").unpack
+# The members of a side, as their bytes.
+_MEMBERS = Struct(6 * f"{sizeof(OwnMemberStruct)}s").unpack_from

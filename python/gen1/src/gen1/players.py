@@ -5,32 +5,35 @@ reports the battle to it (docs/MECHANICS.md, "Player's view").
 from __future__ import annotations
 
 from collections.abc import Iterable
-from ctypes import byref, c_size_t, create_string_buffer
-from dataclasses import dataclass, fields
+from ctypes import byref, c_size_t, create_string_buffer, sizeof
+from dataclasses import dataclass
+from struct import Struct
 from typing import TYPE_CHECKING, Any
 
 from gen1 import _library
 from gen1._check import digits, listed, octets, shown, truth, whole, within
-from gen1._structs import LOG_ROOM, PlayerStruct, PublicSideStruct, SeenStruct, TellerStruct
+from gen1._structs import ANNOUNCED, LOG_ROOM, OwnMemberStruct, PlayerStruct, PublicSideStruct, SeenStruct, TellerStruct
 from gen1.battle import Battle, TeamLike
 from gen1.choices import Choice, Side, a_side
 from gen1.errors import BadArgument, BadLog, BadTeam, BadType
-from gen1.names import LogFault, Move, NewFault, Outcome, Species, Stat, Status, Type
+from gen1.names import LogFault, Move, NewFault, Outcome, Request, Species, Stat, Status, Type
 from gen1.own_sides import OwnSide, own_side_from
 from gen1.spectators import fault_place
-from gen1.states import stages_of
+from gen1.states import stage_in, stages_of
 from gen1.teams import as_team
 
 if TYPE_CHECKING:
     from _typeshed import ReadableBuffer
 
 CHOICES = tuple(Choice)
+# The bit of each choice in a mask, by the choice's number.
+_BITS = {int(it): 1 << bit for bit, it in enumerate(CHOICES)}
 
 
 @dataclass(frozen=True)
 class SeenMove:
-    """A move that a member was seen to use, and how often: 1 to 255, where 255
-    means 255 or more.
+    """A move that a member was seen to prepare or to use, and how often it
+    used it: 0 to 255, where 255 means 255 or more.
     """
 
     move: Move
@@ -42,8 +45,8 @@ class Seen:
     """A member as the log last showed it.
 
     `hp` is 0 to `max_hp`, which is 48 for a foe whose HP is given in 48ths.
-    `moves` are those that it was seen to use, at most five (four and
-    Struggle), in the order of their first use.
+    `moves` are those that it was seen to prepare or to use, at most five
+    (four and Struggle), in the order in which they were first seen.
     """
 
     species: Species
@@ -60,7 +63,8 @@ class Announced:
     ended.
 
     `seeded` is Leech Seed, and `toxic` says that its poison is that of
-    Toxic.
+    Toxic. The move of `charging` is the last move. `invulnerable` is out of
+    reach by Fly or Dig, which may outlast the move.
     """
 
     substitute: bool
@@ -76,6 +80,7 @@ class Announced:
     bide: bool
     charging: bool
     recharging: bool
+    invulnerable: bool
 
 
 @dataclass(frozen=True)
@@ -88,7 +93,7 @@ class PublicSide:
     before the first comes out. `active` is the active member, or None. All
     later fields belong to it: `stages`, -6 to 6, of Attack, Defense, Speed,
     Special, accuracy and evasion; its types, the first twice for a member
-    of one type; the move that it used last, None if it has used none since
+    of one type; the move that it used or prepared last, None if none since
     it came out; and the announced conditions.
     """
 
@@ -101,8 +106,8 @@ class PublicSide:
     announced: Announced
 
     def stage(self, stat: Stat) -> int:
-        """The stage of a stat, -6 to 6."""
-        return self.stages[stat - 1]
+        """The stage of a stat, -6 to 6. Raises `BadArgument`, `BadType`."""
+        return stage_in(self.stages, stat)
 
 
 class Player:
@@ -153,19 +158,30 @@ class Player:
 
     def show(self, own: OwnSide, offered: Iterable[Choice | int]) -> None:
         """Replaces the own side that the player was last shown, and its
-        choices, which may be in any order. Raises `BadArgument`, `BadType`.
+        choices, which may be in any order. Raises `BadType`, and
+        `BadArgument` for the side of another team, and for no choices.
         """
         if not isinstance(own, OwnSide):
             raise BadType(f"own must be an OwnSide, not {shown(own)}")
+        team = self._team
+        if team != _OWN_TEAM(own._held):
+            raise BadArgument(
+                f"own must be the side of the player's team, {_names(team)}, not {_names(_OWN_TEAM(own._held))}"
+            )
         mask = 0
         for at, it in enumerate(listed(offered, "offered", len(CHOICES))):
             if at == len(CHOICES):
                 raise BadArgument(f"offered must have at most {len(CHOICES)} choices")
-            number = whole(it, f"offered[{at}]")
-            if number not in CHOICES:
+            number = it if type(it) is Choice else whole(it, f"offered[{at}]", Choice)
+            if number not in _BITS:
                 raise BadArgument(f"offered[{at}] must be a choice, not {digits(number)}")
-            mask |= 1 << CHOICES.index(Choice(number))
+            mask |= _BITS[number]
         _library.player_show(byref(self._held), byref(own._held), mask)
+
+    @property
+    def _team(self) -> tuple[int, ...]:
+        """The species and level of each member of its own side, by the log."""
+        return _TEAM(self._held, _MEMBERS[self._held.side - 1])
 
     @property
     def side(self) -> Side:
@@ -303,18 +319,26 @@ class Teller:
 
         For a room, whose battle a forfeit does not change, use `tell`,
         `Player.feed` and `Player.show` with `room.choices`. Raises
-        `BadLog`, `BadArgument` for a player of the other side, `BadType`;
-        then teller and player are unchanged.
+        `BadLog`, `BadType`, and `BadArgument` for a player of the other
+        side or with another team, and for a log that does not end at the
+        battle's turn, such as one that was skipped or repeated; then
+        teller and player are unchanged.
         """
         for value, kind, name in ((battle, Battle, "battle"), (player, Player, "player")):
             if not isinstance(value, kind):
                 raise BadType(f"{name} must be a {kind.__name__}, not {shown(value)}")
         if player.side is not self.side:
             raise BadArgument(f"player must be of {self.side.label}, like the teller, not of {player.side.label}")
-        teller = self.copy()
-        player.feed(teller.tell(log))
-        player.show(battle.own_side(self.side), battle.choices(self.side))
-        self._held = teller._held
+        teller, informed, own = self.copy(), player.copy(), battle.own_side(self.side)
+        informed.show(own, battle.choices(self.side))
+        informed.feed(teller.tell(log))
+        begins = own.request is Request.MOVE
+        if informed._team != _OWN_TEAM(own._held) or begins and not player.turn < informed.turn == own.turn:
+            raise BadArgument(
+                "log is not that of the battle's last update, or was reported before: the player was at turn "
+                f"{player.turn:,}, is at {informed.turn:,} after the log, and the battle at {own.turn:,}"
+            )
+        self._held, player._held = teller._held, informed._held
 
     def copy(self) -> Teller:
         """An independent copy that reports the same."""
@@ -346,7 +370,7 @@ def _seen(of: SeenStruct) -> Seen:
 
 def _public(of: PublicSideStruct) -> PublicSide:
     members = tuple(_seen(it) for it in of.members if it.species)
-    announced = Announced(*(bool(getattr(of.announced, it.name)) for it in fields(Announced)))
+    flags = {name: bool(getattr(of.announced, name)) for name in ANNOUNCED}
     return PublicSide(
         members=members,
         place=of.place,
@@ -354,8 +378,20 @@ def _public(of: PublicSideStruct) -> PublicSide:
         stages=stages_of(of.stages),
         types=(Type(of.first_type), Type(of.second_type)),
         last_move=Move(of.last_move) if of.last_move else None,
-        announced=announced,
+        announced=Announced(**flags, invulnerable=bool(of.invulnerable)),
     )
+
+
+def _names(team: tuple[int, ...]) -> str:
+    """The members of a team, from the species and level of each."""
+    pairs = zip(team[::2], team[1::2])
+    return ", ".join(f"{Species(species)} at level {level}" for species, level in pairs if species) or "nobody"
+
+
+# Reads the species and level of each member of a side: of a player's team, from the place of its side, and of an own side.
+_TEAM = Struct(6 * f"{SeenStruct.species.offset}x2B{sizeof(SeenStruct) - SeenStruct.species.offset - 2}x").unpack_from
+_OWN_TEAM = Struct(6 * f"2B{sizeof(OwnMemberStruct) - 2}x").unpack_from
+_MEMBERS = [PlayerStruct.known.offset + at * sizeof(PublicSideStruct) for at in range(2)]
 
 
 def _player(held: bytes) -> Player:

@@ -11,7 +11,7 @@ from typing import Any
 
 from gen1._check import seed_bytes, whole
 from gen1.battle import Battle, SeedLike, TeamLike, Update, sides_of
-from gen1.choices import Choice, Side
+from gen1.choices import Choice, Rules, Side
 from gen1.errors import BadArgument, Refused
 from gen1.teams import Member
 
@@ -28,7 +28,7 @@ class Recorder:
         """Creates a battle as `Battle(..)` does, before its first update."""
         self.teams, self._seed = sides_of(one, two), seed_bytes(seed)
         self._battle = Battle(*self.teams, self._seed, rules, limit)
-        self._terms = whole(rules, "rules"), whole(limit, "limit")
+        self._terms = whole(rules, "rules", Rules), whole(limit, "limit")
         self._pairs: list[tuple[int, int]] = []
 
     @property

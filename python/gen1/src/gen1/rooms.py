@@ -9,9 +9,9 @@ from threading import RLock
 from typing import Any
 
 from gen1 import _library
-from gen1._check import shown, within
+from gen1._check import seed_bytes, shown, within
 from gen1._structs import LOG_ROOM, RoomStruct
-from gen1.battle import CHOICE, CHOICES, RESULTS, Battle, Result, Update, battle_of
+from gen1.battle import CHOICE, CHOICES, RESULTS, Battle, Result, SeedLike, Update, battle_of
 from gen1.choices import Choice, Side, a_choice, a_side, not_offered
 from gen1.errors import BadType, RoomRefused
 from gen1.names import RoomRefusal
@@ -71,8 +71,11 @@ class Room:
 
     @property
     def log(self) -> bytes:
-        """The log bytes of the last pair that ended; before the first, those
-        of the start, or none if the battle had already begun.
+        """The log bytes of the last pair that ended; before the first,
+        those of the start, or none if the battle had already begun.
+
+        They are for the host: they hold the foe's places and exact HP.
+        Send a side the bytes that `Teller.tell` returns for them.
         """
         with self._lock:
             return bytes(self._held.log[: self._held.log_length])
@@ -105,6 +108,18 @@ class Room:
             if code:
                 raise self._refused(RoomRefusal(code), known, pair, byte)
             return Update(self.result, self.log) if self.number != before else None
+
+    def reseed(self, seed: SeedLike) -> None:
+        """Replaces the ten numbers that the battle draws, of which the first
+        is drawn next. Nothing else changes: a choice that was submitted
+        stays.
+
+        A host does so before each pair, with `os.urandom(10)`. Otherwise a
+        player that has seen nine draws can predict all that follow.
+        """
+        numbers = _library.SeedBytes(*seed_bytes(seed))
+        with self._lock:
+            _library.reseed(byref(self._held.battle), numbers, 0)
 
     def forfeit(self, side: Side | int) -> Update:
         """Ends the current pair by a forfeit of a side: the other side wins.

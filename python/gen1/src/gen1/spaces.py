@@ -153,6 +153,15 @@ def made() -> tuple[Any, Any, Any]:
     return Discrete, Box, object
 
 
+def made_for_pairs() -> Any:
+    """The base class of an environment of two players."""
+    if find_spec("pettingzoo"):
+        import pettingzoo  # type: ignore[import]
+
+        return pettingzoo.ParallelEnv
+    return object
+
+
 def made_for_vectors() -> tuple[Any, Any, Any]:
     """The class MultiDiscrete, the base class of a vector environment, and the
     enum of its modes.

@@ -14,7 +14,7 @@ from gen1._structs import ShownSideStruct, SpectatorStruct
 from gen1.battle import TeamLike, sides_of
 from gen1.errors import BadLog, BadTeam
 from gen1.names import LogFault, NewFault, Outcome, Stat, Status
-from gen1.states import stages_of
+from gen1.states import stage_in, stages_of
 
 if TYPE_CHECKING:
     from _typeshed import ReadableBuffer
@@ -49,8 +49,8 @@ class ShownSide:
     reflect: bool
 
     def stage(self, stat: Stat) -> int:
-        """The stage of a stat, -6 to 6."""
-        return self.stages[stat - 1]
+        """The stage of a stat, -6 to 6. Raises `BadArgument`, `BadType`."""
+        return stage_in(self.stages, stat)
 
 
 @dataclass(frozen=True)

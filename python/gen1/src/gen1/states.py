@@ -76,8 +76,8 @@ class ActiveState:
     energy: int
 
     def stage(self, stat: Stat) -> int:
-        """The stage of a stat, -6 to 6."""
-        return self.stages[stat - 1]
+        """The stage of a stat, -6 to 6. Raises `BadArgument`, `BadType`."""
+        return stage_in(self.stages, stat)
 
 
 @dataclass(frozen=True)
@@ -202,6 +202,11 @@ def state_of(held: Any) -> State:
             "numbers": tuple(numbers),
         },
     )
+
+
+def stage_in(stages: tuple[int, ...], stat: object) -> int:
+    """The stage of a stat, 1 to 6, among the six of an active member."""
+    return stages[within(stat, "stat", 1, 6, Stat) - 1]
 
 
 def stages_of(given: Any) -> tuple[int, ...]:

@@ -74,5 +74,5 @@ def effectiveness(attack: Type | int, foe: Type | int) -> Fraction:
     other. Raises `BadArgument`, `BadType`.
     """
     tenths = c_uint8(0)
-    _library.effectiveness(within(attack, "attack", 0, 14), within(foe, "foe", 0, 14), byref(tenths))
+    _library.effectiveness(within(attack, "attack", 0, 14, Type), within(foe, "foe", 0, 14, Type), byref(tenths))
     return Fraction(tenths.value, 10)

@@ -5,9 +5,10 @@ from ctypes import POINTER, Structure, byref, c_size_t, c_uint8
 from typing import Any
 
 from gen1 import _library
-from gen1._check import shown, with_genders
-from gen1.errors import BadArgument, BadText, BadType
-from gen1.names import NewFault, TextFault
+from gen1._check import cut, nearest, shown, with_genders
+from gen1._check import move as a_move
+from gen1.errors import BadArgument, BadTeam, BadText, BadType
+from gen1.names import Move, NewFault, Species, TextFault
 
 
 class FaultStruct(Structure):
@@ -49,7 +50,7 @@ def _members(call: Any, text: object) -> list[dict[str, Any]]:
         raise BadType(f"text must be a str, not {shown(text)}")
     given, made, fault = with_genders(text).encode("utf-8", "surrogatepass"), _library.TeamStruct(), FaultStruct()
     if call(given, len(given), byref(made), byref(fault)):
-        raise _fault(fault)
+        raise _fault(fault, text)
     return [_member(made.members[at]) for at in range(made.count)]
 
 
@@ -58,13 +59,54 @@ def _member(of: _library.MemberStruct) -> dict[str, Any]:
     return {"species": of.species, "level": of.level, "dvs": list(of.dvs), "exp": list(of.exp), "moves": moves}
 
 
-def _fault(of: FaultStruct) -> BadText:
+def _fault(of: FaultStruct, text: str) -> BadText:
     code, rule = TextFault(of.code), NewFault(of.rule) if of.rule else None
-    places = (("line", of.line), ("member", of.member), ("field", of.field))
+    # The error itself names the member.
+    places = (("line", of.line), ("field", of.field))
     where = ", ".join(f"{name} {number}" for name, number in places if number)
     expected = rule.label if rule else f"expected: {code.label}"
     said = f"{where}: {expected}" if where else expected
-    return BadText(said, code, line=of.line, member=of.member, column=of.field, code=rule)
+    found = _word(of, code, text) if code in _FORMS else ""
+    near = nearest(found, _FORMS[code]) if found else None
+    said += f", not {cut(repr(found))}" * bool(found) + f"; did you mean {near!r}?" * bool(near)
+    return BadText(said, code, line=of.line, member=of.member, column=of.field, code=rule, found=found, near=near)
+
+
+# The faults about one word or line, with the names that may be near it.
+_FORMS: dict[TextFault, list[str]] = {
+    TextFault.SPECIES: [it.label for it in Species],
+    TextFault.MOVE: [it.label for it in Move],
+    TextFault.LEVEL: [],
+    TextFault.EVS: [],
+    TextFault.IVS: [],
+    TextFault.LINE: [],
+}
+
+
+def _word(of: FaultStruct, code: TextFault, text: str) -> str:
+    """The text of the line or field that a fault is about; of a name only that, without a nickname and a gender."""
+    found: str
+    if of.line:
+        found = text.split("\n")[of.line - 1].strip()
+    elif of.field:
+        fields = [it.strip() for it in text.split("]")[of.member - 1].split("|")]
+        # Without a nickname the species may be in the first field.
+        found = fields[of.field - 1] or fields[0]
+    else:
+        return ""
+    if code is TextFault.MOVE:
+        return next(filter(_is_no_move, found.removeprefix("-").split(",")), found).strip()
+    if code is TextFault.SPECIES:
+        found = found.removesuffix("(M)").removesuffix("(F)").strip()
+        return found[found.rfind("(") + 1 : -1] if found.endswith(")") and "(" in found else found
+    return found
+
+
+def _is_no_move(name: str) -> bool:
+    try:
+        return not a_move(name.strip())
+    except BadTeam:
+        return True
 
 
 def _block(place: int, of: dict[str, Any]) -> str:
