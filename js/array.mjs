@@ -226,16 +226,16 @@ export class BattleArray {
    * Plays `rounds` copies of each battle with random choices, to their end or to a depth. Returns four counts for each battle: wins of side 1, wins
    * of side 2, ties, faults. The battle at place N is played out with the seed plus N.
    */
-  playouts(seed, rounds, {depth, weights} = {}) {
+  playouts(seed, rounds, options = {}) {
     const [first, found] = [playoutSeed(seed), new Uint32Array(4 * this.length)];
     this.#library.begin();
-    const options = this.#library.put(playoutOptions(this.#library, first, rounds, {depth, weights}));
+    const given = this.#library.put(playoutOptions(this.#library, first, rounds, options));
     const counts = this.#pointer(this.#places.scratch);
     const {buffer} = this.#library.bytes;
-    const [own, view] = [new BigUint64Array(buffer, Number(options), 1), new Uint32Array(buffer, Number(counts), 4)];
+    const [own, view] = [new BigUint64Array(buffer, Number(given), 1), new Uint32Array(buffer, Number(counts), 4)];
     for (let at = 0; at < this.length; at++) {
       own[0] = BigInt.asUintN(64, first + BigInt(at));
-      const code = this.#library.calls.gen1_playout(this.#pointer(at * BATTLE_SIZE), options, counts);
+      const code = this.#library.calls.gen1_playout(this.#pointer(at * BATTLE_SIZE), given, counts);
       if (code) throw loadError(this.#library, code, BATTLE_SIZE);
       found.set(view, 4 * at);
     }

@@ -7,7 +7,7 @@ import {CODES} from "./header.mjs";
 import {inspected} from "./inspecting.mjs";
 import {outcomeOptions, outcomesOf} from "./outcomes.mjs";
 import {libraryOf} from "./players.mjs";
-import {blockOfState, indexOf, memberAt} from "./states.mjs";
+import {blockOfState, indexOf, isState, memberAt} from "./states.mjs";
 import {MOVES} from "./tables.mjs";
 import {bytesOf, moveOf, Team, teamAt, teamError, teamGiven} from "./teams.mjs";
 import {made, Update} from "./update.mjs";
@@ -15,6 +15,7 @@ import {chancesOf, oddsOf, ownSideOf, resultOf, stateOf, STATS, STATUSES, threeC
 
 const FACTORS = 39;
 const TERMS_KEYS = ["one", "two", "seed", "rules", "limit"];
+const PLAYOUT_KEYS = ["depth", "weights"];
 
 /** The error text for a choice that is not offered. */
 export function notOffered(sentence, byte, offered) {
@@ -138,12 +139,13 @@ export class Battle {
     return ownSideOf(this.#library.bytes, Number(own));
   }
 
-  /** A copy of this battle with the state as `change` changed it. `change` is passed a copy of the state. */
+  /** A copy of this battle with the state as `change` changed it, or with the state that it returned. `change` is passed a copy of the state. */
   withState(change) {
     if (typeof change !== "function") throw wrongType(change, "change", "a function that changes a state");
     const {state} = this;
-    change(state);
-    return new Battle(this.#library, blockOfState(this.#library, state));
+    const returned = change(state);
+    if (typeof returned?.then === "function") throw wrongType(change, "change", "a function that returns no promise");
+    return new Battle(this.#library, blockOfState(this.#library, isState(returned) ? returned : state));
   }
 
   /** A copy of this battle with other HP of a member. */
@@ -240,9 +242,9 @@ export class Battle {
   }
 
   /** Plays `rounds` copies with random choices, to their end or to a depth, and counts how they end. The battle is unchanged. */
-  playout(seed, rounds, {depth, weights} = {}) {
-    const options = playoutOptions(this.#library, playoutSeed(seed), rounds, {depth, weights});
-    const [battle, given, counts] = [this.#begin(), this.#library.put(options), this.#library.roomOf("gen1_playouts")];
+  playout(seed, rounds, options = {}) {
+    const bytes = playoutOptions(this.#library, playoutSeed(seed), rounds, options);
+    const [battle, given, counts] = [this.#begin(), this.#library.put(bytes), this.#library.roomOf("gen1_playouts")];
     const code = this.#library.calls.gen1_playout(battle, given, counts);
     if (code) throw loadError(this.#library, code, BATTLE_SIZE);
     return this.#library.readStruct("gen1_playouts", counts);
@@ -251,7 +253,7 @@ export class Battle {
   /** All battles that an update by a choice of each side can lead to, with their exact probabilities. The battle is unchanged. */
   outcomes(one, two, options = {}) {
     const pair = [choiceByte(one, 1), choiceByte(two, 2)];
-    const given = outcomeOptions(this.#library, object(options, "options", "an object with options"));
+    const given = outcomeOptions(this.#library, options);
     const battle = this.#begin();
     const asked = [...pair, this.#library.put(given)];
     const [code, found] = outcomesOf(this.#library, battle, asked, (block) => new Battle(this.#library, block));
@@ -327,7 +329,8 @@ export function playoutSeed(value) {
 }
 
 /** The bytes of gen1_playout_options. */
-export function playoutOptions(library, seed, rounds, {depth, weights}) {
+export function playoutOptions(library, seed, rounds, given) {
+  const {depth, weights} = record(given, "options", "an object with options", PLAYOUT_KEYS);
   const options = {seed, rounds: within(rounds, "rounds", 0, 2 ** 32 - 1)};
   if (depth !== undefined) options.depth = within(depth, "depth", 1, 2 ** 32 - 1);
   if (weights !== undefined) options.weights = weightsOf(library, weights);

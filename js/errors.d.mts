@@ -42,6 +42,10 @@ export class TextError extends Gen1Error {
   readonly field: number;
   /** With code 77 the code of a TeamError; else 0. */
   readonly rule: number;
+  /** The name, line or field that is wrong; empty if the error is about several. */
+  readonly found: string;
+  /** The name nearest to it, or null. */
+  readonly near: string | null;
 }
 /** The bytes are not a battle. `code`, 16 to 22, belongs to the first of the seven tests that they fail (docs/LAYOUT.md, "Loading"). */
 export class LoadError extends Gen1Error {}

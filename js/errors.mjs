@@ -47,11 +47,14 @@ export class TeamError extends Gen1Error {
   }
 }
 
-/** A text is not a team. Places are from 1, or 0 for none. With code 77 `rule` is the code of a TeamError. */
+/**
+ * A text is not a team. Places are from 1, or 0 for none. With code 77 `rule` is the code of a TeamError. `found` is the name, line or field that
+ * is wrong, or empty if the error is about several, and `near` the name nearest to it, or null.
+ */
 export class TextError extends Gen1Error {
-  constructor(message, {code, line, member, field, rule}, reason) {
+  constructor(message, {code, line, member, field, rule, found, near}, reason) {
     super(message, code, reason);
-    Object.assign(this, {line, member, field, rule});
+    Object.assign(this, {line, member, field, rule, found, near});
   }
 }
 

@@ -243,8 +243,13 @@ export interface Odds {
   hitChance: number;
   /** Why the use cannot hit, one of REASONS; null if it can. */
   reason: string | null;
-  /** Without the usual damage: the least and the most damage; all from the least to the most are equally likely. Null if there is none. */
+  /**
+   * Without the usual damage: the least and the most damage; all from the least to the most are equally likely. Null if there is none. Of a
+   * move that is `oneHit` both are 65535, which is no number of HP to print.
+   */
   fixed: [number, number] | null;
+  /** Whether it is Fissure, Guillotine or Horn Drill. A use that hits breaks any substitute and knocks out any foe. */
+  oneHit: boolean;
   /** The chances that a use that hits makes 0 to 5 hits, each with the same damage: multiples of 1/8. */
   hits: number[];
   /** Whether the user would only charge now. The odds are then those of its strike. */
@@ -329,13 +334,13 @@ export interface SeenMember {
   /** In 48ths if the teller hides exact HP. */
   hp: number;
   maxHp: number;
-  /** The moves that it used, in the order of their first use, and how often, 1 to 255. */
+  /** The moves that it was seen to prepare or to use, in the order of their appearance, and how often it used them, 0 to 255. */
   moves: { name: MoveName; uses: number }[];
 }
 
 /** A condition that the log announces. */
 export type Announced = "substitute" | "confused" | "mist" | "focus energy" | "light screen" | "reflect" | "seeded" | "toxic" | "disabled" | "rage"
-  | "bide" | "charging" | "recharging";
+  | "bide" | "charging" | "recharging" | "invulnerable";
 
 /** The active member as the log has shown it. */
 export interface SeenActive {
@@ -344,7 +349,7 @@ export interface SeenActive {
   types: TypeName[];
   /** -6 to 6: Attack, Defense, Speed, Special, accuracy, evasion. */
   stages: number[];
-  /** Null if it has used none since it came out. */
+  /** The move that it used or prepared last; while it is charging, the move that it charges. Null if none since it came out. */
   lastMove: MoveName | null;
   /** Those that were announced and have not ended. */
   announced: Announced[];
@@ -434,8 +439,10 @@ export interface OutcomeOptions {
   /**
    * The most classes of a damage roll, 1 to 39; by default 0, which lists each damage. For a search that wants fewer outcomes: the 39 factors
    * from 217 to 255 are divided into that many ranges, and the damages of one range are a class. One damage near the middle of each class is
-   * listed, with the weight of the whole class. All damages that reach the HP of the target (or of its substitute) are one more class, so the
-   * chance of a knock-out stays exact, and so does everything other than damage rolls.
+   * listed, with the weight of the whole class. All damages that reach the HP of the target are one more class. No class holds both damages
+   * that break a substitute and damages that don't. So the chance that the first hit of a move knocks out or breaks a substitute stays exact,
+   * and so does everything other than damage rolls. Only what depends on the amount of damage is that of the listed one: later hits of a
+   * move, recoil, residual damage.
    */
   damageClasses?: number;
   /**
@@ -522,11 +529,14 @@ export class Battle {
   readonly result: Result;
   readonly isOver: boolean;
   readonly state: State;
-  /** An independent copy. It draws the same numbers unless it is reseeded. */
+  /**
+   * An independent copy. It draws the same numbers unless it is reseeded. In a loop, `free` each copy, or make one and let it become the next
+   * by `copyFrom`: both take about as long, and a copy that is not freed takes several times as long, since it needs new memory.
+   */
   clone(): Battle;
-  /** Becomes a copy of another battle, which takes less time than a clone. */
+  /** Becomes a copy of another battle, in the memory that this one has. */
   copyFrom(battle: Battle): void;
-  /** Frees the memory at once. Every later call of this battle, except `free`, throws FreedError. */
+  /** Frees the memory at once, for the next copy. Every later call of this battle, except `free`, throws FreedError. */
   free(): void;
   /** Calls `free`, for `using` declarations, if the host has Symbol.dispose. */
   [Symbol.dispose](): void;
@@ -534,7 +544,10 @@ export class Battle {
   toJSON(): State;
   /** A side as it is shown to its own player. Only whether the foe's trapping move holds the active member depends on the foe. */
   ownSide(side: Side): OwnSide;
-  /** A copy of this battle with the state as `change` changed it. `change` is passed a copy of the state. Throws StateError. */
+  /**
+   * A copy of this battle with the state as `change` changed it, or with another state that it returned. `change` is passed a copy of the
+   * state. Throws StateError.
+   */
   withState(change: (state: State) => void): Battle;
   /** A copy of this battle with other HP of a member. Throws StateError. */
   withHp(side: Side, place: number, hp: number): Battle;
@@ -563,7 +576,7 @@ export class Battle {
   playout(seed: number | bigint, rounds: number, options?: PlayoutOptions): Playouts;
   /**
    * All battles that an update by a choice of each side can lead to, with their exact probabilities. The battle is unchanged. Throws
-   * RefusedError as `update` does, and ArgumentError for an option that is out of range.
+   * RefusedError as `update` does, and ArgumentError for an option that is unknown or out of range.
    */
   outcomes(one: Choice, two: Choice, options?: OutcomeOptions): Outcomes;
   /** The odds of a side's move in the current state. Throws DamageError if no member is out. */
@@ -654,7 +667,10 @@ export class Room {
   readonly result: Result;
   /** The number of the current pair of choices, from 0. */
   readonly number: number;
-  /** The log of the last pair that ended; before the first, that of the start, if the room started the battle. */
+  /**
+   * The log of the last pair that ended; before the first, that of the start, if the room started the battle. It is for the host: it
+   * holds the foe's places and exact HP. Send a side what `Teller.tell` returns for it.
+   */
   readonly log: Uint8Array;
   clone(): Room;
   /** The choices that a side may submit for the current pair; none if it has chosen. */
@@ -662,13 +678,18 @@ export class Room {
   /** Returns the update, or null if the room waits for the foe's choice. Throws RoomError, and then the room is unchanged. */
   submit(side: Side, number: number, choice: Choice): Update | null;
   /**
+   * Replaces the ten numbers that the battle draws, and changes nothing else: a choice that was submitted stays. A host does so before each pair,
+   * with bytes of `crypto.getRandomValues`. Otherwise a player that has seen nine draws can predict all that follow.
+   */
+  reseed(seed: Numbers): void;
+  /**
    * Ends the battle by a forfeit: the other side wins, and choices for the current pair are discarded. The update has the single event "win".
    * The bytes of `battle` do not change. Throws RoomError if the battle is over.
    */
   forfeit(side: Side): Update;
   /** The side that has forfeited; null for none. */
   readonly forfeited: Side | null;
-  /** The number, the result, and the log of the last pair. The battle, which the players must not see, is not in it. */
+  /** The number, the result, and the log of the last pair, for the host. The battle is not in it. Neither the battle nor the log may be sent to a player. */
   toJSON(): { number: number; result: Result; log: number[] };
 }
 
@@ -700,7 +721,10 @@ export class Player {
   clone(): Player;
   /** Reads the next bytes of the log of its side's teller, in pieces of any size. Throws LogError, and then the player is unchanged. */
   feed(told: Uint8Array | ArrayBuffer): void;
-  /** Shows it its own side and its choices as they are now in the battle, and nothing else about it. */
+  /**
+   * Shows it its own side and its choices as they are now in the battle, and nothing else about it. Throws ArgumentError if the side's team is
+   * not the player's.
+   */
   show(battle: Battle): void;
   toJSON(): { view: PlayerView; choices: readonly ChoiceName[] };
 }
@@ -717,7 +741,10 @@ export class Teller {
    * passed the log of every update, in order. Throws LogError, and then the teller is unchanged.
    */
   tell(log: Uint8Array | ArrayBuffer): Uint8Array;
-  /** Reports the log of an update to a player of its side, and shows it its own side and its choices. Throws LogError. */
+  /**
+   * Reports the log of an update to a player of its side, and shows it its own side and its choices. Throws LogError, and ArgumentError for a
+   * player with another team and for a log that does not lead to the battle's turn, as one that was skipped or repeated.
+   */
   report(battle: Battle, log: Uint8Array | ArrayBuffer, player: Player): void;
 }
 

@@ -8,7 +8,9 @@ const KEYS = ["team", "seed", "rules", "limit"];
 const [ASLEEP, BLOCKED, UNDERWAY] = [3, 4, 2];
 const MOST_SUBSTITUTE = 249;
 // Conditions that don't depend on a move, and conditions that belong to a current move with one of these effects. At most one of these is on.
-const FREE = ["mist", "focus energy", "seeded", "light screen", "reflect", "confused", "substitute", "bad poison"];
+const FREE = [
+  "mist", "focus energy", "seeded", "light screen", "reflect", "confused", "substitute", "bad poison", "invulnerable"
+];
 const TIED = {
   bide: ["Bide"],
   thrash: ["Thrash"],
@@ -140,17 +142,16 @@ function under(library, active, on, member, last) {
   for (const [name, effects] of Object.entries(TIED)) {
     const slots =
         member.moves.flatMap((move, at) => (effects.includes(moveDataOf(library, move).effect) ? [at + 1] : []));
-    if (on.includes(name) && slots.length) return tied(free, name, slots.includes(used) ? used : slots[0], on);
+    if (on.includes(name) && slots.length) return tied(free, name, slots.includes(used) ? used : slots[0]);
   }
   return free;
 }
 
 // An active member with a condition that belongs to the move in a slot.
-function tied(active, name, slot, on) {
-  const hidden = name === "charging" && on.includes("invulnerable") ? ["invulnerable"] : [];
+function tied(active, name, slot) {
   return {
     ...active,
-    conditions: [...active.conditions, name, ...hidden],
+    conditions: [...active.conditions, name],
     currentMove: slot,
     pickedMove: slot,
     turns: COUNTED.includes(name) ? UNDERWAY : 0,

@@ -1,6 +1,6 @@
 // All battles that an update can lead to, with their exact probabilities.
 import {BATTLE_SIZE} from "./arena.mjs";
-import {probability, within} from "./arguments.mjs";
+import {probability, record, within} from "./arguments.mjs";
 import {Gen1Error} from "./errors.mjs";
 import {CODES} from "./header.mjs";
 import {inspected} from "./inspecting.mjs";
@@ -12,6 +12,7 @@ const FEW_PLACES = [CODES.ERROR_OUTCOMES, CODES.ERROR_TABLE];
 // How many outcomes there is space for at first; where there are more, the call is repeated with more space.
 const PLACES = 256;
 const MORE = 8;
+const OPTIONS = ["damageClasses", "leastProbability"];
 // A least probability is a multiple of 1 / UNITS, below 1.
 const UNITS = 2 ** 32;
 
@@ -63,7 +64,8 @@ export class Outcomes {
 }
 
 /** The bytes of gen1_outcome_options. */
-export function outcomeOptions(library, {damageClasses = 0, leastProbability = 0}) {
+export function outcomeOptions(library, options) {
+  const {damageClasses = 0, leastProbability = 0} = record(options, "options", "an object with options", OPTIONS);
   const classes = within(damageClasses, "damageClasses", 0, 39);
   const least = Math.min(Math.floor(UNITS * probability(leastProbability, "leastProbability")), UNITS - 1);
   return bytesOf("gen1_outcome_options", library.isLong, {least, damageClasses: classes});

@@ -5,7 +5,8 @@ import {ArgumentError} from "./errors.mjs";
 import {logErrorAfter} from "./events.mjs";
 import {CODES} from "./header.mjs";
 import {inspected} from "./inspecting.mjs";
-import {fieldOf, layoutOf, readStruct} from "./structs.mjs";
+import {fieldOf, layoutOf, offsetsOf, readStruct} from "./structs.mjs";
+import {SPECIES} from "./tables.mjs";
 import {teamAt, teamError, teamGiven} from "./teams.mjs";
 import {made} from "./update.mjs";
 import {viewOf} from "./views.mjs";
@@ -38,6 +39,23 @@ export function tellerOf(library, terms) {
 
 /** The library of a player. */
 export let libraryOf;
+// The turn by the log; the turn of the own side as it was last shown, whether it begins a turn, and whether it is the log's; and a player that
+// becomes another.
+let turnsOf;
+let become;
+// The team of a player by the log, as text.
+let knownTo;
+
+const [PLAYER, PUBLIC, PUBLIC_SIDE, SEEN, OWN_SIDE, OWN_MEMBER] =
+    ["player", "public", "public_side", "seen", "own_side", "own_member"].map((it) => offsetsOf(`gen1_${it}`));
+
+// The six members at an offset of some bytes, as text.
+function membersAt(bytes, at, {size, species, level}) {
+  let found = "";
+  for (let place = at; place < at + 6 * size && bytes[place + species]; place += size)
+    found += `${found && ", "}${SPECIES[bytes[place + species] - 1]} at level ${bytes[place + level]}`;
+  return found || "nobody";
+}
 
 /** A player: one side with what it may know, and nothing else about the battle. */
 export class Player {
@@ -48,6 +66,21 @@ export class Player {
     libraryOf = (player) => {
       if (!(player instanceof Player)) throw wrongType(player, "player", "a Player");
       return player.#library;
+    };
+    turnsOf = (player) => {
+      const bytes = player.#bytes;
+      const view = new DataView(bytes.buffer, bytes.byteOffset);
+      return {
+        told: view.getUint16(PLAYER.known + PUBLIC.turn, true),
+        shown: view.getUint16(PLAYER.own + OWN_SIDE.turn, true),
+        begins: bytes[PLAYER.own + OWN_SIDE.request] === CODES.REQUEST_MOVE,
+        hasOwn: knownTo(player) === membersAt(bytes, PLAYER.own + OWN_SIDE.members, OWN_MEMBER),
+      };
+    };
+    knownTo = (player) =>
+        membersAt(player.#bytes, PLAYER.known + PUBLIC.sides + (player.side - 1) * PUBLIC_SIDE.size, SEEN);
+    become = (player, other) => {
+      player.#bytes = other.#bytes;
     };
   }
 
@@ -104,6 +137,10 @@ export class Player {
     library.begin();
     const [player, from, own] = [library.put(this.#bytes), library.put(battle.bytes), library.roomOf("gen1_own_side")];
     library.calls.gen1_get_own_side(from, side, own);
+    const known = knownTo(this);
+    const others = membersAt(library.bytes, Number(own) + OWN_SIDE.members, OWN_MEMBER);
+    if (known !== others)
+      throw new ArgumentError(`battle has on side ${side} ${others}, and not the player's team, ${known}`, "battle");
     library.calls.gen1_player_show(player, own, library.calls.gen1_offered(from, side));
     this.#bytes = library.read(player, this.#bytes.length);
   }
@@ -165,9 +202,16 @@ export class Teller {
     if (player.side !== this.side)
       throw new ArgumentError(
           `player plays side ${player.side}, but the teller reports to side ${this.side}`, "player");
-    const next = this.clone();
-    player.feed(next.tell(log));
-    player.show(battle);
+    const [next, informed] = [this.clone(), player.clone()];
+    informed.show(battle);
+    informed.feed(next.tell(log));
+    const [{told: before}, {told, shown, begins, hasOwn}] = [turnsOf(player), turnsOf(informed)];
+    if (!hasOwn || (begins && !(before < told && told === shown)))
+      throw new ArgumentError(
+          `log is not that of the battle's last update, or was reported before: the player was at turn ${
+              before}, is at ${told} after the log, and the battle at ${shown}`,
+          "log");
     this.#bytes = next.#bytes;
+    become(player, informed);
   }
 }

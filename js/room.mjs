@@ -1,7 +1,7 @@
 // A battle of two players who choose independently (docs/MECHANICS.md, "Rooms").
 import {BATTLE_SIZE} from "./arena.mjs";
-import {choiceByte, choiceOf, sideOf, within, wrongType} from "./arguments.mjs";
-import {Battle, notOffered} from "./battle.mjs";
+import {choiceByte, choiceOf, seedOf, sideOf, within, wrongType} from "./arguments.mjs";
+import {Battle, notOffered, putSeed} from "./battle.mjs";
 import {RoomError} from "./errors.mjs";
 import {CODES} from "./header.mjs";
 import {inspected} from "./inspecting.mjs";
@@ -91,6 +91,13 @@ export class Room {
     this.#bytes = this.#library.read(room, this.#bytes.length);
     const {log} = this;
     return this.number === before ? null : new Update(this.#library, this.#result, log, 0, log.length);
+  }
+
+  /** Replaces the ten numbers that the battle draws, and changes nothing else: a choice that was submitted stays. */
+  reseed(seed) {
+    const [numbers, room] = [seedOf(seed), this.#put()];
+    this.#library.calls.gen1_reseed(room, putSeed(this.#library, numbers), 0);
+    this.#bytes = this.#library.read(room, this.#bytes.length);
   }
 
   /** Ends the battle: the other side wins. The update has the single event "win". The bytes of `battle` do not change. */

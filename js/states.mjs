@@ -183,6 +183,11 @@ export function blockOfState(library, state) {
   throw stateError(library.readStruct("gen1_state_fault", fault), state);
 }
 
+/** Whether a value is meant as a state: an object with a key of one, which no part of a state has. */
+export function isState(value) {
+  return typeof value === "object" && value !== null && STATE_KEYS.some((key) => Object.hasOwn(value, key));
+}
+
 /** The place of a member of a state's side; refuses a place without a member. */
 export function memberAt(state, side, place) {
   const {members} = side === 1 ? state.one : state.two;

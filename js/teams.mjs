@@ -238,12 +238,38 @@ function memberFrom(of) {
   return {species: SPECIES[of.species - 1], level: of.level, dvs: of.dvs, exp: of.exp, moves};
 }
 
-function textError(library, of) {
+// The text of the line or field that a fault is about, or of a name only that, without a nickname and a gender; empty if it is about several.
+function wordOf({code, line, member, field}, given) {
+  if (!FORMS.has(code)) return "";
+  const fields = field ? given.split("]")[member - 1].split("|").map((it) => it.trim()) : [];
+  // Without a nickname the species may be in the first field.
+  const found = line ? given.split("\n")[line - 1].trim() : fields[field - 1] || (fields[0] ?? "");
+  if (code === MOVE_FAULT) {
+    const names = found.replace(/^-/, "").split(",").map((it) => it.trim());
+    return names.find((name) => !MOVES.some((it) => letters(it) === letters(name))) ?? found;
+  }
+  return code === SPECIES_FAULT ? found.replace(/ *\([MF]\)$/, "").replace(/^.*\((.*)\)$/, "$1") : found;
+}
+
+const letters = (name) => name.toLowerCase().replace(/[^a-z0-9]/g, "");
+
+// The faults about one word or line, by their codes, with the names that may be near it.
+const [SPECIES_FAULT, MOVE_FAULT] = [CODES.ERROR_TEXT_SPECIES, CODES.ERROR_TEXT_MOVE];
+const FORMS = new Map([
+  [SPECIES_FAULT, SPECIES], [MOVE_FAULT, MOVES], [CODES.ERROR_TEXT_LEVEL, []], [CODES.ERROR_TEXT_EVS, []],
+  [CODES.ERROR_TEXT_IVS, []], [CODES.ERROR_TEXT_LINE, []]
+]);
+
+function textError(library, of, given) {
   const places = Object.entries({line: of.line, member: of.member, field: of.field}).filter(([, number]) => number);
   const where = places.map(([name, number]) => `${name} ${number}`).join(", ");
   const reason = of.rule ? library.sentence(of.rule) : TEXT_FAULTS[of.code];
-  const said = of.rule ? reason : `expected: ${reason}`;
-  return new TextError(where ? `${where}: ${said}` : said, of, reason);
+  const found = wordOf(of, given);
+  const names = found ? FORMS.get(of.code) : [];
+  const near = names.length ? nearest(found, names, Math.floor(found.length / 3)) : null;
+  const but = (found && `, not ${shown(found)}`) + (near ? `; did you mean ${shown(near)}?` : "");
+  const said = of.rule ? reason : `expected: ${reason}${but}`;
+  return new TextError(where ? `${where}: ${said}` : said, {...of, found, near}, reason);
 }
 
 /** The members in a text. `call` reads the text: gen1_team_from_text or gen1_team_from_packed. */
@@ -252,7 +278,7 @@ export function membersFrom(library, call, given) {
   library.begin();
   const [words, team, fault] = [library.put(bytes), library.roomOf("gen1_team"), library.roomOf("gen1_text_fault")];
   const code = library.calls[call](words, library.size(bytes.length), team, fault);
-  if (code) throw textError(library, library.readStruct("gen1_text_fault", fault));
+  if (code) throw textError(library, library.readStruct("gen1_text_fault", fault), given);
   const {members, count} = library.readStruct("gen1_team", team);
   return members.slice(0, count).map(memberFrom);
 }

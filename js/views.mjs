@@ -1,7 +1,10 @@
 // States, results, odds and players as objects, with names in place of the library's numbers.
 import {CODES} from "./header.mjs";
 import {offsetsOf} from "./structs.mjs";
-import {MOVES, SPECIES, TYPES} from "./tables.mjs";
+import {MOVE_ROWS, MOVES, SPECIES, TYPES} from "./tables.mjs";
+
+// The column of a move's effect in its row.
+const EFFECT = 4;
 
 // The names of the header's codes with this prefix, in the order of their numbers: BAD_POISON is "bad poison".
 export function namesOf(start) {
@@ -239,6 +242,7 @@ export function oddsOf(library, move, odds) {
     hitChance: hitDraws / 256,
     reason: REASONS[reason - 1] ?? null,
     fixed: most ? [least, most] : null,
+    oneHit: MOVE_ROWS[move - 1][EFFECT] === "OneHitKnockOut",
     hits: hits.map((eighths) => eighths / 8),
     chargesFirst: chargesFirst === 1,
     takesHitTest: library.calls.gen1_takes_hit_test(move) === 1,
@@ -269,13 +273,13 @@ function seenMember({species, level, status, hp, max, moves}) {
 // "focusEnergy" as "focus energy".
 const wordsOf = (key) => key.replace(/[A-Z]/g, (letter) => ` ${letter.toLowerCase()}`);
 
-function publicSide({members, stages, place, firstType, secondType, lastMove, announced}) {
+function publicSide({members, stages, place, firstType, secondType, lastMove, announced, invulnerable}) {
   const active = {
     place,
     types: [TYPES[firstType], TYPES[secondType]],
     stages: stagesOf(stages),
     lastMove: MOVES[lastMove - 1] ?? null,
-    announced: Object.keys(announced).filter((key) => announced[key]).map(wordsOf),
+    announced: Object.entries({...announced, invulnerable}).filter(([, flag]) => flag).map(([key]) => wordsOf(key)),
   };
   return {members: members.filter((it) => it.species).map(seenMember), active: place ? active : null};
 }

@@ -216,6 +216,9 @@ function uses(gen1, check) {
     equal(["Seismic Toss", "Super Fang", "Sonic Boom", "Dragon Rage", "Psywave"].map(fixed),
         [[100, 100], [176, 176], [20, 20], [40, 40], [1, 149]]);
     equal([fixed("Body Slam"), fixed("Splash")], [null, null]);
+    // "65535 breaks any Substitute and fells any foe"; docs/TABLES.md has three such moves.
+    const oneHit = library.MOVES.filter((move) => move !== "Struggle" && battle.odds(1, move).oneHit);
+    equal([oneHit, fixed("Fissure")], [["Guillotine", "Horn Drill", "Fissure"], [65535, 65535]]);
   });
   check("many hits, and charging", () => {
     const hits = (move) => battle.odds(1, move).hits.map((chance) => 8 * chance);

@@ -156,7 +156,12 @@ function traceCase(gen1, one) {
     stands(battle, update);
     const [given, middle] = [bytesOfHex(log), log.length >> 2];
     for (const piece of [given.subarray(0, middle), given.subarray(middle)]) spectator.feed(piece);
-    for (const [teller, player] of players) teller.report(battle, given, player);
+    // A refused pair has no log to report.
+    for (const [teller, player] of players)
+      if (refused === null)
+        teller.report(battle, given, player);
+      else
+        player.show(battle);
     if (number % VIEWED) continue;
     const state = stateOf(bytesOfHex(update.bytes));
     viewed(battle, spectator, state);

@@ -102,6 +102,20 @@ function keys(gen1, battle, check) {
     [() => gen1.teller({side: 1, pixel: true}), "terms.pixel", /"pixel"; did you mean "pixels"\?$/],
     [() => battle.withState((state) => void (state.turns = 3)), "state.turns", /"turns"; did you mean "turn"\?$/],
     [
+      () => battle.outcomes(17, 17, {damageClass: 3}), "options.damageClass",
+      /^options has the unknown key "damageClass"; did you mean "damageClasses"\?$/
+    ],
+    [
+      () => battle.outcomes(17, 17, {classes: 3}), "options.classes",
+      /"classes"; its keys are damageClasses, leastProbability$/
+    ],
+    [() => battle.playout(1, 1, {dpth: 1}), "options.dpth", /"dpth"; did you mean "depth"\?$/],
+    [() => battle.playout(1, 1, {weight: {}}), "options.weight", /"weight"; did you mean "weights"\?$/],
+    [
+      () => gen1.battleArray({battle, count: 1}).playouts(1, 1, {dept: 1}), "options.dept",
+      /"dept"; did you mean "depth"\?$/
+    ],
+    [
       () => battle.withState(({two}) => void (two.member = [])), "state.two.member",
       /"member"; did you mean "members"\?$/
     ],
@@ -261,6 +275,19 @@ function bytes(gen1, check) {
       const fault = thrown(() => gen1.teamFromText(text), TextError, new RegExp(`^line ${line}: expected: `));
       equal([fault.line, fault.code, fault.rule], [line, code, 0]);
     }
+    const words = [
+      ["Tauros\n- Body Slm\n", "Body Slm", "Body Slam"], ["Starmie\n\nBob (Taurus) (M)\n", "Taurus", "Tauros"],
+      ["Missingno.\n", "Missingno.", null], ["Tauros\nLevel: 101\n", "Level: 101", null],
+      ["Bob|Tuaros|||pound|||||||", "Tuaros", "Tauros"], ["Tuaros||||pound|||||||", "Tuaros", "Tauros"],
+      ["Tauros||||pound|||||||]Starmie||||surf,thnderbolt,pond|||||||", "thnderbolt", "Thunderbolt"],
+      ["Tauros\n- Pound\n- Cut\n- Surf\n- Fly\n- Dig\n", "", null]
+    ];
+    for (const [text, found, near] of words) {
+      const call = text.includes("|") ? "teamFromPacked" : "teamFromText";
+      const fault = thrown(() => gen1[call](text), TextError, found ? new RegExp(`, not "${found}"`) : /four moves$/);
+      equal(
+          [fault.found, fault.near, fault.message.endsWith(`; did you mean "${near}"?`)], [found, near, near !== null]);
+    }
     for (const [text, member, rule] of [["", 0, 1], ["Tauros\n- Mimic\n", 1, 6], ["Tauros\n", 1, 5]]) {
       const fault = thrown(() => gen1.teamFromText(text), TextError, /^(member 1: )?(the team|a move|the member)/);
       equal([fault.code, fault.member, fault.rule], [77, member, rule]);
@@ -397,6 +424,10 @@ function seeds(battle, check) {
     const listed = (damageClasses) => battle.outcomes(17, 17, {damageClasses});
     for (const number of [-1, 40, 255, ...BIG]) outside(() => listed(number), /^damageClasses is -?\d.*, not 0 to 39$/);
     for (const number of NO_NUMBERS) wrong(() => listed(number), /^damageClasses is .*, not a whole number$/);
+    for (const it of [...NO_OBJECTS.filter((it) => it !== undefined), []]) {
+      wrong(() => battle.outcomes(17, 17, it), /^options is .*, not an object with options$/);
+      wrong(() => battle.playout(1, 1, it), /^options is .*, not an object with options$/);
+    }
   });
   check("least probabilities", () => {
     const listed = (leastProbability) => battle.outcomes(17, 17, {leastProbability});
@@ -597,6 +628,22 @@ function players(gen1, check) {
       wrong(() => teller.report(battle, log, it), /^player is .*, not a Player$/);
     outside(() => teller.report(battle, log, gen1.player({side: 2, team: [TAUROS]})),
         /^player plays side 2, but the teller reports to side 1$/);
+    const [other, informed] =
+        [gen1.battle({...TERMS, one: [{...TAUROS, level: 50}]}), gen1.player({side: 1, team: [TAUROS]})];
+    const [hosted, host] = [gen1.battle(TERMS), gen1.teller({side: 1})];
+    const first = hosted.update("pass", "pass").log;
+    host.report(hosted, first, informed);
+    const second = hosted.update("move 1", "move 1").log;
+    const kept = [host, informed].map((it) => hexOf(it.bytes));
+    outside(() => informed.show(other),
+        /^battle has on side 1 Tauros at level 50, and not the player's team, Tauros at level 100$/);
+    outside(() => host.report(other, other.update("pass", "pass").log, informed),
+        /^battle has on side 1 Tauros at level 50/);
+    outside(() => host.report(hosted, first, informed),
+        /^log is not that of the battle's last update, .*: the player was at turn 1, is at 1 after the log, and the battle at 2$/);
+    equal([host, informed].map((it) => hexOf(it.bytes)), kept);
+    host.report(hosted, second, informed);
+    outside(() => host.report(hosted, second, informed), /^log is not that .*was reported before/);
     equal([player.view, hexOf(teller.clone().tell(log))], before);
   });
 }

@@ -88,6 +88,11 @@ export function wrongStates(gen1, battle, check) {
       wrong(() => gen1.battleOfState(it), /^state is .*, not a state: an object like battle.state$/);
     for (const it of [...NO_OBJECTS, {}])
       wrong(() => battle.withState(it), /^change is .*, not a function that changes a state$/);
+    wrong(() => battle.withState(async (state) => state),
+        /^change is a function, not a function that returns no promise$/);
+    outside(() => battle.withState((state) => ({...state, turns: 5})),
+        /^state has the unknown key "turns"; did you mean "turn"\?$/);
+    wrong(() => battle.withState(() => ({turn: 5})), /^state.one is undefined, not the state of a side$/);
   });
   check("changes of one field", () => {
     for (const place of [0, 7, ...BIG]) outside(() => battle.withHp(1, place, 5), /^place is -?\d.*, not 1 to 6$/);

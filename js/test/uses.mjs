@@ -156,6 +156,7 @@ const OF_ROOM = {
   clone: true,
   choices: true,
   submit: true,
+  reseed: true,
   forfeit: true,
   forfeited: true,
   toJSON: true
@@ -359,6 +360,7 @@ const OF_ODDS = {
   hitChance: true,
   reason: true,
   fixed: true,
+  oneHit: true,
   hits: true,
   chargesFirst: true,
   takesHitTest: true,

@@ -126,6 +126,10 @@ function states(gen1, check) {
       state.limit = 7;
     });
     equal([puzzle.choices(1), puzzle.state.limit, hexOf(battle.bytes)], [["move 2"], 7, before]);
+    // A state that the change returns counts, and any other value does not.
+    equal([battle.withState((state) => ({...state, turn: 5})), battle.withState((state) => (state.turn = 6))].map(
+              ({state}) => state.turn),
+        [5, 6]);
   });
 }
 
@@ -267,6 +271,16 @@ function rooms(gen1, check) {
     equal([[1, 1, 17], [2, 1, 17]].map((it) => replied(room, ...it)), ["waiting", "advanced"]);
     equal([room.result.outcome, room.choices(1), room.choices(2), replied(room, 1, 2, 17)], ["win one", [], [], 24]);
     equal([kept.number, kept.choices(1), kept.battle.isOver], [1, ["move 1"], false]);
+  });
+  check("a room that is reseeded while it keeps a choice", () => {
+    const [room, battle] = [gen1.room(gen1.battle(BATTLE)), gen1.battle(BATTLE)];
+    battle.update("pass", "pass");
+    room.submit(1, 0, 17);
+    const other = SEED.map((byte) => 255 - byte);
+    room.reseed(other);
+    battle.reseed(other);
+    equal(hexOf(room.submit(2, 0, 17).log), hexOf(battle.update(17, 17).log));
+    equal(hexOf(room.battle.bytes), hexOf(battle.bytes));
   });
   check("a forfeit", () => {
     const room = gen1.room(gen1.battle(BATTLE));
