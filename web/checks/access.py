@@ -1,4 +1,6 @@
 """Accessibility: names for a screen reader, contrast, use by keys alone, a phone's width, a quick start, and no network."""
+import re
+
 from selenium.webdriver.common.keys import Keys
 
 from checks.browser import SIZES
@@ -30,6 +32,10 @@ PLACES = {
     ),
     "teams": ("#play", ""),
     "play": ("#play", "document.getElementById('play-start').click()"),
+    "card": (
+        "#play",
+        "document.getElementById('play-start').click(); document.querySelector('#play-field .stand:not(.far) .party button').click()",
+    ),
     "calculator": (
         "#calculator",
         "document.querySelectorAll('#panel-calculator details').forEach((it) => (it.open = true));"
@@ -65,6 +71,38 @@ while (walker.nextNode()) {
   if ((one + .05) / (two + .05) < wanted) low.push(`${walker.currentNode.data.trim().slice(0, 30)}: ${((one + .05) / (two + .05)).toFixed(2)}`);
 }
 return { count, low };
+"""
+
+# Rules of WCAG 2.2 AA over the elements that are shown: each returns those that break it.
+RULES = {
+    "the page has a language and a title": "document.documentElement.lang && document.title ? [] : [document.documentElement]",
+    "the page can be zoomed": "[...document.querySelectorAll('meta[name=viewport]')].filter((it) => /user-scalable|maximum-scale/.test(it.content))",
+    "there is one main part, one header and one first heading": "['main', 'header', 'h1'].filter((it) => document.querySelectorAll(it).length !== 1).map((it) => document.querySelector(it) ?? document.body)",
+    "headings are not empty": "all('h1, h2, h3, h4').filter((it) => !it.textContent.trim())",
+    "headings skip no level": "all('h2, h3, h4').filter((it, at, them) => Number(it.tagName[1]) > (at ? Number(them[at - 1].tagName[1]) : 1) + 1)",
+    "nothing is before its place in the order of focus": "all('[tabindex]').filter((it) => it.tabIndex > 0)",
+    "nothing hidden can have the focus": "all('[aria-hidden=true]').filter((it) => it.matches(FOCUSED) || it.querySelector(FOCUSED))",
+    "no control is in another": "all('button, a, summary, [role=button]').filter((it) => it.querySelector('button, a, input, select, textarea, [tabindex]'))",
+    "targets have 24 pixels": "all('button, select, input, summary').filter((it) => !it.closest('.unseen, label') && it.tabIndex >= 0).filter((it) => { const box = it.getBoundingClientRect(); return box.width < 23.5 || box.height < 23.5; })",
+    "roles are known": "all('[role]').filter((it) => !ROLES.includes(it.getAttribute('role')))",
+    "states are true or false": "all('[aria-pressed], [aria-selected], [aria-expanded], [aria-disabled], [aria-invalid], [aria-hidden]').filter((it) => ['pressed', 'selected', 'expanded', 'disabled', 'invalid', 'hidden'].some((key) => !['true', 'false', null].includes(it.getAttribute(`aria-${key}`))))",
+    "references lead to elements": "all('[aria-controls], [aria-labelledby], [aria-describedby]').filter((it) => ['controls', 'labelledby', 'describedby'].some((key) => it.hasAttribute(`aria-${key}`) && !it.getAttribute(`aria-${key}`).split(' ').every((id) => document.getElementById(id))))",
+    "tabs are in a list and lead to panels": "all('[role=tab]').filter((it) => !it.closest('[role=tablist]') || document.getElementById(it.getAttribute('aria-controls'))?.getAttribute('role') !== 'tabpanel')",
+    "one tab is selected": "all('[role=tab][aria-selected=true]').length === 1 ? [] : all('[role=tablist]')",
+    "options are in lists": "all('[role=option]').filter((it) => !it.closest('[role=listbox]'))",
+    "drawings are hidden or have a name": "all('svg, img').filter((it) => !it.closest('[aria-hidden=true]') && !it.getAttribute('aria-label') && !it.getAttribute('alt'))",
+    "meters have a value in their range, and a text": "all('[role=meter]').filter((it) => { const [least, now, most] = ['min', 'now', 'max'].map((key) => Number(it.getAttribute(`aria-value${key}`))); return !(least <= now && now <= most && it.getAttribute('aria-valuetext')); })",
+    "tables have heads with a scope": "all('table').filter((it) => !it.querySelector('th[scope]') || it.querySelector('th:not([scope])'))",
+    "fields have a name besides a placeholder": "all('input, select, textarea').filter((it) => !it.labels?.length && !it.getAttribute('aria-label'))",
+    "a name has the text that is seen": "all('button[aria-label]').filter((it) => /[a-z]{3}/i.test(it.textContent) && !it.getAttribute('aria-label').toLowerCase().includes(it.textContent.trim().toLowerCase()) && !(it.title || it.closest('.toggles')))",
+    "groups and dialogs have a name": "all('[role=group], [role=dialog], [role=log], [role=tablist]').filter((it) => !it.getAttribute('aria-label') && !it.getAttribute('aria-labelledby'))",
+    "no sound or motion starts by itself": "all('video, audio, marquee, blink, [autoplay]')",
+}
+BROKEN = """
+const FOCUSED = 'button:not(:disabled), input, select, textarea, summary, a[href], [tabindex="0"]';
+const ROLES = ['alert', 'button', 'combobox', 'dialog', 'group', 'listbox', 'log', 'meter', 'option', 'status', 'tab', 'tablist', 'tabpanel'];
+const all = (selector) => [...document.querySelectorAll(selector)].filter((it) => it.checkVisibility());
+return (%s).map((it) => it.outerHTML.slice(0, 160));
 """
 
 REACHED = """
@@ -112,6 +150,63 @@ def lines_are_read_out(browser):
     assert "alert" in [role for role, _ in browser.tree()]
 
 
+def the_rules_hold(browser):
+    """Each rule in each part, in a wide and in a narrow page."""
+    assert len(RULES) >= 20
+    failed = {}
+    for size in SIZES:
+        browser.look(*SIZES[size], "light")
+        for name in PLACES:
+            go(browser, name)
+            found = {rule: browser.run(BROKEN % broken) for rule, broken in RULES.items()}
+            failed |= {(size, name, rule): them for rule, them in found.items() if them}
+    browser.look(*SIZES["wide"], "light")
+    assert not failed, failed
+
+
+def a_battle_is_played_by_keys_alone(browser):
+    """From the first page to another battle, without a pointer; the focus is never lost."""
+    browser.open("#home")
+    at = "const it = document.activeElement; return [it.tagName, it.id, it.textContent.slice(0, 30)]"
+
+    def reach(wanted, most=60):
+        for _ in range(most):
+            browser.press(Keys.TAB)
+            if browser.run("return document.activeElement.id") == wanted:
+                return
+        raise AssertionError((wanted, browser.run(at)))
+
+    reach("home-teams")
+    browser.press(Keys.ENTER)
+    assert browser.run("return document.activeElement.id") == "play-teams"
+    for side in (1, 2):
+        reach(f"play-team-{side}")
+        browser.run("document.activeElement.select()")
+        browser.press("Electrode\n- Explosion\n- Thunderbolt\n\nTauros\n- Body Slam\n- Hyper Beam")
+    reach("play-start")
+    browser.press(Keys.ENTER)
+    assert browser.run("return document.activeElement.id") == "play-now"
+    updates = "return document.getElementById('play-game').dataset.updates"
+    for turn in range(60):
+        if browser.run("return !document.querySelector('#play-rematch').hidden"):
+            break
+        for _ in range(40):
+            if browser.run("return document.activeElement.matches('[data-choice]')"):
+                break
+            browser.press(Keys.TAB)
+        before = browser.run(updates)
+        browser.press(Keys.ENTER)
+        browser.wait(f"return document.getElementById('play-game').dataset.updates !== '{before}'")
+        browser.wait(
+            "return document.querySelector('[data-choice]:not([aria-disabled])') || !document.querySelector('#play-rematch').hidden"
+        )
+        assert browser.run("return document.activeElement !== document.body"), turn
+    assert re.search("You have won|The foe has won|tie", browser.text("#play-now")), browser.text("#play-now")
+    reach("play-rematch")
+    browser.press(Keys.ENTER)
+    browser.wait("return document.getElementById('play-now').textContent === 'Turn 1'")
+
+
 def contrast_is_enough(browser):
     for scheme in ("light", "dark"):
         browser.look(*SIZES["wide"], scheme)
@@ -136,7 +231,8 @@ def a_theme_can_be_chosen(browser):
 
 
 def keys_alone_reach_all(browser):
-    for name in PLACES:
+    # A card closes when the focus leaves it.
+    for name in PLACES.keys() - {"card"}:
         go(browser, name)
         browser.run("document.activeElement.blur(); window.scrollTo(0, 0)")
         wanted, reached = browser.run(REACHED), set()
@@ -211,6 +307,8 @@ CHECKS = [
     the_focus_goes_to_a_heading,
     all_has_a_name,
     lines_are_read_out,
+    the_rules_hold,
+    a_battle_is_played_by_keys_alone,
     contrast_is_enough,
     a_theme_can_be_chosen,
     keys_alone_reach_all,

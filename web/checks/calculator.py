@@ -202,7 +202,10 @@ def same_numbers(row, move, hp):
     if move["hit_draws"] < 256:
         assert row["titles"][4] == f"{move['hit_draws']} of 256 bytes", (row, move)
     if chances:
-        assert row["titles"][2:4] == [ways(chances["once"]), ways(chances["twice"])], (row, move)
+        # A user that faints has no second use.
+        faints = move["move"] in ("Explosion", "Self-Destruct")
+        twice = "the user faints in the first use" if faints else ways(chances["twice"])
+        assert row["titles"][2:4] == [ways(chances["once"]), twice], (row, move)
         counts = [count for count, part in enumerate(move["hits"]) if part]
         each = (
             [move["usual"][0], move["usual"][-1]]
@@ -341,6 +344,46 @@ def many_hits_are_totals(browser):
         assert (
             damage_of(browser, move)[1] == f"{each[0] * fewest}–{each[-1] * highest} HP, {span(fewest, highest)} hits"
         ), move
+
+
+def a_move_that_is_there_twice_is_a_note(browser):
+    browser.open("#calculator")
+    show(browser, (member_of("Gengar", "Hypnosis", "Explosion"), FRESH), (member_of("Snorlax", "Body Slam"), FRESH))
+    browser.fill("#calc-member-1 [name=move-3]", "Explosion")
+    assert browser.text("#calc-note") == "Side 1 has Explosion twice." and not browser.text("#calc-fault")
+    assert sorted(row["move"] for row in browser.run(ROWS, 1)) == ["Explosion", "Hypnosis"]
+    browser.fill("#calc-member-1 [name=move-3]", "")
+    assert not browser.text("#calc-note")
+    row = next(it for it in browser.run(ROWS, 1) if it["move"] == "Explosion")
+    assert row["cells"][3] == "—" and row["titles"][3] == "the user faints in the first use"
+
+
+def critical_hits_are_totals(browser):
+    """Double Kick of Jolteon on Snorlax: (82 * 30 / 50 + 2) * 2 is 102, and at the least factor 86; twice."""
+    browser.open("#calculator")
+    show(browser, (member_of("Jolteon", "Double Kick"), FRESH), (member_of("Snorlax", "Body Slam"), FRESH))
+    assert (
+        damage_of(browser, "Double Kick")[1] == "90–108 HP, 2 hits"
+        and browser.run(ROWS, 1)[0]["cells"][5] == "25.4%172–204"
+    )
+
+
+def a_species_comes_with_its_moves(browser):
+    """The last of a line of evolution is found first; a species without a sample has its usual set, and Ditto none."""
+    browser.open("#calculator")
+    moves = lambda: [
+        browser.run(f"return document.querySelector('#calc-member-1 [name=move-{slot}]').value")
+        for slot in (1, 2, 3, 4)
+    ]
+    for letters, species in (("star", "Starmie"), ("exegg", "Exeggutor"), ("magi", "Magikarp"), ("ditto", "Ditto")):
+        browser.type("#calc-member-1 [name=species]", letters)
+        browser.press(Keys.ENTER)
+        assert browser.run("return document.querySelector('#calc-member-1 [name=species]').value") == species
+        assert (moves() == ["", "", "", ""]) == (species == "Ditto") and not browser.text("#calc-fault"), (
+            species,
+            moves(),
+        )
+        assert species != "Magikarp" or moves() == ["Splash", "Tackle", "", ""]
 
 
 def an_address_is_a_calculation(browser):
@@ -528,6 +571,9 @@ CHECKS = [
     chances_of_a_knock_out_and_fixed_damage_are_shown,
     what_the_user_pays_is_shown,
     many_hits_are_totals,
+    critical_hits_are_totals,
+    a_move_that_is_there_twice_is_a_note,
+    a_species_comes_with_its_moves,
     a_text_is_taken,
     stages_status_and_screens_count,
     an_address_is_a_calculation,

@@ -6,6 +6,7 @@ import {choose, scores} from "../src/computer.js";
 import {Engine} from "../src/engine.js";
 import {guessed, playerOf} from "../src/guesses.js";
 import {Match} from "../src/match.js";
+import {usualMoves} from "../src/sets.js";
 import {conditionWords, whole} from "../src/sides.js";
 
 const engine = await Engine.of(readFileSync(process.argv[2]));
@@ -52,6 +53,14 @@ const asked = (moves, player) => {
 };
 const begun = (...moves) => engine.update(engine.begin(terms([tauros(...moves)], [tauros(...moves)])), 0, 0);
 
+check("each species but Ditto has a usual set, which the engine takes", () => {
+  for (const species of Object.keys(engine.tables.species)) {
+    const moves = usualMoves(species).map((move) => [move, 3]);
+    equal(moves.length > 0, species !== "Ditto");
+    equal(Boolean(engine.fault([{...tauros(), species, moves}])), species === "Ditto");
+  }
+});
+
 check("a battle has the lines of the documents", () => {
   const first = begun("Strength");
   const events = engine.events(first.log);
@@ -72,9 +81,9 @@ check("errors are explained", () => {
   equal(message(() => engine.begin({...terms([one], [one]), rules: 4})),
       "The battle is refused: the rules are not 0 to 3.");
   equal(message(() => engine.team("Tauros\n- Body Slap", "The text", 1)),
-      "The text: line 2: expected the name of a move of the first generation.");
+      `The text: line 2: expected the name of a move of the first generation, not "Body Slap"; did you mean "Body Slam"?`);
   equal(message(() => engine.team("Tauros||||pond|||||||", "The text", 1)),
-      "The text: member 1, field 5: expected the name of a move of the first generation.");
+      `The text: member 1, field 5: expected the name of a move of the first generation, not "pond"; did you mean "Pound"?`);
   equal(message(() => engine.team("Mew\n- Mimic", "The text", 2))
             .startsWith("The team is refused: side 2, member 1: a move is left out"),
       true);

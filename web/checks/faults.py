@@ -10,7 +10,7 @@ def goes_on(browser):
     browser.click("#tab-replay")
     browser.run("document.getElementById('replay-open').open = true")
     browser.click("#replay-example")
-    assert not browser.notice() and "update 1 of 34" in browser.text("#replay-now")
+    assert not browser.notice() and "update 1 of 48" in browser.text("#replay-now")
 
 
 def said(browser, name, content, word):

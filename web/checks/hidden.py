@@ -46,7 +46,12 @@ SEEN = """
 const form = [...document.querySelectorAll('#panel-play input, #panel-play textarea')].map((it) => it.value).join(' ');
 const shown = document.getElementById('panel-play').cloneNode(true);
 for (const it of shown.querySelectorAll('select')) it.remove();
-return [shown.outerHTML, form, document.title, location.href, document.getElementById('messages').textContent, JSON.stringify(history.state), JSON.stringify(localStorage)].join(' ');
+document.querySelector('#play-field .far .party button')?.click();
+const card = document.getElementById('play-card').cloneNode(true);
+// What a species may know is from the sample teams, whatever this foe knows.
+for (const it of card.querySelectorAll('[data-part^="May know"]')) it.remove();
+document.dispatchEvent(new KeyboardEvent('keydown', {key: 'Escape'}));
+return [shown.outerHTML, card.outerHTML, form, document.title, location.href, document.getElementById('messages').textContent, JSON.stringify(history.state), JSON.stringify(localStorage)].join(' ');
 """
 
 
@@ -90,7 +95,6 @@ def exports(browser):
         ("page", "battle.html"),
         ("input", "battle.json"),
         ("log", "battle.log"),
-        ("showdown", "battle_showdown.html"),
     ):
         browser.run("document.getElementById('play-menu').open = true")
         found.append(browser.saved(f"#play-share [data-share={name}]", file))
@@ -101,7 +105,7 @@ def exports(browser):
 
 def test_exports(browser, asked, lines):
     """The files and the link hold the log as it is reported to side 1, and nothing else."""
-    (page, held, log, showdown), link = exports(browser)
+    (page, held, log), link = exports(browser)
     # Of the page, only the battle that it holds differs from the page that everybody has.
     battle = re.search(r'<script id="battle" type="application/json">(.*?)</script>', page.decode())[1]
     assert json.loads(battle) == json.loads(held) == {"log": log.hex()}
@@ -109,8 +113,6 @@ def test_exports(browser, asked, lines):
     for it in asked["two"]:
         if f"|{it['species']}" not in "\n".join(lines):
             assert bytes([2, 2, species.index(it["species"]) + 1]) not in log
-    for fact in unknown(asked, lines):
-        assert fact not in showdown.decode(), fact
     assert re.fullmatch(r"[^#]*#replay\?b=l[\w-]+", link), link
     browser.open(f"#{link.partition('#')[2]}&u=9999")
     browser.click("#replay-whole summary")
@@ -123,7 +125,7 @@ def what_a_player_may_not_know_is_nowhere(browser):
     for number in range(BATTLES):
         asked = planted(number)
         browser.open(f"#play?b={address_of(asked, 1)}&p1=person&p2=random")
-        browser.wait("return location.hash === '#play'")
+        browser.wait("return location.hash === '#play?u=1'")
         # The form's own sample team is not this battle's.
         browser.run(f"document.getElementById('play-team-1').value = ''; {COPIES}")
         for turn in range(TURNS):

@@ -5,14 +5,21 @@ def a_battle_is_watched(browser):
     browser.open("")
     assert not browser.run("return document.getElementById('panel-home').hidden")
     browser.click("#home-watch")
-    assert "update 1 of 34" in browser.text("#replay-now") and browser.run(
+    assert "update 1 of 48" in browser.text("#replay-now") and browser.run(
         "return document.querySelectorAll('#replay-lines li').length"
     )
 
 
 def a_battle_is_played(browser):
     browser.open("")
+    # The card has the team of the battle, under both clauses.
+    team = browser.run("return [...document.querySelectorAll('#home-team [title]')].map((it) => it.title)")
     browser.click("#home-play")
+    party = browser.run(
+        "return [...document.querySelectorAll('#play-field .stand:not(.far) .ball')].map((it) => it.title)"
+    )
+    assert team == party and len(team) == 6, (team, party)
+    assert "with the sleep and the freeze clause" in browser.text("#play-rules")
     assert (
         browser.text("#play-now") == "Turn 1"
         and browser.run("return document.querySelectorAll('#play-choices-1 [data-choice]').length") > 4

@@ -26,7 +26,9 @@ def what_was_done_is_said_quietly(browser):
     browser.run(COPIES)
     browser.click("#replay-example")
     browser.click("#replay-share [data-share=link]")
-    browser.wait("return document.getElementById('done').textContent === 'The link is copied.'")
+    browser.wait(
+        "return document.getElementById('done').textContent === 'The link is copied. It opens only where this file is.'"
+    )
     assert browser.run("return document.getElementById('done').getAttribute('role')") == "status"
     assert not browser.notice() and browser.run(SEEN, "done")
     browser.run("navigator.clipboard.writeText = async () => { throw new Error('no'); }")
@@ -41,7 +43,7 @@ def the_field_at_fault_has_the_focus(browser):
         (
             "play-team-2",
             "Tauros\n- Body Slap",
-            "Side 2's team: line 2: expected the name of a move of the first generation.",
+            'Side 2\'s team: line 2: expected the name of a move of the first generation, not "Body Slap"; did you mean "Body Slam"?',
         ),
         ("play-team-1", "Tauros\n- Body Slam\n- Body Slam", "The team is refused: side 1, member 1: "),
         ("play-team-1", "", "Side 1's team has no member."),

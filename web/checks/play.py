@@ -1,8 +1,10 @@
 """Play: recorded battles played by clicks and by keys, and battles against the computer."""
 import json
+import os
 import re
 import time
 
+from selenium.webdriver.common.action_chains import ActionChains
 from selenium.webdriver.common.keys import Keys
 
 from checks.browser import SIZES
@@ -18,6 +20,14 @@ window.Worker = class { postMessage(it) { if (it.id) setTimeout(() => this.onmes
 OFFERED = (
     "return [...document.querySelectorAll('#play-choices-%d [data-choice]')].map((it) => Number(it.dataset.choice))"
 )
+
+
+def key_of(browser, choice, side=1, keys="123456789"):
+    """The key that a button shows; the digit of its slot for a move, and then those of the other members by their places."""
+    key = browser.text(f"#play-choices-{side} [data-choice='{choice}'] kbd")
+    assert choice >= 33 or key == keys[max(0, choice - 17)], (choice, key)
+    assert choice < 33 or key in keys[4:], (choice, key)
+    return key
 
 
 def play_on(browser, asked, press):
@@ -41,7 +51,7 @@ def a_recorded_battle_is_played_by_clicks(browser):
 
 def a_recorded_battle_is_played_by_keys(browser):
     case = battle(20, 24)
-    press = lambda side, place, _: browser.press(("123456789", "qwertyuio")[side - 1][place])
+    press = lambda side, _, choice: browser.press(key_of(browser, choice, side, ("123456789", "qwertyuio")[side - 1]))
     assert play_on(browser, json.loads(case["input"]), press) == lines_of(case)
 
 
@@ -165,7 +175,7 @@ def a_covered_battle_is_played_at_both_sizes(browser):
     asked = json.loads(case["input"])
     press = {
         "wide": lambda choice: browser.click(f"#play-choices-1 [data-choice='{choice}']"),
-        "keys": lambda choice: browser.press("123456789"[browser.run(OFFERED % 1).index(choice)]),
+        "keys": lambda choice: browser.press(key_of(browser, choice)),
         "narrow": lambda choice: browser.tap(f"#play-choices-1 [data-choice='{choice}']"),
     }
     for how, pressing in press.items():
@@ -243,12 +253,14 @@ def a_member_is_in_the_middle_of_its_move(browser):
         browser.wait(f"{UPDATES} > {before}")
     assert browser.text("#play-choices-1 .to-move strong") == "Continue Dig"
     assert (
-        browser.run("return document.querySelector('#play-field .side-1 .figure').className")
+        browser.run("return document.querySelector('#play-field .side-1 > .figure').className")
         == "figure under substitute"
     )
     browser.click("#play-choices-1 [data-choice]")
     browser.wait(f"{UPDATES} > {before + 1}")
-    assert browser.run("return document.querySelector('#play-field .side-1 .figure').className") == "figure substitute"
+    assert (
+        browser.run("return document.querySelector('#play-field .side-1 > .figure').className") == "figure substitute"
+    )
 
 
 def the_log_is_whole_and_searched(browser):
@@ -300,9 +312,10 @@ def events_play_one_after_the_other(browser):
     )
     browser.click("#play-choices-1 [data-choice]")
     browser.wait("return window.seen.length > 1 && !document.getElementById('play-skip').hidden")
-    assert browser.run("return !document.querySelector('#play-choices-1 [data-choice]')")
+    waiting = "return document.querySelectorAll('#play-choices-1 [data-choice]:not([aria-disabled])').length"
+    assert not browser.run(waiting)
     browser.click("#play-skip")
-    browser.wait("return document.querySelector('#play-choices-1 [data-choice]')", 3)
+    browser.wait(waiting, 3)
     assert browser.run("return window.seen[1] - window.seen[0] > 300"), browser.run("return window.seen")
     browser.fill("#speed", "off")
     browser.click("#play-choices-1 [data-choice]")
@@ -326,15 +339,18 @@ def a_change_of_mind_asks_the_computer_once(browser):
 
 
 def a_battle_lasts_as_long_as_its_tab(browser):
-    browser.open("#play")
-    browser.fill("#play-who-2", "greedy")
-    browser.click("#play-start")
+    chansey = "Chansey\n- Strength\n- Pound"
+    begin(browser, chansey, chansey, "greedy")
     choose_first(browser)
     lines = browser.lines("#play-lines")
-    assert browser.run("return location.hash") == "#play"
+    browser.wait("return location.hash === '#play?u=2'")
     browser.open("#play")
     browser.click("#play-return")
     assert browser.lines("#play-lines") == lines
+    browser.wait("return location.hash === '#play?u=2'")
+    browser.driver.refresh()
+    browser.wait("return document.documentElement.dataset.ready === 'true'")
+    assert browser.lines("#play-lines") == lines and browser.run(OFFERED % 1)
 
 
 def a_battle_that_was_played_is_watched(browser):
@@ -439,18 +455,154 @@ def a_battle_that_was_left_is_gone_back_to(browser):
     browser.wait("return location.hash.startsWith('#play?b=')")
 
 
-def a_hit_has_its_share_of_the_hp(browser):
-    """Body Slam does 95 to 112 damage to Tauros' 353 HP (docs/MECHANICS.md, "Damage formula"): 26.9 to 31.7 percent."""
+def odds_of(browser, choice, side=1):
+    """The odds on a button, and its title."""
+    odds = browser.find(f"#play-choices-{side} [data-choice='{choice}'] .odds")
+    return odds.text.partition(" ")[2], odds.get_attribute("title")
+
+
+def begin(browser, one, two, foe="random", is_open=False, seed="1 2 3 4 5 6 7 8 9 10"):
+    """Starts a battle of side 1 against a computer."""
     browser.open("#play")
-    for side in (1, 2):
-        browser.fill(f"#play-team-{side}", "Tauros\n- Body Slam")
-    for hands, sign in (("false", "≈ "), ("true", "")):
-        browser.run(f"document.getElementById('play-open').checked = {hands}")
-        browser.click("#play-start")
-        odds = browser.find("#play-choices-1 [data-choice='17'] .odds")
-        assert odds.text == f"{sign}26–31% · 99.6% to hit" and odds.get_attribute("title") == "95–112 HP", odds.text
-        browser.click("#play-menu summary")
-        browser.click("#play-again")
+    browser.fill_all({"#play-team-1": one, "#play-team-2": two, "#play-seed": seed})
+    browser.fill("#play-who-2", foe)
+    browser.run("document.getElementById('play-open').checked = arguments[0]", is_open)
+    browser.click("#play-start")
+
+
+def a_hit_has_its_share_of_the_hp(browser):
+    """Body Slam does 95 to 112 damage to Tauros' 353 HP (docs/MECHANICS.md, "Damage formula"): 26.9 to 31.7 percent. A critical hit has twice the
+    level: 82 * 85 * 74 / 72 / 50 + 2 is 145, and 217 with its own type. Its chance is half the Speed of 110, of 256."""
+    for is_open, sign in ((False, "≈ "), (True, "")):
+        begin(browser, "Tauros\n- Body Slam", "Tauros\n- Body Slam", "playouts", is_open)
+        assert odds_of(browser, 17) == (f"{sign}26–31% · crit 21.5%: 52–61% · 99.6% to hit", "95–112 HP")
+
+
+def a_button_counts_hits_critical_hits_and_knock_outs(browser):
+    """Double Kick of Jolteon (Attack 228) on Snorlax (Defense 228, HP 523): (42 * 30 / 50 + 2) * 2 is 54, and at the least factor 45, twice. Razor
+    Leaf of Venusaur on Tauros: 42 * 55 * 74 / 59 / 50 + 2 is 59, and 88 with its own type. Seismic Toss takes 100 HP, and Diglett has 95.
+    """
+    begin(browser, "Jolteon\n- Double Kick", "Snorlax\n- Rest", is_open=True)
+    assert odds_of(browser, 17) == ("17–20% in 2 hits · crit 25.4%: 32–39% · 99.6% to hit", "90–108 HP")
+    begin(browser, "Venusaur\n- Razor Leaf", "Tauros\n- Rest", is_open=True)
+    assert odds_of(browser, 17)[0] == "20–24% · crit 99.6%: 41–48% · 94.5% to hit"
+    begin(browser, "Machamp\n- Seismic Toss\n- Fury Attack", "Diglett\nLevel: 40\n- Rest", is_open=True)
+    assert odds_of(browser, 17)[0] == "100% · 99.6% to hit · 99.6% KO"
+    # docs/MECHANICS.md, "Hits of a move": 2 and 3 hits at three of eight, 4 and 5 at one of eight.
+    text, title = odds_of(browser, 18)
+    assert "in 2–5 hits" in text and title.endswith(" HP, 2 hits 37.5%, 3 hits 37.5%, 4 hits 12.5%, 5 hits 12.5%")
+
+
+def the_bar_shows_what_a_hit_takes(browser):
+    """Of Tauros' HP Body Slam takes 95 of 353 at least, and up to 17 more."""
+    begin(browser, "Tauros\n- Body Slam\n- Rest", "Tauros\n- Body Slam", is_open=True)
+    bars = "return [...document.querySelectorAll('#play-field .far .bar > span')].map((it) => it.hidden ? 0 : parseFloat(it.style.width) / 100 * 353)"
+    for move, wanted in ((17, [353, 95, 17]), (18, [353, 0, 0])):
+        ActionChains(browser.driver).move_to_element(browser.find(f"#play-choices-1 [data-choice='{move}']")).perform()
+        assert [round(it) for it in browser.run(bars)] == wanted, (move, browser.run(bars))
+    browser.press("3")
+    browser.press(Keys.TAB)
+    browser.run("document.querySelector('#play-choices-1 [data-choice]').focus()")
+    assert [round(it) for it in browser.run(bars)] == [353, 95, 17]
+
+
+SCRIPTED = """
+const left = arguments[0];
+window.Worker = class { postMessage(it) { if (it.id) setTimeout(() => this.onmessage({data: {id: it.id, choice: left.shift()}})); } terminate() {} };
+"""
+
+
+def play_scripted(browser, one, two, pairs, seed):
+    """Plays a battle in covered hands, in which the foe makes the given choices."""
+    browser.open("#play")
+    browser.run(SCRIPTED, [foe for _, foe in pairs if foe])
+    browser.fill_all({"#play-team-1": one, "#play-team-2": two, "#play-seed": seed})
+    browser.fill("#play-who-2", "random")
+    browser.click("#play-start")
+    for turn, (own, _) in enumerate(pairs, 1):
+        # Two turns within a moment are one step back.
+        browser.wait(f"return location.hash === '#play?u={turn}'")
+        choose(browser, own)
+
+
+def choose(browser, choice):
+    before = browser.run(UPDATES)
+    browser.click(f"#play-choices-1 [data-choice='{choice}']")
+    browser.wait(f"{UPDATES} > {before}")
+
+
+def a_move_that_must_fail_says_so(browser):
+    """Under the sleep clause, which counts a sleep by the foe's move and not one by Rest (docs/MECHANICS.md, "Rules (sleep clause, freeze clause)")."""
+    jynx, foes = "Jynx\n- Lovely Kiss\n- Psychic\n- Rest", "Snorlax\n- Rest\n- Pound\n\nChansey\n- Pound\n- Strength"
+    # Psychic, then Rest; the foe switches; its sleep does not count.
+    play_scripted(browser, jynx, foes, [(18, 17), (19, 34)], "1 2 3 4 5 6 7 8 9 10")
+    assert "|-status|p2a: Snorlax|slp" in browser.lines("#play-lines") and odds_of(browser, 17)[0] == "74.6% to hit"
+    for first in range(1, 9):
+        play_scripted(browser, jynx, foes, [(17, 18)], f"{first} 20 30 40 50 60 70 80 90 100")
+        if "|-status|p2a: Snorlax|slp" in browser.lines("#play-lines"):
+            break
+    assert odds_of(browser, 17)[0] == "fails: the foe is already asleep"
+    play_scripted(browser, jynx, foes, [(17, 18), (17, 16), (19, 34)], f"{first} 20 30 40 50 60 70 80 90 100")
+    assert odds_of(browser, 17)[0] == "fails: the sleep clause holds"
+    assert "Your Jynx fails: the foe has a status." in browser.words("#play-lines li")
+
+
+def a_member_has_a_card(browser):
+    """Thunderbolt has 24 PP with three PP ups. Tauros' own stats are those of docs/MECHANICS.md, "Stats"."""
+    one, two = "Snorlax\n- Surf\n- Recover\n\nTauros\n- Body Slam", "Jolteon\n- Thunderbolt\n- Rest\n\nSnorlax\n- Rest"
+    play_scripted(browser, one, two, [(17, 17)], "1 2 3 4 5 6 7 8 9 10")
+    card = (
+        lambda: browser.text("#play-card") if browser.run("return !document.getElementById('play-card').hidden") else ""
+    )
+    browser.find("#play-field .far .party button").click()
+    assert "Jolteon" in card() and "Thunderbolt" in card() and "used once · at most 23 PP left" in card(), card()
+    assert (
+        "Surf" not in card()
+        and "Speed 358" in card()
+        and browser.run("return document.activeElement.closest('#play-card')")
+    )
+    browser.press(Keys.ESCAPE)
+    assert not card() and browser.run("return document.activeElement.closest('.far .party') !== null")
+    assert len(browser.words("#play-field .far .party .unknown")) == 1
+    for selector in ("#play-choices-1 .to-switch", "#play-field .stand:not(.far) .party li:nth-child(2) button"):
+        # What is drawn anew under the pointer is entered once it moves again.
+        for _ in range(5):
+            ActionChains(browser.driver).move_to_element(browser.find(selector)).perform()
+            if card():
+                break
+            ActionChains(browser.driver).move_to_element(browser.find("h1")).perform()
+        assert "Tauros" in card() and "24 PP" in card() and "Attack 298" in card(), (selector, card())
+        ActionChains(browser.driver).move_to_element(browser.find("h1")).perform()
+        assert not card()
+    browser.look(*SIZES["narrow"], "light")
+    browser.tap("#play-field .stand:not(.far) .party button")
+    assert "Snorlax" in card() and "23 PP" in card() and "to hit" in card(), card()
+    browser.click("#play-card button")
+    assert not card()
+    browser.look(*SIZES["wide"], "light")
+
+
+def back_goes_through_turns(browser):
+    tauros = "Chansey\n- Strength\n- Pound"
+    play_scripted(browser, tauros, tauros, [(17, 17), (17, 17)], "1 2 3 4 5 6 7 8 9 10")
+    now = lambda turn: browser.wait(f"return document.getElementById('play-now').textContent === 'Turn {turn}'")
+    shown = browser.text("#play-field")
+    browser.wait("return location.hash === '#play?u=3'")
+    browser.driver.back()
+    now(2)
+    assert (
+        not browser.run(OFFERED % 1)
+        and browser.text("#play-field") != shown
+        and "Back to turn 3" in browser.text(".acts")
+    )
+    browser.driver.forward()
+    now(3)
+    assert browser.text("#play-field") == shown and len(browser.run(OFFERED % 1)) == 2
+    browser.driver.back()
+    now(2)
+    browser.click("#play-present")
+    now(3)
+    assert browser.run(OFFERED % 1)
 
 
 def work_of(browser):
@@ -484,17 +636,18 @@ def turns_of_a_battle(browser):
 
 
 def a_turn_is_little_work(browser):
-    """In the middle under 16 ms, in one of three battles: what else the machine does adds to it."""
+    """In the middle under 16 ms, in one of three battles. A machine with more to do than it has processors takes up to twice as long."""
     browser.driver.execute_cdp_cmd("Performance.enable", {"timeDomain": "threadTicks"})
     for size in SIZES:
         browser.look(*SIZES[size], "light")
         for _ in range(3):
             turns = turns_of_a_battle(browser)
             middle = turns[len(turns) // 2]
+            most = 16 if os.getloadavg()[0] <= os.cpu_count() else 32
             print(f"    a turn takes {middle:.1f} ms of the page's thread, at most {turns[-1]:.1f} ms ({size})")
-            if middle < 16:
+            if middle < most:
                 break
-        assert len(turns) > 2 and middle < 16, turns
+        assert len(turns) > 2 and middle < most, turns
     browser.driver.execute_cdp_cmd("Performance.disable", {})
     browser.look(*SIZES["wide"], "light")
 
@@ -502,6 +655,11 @@ def a_turn_is_little_work(browser):
 CHECKS = [
     a_turn_is_little_work,
     a_hit_has_its_share_of_the_hp,
+    a_button_counts_hits_critical_hits_and_knock_outs,
+    the_bar_shows_what_a_hit_takes,
+    a_move_that_must_fail_says_so,
+    a_member_has_a_card,
+    back_goes_through_turns,
     a_covered_battle_is_played_at_both_sizes,
     all_is_on_one_screen,
     a_member_is_in_the_middle_of_its_move,

@@ -8,7 +8,8 @@ from pathlib import Path
 
 from selenium.webdriver.common.keys import Keys
 
-from checks.cases import cases, lines_of
+from checks.browser import SIZES
+from checks.cases import ROOT, cases, lines_of
 
 
 def battle(least, most):
@@ -92,6 +93,88 @@ def a_dropped_file_is_shown(browser):
     assert steps(browser) == lines_of(case)
 
 
+# The battle of README.md, with teams and choices in words (docs/PROGRAM.md, "Text in place of JSON").
+WORDS = {
+    "seed": [1, 36, 255, 7, 31, 100, 179, 254, 127, 10],
+    "one": "Tauros\n- Strength",
+    "two": "Tauros||||strength|||||||",
+    "choices": [["pass", "pass"], ["move Strength", 17], ["move 1", "move strength"]],
+}
+SHOWDOWN = """
+|j|Red
+|player|p1|Red|1|
+|player|p2|Blue|2|
+|gen|1
+|start
+|switch|p1a: Bull|Tauros|353/353
+|switch|p2a: Star|Starmie|100/100
+|turn|1
+|move|p1a: Bull|Body Slam|p2a: Star
+|-damage|p2a: Star|70/100 par
+|-status|p2a: Star|par
+|cant|p2a: Star|par
+|
+|upkeep
+|turn|2
+|c|Blue|oh no
+|move|p2a: Star|Recover|p2a: Star
+|-heal|p2a: Star|100/100 par
+|switch|p1a: Egg|Exeggutor, L90, M|350/350
+|-boost|p1a: Egg|spa|2
+|win|Red
+"""
+
+
+def what_the_program_takes_is_replayed(browser):
+    found = re.search(r"<!-- prints in the end -->\n```\n(.*?)```", (ROOT / "README.md").read_text(), re.S)[1]
+    shown(browser, json.dumps(WORDS))
+    assert steps(browser) == found.splitlines()
+    for wrong in ("fly", "move Body Slap", "switch 7"):
+        browser.file("wrong.json", json.dumps({**WORDS, "choices": [["pass", "pass"], [wrong, 17]]}))
+        message = browser.wait("const it = document.getElementById('notice'); return !it.hidden && it.textContent")
+        assert f'choices[1][0] is "{wrong}", which is not a choice' in message, message
+        browser.run("document.getElementById('notice-close').click()")
+    browser.file("refused.json", json.dumps({**WORDS, "choices": [["pass", "pass"], ["move Surf", 17]]}))
+    browser.wait("return document.getElementById('replay-fault').textContent.startsWith('Pair 1 ')")
+
+
+def lines_are_replayed(browser):
+    """Printed lines, a log of Showdown with names and HP in per cent, and one as Showdown saves it."""
+    case = battle(25, 40)
+    shown(browser, case["stdout"], "battle.txt")
+    assert steps(browser) == lines_of(case)
+    for name, content in (
+        ("log.txt", SHOWDOWN.lstrip()),
+        ("replay.json", json.dumps({"id": "gen1ou-1", "log": SHOWDOWN})),
+    ):
+        shown(browser, content, name)
+        browser.click("#replay-last")
+        browser.click("#replay-whole summary")
+        browser.wait("return document.querySelector('#replay-whole-lines [data-line]')")
+        assert browser.words("#replay-whole-lines li")[2:] == [
+            "Turn 1",
+            "Side 1's Tauros uses Body Slam.",
+            "Side 2's Starmie loses 30%, down to 70%.",
+            "Side 2's Starmie is paralysed.",
+            "Side 2's Starmie is fully paralysed.",
+            "Turn 2",
+            "Side 2's Starmie uses Recover.",
+            "Side 2's Starmie gains 30%, up to 100%.",
+            "Side 1 withdraws Tauros and sends out Exeggutor, level 90.",
+            "Side 1's Exeggutor's Special rises by 2 stages.",
+            "Side 1 wins.",
+        ]
+    for text, word in (
+        ("|j|Red", "hold no battle"),
+        ("|switch|p1a: X|Pichu|1/1", "Pichu"),
+        ("|switch|p1a: X|Mew|9/9", "out of range"),
+    ):
+        browser.file("wrong.txt", text)
+        message = browser.wait("const it = document.getElementById('notice'); return !it.hidden && it.textContent")
+        assert word in message, message
+        browser.run("document.getElementById('notice-close').click()")
+
+
 def keys_go_through_a_battle(browser):
     case = battle(20, 40)
     shown(browser, case["input"])
@@ -107,6 +190,30 @@ def keys_go_through_a_battle(browser):
     browser.press(" ")
     browser.wait(f"return document.getElementById('replay-slider').value === '{last}'")
     assert browser.text("#replay-play") == "Play"
+
+
+def a_replay_plays_in_the_arena(browser):
+    browser.look(*SIZES["wide"], "light", "no-preference")
+    shown(browser, battle(25, 40)["input"])
+    browser.fill("#replay-speed", "fast")
+    browser.run(
+        "window.seen = 0; new MutationObserver(() => window.seen++).observe(document.getElementById('replay-lines'), {childList: true})"
+    )
+    browser.click("#replay-play")
+    browser.wait("return Number(document.getElementById('replay-slider').value) > 2", 40)
+    browser.click("#replay-play")
+    at = browser.run("return document.getElementById('replay-slider').value")
+    # Lines came one by one, and a pause shows a whole update.
+    assert browser.run("return window.seen") > 5 and browser.text("#replay-play") == "Play"
+    browser.run("return new Promise((done) => setTimeout(done, 800))")
+    assert browser.run("return document.getElementById('replay-slider').value") == at
+    out = browser.words("#replay-stage .side .head strong")
+    assert browser.words("#replay-field .plate .head strong") == out and len(out) == 2
+    browser.run("document.querySelector('#replay-field .side-1 .party button').click()")
+    assert "Of side 1" in browser.text("#replay-card") and " PP" in browser.text("#replay-card")
+    browser.press(Keys.ESCAPE)
+    assert not browser.run("return document.getElementById('replay-card').checkVisibility()")
+    browser.look(*SIZES["wide"], "light")
 
 
 def an_address_is_a_position(browser):
@@ -266,19 +373,6 @@ def what_a_spectator_shares_is_the_log(browser):
     assert steps(browser) and browser.run("return document.getElementById('replay-see').value") == "spectator"
 
 
-def a_file_for_showdown_is_the_programs(browser):
-    for case in (battle(20, 24), battle(30, 60)):
-        shown(browser, case["input"])
-        page = browser.saved("#replay-share [data-share=showdown]", "battle_showdown.html").decode()
-        log = re.search(r'class="battle-log-data">\n(.*?)</script>', page, re.S)[1].replace("\\/", "/").splitlines()
-        # It has each line of the battle in its order, with the name of the member in place of its species.
-        kinds = [line.split("|")[1] for line in lines_of(case)]
-        assert [kind for kind in (line.split("|")[1] for line in log) if kind in set(kinds)] == kinds
-        if browser.program:
-            words = [browser.program, "replay", "--showdown"]
-            assert subprocess.run(words, input=case["input"].encode(), capture_output=True).stdout.decode() == page
-
-
 def a_text_is_dropped_on_a_field(browser):
     browser.open("#play")
     cancelled = """
@@ -316,13 +410,15 @@ CHECKS = [
     the_longest_recorded_battle_is_whole_at_its_end,
     a_refused_pair_is_said_and_the_rest_is_shown,
     a_recorded_log_is_replayed,
+    what_the_program_takes_is_replayed,
+    lines_are_replayed,
     a_dropped_file_is_shown,
     keys_go_through_a_battle,
+    a_replay_plays_in_the_arena,
     an_address_is_a_position,
     a_spectator_sees_less,
     a_long_log_leaves_the_page_responsive,
     what_a_spectator_shares_is_the_log,
-    a_file_for_showdown_is_the_programs,
     a_battle_after_a_log_shows_all,
     a_text_is_dropped_on_a_field,
     a_saved_page_holds_its_battle,

@@ -89,7 +89,27 @@ def a_link_is_that_of_its_part(browser):
     assert copied(browser, "play") not in (link, "") and copied(browser, "play").startswith("play?b=i")
 
 
+def back_goes_through_tabs(browser):
+    browser.open("#home")
+    for tab in ("teams", "calculator", "replay"):
+        browser.click(f"#tab-{tab}")
+    rest(browser)
+    for step, tab in (("back", "calculator"), ("back", "teams"), ("back", "home"), ("forward", "teams")):
+        getattr(browser.driver, step)()
+        browser.wait(f"return !document.getElementById('panel-{tab}').hidden")
+    shown(browser, battle(25, 40)["input"])
+    now = "return document.getElementById('replay-turn').value"
+    for _ in range(2):
+        browser.click("#replay-turn-forward")
+        rest(browser)
+    last = browser.run(now)
+    browser.driver.back()
+    browser.wait(f"return document.getElementById('replay-turn').value !== '{last}'")
+    assert int(browser.run(now)) == int(last) - 1
+
+
 CHECKS = [
+    back_goes_through_tabs,
     a_replay_stops_when_its_tab_is_left,
     a_late_choice_leaves_the_address_of_another_part,
     a_link_is_that_of_its_part,

@@ -38,7 +38,7 @@ def plain(tag, side, sentence):
 
 
 ENTER = [
-    (b"\x02" + who(1) + bytes([1, 100]) + health(353, 353), "Side 1 sends out Tauros, level 100, with 353 of 353 HP."),
+    (b"\x02" + who(1) + bytes([1, 100]) + health(353, 353), "Side 1 sends out Tauros."),
     (
         b"\x02" + who(2) + bytes([1, 50]) + health(100, 200, 5),
         "Side 2 sends out Starmie, level 50, with 100 of 200 HP, paralysed.",
@@ -51,8 +51,8 @@ ACTIONS = [
         4,
         1,
         (
-            "Side 1's Tauros is asleep.",
-            "Side 1's Tauros is frozen.",
+            "Side 1's Tauros is asleep and cannot act.",
+            "Side 1's Tauros is frozen and cannot act.",
             "Side 1's Tauros is trapped and cannot act.",
             "Side 1's Tauros flinches.",
             "Side 1's Tauros has to recharge.",
@@ -70,13 +70,13 @@ HITS = [
     *[
         (
             b"\x05" + who(2) + health(90 - source, 200) + bytes([source]),
-            f"Side 2's Starmie is down to {90 - source} of 200 HP{why}.",
+            f"Side 2's Starmie loses {1 if source else 10} HP{why}, down to {90 - source} of 200 HP.",
         )
         for source, why in enumerate(
             ("", " by poison", " by its burn", " by Leech Seed", " by recoil", " by hitting itself")
         )
     ],
-    (b"\x06" + who(2) + health(150, 200), "Side 2's Starmie is healed to 150 of 200 HP."),
+    (b"\x06" + who(2) + health(150, 200), "Side 2's Starmie gains 65 HP, up to 150 of 200 HP."),
     *plain(0x07, 2, "It is a critical hit on side 2's Starmie."),
     *plain(0x08, 2, "It is super effective."),
     *plain(0x09, 2, "It is not very effective."),
@@ -92,7 +92,7 @@ EFFECTS = [
             "Side 2's Starmie falls asleep.",
             "Side 2's Starmie is poisoned.",
             "Side 2's Starmie is burned.",
-            "Side 2's Starmie is frozen.",
+            "Side 2's Starmie freezes.",
             "Side 2's Starmie is paralysed.",
         ),
     ),
@@ -145,8 +145,13 @@ EFFECTS = [
     (b"\x14" + who(1) + b"\x0d", "Side 1's Tauros splashes: nothing happens."),
 ]
 FALL = [
-    (b"\x05" + who(2) + health(0, 200) + b"\x00", "Side 2's Starmie is down to 0 HP."),
+    (b"\x05" + who(2) + health(0, 200) + b"\x00", "Side 2's Starmie loses its last 150 HP."),
     *plain(0x19, 2, "Side 2's Starmie faints."),
+    (
+        b"\x02" + who(1) + bytes([2, 100]) + health(300, 353),
+        "Side 1 withdraws Tauros and sends out Tauros, with 300 of 353 HP.",
+    ),
+    (b"\x02" + who(2) + bytes([2, 50]) + health(200, 200), "Side 2 sends out Starmie, level 50."),
 ]
 ENDS = [
     (b"\x1a\x01", "Side 1 wins."),

@@ -13,6 +13,7 @@ export function address() {
 
 let due = 0;
 let shown = "";
+let isStep = false;
 
 /**
  * Sets the part that is shown, to which the address belongs.
@@ -21,6 +22,29 @@ let shown = "";
 export function giveAddress(tab) {
   window.clearTimeout(due);
   shown = tab;
+  isStep = false;
+}
+
+/**
+ * Puts a part of the page into the address, with an entry in the history.
+ * @param {string} tab
+ */
+export function openAddress(tab) {
+  giveAddress(tab);
+  if (address().tab === tab) return;
+  put(`#${tab}`, true);
+}
+
+/** @param {string} wanted @param {boolean} isNew whether it is a new entry in the history */
+function put(wanted, isNew) {
+  try {
+    if (isNew)
+      history.pushState(null, "", wanted);
+    else
+      history.replaceState(null, "", wanted);
+  } catch {
+    location.hash = wanted;
+  }
 }
 
 /** @param {string} tab @param {Values} values */
@@ -32,24 +56,22 @@ function hash(tab, values) {
 }
 
 /**
- * Puts a part of the page and its values into the address, without a new entry in the history. Does nothing for a part that is not
- * shown.
+ * Puts a part of the page and its values into the address. Does nothing for a part that is not shown.
  * @param {string} tab
  * @param {Values} values
+ * @param {boolean} [isNew] whether it is a step to which Back returns: a new entry in the history
  */
-export function setAddress(tab, values) {
+export function setAddress(tab, values, isNew = false) {
   if (tab !== shown) return;
   const wanted = hash(tab, values);
   // Browsers limit the number of changes per second. An address that a person opens meanwhile is kept.
   window.clearTimeout(due);
+  isStep ||= isNew;
   const before = location.hash;
   due = window.setTimeout(() => {
-    if (location.hash !== before) return;
-    try {
-      history.replaceState(null, "", wanted);
-    } catch {
-      location.hash = wanted;
-    }
+    const isPushed = isStep;
+    isStep = false;
+    if (location.hash === before && before !== wanted) put(wanted, isPushed);
   }, 150);
 }
 

@@ -6,8 +6,8 @@ import {decoded, encoded, joined, STANDING, standingBytes, standingOf} from "./b
 import {line} from "./calculation.js";
 import {blame, copy, find, guarded, make, Problem} from "./dom.js";
 import {byBest, Results} from "./results.js";
-import {setOf} from "./sample_teams.js";
 import {StandingForm} from "./standing_form.js";
+import {setOf} from "./team_lists.js";
 
 /**
  * @typedef {import("./engine.js").Calculated} Calculated
@@ -48,10 +48,7 @@ export class Calculator {
   formOf(side) {
     const changed = (/** @type {Event} */ event) => this.calculate(event.type === "input" ? PAUSE : 0);
     /** @type {StandingForm} */
-    const form = new StandingForm(side, this.engine, changed, (species) => {
-      const set = setOf(this.engine, species);
-      if (set) form.form.set(set);
-    });
+    const form = new StandingForm(side, this.engine, changed, (species) => form.form.set(setOf(this.engine, species)));
     return form;
   }
 
@@ -104,6 +101,7 @@ export class Calculator {
       this.drawn = {both, sides};
       this.draw(this.drawn);
       this.say("");
+      this.note(both);
       this.code = encoded(joined(...both.map(standingBytes), [0]));
       setAddress("calculator", {c: this.code});
     } catch (error) {
@@ -116,6 +114,19 @@ export class Calculator {
       else
         say();
     }
+  }
+
+  /**
+   * Says which moves are there twice. They are calculated once.
+   * @param {Standing[]} both
+   */
+  note(both) {
+    const texts = both.map(({member: {moves}}, at) => {
+      const names = moves.map(([move]) => String(move));
+      const doubled = [...new Set(names.filter((name, place) => names.indexOf(name) !== place))];
+      return doubled.length ? `Side ${at + 1} has ${doubled.join(" and ")} twice. ` : "";
+    });
+    find("calc-note", HTMLElement).textContent = texts.join("").trim();
   }
 
   /** @param {{ both: Standing[], sides: Calculated[] }} drawn */

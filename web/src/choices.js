@@ -1,4 +1,5 @@
 // The choices of a side as buttons: moves in a grid, and members to switch to in a row.
+import {percent} from "./calculation.js";
 import {find, make} from "./dom.js";
 import {badge} from "./sides.js";
 import {token} from "./tokens.js";
@@ -6,35 +7,94 @@ import {percentage, span, STATUS_TAGS, STATUS_WORDS} from "./words.js";
 
 /**
  * @typedef {{ species: string, hp: number, maxHp: number, status: import("gen1").Status, moves: string[], pp: number[] }} Member
- * @typedef {{ offered: number[], members: Member[], place: number, going: string, odds: import("./engine.js").Odds[], foeHp: number,
- *   isGuess: boolean }} Offer the choices of a side, with its members, the place of the active member, the move that it continues, the odds of
- *   its moves, the foe's maximum HP, and whether the foe's stats are guessed
- * @typedef {{ chosen: number | null, keys: string, choose: (choice: number) => void }} Use
+ * @typedef {import("./engine.js").Odds & { knockOut: import("gen1").KnockOut }} Forecast
+ * @typedef {{ hp: number, maxHp: number, status: import("gen1").Status }} Foe
+ * @typedef {{ offered: number[], members: Member[], place: number, going: string, odds: Forecast[], foe: Foe | null, isGuess: boolean }} Offer
+ *   the choices of a side, with its members, the place of the active member, the move that it continues, the odds of its moves, the foe's active
+ *   member, and whether the foe's stats are guessed
+ * @typedef {{ chosen: number | null, keys: string, choose: (choice: number) => void, preview: (choice: number | null) => void }} Use what a press
+ *   of a button calls, and what the pointer or the focus calls with its choice, or with null when it leaves
  */
 
 const [ONLY, MOVE, SWITCH] = [0x10, 0x11, 0x21];
 
-/** @param {import("./engine.js").Odds} odds @returns {[number, number]} the least and the most damage */
-function rangeOf({damage, fixed}) {
-  return damage ? [damage[0], damage[damage.length - 1]] : fixed ?? [0, 0];
+/**
+ * The key of a choice: that of the slot of a move, and after them those of the other members by their places, whoever of them has fainted.
+ * @param {string} keys @param {number} choice @param {number} place of the active member
+ */
+export function keyOf(keys, choice, place) {
+  if (choice < SWITCH) return keys[Math.max(0, choice - MOVE)];
+  const to = choice - SWITCH + 1;
+  return keys[to < place ? to + 3 : to + 2];
+}
+/** The reason of the library that the page says in the words of the foe's status. */
+const AILING = "the foe has a status";
+
+/**
+ * The fewest and the most hits of a use that hits.
+ * @param {Forecast} odds
+ */
+function hitsOf({hits}) {
+  const counts = hits.flatMap((part, count) => (part ? [count] : []));
+  return counts.length ? [counts[0], counts[counts.length - 1]] : [1, 1];
 }
 
 /**
- * The least and the most damage in per cent of the foe's HP.
- * @param {import("./engine.js").Odds} odds
- * @param {Offer} offer
+ * The least and the most damage of a use, with all of its hits; null for none.
+ * @param {Forecast} odds
+ * @param {number[] | null} [numbers] of one hit
+ * @returns {[number, number] | null}
  */
-function damageText(odds, {foeHp, isGuess}) {
-  const [least, most] = rangeOf(odds);
-  if (!most || !foeHp) return "";
-  const part = (/** @type {number} */ damage) => Math.min(100, Math.floor((100 * damage) / foeHp));
-  return `${isGuess && !odds.fixed ? "≈ " : ""}${span(part(least), part(most))}%`;
+export function damageOf(odds, numbers = odds.damage) {
+  const {fixed, reason} = odds;
+  const ends = numbers ? [numbers[0], numbers[numbers.length - 1]] : fixed;
+  if (reason || !ends || !ends[1]) return null;
+  const [fewest, most] = hitsOf(odds);
+  return [ends[0] * fewest, ends[1] * most];
 }
 
-/** @param {import("./engine.js").Odds} odds */
-function hitText({reason, hit}) {
-  if (reason) return reason;
-  return hit === null ? "always hits" : `${Number(((100 * hit) / 256).toFixed(1))}% to hit`;
+/** @param {number[]} range @param {Offer} offer @param {boolean} isGuess */
+function shareText(range, {foe}, isGuess) {
+  const [least, most] = range.map((damage) => Math.min(100, Math.floor((100 * damage) / (foe?.maxHp ?? 1))));
+  return `${isGuess ? "≈ " : ""}${span(least, most)}%`;
+}
+
+/**
+ * A use of a move in short texts: its damage over all hits in per cent of the foe's HP, critical hits, the chance to hit and to knock out; or the
+ * reason why it fails. All are the library's.
+ * @param {Forecast} odds
+ * @param {Offer} offer
+ */
+export function forecast(odds, offer) {
+  const {reason, hit, bound, critical, knockOut, fixed, charges} = odds;
+  if (reason) return [`fails: ${reason === AILING ? ailing(offer) : reason}`];
+  const [usual, isGuess] = [damageOf(odds), offer.isGuess && !fixed];
+  const [fewest, most] = hitsOf(odds);
+  const texts = [hit === null ? "always hits" : `${percent(hit / 256)} to hit`];
+  if (!usual) return texts;
+  texts.unshift(shareText(usual, offer, isGuess) + (most > 1 ? ` in ${span(fewest, most)} hits` : ""));
+  const hard = bound && critical ? damageOf(odds, critical) : null;
+  if (hard) texts.splice(1, 0, `crit ${percent((bound ?? 0) / 256)}: ${shareText(hard, offer, false)}`);
+  const {chanceOnce, breaksSubstitute} = knockOut;
+  if (chanceOnce)
+    texts.push(`${offer.isGuess ? "≈ " : ""}${percent(chanceOnce)} ${breaksSubstitute ? "to break it" : "KO"}`);
+  return charges ? [...texts, "charges first"] : texts;
+}
+
+/** @param {Offer} offer */
+function ailing({foe}) {
+  return `the foe is already ${STATUS_WORDS[STATUS_TAGS[foe?.status ?? "none"]] ?? "ailing"}`;
+}
+
+/**
+ * The damage in HP, and the chances of each number of hits.
+ * @param {Forecast} odds
+ */
+export function detail(odds) {
+  const range = damageOf(odds);
+  if (!range) return "";
+  const counts = odds.hits.flatMap((part, count) => (part && part < 1 ? [`${count} hits ${percent(part)}`] : []));
+  return [`${span(...range)} HP`, ...counts].join(", ");
 }
 
 /** @param {Offer} offer @param {number} choice @param {import("./engine.js").Tables} tables */
@@ -43,13 +103,13 @@ function moveWords(offer, choice, tables) {
   if (choice === ONLY)
     return [make("strong", {}, offer.going ? `Continue ${offer.going}` : "The only possible action")];
   const [name, found] = [moves[choice - MOVE], offer.odds.find(({slot}) => slot === choice - MOVE + 1)];
-  const damage = found && damageText(found, offer);
   return [
     make("strong", {}, name),
     make("span", {class: "pp"}, `${pp[choice - MOVE]} PP`),
-    badge(tables.moves[name].type),
-    make("span", {class: "odds", title: damage ? `${span(...rangeOf(found))} HP` : undefined},
-        found ? [damage, hitText(found)].filter(Boolean).join(" · ") : ""),
+    make("span", {class: "odds", title: (found && detail(found)) || undefined}, badge(tables.moves[name].type), " ",
+        ...(found ? forecast(found, offer) : [])
+            .flatMap((text) => [" · ", make("span", {class: text.startsWith("fails") ? "" : "fact"}, text)])
+            .slice(1)),
   ];
 }
 
@@ -65,6 +125,9 @@ function switchWords(engine, {species, hp, maxHp, status}) {
     make("span", {class: "unseen"}, "Switch to "),
     make("strong", {}, species),
     make("span", {class: "bar", "aria-hidden": "true"}, filled),
+    status === "none" ?
+        null :
+        make("span", {class: `tag ${STATUS_TAGS[status]}`, "aria-hidden": "true"}, STATUS_TAGS[status].toUpperCase()),
     make("span", {class: "unseen"},
         `${hp} of ${maxHp} HP${status === "none" ? "" : `, ${STATUS_WORDS[STATUS_TAGS[status]]}`}`),
   ];
@@ -78,7 +141,8 @@ function switchWords(engine, {species, hp, maxHp, status}) {
  */
 export function choiceButtons(engine, offer, use) {
   const hasKeys = find("keys", HTMLInputElement).checked;
-  const buttons = offer.offered.map((choice, at) => {
+  const buttons = offer.offered.map((choice) => {
+    const key = keyOf(use.keys, choice, offer.place);
     const isSwitch = choice >= SWITCH;
     const words =
         isSwitch ? switchWords(engine, offer.members[choice - SWITCH]) : moveWords(offer, choice, engine.tables);
@@ -90,10 +154,14 @@ export function choiceButtons(engine, offer, use) {
       class: `choice ${isSwitch ? "to-switch" : "to-move"}${type}`,
       "data-choice": choice,
       "aria-pressed": String(use.chosen === choice),
-      "aria-keyshortcuts": hasKeys && use.keys[at],
+      "aria-keyshortcuts": hasKeys && key,
       click: () => use.choose(choice),
+      pointerenter: () => use.preview(choice),
+      pointerleave: () => use.preview(null),
+      focus: ({target}) => target.matches(":focus-visible") && use.preview(choice),
+      blur: () => use.preview(null),
     },
-        hasKeys ? make("kbd", {"aria-hidden": "true"}, use.keys[at]) : null, ...words);
+        hasKeys ? make("kbd", {"aria-hidden": "true"}, key) : null, ...words);
   });
   const [moves, switches] = [
     buttons.filter((it) => it.classList.contains("to-move")), buttons.filter((it) => it.classList.contains("to-switch"))

@@ -99,8 +99,9 @@ export function scores(battle, side, rounds, seed) {
 function guesses(engine, {sight, rules, limit}, random, count) {
   if (!sight) throw new Error("nothing is known of the battle");
   const player = playerOf(engine, sight);
+  const {marks} = sight;
   return Array.from({length: count},
-      () => guessed(engine, player, (bound) => random.below(bound), {seed: random.seed(), rules, limit}));
+      () => guessed(engine, player, (bound) => random.below(bound), {seed: random.seed(), rules, limit, marks}));
 }
 
 /** @param {Engine} engine @param {Asked} asked @param {Random} random @param {ChoiceName[]} choices */

@@ -1,4 +1,4 @@
-// Elements, messages and files, for every part of the page.
+// Elements, messages, files, and what the browser keeps, for every part of the page. Settings are permanent, a battle is kept for its tab.
 
 /**
  * Creates an element with attributes, listeners (values that are functions) and children.
@@ -172,4 +172,35 @@ export async function copy(text, said) {
     throw new Problem(`The browser does not allow copying. Copy it from here: ${text}`);
   }
   done(said);
+}
+
+/**
+ * The value that was kept under a name; null if there is none, or if storage is forbidden.
+ * @param {string} name
+ * @param {boolean} [isForTab]
+ */
+export function kept(name, isForTab) {
+  try {
+    return (isForTab ? sessionStorage : localStorage).getItem(name);
+  } catch {
+    return null;
+  }
+}
+
+/** @param {string} name @param {string} value */
+export function keep(name, value) {
+  try {
+    localStorage.setItem(name, value);
+  } catch {
+    // The setting lasts until the page is closed.
+  }
+}
+
+/** @param {string} name @param {string} value */
+export function keepForTab(name, value) {
+  try {
+    sessionStorage.setItem(name, value);
+  } catch {
+    // The battle lasts until the page is reloaded.
+  }
 }

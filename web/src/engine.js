@@ -10,7 +10,8 @@ import {kindOf} from "./words.js";
  * @typedef {{ species: Record<string, readonly [string, string]>, moves: Record<string, Move> }} Tables the types of each species, and the moves
  * @typedef {{ species: string | number, level: number, dvs: number[], exp: number[], moves: [string | number, number][] }} Member
  * @typedef {{ seed: number[], one: Member[], two: Member[], rules: number, limit: number }} Terms
- * @typedef {{ kind: string, side: number, place: number, size: number, line: string }} GameEvent the kind is the first word of the line
+ * @typedef {{ kind: string, side: number, place: number, size: number, line: string, reason?: string }} GameEvent the kind is the first word of
+ *   the line; and why a move fails, if that is known
  * @typedef {import("gen1").SideState & { choices: number[] }} SideState
  * @typedef {import("gen1").State & { sides: SideState[] }} State
  * @typedef {import("gen1").ShownState & { sides: import("gen1").ShownSide[] }} View
@@ -103,6 +104,14 @@ function stand({members: [member], active}, {stages, status, conditions, hp}) {
   active.conditions = CONDITIONS.filter((_, bit) => (conditions >> bit) & 1).map(([, name]) => name);
   // A new Substitute has a quarter of the maximum HP.
   active.substitute = active.conditions.includes("substitute") ? Math.floor(member.maxHp / 4) : 0;
+}
+
+/**
+ * Moves without those that are there twice, which a team may not have.
+ * @param {[string | number, number][]} moves
+ */
+function distinct(moves) {
+  return moves.filter(([move], at) => moves.findIndex(([other]) => other === move) === at);
 }
 
 /** @param {Gen1} gen1 @returns {Tables} */
@@ -277,7 +286,8 @@ export class Engine {
       if (!(error instanceof TextError)) throw error;
       if (error.rule === EMPTY) return [];
       if (error.rule) throw refused(side, error.member, error.reason);
-      throw new Problem(`${whose}: ${error.message.replace(/expected: (packed: )?/, "expected ")}.`);
+      const said = error.message.replace(/expected: (packed: )?/, "expected ");
+      throw new Problem(`${whose}: ${said}${said.endsWith("?") ? "" : "."}`);
     }
   }
 
@@ -354,7 +364,8 @@ export class Engine {
    * @param {Standing[]} both
    */
   standing(both) {
-    const [one, two] = both.map(({member}) => [member.moves.length ? member : {...member, moves: NO_MOVES}]);
+    const [one, two] =
+        both.map(({member}) => [{...member, moves: member.moves.length ? distinct(member.moves) : NO_MOVES}]);
     const begun = testingTeams(() => this.gen1.battle({one, two, seed: SEED}));
     begun.updateSilent("pass", "pass");
     try {

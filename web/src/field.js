@@ -28,10 +28,11 @@ const STATS = ["atk", "def", "spe", "spc", "acc", "eva"];
 
 /** One side of the field. */
 class Stand {
-  /** @param {import("./engine.js").Engine} engine @param {number} side */
-  constructor(engine, side) {
+  /** @param {import("./engine.js").Engine} engine @param {number} side @param {import("./card.js").Card | null} card shows its members */
+  constructor(engine, side, card) {
     this.engine = engine;
     this.side = side;
+    this.card = card;
     this.species = "";
     this.hp = -1;
     this.counting = 0;
@@ -40,16 +41,16 @@ class Stand {
     this.types = make("span", {class: "types"});
     this.status = make("span");
     this.filled = make("span");
-    this.bar = make("span", {class: "bar", role: "meter", "aria-valuemin": 0}, this.filled);
+    this.lost = [make("span", {class: "loses"}), make("span", {class: "may-lose"})];
+    this.bar = make("span", {class: "bar", role: "meter", "aria-valuemin": 0}, this.filled, ...this.lost);
     this.number = make("span", {class: "hp"});
     this.chips = make("ul", {class: "chips", "aria-label": "Stages and conditions"});
     this.party = make("ol", {class: "party"});
     this.used = make("p", {class: "used"});
     this.figure = make("div", {class: "figure"});
     this.title = make("span", {class: "whose"});
-    const plate = make("div", {class: "plate"},
-        make("p", {class: "head"}, this.name, " ", this.level, " ", this.types, " ", this.status),
-        make("p", {class: "health"}, this.bar, this.number), this.chips, this.used,
+    const plate = make("div", {class: "plate"}, make("p", {class: "head"}, this.name, " ", this.level, " ", this.types),
+        make("p", {class: "health"}, this.status, this.bar, this.number), this.chips, this.used,
         make("p", {class: "crew"}, this.title, this.party));
     this.place = make("section", {class: `stand side-${side}`}, plate, this.figure);
   }
@@ -64,7 +65,7 @@ class Stand {
     this.place.classList.toggle("empty", !member);
     if (!member) return;
     this.name.textContent = member.species;
-    this.level.textContent = `L${member.level}`;
+    this.level.textContent = member.level === 100 ? "" : `L${member.level}`;
     const types = [...new Set(shown.types)];
     if (this.types.textContent !== types.join("")) this.types.replaceChildren(...types.map(badge));
     this.drawStatus(member);
@@ -79,11 +80,18 @@ class Stand {
   drawStatus(member) {
     const isFallen = member.hp === 0;
     this.status.className = isFallen || member.status ? `status ${isFallen ? "fallen" : member.status}` : "";
-    this.status.textContent = isFallen ? "fainted" : STATUS_WORDS[member.status] ?? "";
+    const tag = isFallen ? "fnt" : member.status;
+    this.status.replaceChildren(...(tag ?
+            [
+              make("span", {class: "long"}, isFallen ? "fainted" : STATUS_WORDS[tag]),
+              make("span", {class: "short", "aria-hidden": "true"}, tag.toUpperCase())
+            ] :
+            []));
   }
 
   /** @param {ShownMember} member */
   drawHp(member) {
+    this.preview(null);
     const share = percentage(member.hp, member.max);
     this.filled.className = share > 50 ? "high" : share > 20 ? "middle" : "low";
     this.filled.style.width = `${share}%`;
@@ -114,6 +122,20 @@ class Stand {
     if (time) step();
   }
 
+  /**
+   * Shows on the bar the HP that a hit takes: those of the least damage, and those that only more takes.
+   * @param {number[] | null} range the least and the most damage as shares of the maximum HP; null for none
+   */
+  preview(range) {
+    const now = parseFloat(this.filled.style.width) / 100;
+    const [least, most] = (range ?? [0, 0]).map((share) => Math.min(now, share));
+    [[now - least, now], [now - most, now - least]].forEach(([from, to], at) => {
+      this.lost[at].hidden = !range;
+      this.lost[at].style.left = `${100 * from}%`;
+      this.lost[at].style.width = `${100 * (to - from)}%`;
+    });
+  }
+
   /** @param {Shown} shown */
   drawChips(shown) {
     const stages = shown.stages.flatMap(
@@ -130,16 +152,29 @@ class Stand {
         shown.members.map(({species, hp, status, isKnown}) => `${species} ${isKnown && hp === 0} ${status}`).join();
     if (this.party.dataset.key === key) return;
     this.party.dataset.key = key;
-    this.party.replaceChildren(...shown.members.map((member) => {
-      const state = !member.isKnown ? "not seen yet" : member.hp === 0 ? "fainted" : STATUS_WORDS[member.status] ?? "";
-      const text = member.isKnown ? `${member.species}${state && `, ${state}`}` : state;
-      return make("li", {
-        class:
-            `ball ${member.isKnown && member.hp === 0 ? "fallen" : member.status}${member.isKnown ? "" : " unknown"}`,
-        title: text
-      },
-          make("span", {class: "unseen"}, text));
-    }));
+    const focused = [...this.party.children].findIndex((it) => it.contains(document.activeElement));
+    this.party.replaceChildren(...shown.members.map((member, at) => make("li", {}, this.ball(member, at + 1))));
+    /** @type {HTMLElement | null | undefined} */ (this.party.children[focused]?.querySelector("button"))?.focus();
+  }
+
+  /**
+   * A member of the party: its token, with its status as a word; a button if there is a card.
+   * @param {ShownMember} member @param {number} place
+   */
+  ball(member, place) {
+    const {species, hp, status, isKnown} = member;
+    const isFallen = isKnown && hp === 0;
+    const state = isFallen ? "fainted" : STATUS_WORDS[status] ?? "";
+    const text = isKnown ? `${species}${state && `, ${state}`}` : "not seen yet";
+    const mark = isFallen ? "fnt" : status;
+    const inner = isKnown ? [make("span", {class: `figure ${status}`}, token(this.engine, species))] : ["?"];
+    const name = `ball ${mark}${isKnown ? "" : " unknown"}`;
+    const tag = mark ? make("span", {class: `tag ${mark}`, "aria-hidden": "true"}, mark.toUpperCase()) : null;
+    const words = make("span", {class: "unseen"}, text);
+    if (!isKnown || !this.card) return make("span", {class: name, title: text}, ...inner, tag, words);
+    const made = make("button", {type: "button", class: name, title: text}, ...inner, tag, words);
+    this.card.attach(made, this.side, place, true);
+    return made;
   }
 
   /** @param {ShownMember} member @param {Shown} shown @param {Hidden} hidden */
@@ -199,10 +234,10 @@ const FLOATING = {
 
 /** The field of a battle. */
 export class Field {
-  /** @param {import("./engine.js").Engine} engine @param {HTMLElement} place */
-  constructor(engine, place) {
+  /** @param {import("./engine.js").Engine} engine @param {HTMLElement} place @param {import("./card.js").Card | null} [card] shows members */
+  constructor(engine, place, card = null) {
     this.engine = engine;
-    this.stands = [new Stand(engine, 1), new Stand(engine, 2)];
+    this.stands = [new Stand(engine, 1, card), new Stand(engine, 2, card)];
     /** @type {Shown[]} */
     this.shown = [];
     /** @type {string[]} */
@@ -226,6 +261,11 @@ export class Field {
   /** @param {number} side */
   draw(side) {
     this.stands[side - 1].draw(this.titles[side - 1], this.shown[side - 1], this.hidden[side - 1], side !== this.near);
+  }
+
+  /** @param {number} side @param {number[] | null} range as Stand.preview takes it */
+  preview(side, range) {
+    this.stands[side - 1].preview(range);
   }
 
   /**

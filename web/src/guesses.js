@@ -2,36 +2,43 @@
 import {Battle} from "gen1";
 
 import {randomMoves, randomSpecies} from "./random.js";
+import {usualMoves} from "./sets.js";
 
 /**
  * @typedef {import("./engine.js").Engine} Engine
  * @typedef {import("./engine.js").Member} Member
  * @typedef {import("gen1").Player} Player
  * @typedef {(bound: number) => number} Draw a random whole number from 0, below a bound
- * @typedef {{ seed: number[], rules: number, limit: number }} Frame the parts of a battle other than its sides
- * @typedef {{ side: 1 | 2, team: Member[], foes: number, told: Uint8Array, guess: Uint8Array }} Sight a side's knowledge: its team, how many members
- *   the foe has, the log as reported to it, and a battle that shows its own side as it is now
+ * @typedef {{ seed: number[], rules: number, limit: number, marks: number[] }} Frame the parts of a battle other than its sides, and the places of
+ *   the foe's members whose sleep the sleep clause counts
+ * @typedef {{ side: 1 | 2, team: Member[], foes: number, told: Uint8Array, marks: number[], guess: Uint8Array }} Sight a side's knowledge: its team,
+ *   how many members the foe has, the log as reported to it, its marks as in Frame, and a battle that shows its own side as it is now
  */
 
+/** The bit of the sleep clause in the rules of a battle. */
+const SLEEP_CLAUSE = 1;
 const MAX = {
   dvs: [15, 15, 15, 15],
   exp: Array(5).fill(65535)
 };
 
 /**
- * A guess of the foe's team: the members that appeared with the moves that they used, and others at random.
+ * A guess of the foe's team: the members that appeared with the moves that they used and those of their usual sets, and others at random.
  * @param {Engine} engine
  * @param {import("gen1").PlayerView} view
  * @param {Draw} draw
  * @returns {Member[]}
  */
 function guessedTeam({tables}, view, draw) {
+  const completed = (/** @type {string} */ species, /** @type {string[]} */ used) => {
+    const known = [...new Set([...used, ...usualMoves(species)])].slice(0, 4);
+    return [...known, ...randomMoves(tables, tables.species[species], draw, known)];
+  };
   const member = (/** @type {string} */ species, /** @type {number} */ level, /** @type {string[]} */ used) => ({
     ...MAX,
     species,
     level,
-    moves: [...used, ...randomMoves(tables, tables.species[species], draw, used)].slice(0, 4).map(
-        (name) => /** @type {[string, number]} */ ([name, 3])),
+    moves: completed(species, used).map((name) => /** @type {[string, number]} */ ([name, 3])),
   });
   const seen = view.foe.members.map(
       ({species, level, moves}) =>
@@ -47,9 +54,14 @@ function guessedTeam({tables}, view, draw) {
  * @param {Draw} draw draws the unknown values
  * @param {Frame} frame
  */
-export function guessed(engine, player, draw, {seed, rules, limit}) {
+export function guessed(engine, player, draw, {seed, rules, limit, marks}) {
   const team = /** @type {any} */ (guessedTeam(engine, player.view, draw));
-  return Battle.fromPlayer(player, {team, seed, rules, limit});
+  const battle = Battle.fromPlayer(player, {team, seed, rules, limit});
+  if (!(rules & SLEEP_CLAUSE) || !marks.length) return battle;
+  return battle.withState((state) => {
+    const {members} = player.side === 1 ? state.two : state.one;
+    for (const place of marks) members[place - 1].marked = members[place - 1].status === "sleep";
+  });
 }
 
 /**

@@ -1,8 +1,6 @@
 // The first page: a battle to watch, one to play, and a calculation, each with a working example.
 import {find, make} from "./dom.js";
 import {Field} from "./field.js";
-import {below} from "./random.js";
-import {sampleTeams} from "./sample_teams.js";
 import {watched} from "./sides.js";
 import {token} from "./tokens.js";
 import {shares} from "./words.js";
@@ -36,15 +34,15 @@ function drawScene(engine, place) {
 }
 
 /**
- * The tokens of a sample team.
+ * The tokens of the team with which "Play now" begins.
  * @param {Engine} engine
  * @param {HTMLElement} place
  */
 function drawTeam(engine, place) {
-  const teams = sampleTeams();
-  const {name, text} = teams[below(teams.length)];
-  place.replaceChildren(...engine.team(text, name, 0)
-                            .map(({species}) => make("span", {class: "figure"}, token(engine, String(species)))));
+  const text = find("play-team-1", HTMLTextAreaElement).value;
+  place.replaceChildren(
+      ...engine.team(text, "Side 1's team", 1)
+          .map(({species}) => make("span", {class: "figure", title: String(species)}, token(engine, String(species)))));
 }
 
 /**

@@ -1,9 +1,11 @@
-// Battles from files, and as files: the input of battle_tool (docs/PROGRAM.md), log bytes, and pages that hold one of these.
-import {MOVES, SPECIES} from "gen1";
+// Battles from files, and as files: the input of the programs (docs/PROGRAM.md), log bytes, lines, Showdown's logs, and pages that hold one of these.
+import {ArgumentError, byteOf, CHOICES, MOVES, RefusedError, SPECIES} from "gen1";
 
 import {decoded, digits, encoded, joined, MEMBER, memberBytes, memberOf, ofDigits} from "./bytes.js";
 import {Problem} from "./dom.js";
 import {MOST, testLength} from "./engine.js";
+import {plain} from "./search.js";
+import {eventsOfLines} from "./showdown.js";
 
 /**
  * @typedef {import("./engine.js").Member} Member
@@ -40,14 +42,51 @@ function named(value, names, what) {
   return value;
 }
 
+/** A byte that is no choice. */
+const UNOFFERED = 255;
 /** White space, and the byte order mark with which some editors begin a text. */
 const BLANKS = [9, 10, 13, 32, 0xef, 0xbb, 0xbf];
 
-/** The first characters of a JSON text that is an object, a list or a string. */
-const STARTS = [0x7b, 0x5b, 0x22];
+/** The first characters of a JSON text that is an object, a list or a string; and that of a line of a battle. */
+const [STARTS, BAR] = [[0x7b, 0x5b, 0x22], 0x7c];
 
 /** The most bytes of a file: a page with the longest log takes twice the length of the log, as hexadecimal digits, and that of the page. */
 const MOST_FILE = 4 * MOST;
+
+/**
+ * Updates a battle, and returns whether it refused the pair.
+ * @param {import("gen1").Battle} battle @param {number[]} pair
+ */
+function refusal(battle, [one, two]) {
+  try {
+    battle.updateSilent(one, two);
+    return false;
+  } catch (error) {
+    if (error instanceof RefusedError) return true;
+    throw error;
+  }
+}
+
+/**
+ * The byte of a choice in words (docs/PROGRAM.md, "Text in place of JSON"); one that is never offered if the side does not have the choice.
+ * @param {import("gen1").Battle} battle @param {1 | 2} side @param {string} text @param {string} what
+ */
+function byteOfWords(battle, side, text, what) {
+  const [, word, name] = /^\s*(pass|move|switch)\s*(.*?)\s*$/.exec(text) ?? [];
+  const exact = CHOICES.find((choice) => choice === [word, name].filter(Boolean).join(" "));
+  if (exact) return byteOf(exact);
+  const names = word === "move" ? MOVES : word === "switch" ? SPECIES : [];
+  if (!names.some((it) => plain(it) === plain(name)))
+    throw new Problem(`${what} is ${
+        JSON.stringify(text)}, which is not a choice such as "move 1", "move Body Slam", "switch 3" or "pass".`);
+  const fitting = battle.choices(side).filter((choice) => {
+    const called = battle.words(side, choice).slice(choice.length);
+    return choice.startsWith(word) && (choice === "move 0" || plain(called) === plain(name));
+  });
+  if (fitting.length > 1)
+    throw new Problem(`${what} is ${JSON.stringify(text)}, which may be ${fitting.join(" or ")}.`);
+  return fitting.length ? byteOf(fitting[0]) : UNOFFERED;
+}
 
 /** Reads and writes inputs. */
 export class Inputs {
@@ -76,6 +115,7 @@ export class Inputs {
     if (!bytes.length) throw new Problem("The file is empty: there is no battle in it.");
     const begin = bytes.findIndex((byte) => !BLANKS.includes(byte));
     if (bytes[begin] === 0x3c) return this.held(new TextDecoder().decode(bytes));
+    if (bytes[begin] === BAR) return this.lines(new TextDecoder().decode(bytes));
     return STARTS.includes(bytes[begin]) ? this.parse(new TextDecoder().decode(bytes)) : this.log(bytes);
   }
 
@@ -85,18 +125,38 @@ export class Inputs {
    * @returns {Recorded}
    */
   held(text) {
-    const found = new DOMParser().parseFromString(text, "text/html").getElementById("battle");
+    const page = new DOMParser().parseFromString(text, "text/html");
+    const lines = page.querySelector(".battle-log-data")?.textContent;
+    if (lines) return this.lines(lines.replaceAll("\\/", "/"));
+    const found = page.getElementById("battle");
     if (!found?.textContent || found.textContent === "null") throw new Problem("This page does not hold a battle.");
     return this.parse(found.textContent);
   }
 
   /**
-   * A battle in JSON: an input, or {"log": hexadecimal digits}.
+   * The battle in lines, as the programs print them or as Showdown logs them.
+   * @param {string} text
+   * @returns {Recorded}
+   */
+  lines(text) {
+    testLength(new TextEncoder().encode(text), "The log");
+    const events = eventsOfLines(text, this.engine.tables);
+    try {
+      return this.log(this.engine.gen1.logBytes(events));
+    } catch (error) {
+      if (!(error instanceof ArgumentError)) throw error;
+      throw new Problem(`The lines hold no battle: ${error.message}.`);
+    }
+  }
+
+  /**
+   * A battle in JSON: an input, {"log": hexadecimal digits}, or {"log": lines} as Showdown saves a replay; or lines alone.
    * @param {string} text
    * @returns {Recorded}
    */
   parse(text) {
     let value;
+    if (text.trimStart().startsWith("|")) return this.lines(text);
     try {
       value = JSON.parse(text.replace(/^\ufeff/, ""));
     } catch (error) {
@@ -107,7 +167,8 @@ export class Inputs {
       throw new Problem(`The file is ${
           found} in JSON. A battle is an object: {"seed": .., "one": .., "two": .., "choices": ..}, or {"log": ..}.`);
     }
-    if (typeof value.log === "string" && value.choices === undefined) return this.log(ofDigits(value.log));
+    if (typeof value.log === "string" && value.choices === undefined)
+      return value.log.includes("|") ? this.lines(value.log) : this.log(ofDigits(value.log));
     return {input: this.input(value)};
   }
 
@@ -120,14 +181,44 @@ export class Inputs {
 
   /** @param {any} value @returns {Input} */
   input(value) {
-    return {
+    const terms = {
       seed: numbers(value.seed, "seed", 10, 255),
-      one: list(value.one, "one").map((it, place) => this.member(it, `one[${place}]`)),
-      two: list(value.two, "two").map((it, place) => this.member(it, `two[${place}]`)),
+      one: this.team(value.one, "one", 1),
+      two: this.team(value.two, "two", 2),
       rules: value.rules === undefined ? 0 : whole(value.rules, "rules", 3),
       limit: value.limit === undefined ? 1000 : whole(value.limit, "limit", 9999, 1),
-      choices: list(value.choices, "choices").map((pair, place) => numbers(pair, `choices[${place}]`, 2, 255)),
     };
+    return {...terms, choices: this.pairs(terms, list(value.choices, "choices"))};
+  }
+
+  /**
+   * A team: a list of members, or a text.
+   * @param {unknown} value @param {string} what @param {number} side
+   */
+  team(value, what, side) {
+    if (typeof value === "string") return this.engine.team(value, what, side);
+    return list(value, what).map((it, place) => this.member(it, `${what}[${place}]`));
+  }
+
+  /**
+   * The pairs of choices as bytes. Words depend on the position, so the battle is played as far as there are any.
+   * @param {Terms} terms @param {unknown[]} values
+   */
+  pairs(terms, values) {
+    const lists = values.map((pair, place) => list(pair, `choices[${place}]`, 2));
+    const last = Math.max(-1, ...lists.flatMap((pair, at) => (pair.some((it) => typeof it === "string") ? [at] : [])));
+    const battle = last < 0 ? null : this.engine.gen1.load(this.engine.begin(terms));
+    let isRefused = false;
+    return lists.map((pair, place) => {
+      const bytes = pair.map((it, at) => {
+        const what = `choices[${place}][${at}]`;
+        return battle && typeof it === "string" ? byteOfWords(battle, at === 0 ? 1 : 2, it, what) :
+                                                  whole(it, what, 255);
+      });
+      isRefused ||= place > last;
+      if (battle && !isRefused) isRefused = Boolean(refusal(battle, bytes));
+      return bytes;
+    });
   }
 
   /** @param {any} value @param {string} what @returns {Member} */

@@ -1,7 +1,18 @@
 // The running log: all lines of a battle, turn by turn, which can be searched.
-import {lineItems} from "./replay.js";
+import {make} from "./dom.js";
+import {Narrator, sideOf} from "./words.js";
 
 /** @typedef {import("./engine.js").GameEvent} GameEvent */
+
+/**
+ * Events as items of a list.
+ * @param {GameEvent[]} events @param {string[]} texts of the events
+ */
+export function lineItems(events, texts) {
+  return events.map(
+      ({kind, line}, at) => make(
+          "li", {class: `line side-${sideOf(line)}${kind === "turn" ? " turn" : ""}`, "data-line": line}, texts[at]));
+}
 
 /** The log of a battle in a list that scrolls. */
 export class Log {
@@ -10,8 +21,7 @@ export class Log {
     this.list = list;
     this.search = search;
     this.count = count;
-    /** @type {import("./words.js").Voice} */
-    this.voice = {you: 0, hasPixels: false};
+    this.narrator = new Narrator();
     this.isScrolling = false;
     search.addEventListener("input", () => this.find());
     // A phone's keyboard or a turned screen changes the height.
@@ -20,7 +30,7 @@ export class Log {
 
   /** @param {import("./words.js").Voice} voice the point of view of the lines */
   clear(voice) {
-    this.voice = voice;
+    this.narrator = new Narrator(voice);
     this.search.value = "";
     this.list.replaceChildren();
     this.find();
@@ -28,7 +38,7 @@ export class Log {
 
   /** @param {GameEvent[]} events */
   add(events) {
-    const items = lineItems(events, false, this.voice);
+    const items = lineItems(events, events.map((event) => this.narrator.say(event)));
     this.list.append(...items);
     if (this.search.value) this.find();
     this.toEnd();
@@ -42,6 +52,18 @@ export class Log {
       this.isScrolling = false;
       this.list.scrollTop = this.list.scrollHeight;
     });
+  }
+
+  /**
+   * Scrolls to the beginning of a turn; to the end for 0.
+   * @param {number} turn
+   */
+  toTurn(turn) {
+    const line = this.list.querySelector(`[data-line="|turn|${turn}"]`);
+    if (line instanceof HTMLElement)
+      this.list.scrollTop = line.offsetTop - this.list.offsetTop;
+    else
+      this.toEnd();
   }
 
   /** Shows only the lines with the text that is searched for, and their turns. */

@@ -1,7 +1,7 @@
 // The page: its parts, the address, keys, themes, and dropped files.
-import {address, giveAddress, setAddress} from "./address.js";
+import {address, giveAddress, openAddress} from "./address.js";
 import {Calculator} from "./calculator.js";
-import {done, find, guarded, notice} from "./dom.js";
+import {done, find, guarded, keep, kept, notice} from "./dom.js";
 import {Engine} from "./engine.js";
 import {drawHome} from "./home.js";
 import {Inputs} from "./inputs.js";
@@ -9,7 +9,6 @@ import {Play} from "./play.js";
 import {Players} from "./players.js";
 import {Replay} from "./replay.js";
 import {heldBattle} from "./share.js";
-import {keep, kept} from "./storage.js";
 import {Teams} from "./teams.js";
 
 const TABS = ["home", "replay", "play", "teams", "calculator"];
@@ -151,8 +150,8 @@ async function begin() {
     if (name !== "replay") replay.pause();
   };
   const open = (/** @type {string} */ name) => {
+    openAddress(name);
     turnTo(name);
-    setAddress(name, {});
     if (name === "calculator")
       calculator.route(new URLSearchParams());
     else if (name === "teams")

@@ -1,5 +1,5 @@
 // A battle that is played: its updates, and each of them as it is reported and shown to each side.
-import {byteOf} from "gen1";
+import {byteOf, REASONS} from "gen1";
 
 import {joined} from "./bytes.js";
 import {Problem} from "./dom.js";
@@ -10,12 +10,36 @@ import {guessed} from "./guesses.js";
  * @typedef {1 | 2} Side
  * @typedef {Side | 0 | "all"} Viewer a side, what both sides know, or everything
  * @typedef {{ pair: number[], battle: Uint8Array, log: Uint8Array, told: Uint8Array[], tellers: import("gen1").Teller[],
- *   players: import("gen1").Player[], views: import("gen1").PlayerView[], usual: import("gen1").Battle[] }} Step the situation after a pair of
- *   choices; each list has an item for each side, and the last two are filled on demand
+ *   players: import("gen1").Player[], marks: number[][], views: import("gen1").PlayerView[], usual: import("gen1").Battle[] }} Step the situation
+ *   after a pair of choices; each list has an item for each side, and the last two are filled on demand. Marks are the places of the foe's members
+ *   that the side has put to sleep.
  */
 
 /** @type {Side[]} */
 export const SIDES = [1, 2];
+/** The reasons for a failure that follow from what both sides see. */
+const SEEN_REASONS = REASONS.slice(REASONS.indexOf("the foe is awake"));
+
+/**
+ * The places of the foe's members that a side has put to sleep, after more events as they are reported to that side. A sleep that begins after the
+ * foe's own move is that of Rest.
+ * @param {{ foe: number, mover: number, places: number[] }} before the foe's place, the side that moved last, and the places
+ * @param {GameEvent[]} events
+ * @param {Side} side
+ */
+function marksAfter(before, events, side) {
+  let {foe, mover, places} = before;
+  for (const event of events) {
+    if (event.kind === "move") mover = event.side;
+    if (event.side !== 3 - side) continue;
+    const isOfSleep = event.line.endsWith("|slp");
+    if (event.kind === "switch") foe = event.place;
+    if (event.kind === "-status" && isOfSleep && mover === side) places = [...places, foe];
+    if (event.kind === "faint" || (event.kind === "-curestatus" && isOfSleep))
+      places = places.filter((it) => it !== foe);
+  }
+  return places;
+}
 
 /** A battle with its updates. */
 export class Match {
@@ -33,6 +57,7 @@ export class Match {
       battle: engine.begin(terms),
       log: new Uint8Array(),
       told: [],
+      marks: [[], []],
       views: [],
       usual: [],
       tellers: SIDES.map((side) => engine.gen1.teller({side, pixels: true})),
@@ -65,20 +90,24 @@ export class Match {
       player.feed(told[at]);
       player.show(loaded);
     });
-    this.steps.push({pair, battle, log, told, tellers, players, views: [], usual: []});
+    const marks = SIDES.map((side) => {
+      const before = {foe: this.view(side).foe.active?.place ?? 0, mover: 0, places: last.marks[side - 1]};
+      return marksAfter(before, engine.events(told[side - 1]), side);
+    });
+    this.steps.push({pair, battle, log, told, tellers, players, marks, views: [], usual: []});
   }
 
-  /** Everything about the battle. */
-  state() {
-    return this.engine.state(this.last.battle);
+  /** Everything about the battle after a step. */
+  state(step = this.last) {
+    return this.engine.state(step.battle);
   }
 
   /**
-   * A side's knowledge.
+   * A side's knowledge after a step.
    * @param {Side} side
    */
-  view(side) {
-    const {players, views} = this.last;
+  view(side, step = this.last) {
+    const {players, views} = step;
     return (views[side - 1] ??= players[side - 1].view);
   }
 
@@ -135,19 +164,52 @@ export class Match {
    */
   sight(side) {
     const [team, others] = side === 1 ? [this.terms.one, this.terms.two] : [this.terms.two, this.terms.one];
-    return {side, team, foes: others.length, told: this.log(side), guess: this.usual(side).bytes};
+    const {marks} = this.last;
+    return {
+      side,
+      team,
+      foes: others.length,
+      told: this.log(side),
+      marks: marks[side - 1],
+      guess: this.usual(side).bytes
+    };
   }
 
   /**
    * A battle that fits a side's knowledge: the foe's members have the highest stats, and those that have not appeared are arbitrary.
    * @param {Side} side
    */
-  usual(side) {
-    const {terms: {rules, limit}, last} = this;
+  usual(side, step = this.last) {
+    const {rules, limit} = this.terms;
     let drawn = 0;
     const draw = (/** @type {number} */ bound) => drawn++ % bound;
-    return (last.usual[side - 1] ??=
-                guessed(this.engine, last.players[side - 1], draw, {seed: Array(10).fill(0), rules, limit}));
+    const frame = {seed: Array(10).fill(0), rules, limit, marks: step.marks[side - 1]};
+    return (step.usual[side - 1] ??= guessed(this.engine, step.players[side - 1], draw, frame));
+  }
+
+  /**
+   * The events of an update with the reasons why moves failed, as a viewer can know them: those of the library for the position before the update,
+   * or after it for the side that acted second.
+   * @param {Step} step @param {Viewer} viewer @param {GameEvent[]} events
+   */
+  explained(step, viewer, events) {
+    let [acts, move] = [0, ""];
+    for (const event of events) {
+      if (event.kind === "move" || event.kind === "switch") acts++;
+      if (event.kind === "move") move = event.line.split("|")[3];
+      if (event.kind !== "-fail" || !viewer) continue;
+      const at = acts > 1 ? step : this.steps[this.steps.indexOf(step) - 1];
+      event.reason = this.reason(at, viewer, event.side === 1 ? 1 : 2, move);
+    }
+    return events;
+  }
+
+  /** @param {Step | undefined} step @param {Viewer} viewer @param {Side} side that fails @param {string} move */
+  reason(step, viewer, side, move) {
+    if (!step || !viewer || this.view(1, step).outcome !== "ongoing") return undefined;
+    const battle = viewer === "all" ? this.engine.gen1.load(step.battle) : this.usual(viewer, step);
+    const {reason} = battle.odds(side, move);
+    return reason && SEEN_REASONS.includes(reason) ? reason : undefined;
   }
 
   /**
@@ -157,8 +219,8 @@ export class Match {
    * @returns {GameEvent[]}
    */
   events(step, viewer) {
-    if (viewer === "all") return this.engine.events(step.log);
-    if (viewer) return this.engine.events(step.told[viewer - 1]);
+    if (viewer)
+      return this.explained(step, viewer, this.engine.events(viewer === "all" ? step.log : step.told[viewer - 1]));
     // Both sides know what is reported about a side to the other side.
     const [one, two] = step.told.map((told) => this.engine.events(told));
     return one.map((event, at) => (event.side === 1 ? two[at] : event));

@@ -25,15 +25,22 @@ function number(name, most, value, least = 0) {
 /** @param {string} name */
 const searched = (name) => make("input", {name, spellcheck: false});
 
+/** @param {import("gen1").Base} base */
+function baseSum({hp, attack, defense, speed, special}) {
+  return hp + attack + defense + speed + special;
+}
+
 /**
  * The species to choose from.
  * @param {import("./engine.js").Engine} engine
  * @returns {import("./search.js").Option[]}
  */
-function speciesOptions({tables}) {
+function speciesOptions({tables, gen1}) {
   return Object.entries(tables.species).map(([name, types]) => ({
     name,
     words: types,
+    // Of a line of evolution the last has the highest base stats.
+    weight: baseSum(gen1.base(name)),
     shown: () => [make("span", {class: "facts"}, ...[...new Set(types)].map(badge))],
   }));
 }

@@ -1,7 +1,8 @@
 // Play: two persons at one screen, or against the computer. The page shows only what the person who plays may know.
 import {link, setAddress} from "./address.js";
-import {choiceButtons} from "./choices.js";
-import {find, guarded, keepingFocus, make, Problem} from "./dom.js";
+import {Card} from "./card.js";
+import {choiceButtons, damageOf, detail, forecast, keyOf} from "./choices.js";
+import {find, guarded, keepForTab, keepingFocus, kept, make, Problem} from "./dom.js";
 import {Field} from "./field.js";
 import {ofAddress, toAddress} from "./inputs.js";
 import {Log} from "./log.js";
@@ -11,7 +12,6 @@ import {randomSeed} from "./random.js";
 import {Setup} from "./setup.js";
 import {shareButtons} from "./share.js";
 import {own, seen, whole} from "./sides.js";
-import {keepForTab, kept} from "./storage.js";
 import {OUTCOMES} from "./words.js";
 
 /**
@@ -39,7 +39,9 @@ export class Play {
     this.players = players;
     this.watch = watch;
     this.setup = new Setup(engine);
-    this.field = new Field(engine, find("play-field", HTMLElement));
+    this.card = new Card(engine, find("play-card", HTMLElement), (side, at) => this.factsOf(side, at),
+        document.querySelector(".journal"));
+    this.field = new Field(engine, find("play-field", HTMLElement), this.card);
     this.log = new Log(
         find("play-lines", HTMLElement), find("play-search", HTMLInputElement), find("play-found", HTMLElement));
     this.motion = new Motion(this.field, find("speed", HTMLSelectElement), find("sounds", HTMLInputElement));
@@ -49,6 +51,8 @@ export class Play {
     /** The side whose choices are shown, if two persons play and hands are covered; 0 while they are. */
     this.revealed = 0;
     this.isMoving = false;
+    /** @type {number | null} how many updates the position has to which Back returned; null for the present one */
+    this.looked = null;
     /** Whether the heading has the focus of the choices. */
     this.isLent = false;
     /** @type {(number | null)[]} */
@@ -79,7 +83,6 @@ export class Play {
     shareButtons(find("play-share", HTMLElement), () => ({
       recorded: this.recorded(),
       log: this.game.log(this.knower),
-      updates: this.game.steps.map((step) => this.game.events(step, this.knower)),
       inputs: this.inputs,
       link: this.link(),
     }));
@@ -146,11 +149,12 @@ export class Play {
     find("play-setup", HTMLElement).hidden = true;
     find("play-game", HTMLElement).hidden = false;
     this.retell();
-    this.next();
+    this.next(true);
   }
 
   /** Ends what is under way for the position that is shown. */
   drop() {
+    this.card.hide();
     this.asked++;
     this.revealed = 0;
     this.isMoving = false;
@@ -162,7 +166,8 @@ export class Play {
   /** Writes the log anew. */
   retell() {
     const {game, teller} = this;
-    this.log.clear({you: typeof teller === "number" ? teller : 0, hasPixels: teller !== "all"});
+    const you = typeof teller === "number" ? teller : 0;
+    this.log.clear({you, inPixels: teller === "all" ? [] : SIDES.filter((side) => side !== you)});
     this.log.add(game.steps.flatMap((step) => game.events(step, teller)));
   }
 
@@ -171,8 +176,9 @@ export class Play {
    * @param {URLSearchParams} values
    */
   route(values) {
-    const code = values.get("b") ?? "";
-    if (!code || code === this.code) return;
+    const [code, at] = [values.get("b") ?? "", Number(values.get("u") ?? 0)];
+    if (!code) return this.returnTo(at);
+    if (code === this.code) return;
     const recorded = ofAddress(code, this.inputs);
     if (!("input" in recorded)) throw new Problem("The address is damaged: a log cannot be played on.");
     const who = ["p1", "p2"].map(
@@ -181,10 +187,38 @@ export class Play {
     this.begin(terms, choices.length ? choices : [[0, 0]], who, values.get("hands") === "open");
   }
 
-  /** Asks for the next pair. */
-  next() {
+  /**
+   * Shows an earlier position of a battle in covered hands, or the form if there is none. A page that was loaded anew continues its battle.
+   * @param {number} at how many updates it has
+   */
+  returnTo(at) {
+    if (!at) return this.leave();
+    if (!this.match && kept(SAVED, true)) this.goBack();
+    if (!this.match) return setAddress("play", {});
+    if (!this.isMoving) this.look(at);
+  }
+
+  /** @param {number} at */
+  look(at) {
+    this.looked = at < this.game.steps.length ? at : null;
+    this.draw();
+    this.toAddress();
+    this.log.toTurn(this.looked ? this.game.view(1, this.step).turn : 0);
+  }
+
+  /** The step that is shown. */
+  get step() {
+    return this.looked ? this.game.steps[this.looked - 1] : this.game.last;
+  }
+
+  /**
+   * Asks for the next pair.
+   * @param {boolean} isNew whether Back returns to the position before it
+   */
+  next(isNew) {
     this.asked++;
     this.revealed = 0;
+    this.looked = null;
     this.chosen = [null, null];
     const {game} = this;
     const isWatched = !game.persons.length;
@@ -194,7 +228,7 @@ export class Play {
     });
     this.think();
     if (!game.isOver && !isWatched && !game.persons.some((side) => game.isAsked(side))) void guarded(() => this.goOn());
-    this.toAddress();
+    this.toAddress(isNew);
   }
 
   /** Has the computer begin to think, while the person does. */
@@ -242,7 +276,7 @@ export class Play {
     const isWhole = await this.motion.play(game.events(game.last, this.teller), (event) => this.log.add([event]));
     if (!isWhole || asked !== this.asked) return;
     this.isMoving = false;
-    this.next();
+    this.next(true);
   }
 
   /** @param {Side} side @returns {number | Promise<number>} */
@@ -270,7 +304,7 @@ export class Play {
       game.steps.pop();
     } while (game.persons.length && !game.persons.some((side) => game.isAsked(side)));
     this.retell();
-    this.next();
+    this.next(false);
   }
 
   /** Returns to the teams. The battle is kept until another one is left. */
@@ -308,12 +342,12 @@ export class Play {
    * @param {Side} side
    */
   shownOf(side) {
-    const {game, engine: {tables}} = this;
-    if (this.isBare) return whole(tables, game.state().sides[side - 1]);
+    const {game, step, engine: {tables}} = this;
+    if (this.isBare) return whole(tables, game.state(step).sides[side - 1]);
     const isOwn = side === (this.revealed || this.teller);
-    const self = game.view(side).own;
+    const self = game.view(side, step).own;
     if (isOwn && self) return own(tables, self);
-    const other = game.view(side === 1 ? 2 : 1);
+    const other = game.view(side === 1 ? 2 : 1, step);
     return seen(tables, other.foe, other.foes ?? other.foe.members.length);
   }
 
@@ -323,23 +357,45 @@ export class Play {
    * @returns {import("./field.js").Hidden}
    */
   hiddenOf(side) {
-    const {game} = this;
-    // The foe sees that a member charges, not whether it can be reached.
-    if (!game.view(side === 1 ? 2 : 1).foe.active?.announced.includes("charging")) return "";
-    const prepared = game.events(game.last, "all")
-                         .find((event) => event.kind === "-prepare" && event.side === side)
-                         ?.line.split("|")[3];
+    const {game, step} = this;
+    // The view says that it is out of reach, and not where.
+    if (!game.view(side === 1 ? 2 : 1, step).foe.active?.announced.includes("invulnerable")) return "";
+    const prepared =
+        game.events(step, "all").find((event) => event.kind === "-prepare" && event.side === side)?.line.split("|")[3];
     return prepared === "Fly" ? "above" : prepared === "Dig" ? "under" : "";
+  }
+
+  /** The names of the sides. */
+  get titles() {
+    const isAlone = this.game.persons.length === 1 && !this.isOpen;
+    return SIDES.map((side) => (isAlone ? (side === this.near ? "You" : "The foe") : `Side ${side}`));
+  }
+
+  /**
+   * The facts that a card shows about a member.
+   * @param {number} side @param {number} at its place
+   * @returns {import("./card.js").Facts | null}
+   */
+  factsOf(side, at) {
+    const [own, other] = side === 1 ? SIDES : [SIDES[1], SIDES[0]];
+    const shown = this.field.shown[own - 1];
+    const member = shown?.members[at - 1];
+    if (!member?.isKnown) return null;
+    const title = {"You": "Your member", "The foe": "The foe's member"}[this.titles[own - 1]] ?? `Of side ${own}`;
+    const guess = member.hasPixels ? this.game.usual(other).state[own === 1 ? "one" : "two"].members[at - 1] : null;
+    const isAsked = this.showing.includes(own) && shown.active === at && member.hp > 0;
+    const offer = isAsked ? this.offer(own) : null;
+    const forecasts = Object.fromEntries((offer?.odds ?? [
+    ]).map((odds) => [odds.move, offer ? [...forecast(odds, offer), detail(odds)].filter(Boolean).join(" · ") : ""]));
+    return {shown, member, title, guess, forecasts};
   }
 
   draw() {
     const {game} = this;
-    const isAlone = game.persons.length === 1 && !this.isOpen;
-    const titles = SIDES.map((side) => (isAlone ? (side === this.near ? "You" : "The foe") : `Side ${side}`));
     this.field.show(
-        SIDES.map((side) => this.shownOf(side)), titles, this.near, SIDES.map((side) => this.hiddenOf(side)));
-    const outcome = OUTCOMES[game.outcome];
-    find("play-now", HTMLElement).textContent = `Turn ${game.view(1).turn}${outcome ? `. ${outcome}.` : ""}`;
+        SIDES.map((side) => this.shownOf(side)), this.titles, this.near, SIDES.map((side) => this.hiddenOf(side)));
+    const {turn, outcome} = game.view(1, this.step);
+    find("play-now", HTMLElement).textContent = `Turn ${turn}${OUTCOMES[outcome] ? `. ${this.ending()}` : ""}`;
     find("play-undo", HTMLButtonElement).hidden = !this.isOpen;
     find("play-undo", HTMLButtonElement).disabled = game.steps.length < 2;
     find("play-rematch", HTMLElement).hidden = !game.isOver;
@@ -374,7 +430,7 @@ export class Play {
   /** The sides whose choices are shown. */
   get showing() {
     const {game} = this;
-    if (this.isMoving || game.isOver) return [];
+    if (this.isMoving || this.looked || game.isOver) return [];
     if (this.isOpen || game.persons.length < 2) return game.persons.filter((side) => game.isAsked(side));
     return SIDES.filter((side) => side === this.revealed);
   }
@@ -385,6 +441,11 @@ export class Play {
     for (const side of SIDES) {
       const place = find(`play-choices-${side}`, HTMLElement);
       const hadFocus = place.contains(document.activeElement);
+      // While an update is shown, the buttons stay in their places, without effect.
+      const isBusy = this.isMoving && place.childElementCount > 0 && game.persons.length === 1;
+      place.toggleAttribute("data-busy", isBusy);
+      for (const it of isBusy ? place.querySelectorAll("button") : []) it.setAttribute("aria-disabled", "true");
+      if (isBusy) continue;
       const isShown = this.showing.includes(side);
       place.hidden = !isShown;
       place.replaceChildren(...(isShown ? [...this.heading(side), ...this.buttons(side)] : []));
@@ -423,8 +484,9 @@ export class Play {
     const side = SIDES.find((it) => game.isAsked(it) && this.chosen[it - 1] === null);
     const isCovered = !this.isOpen && game.persons.length === 2 && !this.isMoving && !this.revealed && !game.isOver &&
         side !== undefined;
-    place.hidden = !isCovered && !game.isOver;
-    if (game.isOver) return place.replaceChildren(make("p", {class: "end"}, `${this.ending()}`));
+    place.hidden = !isCovered && !game.isOver && !this.looked;
+    if (this.looked) return this.drawLook(place);
+    if (game.isOver) return this.drawEnd(place);
     if (!isCovered || side === undefined) return place.replaceChildren();
     place.replaceChildren(
         make("p", {}, make("strong", {}, `Side ${side} chooses.`),
@@ -432,6 +494,33 @@ export class Play {
         make("button", {type: "button", id: "play-reveal", class: "main", click: () => this.reveal(side)},
             `Show the choices of side ${side}`),
     );
+  }
+
+  /**
+   * How the battle ended, and what to do next.
+   * @param {HTMLElement} place
+   */
+  drawEnd(place) {
+    const watch = () => this.watch(this.recorded(), this.game.steps.length);
+    const buttons = [
+      make("button", {type: "button", id: "play-end-watch", click: watch}, "Watch as a replay"),
+      make("button", {type: "button", id: "play-end-other", click: () => void guarded(() => this.start())},
+          "Another foe"),
+    ];
+    const isAlone = this.game.persons.length === 1 && !this.setup.field(2).value.trim();
+    place.replaceChildren(
+        make("p", {class: "end"}, this.ending()), make("div", {class: "row"}, ...buttons.slice(0, isAlone ? 2 : 1)));
+  }
+
+  /**
+   * The way back from an earlier position.
+   * @param {HTMLElement} place
+   */
+  drawLook(place) {
+    const {turn} = this.game.view(1);
+    const button = make("button", {type: "button", id: "play-present", class: "main", click: () => this.look(Infinity)},
+        `Back to turn ${turn}`);
+    place.replaceChildren(make("p", {}, `The position before turn ${turn}, as it was.`), button);
   }
 
   ending() {
@@ -450,12 +539,17 @@ export class Play {
 
   /** @param {Side} side */
   buttons(side) {
+    const offer = this.offer(side);
     const use = {
       chosen: this.chosen[side - 1],
       keys: this.keysOf(side),
-      choose: (/** @type {number} */ choice) => this.choose(side, choice)
+      choose: (/** @type {number} */ choice) => this.choose(side, choice),
+      preview: (/** @type {number | null} */ choice) => this.preview(side, offer, choice),
     };
-    return choiceButtons(this.engine, this.offer(side), use);
+    const buttons = choiceButtons(this.engine, offer, use);
+    for (const it of buttons.flatMap((group) => [...group.querySelectorAll(".to-switch")]))
+      if (it instanceof HTMLElement) this.card.attach(it, side, Number(it.dataset.choice) - 32, false);
+    return buttons;
   }
 
   /**
@@ -468,16 +562,27 @@ export class Play {
     const view = game.view(side);
     const battle = this.isOpen ? engine.gen1.load(game.last.battle) : game.usual(side);
     const foe = battle.state[side === 1 ? "two" : "one"];
+    const odds = engine.oddsOf(battle, side).map((it) => ({...it, knockOut: battle.knockOut(side, it.move)}));
     const {members, active} = view.own ?? {members: [], active: null};
     return {
       offered: game.offered(side),
       members,
       place: active?.place ?? 1,
       going: this.going(side),
-      odds: engine.oddsOf(battle, side),
-      foeHp: foe.active ? foe.members[foe.active.place - 1].maxHp : 0,
+      odds,
+      foe: foe.active ? foe.members[foe.active.place - 1] : null,
       isGuess: !this.isOpen,
     };
+  }
+
+  /**
+   * Shows the damage of a move on the bar of the foe's HP.
+   * @param {Side} side @param {import("./choices.js").Offer} offer @param {number | null} choice null for none
+   */
+  preview(side, {odds, foe}, choice) {
+    const found = odds.find(({slot}) => choice === slot + 16);
+    const range = found ? damageOf(found) : null;
+    this.field.preview(side === 1 ? 2 : 1, range && foe ? range.map((damage) => damage / foe.maxHp) : null);
   }
 
   /**
@@ -510,15 +615,18 @@ export class Play {
     return {b: toAddress({input: this.game.input()}), p1: who[0], p2: who[1], hands: this.isOpen ? "open" : ""};
   }
 
-  /** In covered hands the address does not hold the battle, and the tab keeps it. */
-  toAddress() {
+  /**
+   * In covered hands the address has only the number of updates, and the tab keeps the battle.
+   * @param {boolean} [isNew] whether Back returns to the position before it
+   */
+  toAddress(isNew) {
     const {match} = this;
     if (!match) return;
     const {terms, who} = match;
     keepForTab(SAVED, JSON.stringify({terms, who, pairs: match.steps.map((step) => step.pair), isOpen: this.isOpen}));
     const values = this.isBare ? this.values() : null;
     this.code = values?.b ?? "";
-    setAddress("play", values ?? {});
+    setAddress("play", values ?? {u: this.looked ?? match.steps.length}, isNew);
   }
 
   /**
@@ -531,8 +639,9 @@ export class Play {
     if (this.isMoving) return this.motion.skip();
     if (event.key === "Backspace") return this.undo();
     for (const side of this.showing) {
-      const [place, offered] = [this.keysOf(side).indexOf(event.key), this.game.offered(side)];
-      if (place >= 0 && place < offered.length) return this.choose(side, offered[place]);
+      const place = this.game.view(side).own?.active?.place ?? 1;
+      const found = this.game.offered(side).find((choice) => keyOf(this.keysOf(side), choice, place) === event.key);
+      if (found !== undefined) return this.choose(side, found);
     }
   }
 }

@@ -1,5 +1,6 @@
 // A recorded battle: its state after each update, from an input or from log bytes.
 import {Problem} from "./dom.js";
+import {Narrator} from "./words.js";
 
 /**
  * @typedef {import("./engine.js").Engine} Engine
@@ -12,6 +13,8 @@ import {Problem} from "./dom.js";
  *   and the frame that first did
  */
 
+/** The maximum HP of each member of the foe in a log as it is reported to a side (docs/MECHANICS.md, "What a side is told"), and in Showdown's logs. */
+const PIXELS = [48, 100];
 const ENDS = ["turn", "win", "tie", "fault"];
 /**
  * A log doesn't have the teams, so these members are placeholders until a member comes out.
@@ -60,6 +63,11 @@ export class Recording {
     this.frames = [];
     /** The error that ended the recording early. */
     this.fault = "";
+    /** @type {number[]} the sides whose HP are shares, in a log as it was reported to the other side */
+    this.inPixels = [];
+    this.narrator = new Narrator();
+    /** @type {string[][]} the sentences of the first frames */
+    this.said = [];
     /** @type {Map<string, Known>} the members that a switch has shown, by "side place" */
     this.told = new Map();
     const {one, two} = "log" in recorded ? {one: PLACEHOLDERS, two: PLACEHOLDERS} : recorded.input;
@@ -112,6 +120,19 @@ export class Recording {
       yield at / log.length;
     }
     if (!this.told.size) throw new Problem("The log begins in the middle of a battle: no member is sent out in it.");
+    this.inPixels = [1, 2].filter((side) => this.isInPixels(side));
+    this.narrator = new Narrator({you: 0, inPixels: this.inPixels});
+  }
+
+  /**
+   * Whether the HP of a side are shares: all maximum HP are 48 or 100, and those of a member cannot be.
+   * @param {number} side
+   */
+  isInPixels(side) {
+    const members = [...this.told].flatMap(([key, member]) => (key[0] === String(side) ? [member] : []));
+    const least = (/** @type {Known} */ {species, level}) => this.engine.stats({...PLACEHOLDERS[0], species, level})[0];
+    return PIXELS.some(
+        (most) => members.every(({max}) => max === most) && members.some((member) => least(member) > most));
   }
 
   /** @param {Uint8Array} log @param {GameEvent[]} events @param {Uint8Array | null} battle */
@@ -121,6 +142,16 @@ export class Recording {
       if (event.kind === "switch" && !this.told.has(key)) this.told.set(key, toldBy(event.line, this.frames.length));
     }
     this.frames.push({log, events, battle, view: this.engine.watch(this.spectator, log)});
+  }
+
+  /**
+   * The lines of an update in words. They depend on all lines before.
+   * @param {number} update
+   */
+  sentences(update) {
+    while (this.said.length <= update)
+      this.said.push(this.frames[this.said.length].events.map((event) => this.narrator.say(event)));
+    return this.said[update];
   }
 
   /**

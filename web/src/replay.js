@@ -1,24 +1,27 @@
 // Replay: a recorded battle, forward and back by update and by turn.
 import {link, setAddress} from "./address.js";
+import {Card} from "./card.js";
 import {find, guarded, inField, keepingFocus, make, Problem} from "./dom.js";
+import {Field} from "./field.js";
 import {isShort, mayBeShort, ofAddress, toAddress} from "./inputs.js";
+import {lineItems} from "./log.js";
+import {Motion} from "./motion.js";
 import {Recording} from "./recording.js";
 import {shareButtons} from "./share.js";
 import {showSide, watched, whole} from "./sides.js";
 import {Slices} from "./slices.js";
-import {inWords, OUTCOMES, sideOf} from "./words.js";
+import {OUTCOMES} from "./words.js";
 
-/**
- * @param {import("./engine.js").GameEvent[]} events
- * @param {boolean} raw whether lines are shown as the program prints them
- * @param {import("./words.js").Voice} [voice]
- */
-export function lineItems(events, raw, voice) {
-  return events.map(
-      (event) => make("li",
-          {class: `line side-${sideOf(event.line)}${event.kind === "turn" ? " turn" : ""}`, "data-line": event.line},
-          raw ? event.line : inWords(event.line, voice)));
-}
+/** @type {Record<string, number>} how many updates a second are shown without motion, by the speed */
+const RATES = {
+  slow: 0.5,
+  normal: 1,
+  fast: 2,
+  5: 5,
+  20: 20
+};
+/** The milliseconds between updates that are shown with motion. */
+const REST = 350;
 
 /** The part of the page that replays. */
 export class Replay {
@@ -38,6 +41,10 @@ export class Replay {
     this.wanted = "all";
     this.see = find("replay-see", HTMLSelectElement);
     this.raw = find("replay-raw", HTMLSelectElement);
+    this.speed = find("replay-speed", HTMLSelectElement);
+    this.card = new Card(engine, find("replay-card", HTMLElement), (side, at) => this.factsOf(side, at), null);
+    this.field = new Field(engine, find("replay-field", HTMLElement), this.card);
+    this.motion = new Motion(this.field, this.speed, find("sounds", HTMLInputElement));
     this.slider = find("replay-slider", HTMLInputElement);
     this.turn = find("replay-turn", HTMLInputElement);
     this.listen();
@@ -46,22 +53,22 @@ export class Replay {
   listen() {
     const click = (/** @type {string} */ id, /** @type {() => void} */ work) =>
         find(id, HTMLButtonElement).addEventListener("click", work);
-    click("replay-first", () => this.go(0));
+    click("replay-first", () => this.go(0, true));
     click("replay-turn-back", () => this.goTurns(-1));
-    click("replay-back", () => this.go(this.at - 1));
+    click("replay-back", () => this.go(this.at - 1, true));
     click("replay-play", () => this.playOrPause());
-    click("replay-forward", () => this.go(this.at + 1));
+    click("replay-forward", () => this.go(this.at + 1, true));
     click("replay-turn-forward", () => this.goTurns(1));
-    click("replay-last", () => this.go(Infinity));
+    click("replay-last", () => this.go(Infinity, true));
     click("replay-example", () => void this.example());
     click("replay-read", () => void guarded(() => {
       const text = find("replay-text", HTMLTextAreaElement);
       return inField(text, () => this.show(this.inputs.parse(text.value), {at: 1}));
     }));
-    this.slider.addEventListener("input", () => this.go(Number(this.slider.value)));
-    this.turn.addEventListener("change", () => this.go(this.recording?.updateOf(Number(this.turn.value)) ?? 0));
+    this.slider.addEventListener("input", () => this.go(Number(this.slider.value), true));
+    this.turn.addEventListener("change", () => this.go(this.recording?.updateOf(Number(this.turn.value)) ?? 0, true));
     this.see.addEventListener("change", () => (this.wanted = this.see.value));
-    for (const select of [this.see, this.raw]) select.addEventListener("change", () => this.draw());
+    for (const select of [this.see, this.raw]) select.addEventListener("change", () => this.go(this.at));
     find("replay-whole", HTMLDetailsElement).addEventListener("toggle", () => this.drawWhole());
     const file = find("replay-file", HTMLInputElement);
     file.addEventListener("change", () => void guarded(async () => {
@@ -75,8 +82,7 @@ export class Replay {
       // A battle shared in the spectator's view contains no seed, and no more of the teams than the log.
       const recorded = this.see.value === "all" ? this.recording.recorded : {log};
       const values = this.see.value === "all" ? this.values() : {...this.values(), b: toAddress(recorded), see: ""};
-      const updates = this.recording.frames.slice(1).map((frame) => frame.events);
-      return {recorded, log, updates, inputs: this.inputs, link: link("replay", values)};
+      return {recorded, log, inputs: this.inputs, link: link("replay", values)};
     });
   }
 
@@ -109,6 +115,7 @@ export class Replay {
   put(recording, how) {
     const {recorded} = recording;
     this.recording = recording;
+    this.at = 0;
     this.code = how.code ?? (mayBeShort(recorded) ? toAddress(recorded) : "");
     this.isHeld = Boolean(how.isHeld);
     this.pause();
@@ -143,23 +150,23 @@ export class Replay {
     if (this.recording) this.go(at);
   }
 
-  /** @param {number} at */
-  go(at) {
+  /** @param {number} at @param {boolean} [isStep] whether Back returns to the turn before it */
+  go(at, isStep = false) {
     if (!this.recording) return;
+    const turn = this.recording.turn(this.at);
+    this.motion.stop();
     this.at = Math.max(0, Math.min(this.recording.last, Math.trunc(at) || (at > 0 ? this.recording.last : 0)));
     if (this.at === this.recording.last) this.pause();
     this.draw();
+    this.toAddress(isStep && turn !== this.recording.turn(this.at));
   }
 
   /** @param {number} turns */
   goTurns(turns) {
     if (!this.recording) return;
     const turn = this.recording.turn(this.at) + turns;
-    if (turn < 0)
-      this.go(0);
-    else
-      this.go(turns < 0 ? Math.min(this.recording.updateOf(turn), this.at - 1) :
-                          Math.max(this.recording.updateOf(turn), this.at + 1));
+    const [found, back, on] = [this.recording.updateOf(turn), this.at - 1, this.at + 1];
+    this.go(turn < 0 ? 0 : turns < 0 ? Math.min(found, back) : Math.max(found, on), true);
   }
 
   /** Begins to play, unless the person wants no motion. */
@@ -171,16 +178,33 @@ export class Replay {
     if (this.timer || !this.recording) return this.pause();
     if (this.at === this.recording.last) this.go(0);
     find("replay-play", HTMLButtonElement).textContent = "Pause";
-    const step = () => {
-      this.timer = window.setTimeout(step, 1000 / Number(find("replay-speed", HTMLSelectElement).value));
+    this.timer = window.setTimeout(() => void this.step(), 1);
+  }
+
+  /** Shows the next update, event by event if there is time, and plans the one after it. */
+  async step() {
+    const {motion: {share}, recording} = this;
+    if (share && recording) {
+      const [{events}, list] = [recording.frames[this.at + 1], find("replay-lines", HTMLElement)];
+      const items = this.items(this.at + 1);
+      list.replaceChildren();
+      const isWhole = await this.motion.play(events, (event) => list.append(items[events.indexOf(event)]));
+      // Another position was chosen, or the replay was paused.
+      if (!isWhole && !this.timer) return;
+      if (isWhole) this.go(this.at + 1);
+    } else
       this.go(this.at + 1);
-    };
-    this.timer = window.setTimeout(step, 1);
+    if (this.timer)
+      this.timer = window.setTimeout(() => void this.step(), share ? REST : 1000 / (RATES[this.speed.value] ?? 1));
   }
 
   pause() {
     window.clearTimeout(this.timer);
     this.timer = 0;
+    if (this.motion.isPlaying) {
+      this.motion.stop();
+      this.draw();
+    }
     find("replay-play", HTMLButtonElement).textContent = "Play";
   }
 
@@ -189,7 +213,7 @@ export class Replay {
    * @param {number} side
    */
   shown(side) {
-    const {frames, recorded, told} = /** @type {Recording} */ (this.recording);
+    const {frames, recorded, told, inPixels} = /** @type {Recording} */ (this.recording);
     const {battle, view} = frames[this.at];
     const {tables} = this.engine;
     if (battle && this.see.value === "all") return whole(tables, this.engine.state(battle).sides[side - 1]);
@@ -203,15 +227,39 @@ export class Replay {
         Math.max(0, ...[...told.keys()].filter((key) => key[0] === String(side)).map((key) => Number(key[2])));
     return watched(tables, view.sides[side - 1], Array.from({length: places}, (_, place) => {
       const known = told.get(`${side} ${place + 1}`);
-      return known && known.since <= this.at ? known : null;
+      return known && known.since <= this.at ? {...known, hasPixels: inPixels.includes(side)} : null;
     }));
+  }
+
+  /**
+   * The location of a side's active member, if it is out of reach after the update.
+   * @param {number} side
+   * @returns {import("./field.js").Hidden}
+   */
+  hiddenOf(side) {
+    const events = this.recording?.frames[this.at].events ?? [];
+    const prepared = events.find((event) => event.kind === "-prepare" && event.side === side)?.line.split("|")[3];
+    return prepared === "Fly" ? "above" : prepared === "Dig" ? "under" : "";
+  }
+
+  /**
+   * The facts that a card shows about a member.
+   * @param {number} side @param {number} at its place
+   * @returns {import("./card.js").Facts | null}
+   */
+  factsOf(side, at) {
+    const shown = this.field.shown[side - 1];
+    const member = shown?.members[at - 1];
+    return member?.isKnown ? {shown, member, title: `Of side ${side}`, guess: null, forecasts: {}} : null;
   }
 
   draw() {
     if (!this.recording) return;
     const {frames, last} = this.recording;
     const frame = frames[this.at];
-    for (const side of [1, 2]) showSide(find(`replay-side-${side}`, HTMLElement), side, this.engine, this.shown(side));
+    const sides = [1, 2].map((side) => this.shown(side));
+    this.field.show(sides, ["Side 1", "Side 2"], 1, [1, 2].map((side) => this.hiddenOf(side)));
+    sides.forEach((shown, at) => showSide(find(`replay-side-${at + 1}`, HTMLElement), at + 1, this.engine, shown));
     const outcome = OUTCOMES[frame.view.outcome];
     find("replay-now", HTMLElement).textContent =
         `${this.at ? `Turn ${frame.view.turn}` : "Before the battle"}, update ${this.at} of ${last}${
@@ -223,11 +271,20 @@ export class Replay {
       find(`replay-${id}`, HTMLButtonElement).setAttribute("aria-disabled", String(this.at === 0));
     for (const id of ["last", "turn-forward", "forward"])
       find(`replay-${id}`, HTMLButtonElement).setAttribute("aria-disabled", String(this.at === last));
-    const items = lineItems(frame.events, this.raw.value === "raw");
+    const items = this.items(this.at);
     find("replay-lines", HTMLElement).replaceChildren(...(items.length ? items : [make("li", {class: "quiet"},
                                                                                      "No member has been sent out.")]));
     this.drawWhole();
-    this.toAddress();
+  }
+
+  /**
+   * The lines of an update.
+   * @param {number} at
+   */
+  items(at) {
+    const recording = /** @type {Recording} */ (this.recording);
+    const {events} = recording.frames[at];
+    return lineItems(events, this.raw.value === "raw" ? events.map(({line}) => line) : recording.sentences(at));
   }
 
   /** All lines so far, while they are shown. */
@@ -242,8 +299,8 @@ export class Replay {
   /** @param {HTMLElement} place @returns {Generator<number>} */
   * writeWhole(place) {
     const frames = this.recording?.frames.slice(0, this.at + 1) ?? [];
-    for (const [at, frame] of frames.entries()) {
-      place.append(...lineItems(frame.events, this.raw.value === "raw"));
+    for (const at of frames.keys()) {
+      place.append(...this.items(at));
       yield at / frames.length;
     }
   }
@@ -258,8 +315,9 @@ export class Replay {
     };
   }
 
-  toAddress() {
-    if (this.recording) setAddress("replay", this.values());
+  /** @param {boolean} [isNew] whether Back returns to the position before it */
+  toAddress(isNew) {
+    if (this.recording) setAddress("replay", this.values(), isNew);
   }
 
   /**
@@ -269,10 +327,10 @@ export class Replay {
   key(event) {
     /** @type {Record<string, () => void>} */
     const keys = {
-      ArrowLeft: () => (event.shiftKey ? this.goTurns(-1) : this.go(this.at - 1)),
-      ArrowRight: () => (event.shiftKey ? this.goTurns(1) : this.go(this.at + 1)),
-      Home: () => this.go(0),
-      End: () => this.go(Infinity),
+      ArrowLeft: () => (event.shiftKey ? this.goTurns(-1) : this.go(this.at - 1, true)),
+      ArrowRight: () => (event.shiftKey ? this.goTurns(1) : this.go(this.at + 1, true)),
+      Home: () => this.go(0, true),
+      End: () => this.go(Infinity, true),
       " ": () => this.playOrPause(),
     };
     // With these modifiers a key belongs to the browser, for example to go back in the history.

@@ -148,18 +148,22 @@ export class Results {
     return make("tr", {"data-move": move.name, class: isChosen ? "chosen" : ""},
         make("th", {scope: "row"}, button, make("span", {class: "note"}, badge(move.type))),
         this.damage(odds, foe, costs(odds, move.effect, user, foe)),
-        ...[[once, onceOf, chanceOnce], [twice, twiceOf, chanceTwice]].map(
-            ([ways, of, part]) => (isHarmful ? chance(part, waysText(ways, of)) : make("td", {}, "—"))),
+        isHarmful ? chance(chanceOnce, waysText(once, onceOf)) : make("td", {}, "—"),
+        isHarmful && move.effect !== "Explode" ?
+            chance(chanceTwice, waysText(twice, twiceOf)) :
+            make("td", {title: isHarmful ? "the user faints in the first use" : undefined}, "—"),
         odds.hit === null && !odds.reason ? make("td", {title: "without a draw"}, "100%") :
                                             chance(hitChance(odds), odds.reason ?? BYTES(odds.hit ?? 0)),
-        this.critical(odds));
+        this.critical(odds, foe));
   }
 
-  /** @param {CalculatedMove} odds */
-  critical({bound, reason, critical}) {
+  /** @param {CalculatedMove} odds @param {Calculated} foe */
+  critical(odds, foe) {
+    const {bound, reason, critical} = odds;
     if (bound === null || reason) return make("td", {}, "—");
-    const numbers =
-        critical && bound ? make("span", {class: "note"}, span(critical[0], critical[critical.length - 1])) : null;
+    // The total of all hits, as in the column of the damage.
+    const range = critical && bound ? ofUse({...odds, damage: critical}, foe) : null;
+    const numbers = range ? make("span", {class: "note"}, span(range[0], range[1])) : null;
     return make("td", {title: BYTES(bound)}, percent(bound / 256), numbers);
   }
 

@@ -2,8 +2,8 @@
 import {make} from "./dom.js";
 
 /**
- * @typedef {{ name: string, words: readonly string[], shown: () => Node[] }} Option a name, further words by which it is found, and the nodes that the
- *   list shows next to its name
+ * @typedef {{ name: string, words: readonly string[], shown: () => Node[], weight?: number }} Option a name, further words by which it is found, the
+ *   nodes that the list shows next to its name, and how early it comes among names that match equally well
  */
 
 /** The most options that a list shows. */
@@ -32,7 +32,10 @@ export function matches(options, text) {
     ];
     return {option, rank: isOf.indexOf(true)};
   });
-  return ranked.filter(({rank}) => rank >= 0).sort((one, two) => one.rank - two.rank).map(({option}) => option);
+  const weight = (/** @type {Option} */ option) => (wanted ? option.weight ?? 0 : 0);
+  return ranked.filter(({rank}) => rank >= 0)
+      .sort((one, two) => one.rank - two.rank || weight(two.option) - weight(one.option))
+      .map(({option}) => option);
 }
 
 let count = 0;

@@ -2,7 +2,7 @@
 import {find, inField, Problem} from "./dom.js";
 import {SIDES} from "./match.js";
 import {below, randomSeed, randomTeam} from "./random.js";
-import {sampleTeams} from "./sample_teams.js";
+import {sampleTeams} from "./team_lists.js";
 
 /**
  * The ten numbers of a seed, which are random if the field is empty.

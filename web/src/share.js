@@ -1,7 +1,6 @@
 // Sharing a battle: as a page that holds it, as a link, as an input and as log bytes.
 import {copy, guarded, Problem, save} from "./dom.js";
 import {isShort, toAddress} from "./inputs.js";
-import {showdownPage} from "./showdown.js";
 
 // The source of the page, copied before anything in it changes.
 const SOURCE = `<!doctype html>\n${document.documentElement.outerHTML}`;
@@ -22,10 +21,14 @@ export function pageWith(battle) {
 }
 
 /**
- * @typedef {{ recorded: import("./inputs.js").Recorded, log: Uint8Array, updates: import("./engine.js").GameEvent[][],
- *   inputs: import("./inputs.js").Inputs, link: string }} Shown the shared battle, or as a log the viewer's knowledge of it; its events by
- *   update; and the address of the position
+ * @typedef {{ recorded: import("./inputs.js").Recorded, log: Uint8Array, inputs: import("./inputs.js").Inputs, link: string }} Shown the
+ *   shared battle, or as a log the viewer's knowledge of it; and the address of the position
  */
+
+/** Whether the page was opened from a disk, so that its address means nothing elsewhere. */
+function isLocal() {
+  return location.protocol === "file:";
+}
 
 /**
  * The buttons that share the battle that is shown.
@@ -38,11 +41,11 @@ export function shareButtons(place, shown) {
     link: () => {
       if (!isShort(toAddress(shown().recorded)))
         throw new Problem("The battle is too long for an address: save it as a page.");
-      return copy(shown().link, "The link is copied.");
+      return copy(
+          shown().link, isLocal() ? "The link is copied. It opens only where this file is." : "The link is copied.");
     },
     input: () => save("battle.json", shown().inputs.text(shown().recorded), "application/json"),
     log: () => save("battle.log", shown().log, "application/octet-stream"),
-    showdown: () => save("battle_showdown.html", showdownPage(shown()), "text/html"),
   };
   for (const [name, action] of Object.entries(actions))
     place.querySelector(`[data-share="${name}"]`)?.addEventListener("click", () => void guarded(action));

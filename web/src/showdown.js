@@ -1,104 +1,188 @@
-// A battle as a replay file of Showdown (docs/PROGRAM.md). Its viewer loads Showdown's script from the network.
+// A battle from lines: those of the programs, or of a log of Showdown.
+import {Problem} from "./dom.js";
+import {plain} from "./search.js";
 
-/**
- * @typedef {import("./engine.js").GameEvent} GameEvent
- * @typedef {{ updates: GameEvent[][], recorded: import("./inputs.js").Recorded }} Told the events of each update, and the recorded battle
- */
-
-// The page's own script must not contain the mark of an HTML comment.
-const BEFORE = `<!DOCTYPE html>
-<meta charset="utf-8" />
-<!== version 1 ==>
-<title>Side 1 vs. Side 2</title>
-<style>html, body { font-family: sans-serif; margin: 0; padding: 0; }</style>
-<div class="wrapper replay-wrapper" style="max-width:1180px;margin:0 auto">
-<input type="hidden" name="replayid" value="" />
-<div class="battle"></div><div class="battle-log"></div><div class="replay-controls"></div><div class="replay-controls-2"></div>
-<script type="text/plain" class="battle-log-data">
-`.replaceAll("==", "--");
-const AFTER = `</script>
-</div>
-<script>
-let daily = Math.floor(Date.now() / 1000 / 60 / 60 / 24);
-document.write('<script src="https://play.pokemonshowdown.com/js/replay-embed.js?version' + daily + '"></' + 'script>');
-</script>
-`;
-/**
- * Showdown names the Special by one of the two stats that it became, and has no short names for accuracy and evasion.
- * @type {Record<string, string>}
- */
-const STATS = {
-  spc: "spa",
-  acc: "accuracy",
-  eva: "evasion"
+/** @type {Record<string, import("gen1").Status>} */
+const STATUSES = {
+  slp: "sleep",
+  psn: "poison",
+  tox: "poison",
+  brn: "burn",
+  frz: "freeze",
+  par: "paralysis"
 };
-const RULES = ["rule|Sleep Clause Mod: Limit one foe put to sleep", "rule|Freeze Clause Mod: Limit one foe frozen"];
+/** @type {Record<string, import("gen1").Stat>} */
+const STAT_NAMES = {
+  atk: "attack",
+  def: "defense",
+  spe: "speed",
+  spc: "special",
+  spa: "special",
+  acc: "accuracy",
+  accuracy: "accuracy",
+  eva: "evasion",
+  evasion: "evasion"
+};
+/** @type {Record<string, import("gen1").CantReason>} */
+const REASONS = {
+  slp: "asleep",
+  frz: "frozen",
+  partiallytrapped: "partially trapped",
+  flinch: "flinched",
+  recharge: "recharging",
+  disable: "disabled",
+  par: "paralysed"
+};
+/** @type {Record<string, import("gen1").DamageSource>} */
+const SOURCES = {
+  psn: "poison",
+  brn: "burn",
+  leechseed: "leech seed",
+  recoil: "recoil",
+  confusion: "confusion"
+};
+/** @type {Record<string, import("gen1").Volatile>} */
+const VOLATILES = {
+  confusion: "confusion",
+  bide: "bide",
+  substitute: "substitute",
+  leechseed: "leech seed",
+  mist: "mist",
+  focusenergy: "focus energy",
+  lightscreen: "light screen",
+  reflect: "reflect",
+  disable: "disable",
+  typechange: "type change",
+  trapped: "trapped",
+  rage: "rage",
+  splash: "splash"
+};
+/** @type {Record<string, import("gen1").EventKind>} lines about a member and nothing else */
+const PLAIN_KINDS = {
+  "-crit": "crit",
+  "-supereffective": "super effective",
+  "-resisted": "resisted",
+  "-immune": "immune",
+  "-miss": "miss",
+  "-fail": "fail",
+  "-mustrecharge": "must recharge",
+  faint: "faint"
+};
+/** @type {Record<string, "start" | "end" | "activate">} */
+const VOLATILE_KINDS = {
+  "-start": "start",
+  "-end": "end",
+  "-activate": "activate"
+};
 
-/**
- * The species of each side: those of the teams, or of the members that came out.
- * @param {Told} told
- */
-function speciesOf({updates, recorded}) {
-  if ("input" in recorded)
-    return [recorded.input.one, recorded.input.two].map((team) => team.map(({species}) => String(species)));
-  /** @type {string[][]} */
-  const found = [[], []];
-  for (const {kind, side, place, line} of updates.flat())
-    if (kind === "switch") found[side - 1][place - 1] = line.split("|")[3].split(", L")[0];
-  return found.map((names) => Array.from(names, (name) => name ?? ""));
-}
-
-/**
- * Names with a number where an earlier member has the same name.
- * @param {string[]} species
- */
-function numbered(species) {
-  /** @type {string[]} */
-  const names = [];
-  for (const name of species) {
-    let number = 2;
-    let taken = name;
-    while (names.includes(taken)) taken = `${name} ${number++}`;
-    names.push(taken);
+/** Reads the lines of a battle: those of the programs, or of a log of Showdown, in which members have nicknames and sides have names. */
+class LineReader {
+  /** @param {import("./engine.js").Tables} tables */
+  constructor(tables) {
+    this.species = new Map(Object.keys(tables.species).map((name) => [plain(name), name]));
+    this.moves = new Map(Object.keys(tables.moves).map((name) => [plain(name), name]));
+    /** @type {Record<string, string[]>} the names of the members of each side, in the order in which they came out */
+    this.names = {p1: [], p2: []};
+    /** @type {Record<string, { species: string, max: number }>} the members that are out */
+    this.out = {};
+    /** @type {Record<string, string>} the sides by the names of their players */
+    this.players = {p1: "p1", p2: "p2"};
+    this.last = "";
   }
-  return names;
-}
 
-/**
- * The lines of an event, with the name of the active member in place of its species.
- * @param {GameEvent} event @param {string[][]} names @param {number[]} out the places of the members that are out
- */
-function linesOf({kind, line}, names, out) {
-  const fields = line.split("|").slice(1);
-  if (kind === "turn") return [...(fields[1] === "1" ? [] : ["", "upkeep"]), `turn|${fields[1]}`];
-  if (kind === "win") return [`win|Side ${fields[1][1]}`];
-  if (kind === "fault") return [`-message|The battle cannot go on (fault ${fields[1]}).`, "tie"];
-  if (kind.endsWith("boost")) fields[2] = STATS[fields[2]] ?? fields[2];
-  return [fields
-              .map((field) => (/^p[12]a: /.test(field) ?
-                           field.slice(0, 5) + names[Number(field[1]) - 1][out[Number(field[1]) - 1] - 1] :
-                           field))
-              .join("|")];
-}
+  /**
+   * The event of a line; null for a line that is none.
+   * @param {string} line
+   * @returns {any}
+   */
+  event(line) {
+    const [, tag = "", who = "", what = "", ...rest] = line.trim().split("|");
+    const key = who.slice(0, 2);
+    if (tag === "player" && what) this.players[what] = who;
+    if (tag === "turn") return {kind: "turn", turn: Number(who)};
+    if (tag === "win") return {kind: "win", side: this.players[who] === "p2" ? 2 : 1};
+    if (tag === "tie") return {kind: "tie"};
+    if (tag === "-clearallboost") return {kind: "clear all"};
+    if (tag === "-ohko") return {kind: "one hit knock out"};
+    if (key !== "p1" && key !== "p2") return null;
+    if (tag === "switch" || tag === "drag") return this.entry(who, what, rest[0]);
+    const member = this.out[key];
+    if (!member) return null;
+    return this.about({side: Number(key[1]), species: member.species}, tag, what, rest);
+  }
 
-/**
- * The replay file.
- * @param {Told} told
- */
-export function showdownPage(told) {
-  const [names, rules, out] =
-      [speciesOf(told).map(numbered), "input" in told.recorded ? told.recorded.input.rules : 0, [1, 1]];
-  const lines = [
-    "gametype|singles", "player|p1|Side 1||", "player|p2|Side 2||", `teamsize|p1|${names[0].length}`,
-    `teamsize|p2|${names[1].length}`, "gen|1", "tier|[Gen 1] Link battle",
-    ...RULES.filter((_, bit) => (rules >> bit) & 1), "", "start"
-  ];
-  for (const events of told.updates) {
-    for (const event of events) {
-      if (event.kind === "switch") out[event.side - 1] = event.place;
-      lines.push(...linesOf(event, names, out));
+  /** @param {string} who @param {string} details as "Tauros, L50, M" @param {string} health */
+  entry(who, details, health) {
+    const [name, ...more] = details.split(", ");
+    const species = this.species.get(plain(name));
+    if (!species) throw new Problem(`The log has the member "${name}", which is not of the first generation.`);
+    const [key, called] = [who.slice(0, 2), who.slice(who.indexOf(": ") + 2)];
+    const names = this.names[key];
+    if (!names.includes(called)) names.push(called);
+    if (names.length > 6) throw new Problem(`The log has more than six members of side ${key[1]}.`);
+    const level = Number(more.find((it) => /^L\d+$/.test(it))?.slice(1) ?? 100);
+    this.out[key] = {species, max: 0};
+    const side = Number(key[1]);
+    return {kind: "switch", side, species, place: names.indexOf(called) + 1, level, ...this.health(key, health)};
+  }
+
+  /** @param {string} key @param {string} text as "120/353 par" or "0 fnt" */
+  health(key, text = "") {
+    const [numbers, status = ""] = text.split(" ");
+    const [hp, max] = numbers.split("/").map(Number);
+    if (max) this.out[key].max = max;
+    return {hp, maxHp: this.out[key].max, status: STATUSES[status] ?? "none"};
+  }
+
+  /** @param {{ side: number, species: string }} who @param {string} tag @param {string} what @param {string[]} rest @returns {any} */
+  about(who, tag, what, rest) {
+    const key = `p${who.side}`;
+    const named = plain(what.replace(/^move: /, ""));
+    if (PLAIN_KINDS[tag]) return {kind: PLAIN_KINDS[tag], ...who};
+    if (tag === "move" || tag === "-prepare") return this.use(who, tag, what, rest);
+    if (tag === "cant") return REASONS[named] ? {kind: "cant", ...who, reason: REASONS[named]} : null;
+    if (tag === "-damage") {
+      const source = plain(rest.find((it) => it.startsWith("[from]"))?.slice(6).replace("move: ", "") ?? "");
+      return {kind: "damage", ...who, ...this.health(key, what), source: SOURCES[source] ?? "direct"};
     }
-    lines.push("");
+    if (tag === "-heal") return {kind: "heal", ...who, ...this.health(key, what)};
+    if (tag === "-status" || tag === "-curestatus")
+      return {kind: tag === "-status" ? "status" : "cure", ...who, status: STATUSES[what] ?? "none"};
+    if (tag === "-boost" || tag === "-unboost") return this.stages(who, tag.slice(1), what, Number(rest[0]));
+    if (tag === "-hitcount") return {kind: "hit count", ...who, hits: Number(rest[0] ?? what)};
+    const volatile = VOLATILE_KINDS[tag] && VOLATILES[named];
+    return volatile ? {kind: VOLATILE_KINDS[tag], ...who, volatile} : null;
   }
-  return BEFORE + lines.map((text) => `|${text}\n`).join("").replaceAll("/", "\\/") + AFTER;
+
+  /** @param {{ side: number, species: string }} who @param {string} tag @param {string} what @param {string[]} rest */
+  use(who, tag, what, rest) {
+    const move = this.moves.get(plain(what));
+    if (!move) throw new Problem(`The log has the move "${what}", which is not of the first generation.`);
+    if (tag === "-prepare") return {kind: "prepare", ...who, move};
+    const key = /^p[12]/.exec(rest[0] ?? "")?.[0] ?? `p${3 - who.side}`;
+    const target = this.out[key] ?? who;
+    return {kind: "move", ...who, move, targetSide: Number(key[1]), targetSpecies: target.species};
+  }
+
+  /**
+   * A change of a stage. Showdown names the Special by the two stats that it became, of which one counts.
+   * @param {{ side: number, species: string }} who @param {string} kind @param {string} stat @param {number} stages
+   */
+  stages(who, kind, stat, stages) {
+    if (!STAT_NAMES[stat] || !stages) return null;
+    return {kind, ...who, stat: STAT_NAMES[stat], stages: Math.min(2, stages)};
+  }
+}
+
+/**
+ * The events of lines. Lines that are no event of a battle, such as chat, are left out.
+ * @param {string} text
+ * @param {import("./engine.js").Tables} tables
+ */
+export function eventsOfLines(text, tables) {
+  const reader = new LineReader(tables);
+  const events = text.split("\n").flatMap((line) => reader.event(line) ?? []);
+  if (!events.some(({kind}) => kind === "switch"))
+    throw new Problem("The lines hold no battle: no member is sent out in them.");
+  return events;
 }

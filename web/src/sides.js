@@ -1,13 +1,12 @@
 // Shows a side: the active member, with an HP bar, status, stages and conditions, and all members of the team.
 import {make} from "./dom.js";
-import {token} from "./tokens.js";
 import {STATUS_TAGS, STATUS_WORDS} from "./words.js";
 
 /**
  * @typedef {import("./engine.js").Tables} Tables
  * @typedef {{ species: string, types: readonly string[], level: number, hp: number, max: number, status: string, sleep?: number,
- *   moves: [string, number][], isKnown: boolean, hasPixels?: boolean, used?: string[] }} ShownMember the name and PP of each move; whether HP are
- *   in 48ths; and the moves that were seen
+ *   moves: [string, number][], stats?: number[], isKnown: boolean, hasPixels?: boolean, used?: string[], uses?: [string, number][] }} ShownMember the
+ *   name and PP of each move; the own stats; whether HP are in 48ths; the moves that were seen; and how often each was used
  * @typedef {{ active: number, members: ShownMember[], types: readonly string[], stages: number[], stats: number[] | null,
  *   own: number[] | null, conditions: string[] }} Shown
  */
@@ -45,7 +44,7 @@ export function conditionWords(active) {
  * @returns {Shown}
  */
 export function whole(tables, {members, active}) {
-  const shown = members.map(({species, level, hp, maxHp, status, sleep, moves, pp}) => ({
+  const shown = members.map(({species, level, hp, maxHp, status, sleep, moves, pp, stats}) => ({
     species,
     types: tables.species[species],
     level,
@@ -53,6 +52,7 @@ export function whole(tables, {members, active}) {
     max: maxHp,
     status: STATUS_TAGS[status],
     sleep,
+    stats,
     isKnown: true,
     moves: moves.map((move, slot) => /** @type {[string, number]} */ ([move, pp[slot]])),
   }));
@@ -98,13 +98,14 @@ const NAMES = {
  * @returns {Shown}
  */
 export function own(tables, {members, active}) {
-  const shown = members.map(({species, level, hp, maxHp, status, moves, pp}) => ({
+  const shown = members.map(({species, level, hp, maxHp, status, moves, pp, stats}) => ({
     species,
     types: tables.species[species],
     level,
     hp,
     max: maxHp,
     status: STATUS_TAGS[status],
+    stats,
     isKnown: true,
     moves: moves.map((move, slot) => /** @type {[string, number]} */ ([move, pp[slot]])),
   }));
@@ -132,6 +133,7 @@ export function seen(tables, {members, active}, count) {
     isKnown: true,
     hasPixels: true,
     used: moves.map(({name}) => name),
+    uses: moves.map(({name, uses}) => /** @type {[string, number]} */ ([name, uses])),
     moves: /** @type {[string, number][]} */ ([]),
   }));
   const rest = Array.from({length: count - shown.length}, () => ({
@@ -162,7 +164,7 @@ export function seen(tables, {members, active}, count) {
  * The shown values of a side to a spectator.
  * @param {Tables} tables
  * @param {import("gen1").ShownSide} view
- * @param {({ species: string, level: number, max: number } | null)[]} known the members that the spectator knows of, by place
+ * @param {({ species: string, level: number, max: number, hasPixels?: boolean } | null)[]} known the members that the spectator knows of, by place
  * @returns {Shown}
  */
 export function watched(tables, view, known) {
@@ -178,6 +180,7 @@ export function watched(tables, view, known) {
       status: STATUS_TAGS[status],
       moves: [],
       isKnown: it !== null,
+      hasPixels: it?.hasPixels,
     };
   });
   const {place, stages, substitute, confused, lightScreen, reflect} = view;
@@ -214,7 +217,7 @@ function bar(member) {
     "aria-valuemin": 0,
     "aria-valuemax": member.max,
     "aria-valuenow": member.hp,
-    "aria-valuetext": `${member.hp} of ${member.max}`,
+    "aria-valuetext": member.hasPixels ? `${share} per cent` : `${member.hp} of ${member.max}`,
   },
       filled);
 }
@@ -230,7 +233,7 @@ function status(member) {
 /** @param {ShownMember} member */
 function hp(member) {
   const share = member.max ? Math.ceil((100 * member.hp) / member.max) : 0;
-  return make("span", {class: "hp"}, `${member.hp}/${member.max} (${share}%)`);
+  return make("span", {class: "hp"}, member.hasPixels ? `${share}%` : `${member.hp}/${member.max} (${share}%)`);
 }
 
 /** @param {Tables} tables @param {ShownMember} member */
@@ -258,19 +261,12 @@ function stats(shown) {
   return make("p", {class: "quiet stats"}, texts.join(" · "));
 }
 
-/** @param {import("./engine.js").Engine} engine @param {Shown} shown */
-function out(engine, shown) {
+/** @param {Shown} shown */
+function out(shown) {
   const member = shown.members[shown.active - 1];
-  if (!member) return make("div", {class: "out"}, make("p", {}, "No member is out yet."));
-  const types = [...new Set(shown.types)].map(badge);
-  const states = [
-    member.hp ? member.status : "fallen", shown.conditions.some((it) => it.startsWith("Substitute")) ? "substitute" : ""
-  ];
-  return make("div", {class: "out"},
-      make("div", {class: ["figure", ...states].join(" ")}, token(engine, member.species)),
-      make("p", {class: "head"}, make("strong", {}, member.species), ` level ${member.level} `, ...types, " ",
-          status(member)),
-      make("p", {class: "health"}, bar(member), hp(member)), chips(shown));
+  return member ?
+      [make("p", {class: "head"}, make("strong", {}, member.species), ` level ${member.level}`), chips(shown)] :
+      [make("p", {}, "No member is out yet.")];
 }
 
 /**
@@ -315,7 +311,7 @@ export function showSide(place, number, engine, shown) {
   const focused =
       place.contains(document.activeElement) ? document.activeElement?.closest("details")?.dataset.of : undefined;
   if (!before.size) before.set("side", window.matchMedia("(min-width: 44.01rem)").matches);
-  place.replaceChildren(make("h3", {}, `Side ${number}`), out(engine, shown), more(number, engine.tables, shown));
+  place.replaceChildren(make("h3", {}, `Side ${number}`), ...out(shown), more(number, engine.tables, shown));
   for (const it of place.querySelectorAll("details")) it.open = before.get(it.dataset.of) ?? false;
   /** @type {HTMLElement | null} */
   const summary =

@@ -3,14 +3,13 @@ import {link, setAddress} from "./address.js";
 import {decoded, encoded, joined, MEMBER, memberBytes, memberOf} from "./bytes.js";
 import {blame, copy, done, find, guarded, inField, make, Problem} from "./dom.js";
 import {MemberForm, STATS} from "./member_form.js";
-import {sampleTeams, setOf} from "./sample_teams.js";
-import {areKnown, savedTeams, saveTeams} from "./saved_teams.js";
 import {badge} from "./sides.js";
+import {areKnown, sampleTeams, savedTeams, saveTeams, setOf} from "./team_lists.js";
 import {textOf, titleOf} from "./team_text.js";
 
 /**
  * @typedef {import("./engine.js").Member} Member
- * @typedef {import("./saved_teams.js").Team} Team
+ * @typedef {import("./team_lists.js").Team} Team
  */
 
 const MOST = 6;

@@ -25,7 +25,7 @@ const STATUS_BEGINS = {
   slp: "falls asleep",
   psn: "is poisoned",
   brn: "is burned",
-  frz: "is frozen",
+  frz: "freezes",
   par: "is paralysed"
 };
 /** @type {Record<string, string>} */
@@ -47,8 +47,8 @@ const STATS = {
 };
 /** @type {Record<string, string>} */
 const STOPS = {
-  slp: "is asleep",
-  frz: "is frozen",
+  slp: "is asleep and cannot act",
+  frz: "is frozen and cannot act",
   partiallytrapped: "is trapped and cannot act",
   flinch: "flinches",
   recharge: "has to recharge",
@@ -104,16 +104,19 @@ export const OUTCOMES = {
 };
 
 /**
- * @typedef {{ you: number, hasPixels: boolean }} Voice the side that is called you, or 0; and whether the HP of other sides are in 48ths
+ * @typedef {{ you: number, inPixels: number[] }} Voice the side that is called you, or 0; and the sides whose HP are in 48ths
+ * @typedef {{ name: string, now: number, most: number }} Out a member that is out, with its HP as the lines have them
  */
 
 /** @type {Voice} */
 const PLAIN = {
   you: 0,
-  hasPixels: false
+  inPixels: []
 };
 /** Point of view of the current sentence. */
 let voice = PLAIN;
+/** @type {Record<string, Out | undefined>} the members that are out before the current line, by "p1" and "p2" */
+let out = {};
 
 /** @param {string} who as "p1a: Tauros" */
 function isYou(who) {
@@ -137,12 +140,62 @@ function does(who, verb) {
   return isYou(who) ? `You ${verb.slice(0, -1)}` : `The foe ${verb}`;
 }
 
-/** @param {string} health as "120/353 par" or "0 fnt" @param {string} who */
+/** @param {string} health as "120/353 par" or "0 fnt" @returns {number[]} HP now, and at most, which a fallen member's line lacks */
+function numbersOf(health) {
+  return health.split(" ")[0].split("/").map(Number);
+}
+
+/**
+ * Whether HP are said in per cent.
+ * @param {string} who
+ */
+function isShare(who) {
+  return voice.inPixels.includes(Number(who[1]));
+}
+
+/** @param {string} health @param {string} who */
 function hp(health, who) {
-  const [numbers] = health.split(" ");
-  const [now, most] = numbers.split("/").map(Number);
+  const [now, most] = numbersOf(health);
   if (!most) return "0 HP";
-  return voice.hasPixels && !isYou(who) ? `${percentage(now, most)}%` : `${now} of ${most} HP`;
+  return isShare(who) ? `${percentage(now, most)}%` : `${now} of ${most} HP`;
+}
+
+/**
+ * The change of a member's HP, as a person reads it; empty if the HP before are not known.
+ * @param {string} who @param {string} health
+ */
+function change(who, health) {
+  const before = out[who.slice(0, 2)];
+  if (!before?.most) return "";
+  const said = (/** @type {number} */ number) => (isShare(who) ? percentage(number, before.most) : number);
+  return `${Math.abs(said(before.now) - said(numbersOf(health)[0]))}${isShare(who) ? "%" : " HP"}`;
+}
+
+/** @param {string} who @param {string} health @param {string} by */
+function damage(who, health, by) {
+  const lost = change(who, health);
+  if (!lost) return `${named(who)} is down to ${hp(health, who)}${by}.`;
+  if (!numbersOf(health)[0]) return `${named(who)} loses its last ${lost}${by}.`;
+  return `${named(who)} loses ${lost}${by}, down to ${hp(health, who)}.`;
+}
+
+/** @param {string} who @param {string} health */
+function healing(who, health) {
+  const gained = change(who, health);
+  return gained ? `${named(who)} gains ${gained}, up to ${hp(health, who)}.` :
+                  `${named(who)} is healed to ${hp(health, who)}.`;
+}
+
+/** @param {string} who @param {string} species as "Tauros, L50" @param {string} health */
+function entry(who, species, health) {
+  const [name, level] = species.split(", L");
+  const [now, most] = numbersOf(health);
+  const facts =
+      [level ? `, level ${level}` : "", now < most ? `, with ${hp(health, who)}` : "", ailing(health)].join("");
+  const before = out[who.slice(0, 2)];
+  const text = `${does(who, "sends")} out ${name}${facts}.`;
+  if (!before?.now) return text;
+  return `${does(who, "withdraws")} ${before.name} and ${isYou(who) ? "send" : "sends"} out ${name}${facts}.`;
 }
 
 /**
@@ -166,15 +219,12 @@ function stages(stat, by) {
 /** @type {Record<string, (...fields: string[]) => string>} */
 const SENTENCES = {
   turn: (turn) => `Turn ${turn}`,
-  switch: (who, species, health) => {
-    const [name, level] = species.split(", L");
-    return `${does(who, "sends")} out ${name}, level ${level ?? 100}, with ${hp(health, who)}${ailing(health)}.`;
-  },
+  switch: entry,
   move: (who, move) => `${named(who)} uses ${move}.`,
   cant: (who, why) => `${named(who)} ${STOPS[why] ?? "cannot act"}.`,
-  "-damage": (who, health, source) =>
-      `${named(who)} is down to ${hp(health, who)}${source ? SOURCES[source] ?? "" : ""}.`,
-  "-heal": (who, health) => `${named(who)} is healed to ${hp(health, who)}.`,
+  "-damage": (/** @type {string} */ who, /** @type {string} */ health, /** @type {string} */ source) =>
+      damage(who, health, source ? SOURCES[source] ?? "" : ""),
+  "-heal": healing,
   "-crit": (who) => `It is a critical hit on ${inside(who)}.`,
   "-supereffective": () => "It is super effective.",
   "-resisted": () => "It is not very effective.",
@@ -199,15 +249,38 @@ const SENTENCES = {
   fault: (number) => `${OUTCOMES[`fault ${number}`] ?? "The battle stopped"}.`,
 };
 
-/**
- * A line in words.
- * @param {string} line as "|move|p1a: Tauros|Strength|p2a: Tauros"
- * @param {Voice} [told]
- */
-export function inWords(line, told = PLAIN) {
-  const [, tag, ...fields] = line.split("|");
-  voice = told;
-  return SENTENCES[tag]?.(...fields) ?? line;
+/** Says the lines of a battle in order. It keeps the HP of the members that are out, so that it can say what a hit costs. */
+export class Narrator {
+  /** @param {Voice} [told] */
+  constructor(told = PLAIN) {
+    this.voice = told;
+    /** @type {Record<string, Out | undefined>} */
+    this.out = {};
+  }
+
+  /**
+   * The next line in words.
+   * @param {import("./engine.js").GameEvent} event
+   */
+  say({line, reason}) {
+    const [, tag, who = "", ...fields] = line.split("|");
+    [voice, out] = [this.voice, this.out];
+    const sentence = SENTENCES[tag]?.(who, ...fields) ?? line;
+    this.follow(tag, who, fields);
+    return reason ? sentence.replace(/\.$/, `: ${reason}.`) : sentence;
+  }
+
+  /** @param {string} tag @param {string} who @param {string[]} fields */
+  follow(tag, who, fields) {
+    const key = who.slice(0, 2);
+    if (tag === "switch") {
+      const [now, most] = numbersOf(fields[1]);
+      this.out[key] = {name: fields[0].split(", L")[0], now, most: most ?? 0};
+    }
+    const member = this.out[key];
+    if (member && (tag === "-damage" || tag === "-heal")) member.now = numbersOf(fields[0])[0];
+    if (member && tag === "faint") member.now = 0;
+  }
 }
 
 /**

@@ -1,0 +1,182 @@
+"""Layout at twelve sizes: no text overlaps another or leaves its box, and nothing moves while a turn is shown. Boxes are compared, not pixels."""
+from checks.access import go
+from checks.browser import SIZES as USUAL
+
+SIZES = {
+    "a small phone": (320, 568),
+    "a phone": (360, 640),
+    "a large phone": (390, 844),
+    "a small phone on its side": (667, 375),
+    "a large phone on its side": (844, 390),
+    "a tablet": (768, 1024),
+    "a tablet on its side": (1024, 768),
+    "a low window": (960, 540),
+    "1440x900 at 200 %": (720, 450),
+    "1280x1024 at 400 %": (320, 256),
+    "a laptop": (1280, 720),
+    "4K": (3840, 2160),
+}
+# The texts of a part as boxes, one for each line. Those of a list that scrolls, and of what stays while others scroll, are left out.
+TEXTS = """
+const found = [];
+let count = 0;
+const root = document.querySelector(arguments[0]);
+const walker = document.createTreeWalker(root, NodeFilter.SHOW_TEXT);
+while (walker.nextNode()) {
+  const element = walker.currentNode.parentElement;
+  if (!walker.currentNode.data.trim() || !element.checkVisibility({checkOpacity: true, checkVisibilityCSS: true})) continue;
+  if (element.closest('.unseen, .lines, .floating, svg, option, textarea, .found')) continue;
+  let stays = false, clip = null;
+  for (let it = element; it !== root; it = it.parentElement) {
+    const style = getComputedStyle(it);
+    if (style.position === 'fixed' || style.position === 'sticky') stays = true;
+    if (style.clipPath !== 'none') stays = true;
+    if (!clip && style.overflowX === 'hidden') clip = it.getBoundingClientRect();
+  }
+  if (stays) continue;
+  count++;
+  const range = document.createRange();
+  range.selectNodeContents(walker.currentNode);
+  for (const box of range.getClientRects()) {
+    const inside = clip ? {left: Math.max(box.left, clip.left), right: Math.min(box.right, clip.right), top: Math.max(box.top, clip.top), bottom: Math.min(box.bottom, clip.bottom)} : box;
+    if (inside.right - inside.left > 2 && inside.bottom - inside.top > 2)
+      found.push({count, text: walker.currentNode.data.trim().slice(0, 24), left: inside.left, right: inside.right, top: inside.top, bottom: inside.bottom});
+  }
+}
+"""
+# Pairs of texts that overlap by more than a fourth of a line.
+OVERLAPS = (
+    TEXTS
+    + """
+const pairs = [];
+for (const [at, one] of found.entries())
+  for (const two of found.slice(at + 1)) {
+    const width = Math.min(one.right, two.right) - Math.max(one.left, two.left);
+    const height = Math.min(one.bottom, two.bottom) - Math.max(one.top, two.top);
+    if (one.count !== two.count && width > 2 && height > 4) pairs.push([one.text, two.text, Math.round(width), Math.round(height)].join(' | '));
+  }
+return [found.length, pairs];
+"""
+)
+# Plates that overlap the other one of their field.
+PLATES = """
+return [...document.querySelector(arguments[0]).querySelectorAll('.arena')].filter((it) => it.checkVisibility()).flatMap((arena) => {
+  const [one, two] = [...arena.querySelectorAll('.plate')].map((it) => it.getBoundingClientRect());
+  return one.bottom > two.top && two.bottom > one.top ? [[one.top, one.bottom, two.top, two.bottom].map(Math.round)] : [];
+});
+"""
+# Elements that leave the box around them: what it is, and the element that has to contain it.
+CUT = """
+const out = [];
+for (const [inner, outer] of arguments[0])
+  for (const it of document.querySelectorAll(inner)) {
+    if (!it.checkVisibility()) continue;
+    const [box, around] = [it.getBoundingClientRect(), it.closest(outer).getBoundingClientRect()];
+    if (box.left < around.left - 1 || box.right > around.right + 1 || box.top < around.top - 1 || box.bottom > around.bottom + 1)
+      out.push(`${inner} "${it.textContent.slice(0, 24)}": ${[box.left, box.top, box.right, box.bottom].map(Math.round)} in ${[around.left, around.top, around.right, around.bottom].map(Math.round)}`);
+  }
+return out;
+"""
+INSIDE = [
+    ("#play-field .plate", ".arena"),
+    ("#play-field .figure .token", ".arena"),
+    (".plate .head > *", ".plate"),
+    (".plate .health > *", ".plate"),
+    (".plate .party .ball", ".plate"),
+    (".to-move > *", ".to-move"),
+    (".to-switch > *", ".to-switch"),
+    (".topbar > *", "#play-game"),
+    (".member-card:not([hidden])", "html"),
+]
+# The boxes that must not move: the field, its plates, the log, the choices.
+BOXES = """
+return [document.querySelectorAll('[data-busy]').length > 0, ...['#play-field', '.plate', '.journal', '.acts', '#play-choices-1 [data-choice]'].map((it) =>
+  [...document.querySelectorAll(it)].map((one) => one.getBoundingClientRect()).map((box) => [box.left, box.top, box.width, box.height].map(Math.round).join(' ')))];
+"""
+# Members with long names and many states.
+LONG = (
+    "Kangaskhan\n- Body Slam\n- Hyper Beam\n- Double Kick\n- Thunder Punch\n\nVictreebel\n- Razor Leaf\n- Sleep Powder\n- Stun Spore\n- Swords Dance\n\n"
+    "Weepinbell\n- Double-Edge\n- Sleep Powder\n- Stun Spore\n- Razor Leaf\n\nExeggutor\n- Sleep Powder\n- Psychic\n- Stun Spore\n- Explosion\n\n"
+    "Tentacruel\n- Hydro Pump\n- Blizzard\n\nDragonite\n- Thunder Wave\n- Wrap\n"
+)
+
+
+def start(browser, seed="3 1 4 1 5 9 2 6 5 3"):
+    """Starts a battle of members with long names."""
+    browser.open("#play")
+    for side in (1, 2):
+        browser.fill(f"#play-team-{side}", LONG)
+    browser.fill("#play-seed", seed)
+    browser.fill("#play-who-2", "greedy")
+    browser.click("#play-start")
+
+
+def test_boxes(browser, part, size):
+    count, pairs = browser.run(OVERLAPS, part)
+    assert count > 5 and not pairs, (size, part, pairs)
+    cut = browser.run(CUT, INSIDE)
+    assert not cut, (size, part, cut)
+    plates = browser.run(PLATES, part)
+    assert not plates, (size, part, plates)
+    width = browser.run("return [document.documentElement.scrollWidth, innerWidth]")
+    assert width[0] <= width[1], (size, part, width)
+
+
+def nothing_overlaps_in_a_battle(browser):
+    for name, size in SIZES.items():
+        browser.look(*size, "light")
+        start(browser)
+        test_boxes(browser, "#panel-play", name)
+        for _ in range(3):
+            before = browser.run("return Number(document.getElementById('play-game').dataset.updates)")
+            if not browser.run(
+                "const it = document.querySelector('#play-choices-1 [data-choice]'); it?.click(); return Boolean(it)"
+            ):
+                break
+            browser.wait(f"return Number(document.getElementById('play-game').dataset.updates) > {before}")
+            test_boxes(browser, "#panel-play", name)
+        browser.run("document.querySelector('#play-field .far .party button').click()")
+        assert browser.run("return document.getElementById('play-card').checkVisibility()"), name
+        test_boxes(browser, "#play-card", name)
+    browser.look(*USUAL["wide"], "light")
+
+
+def nothing_overlaps_in_the_other_parts(browser):
+    for name, size in SIZES.items():
+        browser.look(*size, "light")
+        for part, panel in (
+            ("home", "home"),
+            ("replay", "replay"),
+            ("teams", "play"),
+            ("calculator", "calculator"),
+            ("builder", "teams"),
+        ):
+            go(browser, part)
+            test_boxes(browser, f"#panel-{panel}", name)
+        test_boxes(browser, "header", name)
+        # A species with two types, and HP with three digits.
+        browser.open("#calculator")
+        browser.fill("#calc-member-1 [name=species]", "Exeggutor")
+        browser.fill("#calc-member-1 [name=hp]", "323")
+        test_boxes(browser, "#panel-calculator", name)
+    browser.look(*USUAL["wide"], "light")
+
+
+def nothing_moves_while_a_turn_is_shown(browser):
+    for name, size in SIZES.items():
+        browser.look(*size, "light", "no-preference")
+        start(browser)
+        browser.fill("#speed", "fast")
+        before = browser.run(BOXES)[1:]
+        browser.run("document.querySelector('#play-choices-1 [data-choice]').click()")
+        browser.wait("return document.querySelectorAll('[data-busy]').length")
+        during = 0
+        while (now := browser.run(BOXES))[0]:
+            assert now[1:] == before, (name, [pair for pair in zip(before, now[1:]) if pair[0] != pair[1]])
+            during += 1
+        assert during > 2, name
+    browser.fill("#speed", "normal")
+    browser.look(*USUAL["wide"], "light")
+
+
+CHECKS = [nothing_overlaps_in_a_battle, nothing_overlaps_in_the_other_parts, nothing_moves_while_a_turn_is_shown]

@@ -1,0 +1,95 @@
+// Teams to choose from: the sample teams that the page is built with (examples/teams), and those that a person has built, which the browser keeps.
+import {find} from "./dom.js";
+import {usualMoves} from "./sets.js";
+
+/**
+ * @typedef {{ name: string, text: string }} NamedTeam
+ * @typedef {{ name: string, members: import("./engine.js").Member[] }} Team
+ */
+
+/** @type {NamedTeam[] | undefined} */
+let read;
+
+/** The sample teams in their order. */
+export function sampleTeams() {
+  read ??= /** @type {NamedTeam[]} */ (JSON.parse(find("teams", HTMLScriptElement).text));
+  return read;
+}
+
+/** @type {import("./engine.js").Member[] | undefined} */
+let members;
+
+/**
+ * The moves that a species has in the sample teams and in its usual set.
+ * @param {import("./engine.js").Engine} engine
+ * @param {string} species
+ */
+export function knownMoves(engine, species) {
+  members ??= sampleTeams().flatMap(({name, text}) => engine.team(text, `The team ${name}`, 0));
+  const found = members.filter((member) => member.species === species).flatMap(({moves}) => moves);
+  return [...new Set([...found.map(([move]) => String(move)), ...usualMoves(species)])];
+}
+
+/**
+ * A member of a species with its moves: the first in one of the person's teams or in a sample team, else one with the usual set. Ditto has no moves.
+ * @param {import("./engine.js").Engine} engine
+ * @param {string} species
+ * @returns {import("./engine.js").Member}
+ */
+export function setOf(engine, species) {
+  const samples = sampleTeams().map(({name, text}) => engine.team(text, `The team ${name}`, 0));
+  const members = [...savedTeams(engine).map((team) => team.members), ...samples].flat();
+  const usual = usualMoves(species).map((move) => /** @type {[string, number]} */ ([move, 3]));
+  return members.find((member) => member.species === species && member.moves.length) ??
+      {species, level: 100, dvs: [15, 15, 15, 15], exp: Array(5).fill(65535), moves: usual};
+}
+
+const KEY = "teams";
+
+/** @param {any} value */
+function isTeam(value) {
+  const isMember = (/** @type {any} */ it) =>
+      typeof it?.species === "string" && [it.dvs, it.exp, it.moves].every(Array.isArray);
+  return typeof value?.name === "string" && Array.isArray(value.members) && value.members.every(isMember);
+}
+
+/**
+ * Whether each member has a species, a level and DVs, and moves with names.
+ * @param {import("./engine.js").Engine} engine
+ * @param {import("./engine.js").Member[]} members
+ */
+export function areKnown(engine, members) {
+  try {
+    members.forEach((member) => engine.stats(member));
+    return members.every(({moves}) => moves.every(([move]) => Object.hasOwn(engine.tables.moves, move)));
+  } catch {
+    return false;
+  }
+}
+
+/**
+ * The teams that were kept; none if the browser refuses storage, or if the stored value is not a list of teams.
+ * @param {import("./engine.js").Engine} engine
+ * @returns {Team[]}
+ */
+export function savedTeams(engine) {
+  try {
+    const found = JSON.parse(localStorage.getItem(KEY) ?? "[]");
+    return Array.isArray(found) ? found.filter((it) => isTeam(it) && areKnown(engine, it.members)) : [];
+  } catch {
+    return [];
+  }
+}
+
+/**
+ * Keeps teams, and returns whether the browser has kept them.
+ * @param {Team[]} teams
+ */
+export function saveTeams(teams) {
+  try {
+    localStorage.setItem(KEY, JSON.stringify(teams));
+    return true;
+  } catch {
+    return false;
+  }
+}
