@@ -183,4 +183,5 @@ def pytest_unconfigure(config):
 
 def counted(report, key):
     """The sum of what a test counted."""
-    return sum(number for name, number in report.user_properties if name == key)
+    # A report of a file that could not be collected has no properties.
+    return sum(number for name, number in getattr(report, "user_properties", ()) if name == key)

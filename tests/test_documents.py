@@ -42,6 +42,7 @@ SOURCES = (
     "rust/gen1/src/*",
     "rust/gen1/src/*/*",
     "rust/gen1-cli/**/*",
+    "rust/gen1-showdown/**/*",
     "js/*",
     "rust/gen1-ffi/src/*",
     "fuzz/src/*",

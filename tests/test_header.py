@@ -1,13 +1,18 @@
-"""Compares the structs and prototypes of include/gen1.h with those of the sources: names, types and order.
+"""Compares the structs and prototypes of include/gen1.h with those of the sources: names, types and places in memory.
 
 A proof sees the sources alone, so it can't see two fields or parameters of one type that the header has in another order. Each
-struct of the sources is compared field by field, down to its numbers, and each exported function parameter by parameter. A slice of
-the sources is a pointer and a length in C. The few names that differ are in NAMES; arrays of the header that have a field for each
-place in the sources are in PARTS.
+number of a struct is compared: its path through the fields, its type and its offset, in the header as a C compiler lays it out and
+in the sources by the rules of `repr(C)`. Each exported function is compared parameter by parameter. A slice of the sources is a
+pointer and a length in C. The few names that differ are in NAMES; arrays of the header that have a field for each place in the
+sources are in PARTS.
 """
 
 import re
+import subprocess
+from itertools import combinations
+from typing import NamedTuple
 
+import pytest
 from repository import ROOT
 
 NUMBERS = {
@@ -19,6 +24,7 @@ NUMBERS = {
     "usize": "size_t",
     "bool": "bool",
 }
+C_TYPES = {**NUMBERS, "Packed": "gen1_battle"}
 # Names of the sources, each with the names that the header has for it.
 NAMES = {
     "number": ("move", "species", "type"),
@@ -33,15 +39,31 @@ NAMES = {
 PARTS = {
     "chosen": ("one", "two"),
     "sides": ("one", "two"),
-    "stages": ("attack", "defense", "speed", "special", "accuracy", "evasion"),
+    "stages": tuple(f"stages.{stage}" for stage in ("attack", "defense", "speed", "special", "accuracy", "evasion")),
 }
-SIZES = {"GEN1_LOG_ROOM": "512"}
+# The bytes of each number, which are its alignment too, and of a battle.
+WIDTHS = {"uint8_t": 1, "int8_t": 1, "uint16_t": 2, "uint32_t": 4, "uint64_t": 8, "size_t": 8}
+BATTLE = {"gen1_battle": 384}
 RUST_STRUCT = re.compile(r"#\[repr\(C\)\]\n(?:#\[[^\n]*\]\n)*pub struct (\w+) \{\n(.*?)^\}", re.M | re.S)
-RUST_FIELD = re.compile(r"(?m)^    pub (\w+): (.+),$")
+RUST_FIELD = re.compile(r"(?m)^    (?:pub )?(\w+): (.+?) *,$")
 RUST_CALL = re.compile(r'pub extern "C" fn (gen1_\w+)\(([^)]*)\)(?:\s*->\s*(\w+))?')
 C_STRUCT = re.compile(r"typedef struct (gen1_\w+) \{(.*?)\} \1;", re.S)
-C_FIELD = re.compile(r"(\w+) (\w+)(?:\[(\w+)\])?;")
+C_FIELD = re.compile(r"(\w+) (\w+)(\[\w+\])?;")
 C_CALL = re.compile(r"(?m)^(\w+) (gen1_\w+)\(([^)]*)\);")
+# The program that prints what a C compiler makes of the header.
+PROGRAM = """#include <stdio.h>
+#include "gen1.h"
+#define TYPE(type) printf("%s 0 %zu\\n", #type, sizeof(type));
+#define FIELD(type, field) printf("%s %zu %zu\\n", #type "." #field, offsetof(type, field), sizeof(((type *)0)->field));
+int main(void) { LINES return 0; }
+"""
+
+
+class Layouts(NamedTuple):
+    """The bytes of each type, and the fields of each struct: name, type, length (0 where it is no array) and offset."""
+
+    sizes: dict
+    fields: dict
 
 
 def sources():
@@ -54,40 +76,86 @@ def header():
     return re.sub(r"/\*.*?\*/", "", (ROOT / "include" / "gen1.h").read_text(), flags=re.S)
 
 
-def rust_fields(body):
-    """The fields of a struct of the sources: name, type, and length where it is an array."""
-    for name, kind in RUST_FIELD.findall(body):
-        array = re.fullmatch(r"\[(\w+); (\d+)\]", kind)
-        yield (name, array[1], int(array[2])) if array else (name, kind, 0)
+def declared_structs(text):
+    """The structs of the sources: name, type and length of each field, with numbers as C names them."""
+    structs = {}
+    for struct, body in RUST_STRUCT.findall(text):
+        found = [(name, re.fullmatch(r"\[(\w+); (\d+)\]|(\w+)", kind)) for name, kind in RUST_FIELD.findall(body)]
+        structs[struct] = [(name, C_TYPES.get(it[1] or it[3], it[1] or it[3]), int(it[2] or 0)) for name, it in found]
+    return structs
 
 
-def c_fields(body):
-    """The same of a struct of the header."""
-    for kind, name, size in C_FIELD.findall(body):
-        yield name, kind, int(SIZES.get(size, size) or 0)
+def laid_out(declared):
+    """Structs of the sources by the rules of `repr(C)`."""
+    sizes, alignments, fields = {**WIDTHS, **BATTLE}, dict.fromkeys(BATTLE, 1) | WIDTHS, {}
+
+    def lay_out(struct):
+        end, fields[struct] = 0, []
+        for name, kind, length in declared[struct]:
+            if kind not in sizes:
+                lay_out(kind)
+            start = end + -end % alignments[kind]
+            fields[struct].append((name, kind, length, start))
+            end = start + sizes[kind] * max(length, 1)
+        alignments[struct] = max(alignments[kind] for _, kind, _ in declared[struct])
+        sizes[struct] = end + -end % alignments[struct]
+
+    for struct in declared:
+        if struct not in sizes:
+            lay_out(struct)
+    return Layouts(sizes, fields)
 
 
-def leaves(structs, kind, name):
-    """The numbers that a value consists of, in order: each with its name and type. `sides` of two and `one`, `two` are the same."""
-    if kind not in structs:
-        yield name, NUMBERS.get(kind, kind)
-        return
-    for field, of, size in structs[kind]:
-        parts = PARTS[field] if size and size == len(PARTS.get(field, ())) else [field] * max(size, 1)
-        for part in parts:
-            yield from leaves(structs, of, part)
+def compiled(text, work):
+    """The structs of the header, as a C compiler lays them out."""
+    structs = {name: C_FIELD.findall(body) for name, body in C_STRUCT.findall(text)}
+    kinds = sorted({*structs, *(kind for them in structs.values() for kind, _, _ in them)})
+    lines = [f"TYPE({kind})" for kind in kinds]
+    lines += [f"FIELD({struct}, {name})" for struct, them in structs.items() for _, name, _ in them]
+    (work / "layout.c").write_text(PROGRAM.replace("LINES", "\n".join(lines)))
+    subprocess.run(["cc", f"-I{ROOT / 'include'}", "layout.c", "-o", "layout"], cwd=work, check=True)
+    printed = subprocess.run([work / "layout"], stdout=subprocess.PIPE, text=True, check=True).stdout
+    found = {name: (int(at), int(size)) for name, at, size in map(str.split, printed.splitlines())}
+    sizes = {kind: found[kind][1] for kind in kinds}
+    fields = {}
+    for struct, them in structs.items():
+        them = [(kind, name, array, *found[f"{struct}.{name}"]) for kind, name, array in them]
+        fields[struct] = [(name, kind, size // sizes[kind] if array else 0, at) for kind, name, array, at, size in them]
+    return Layouts(sizes, {struct: them for struct, them in fields.items() if struct not in BATTLE})
+
+
+def leaves(layouts, struct, path="", offset=0):
+    """The numbers of a struct, in order, each with path, type and offset. `sides` of two and the fields `one`, `two` are the same."""
+    for name, kind, length, at in layouts.fields[struct]:
+        parts = PARTS.get(name, ())
+        parts = parts if length == len(parts) else ()
+        if kind not in layouts.fields and not parts:
+            yield path + name, f"{kind}[{length}]" if length else kind, offset + at
+            continue
+        alone = [f"{name}[{place}]" for place in range(length)] or [name]
+        for place, part in enumerate(parts or alone):
+            start = offset + at + place * layouts.sizes[kind]
+            if kind in layouts.fields:
+                yield from leaves(layouts, kind, f"{path}{part}.", start)
+            else:
+                yield path + part, kind, start
 
 
 def is_same(rust, c):
     return rust == c or c in NAMES.get(rust, ())
 
 
-def fault_of_leaves(rust, c):
-    """The first place where two lists of numbers differ, or None."""
-    for (name, kind), (c_name, c_kind) in zip(rust, c):
-        if not is_same(name, c_name) or kind != c_kind:
-            return f"'{kind} {name}' in the sources, '{c_kind} {c_name}' in the header"
-    return None if len(rust) == len(c) else f"{len(rust)} numbers in the sources, {len(c)} in the header"
+def fault_of_struct(rust, struct, c, c_struct):
+    """The first place where a struct of the sources and its struct of the header differ, or None."""
+    places, c_places = list(leaves(rust, struct)), list(leaves(c, c_struct))
+    for (path, kind, at), (c_path, c_kind, c_at) in zip(places, c_places):
+        names, c_names = path.split("."), c_path.split(".")
+        if len(names) != len(c_names) or not all(map(is_same, names, c_names)) or (kind, at) != (c_kind, c_at):
+            return f"'{kind} {path}' is at {at} in the sources, '{c_kind} {c_path}' at {c_at} in the header"
+    size, c_size = rust.sizes[struct], c.sizes[c_struct]
+    if len(places) != len(c_places) or size != c_size:
+        return f"{len(places)} numbers in {size} bytes in the sources, {len(c_places)} in {c_size} in the header"
+    return None
 
 
 def due_parameters(text, named):
@@ -101,7 +169,7 @@ def due_parameters(text, named):
             yield "written" if name in ("log", "text") and found[1] == "&mut " else "count", "size_t"
 
 
-def c_parameters(text):
+def parameters_of(text):
     for parameter in filter(None, (it.strip() for it in text.replace("void", "").split(","))):
         found = re.fullmatch(r"(const )?(\w+) (\*?)(\w+)(\[\w+\])?", " ".join(parameter.split()))
         yield found[4], (found[1] or "") + found[2] + (" *" if found[3] or found[5] else "")
@@ -124,13 +192,12 @@ def fault_of_call(rust, c, result, c_result):
 def names_of_structs(calls, c_calls, structs, c_structs):
     """The header's name of each struct of the sources, by where parameters and fields of these types are."""
     named = {"Packed": "gen1_battle"}
-    for name, (text, _) in calls.items():
-        kinds = re.findall(r"&(?:mut )?\[?([A-Z]\w*)", text)
-        c_kinds = [kind for kind in re.findall(r"\b(gen1_\w+) \*", c_calls[name][0])]
-        named.update(zip(kinds, c_kinds))
+    for name in sorted(set(calls) & set(c_calls)):
+        kinds = re.findall(r"&(?:mut )?\[?([A-Z]\w*)", calls[name][0])
+        named.update(zip(kinds, re.findall(r"\b(gen1_\w+) \*", c_calls[name][0])))
     reached = list(named)
     for kind in reached:
-        fields = {name: of for name, of, _ in c_structs.get(named[kind], ()) if of in c_structs}
+        fields = {name: of for name, of, _, _ in c_structs.get(named[kind], ()) if of in c_structs}
         for name, of, _ in structs.get(kind, ()):
             found = [c_of for c_name, c_of in fields.items() if is_same(name, c_name) or name in PARTS.get(c_name, ())]
             if of in structs and of not in named and found:
@@ -139,31 +206,60 @@ def names_of_structs(calls, c_calls, structs, c_structs):
     return named
 
 
-def faults():
-    """What differs, each as a line; and how many structs and functions were compared."""
-    text, c_text = sources(), header()
-    structs = {name: list(rust_fields(body)) for name, body in RUST_STRUCT.findall(text) if name != "Packed"}
-    c_structs = {name: list(c_fields(body)) for name, body in C_STRUCT.findall(c_text) if name != "gen1_battle"}
-    calls = {name: (parameters, result) for name, parameters, result in RUST_CALL.findall(text)}
-    c_calls = {name: (parameters, result) for result, name, parameters in C_CALL.findall(c_text)}
-    for name in sorted(set(calls) ^ set(c_calls)):
-        yield f"{name}: only in {'the sources' if name in calls else 'the header'}"
-    both = {name: calls[name] for name in calls if name in c_calls}
-    named = names_of_structs(both, c_calls, structs, c_structs)
-    for kind, c_kind in named.items():
-        if kind in structs:
-            rust = [(name, named.get(of, of)) for name, of in leaves(structs, kind, "")]
-            if fault := fault_of_leaves(rust, list(leaves(c_structs, c_kind, ""))):
-                yield f"{c_kind}: {fault}"
-    for c_kind in sorted(set(c_structs) - set(named.values())):
-        yield f"{c_kind}: no struct of the sources was found for it"
-    for name, (parameters, result) in both.items():
-        due, found = list(due_parameters(parameters, named)), list(c_parameters(c_calls[name][0]))
-        if fault := fault_of_call(due, found, result, c_calls[name][1]):
-            yield f"{name}: {fault}"
+class Both:
+    """What the sources and the header declare."""
+
+    def __init__(self, work):
+        text, c_text = sources(), header()
+        self.calls = {name: (parameters, result) for name, parameters, result in RUST_CALL.findall(text)}
+        self.c_calls = {name: (parameters, result) for result, name, parameters in C_CALL.findall(c_text)}
+        self.structs, self.c = declared_structs(text), compiled(c_text, work)
+        self.named = names_of_structs(self.calls, self.c_calls, self.structs, self.c.fields)
+
+    def faults_of_structs(self, structs):
+        """What differs between structs of the sources and those of the header, each as a line."""
+        rust = laid_out(structs)
+        for struct in sorted(set(self.named) & set(structs)):
+            if fault := fault_of_struct(rust, struct, self.c, self.named[struct]):
+                yield f"{self.named[struct]}: {fault}"
+        for c_struct in sorted(set(self.c.fields) - set(self.named.values())):
+            yield f"{c_struct}: no struct of the sources was found for it"
+
+    def faults_of_calls(self):
+        """What differs between the functions, each as a line."""
+        for name in sorted(set(self.calls) ^ set(self.c_calls)):
+            yield f"{name}: only in {'the sources' if name in self.calls else 'the header'}"
+        for name in sorted(set(self.calls) & set(self.c_calls)):
+            (parameters, result), (c_parameters, c_result) = self.calls[name], self.c_calls[name]
+            due, found = list(due_parameters(parameters, self.named)), list(parameters_of(c_parameters))
+            if fault := fault_of_call(due, found, result, c_result):
+                yield f"{name}: {fault}"
 
 
-def test_the_header_is_that_of_the_sources(compared):
-    calls = len(RUST_CALL.findall(sources()))
-    assert calls
-    compared(calls, (f"include/gen1.h: {fault}" for fault in faults()))
+@pytest.fixture
+def both(needs, tmp_path):
+    needs("cc")
+    return Both(tmp_path)
+
+
+def test_the_header_is_that_of_the_sources(both, compared):
+    assert both.calls and both.structs
+    faults = [*both.faults_of_structs(both.structs), *both.faults_of_calls()]
+    compared(len(both.calls) + len(both.structs), (f"include/gen1.h: {fault}" for fault in faults))
+
+
+def test_exchanged_fields_are_found(both, compared):
+    """In each struct two fields of one type are exchanged, such as both sides: each exchange is a fault."""
+    exchanges = [
+        (struct, one, two)
+        for struct, fields in both.structs.items()
+        for one, two in combinations(range(len(fields)), 2)
+        if fields[one][1:] == fields[two][1:]
+    ]
+    faults = []
+    for struct, one, two in exchanges:
+        fields = list(both.structs[struct])
+        fields[one], fields[two] = fields[two], fields[one]
+        if not any(both.faults_of_structs({**both.structs, struct: fields})):
+            faults.append(f"{struct}: {fields[one][0]} and {fields[two][0]} can be exchanged")
+    compared(len(exchanges), faults)

@@ -42,7 +42,6 @@ KNOWN = {
     "bitflags": "MIT OR Apache-2.0",
     "byteorder": "Unlicense OR MIT",
     "itoa": "MIT OR Apache-2.0",
-    "thiserror": "MIT OR Apache-2.0",
 }
 OF_RUSTC = "MIT OR Apache-2.0"
 TEXTS = ("LICENSE-MIT", "LICENSE-MIT.txt", "LICENSE", "LICENSE.txt", "LICENSE.md", "UNLICENSE", "COPYING")

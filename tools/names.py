@@ -3,7 +3,7 @@ of JavaScript's names.
 
 Species, moves and types are the rows of TABLES; the conditions are the bits of LAYOUT; the kinds of statuses, stats, reasons, sources and
 volatiles are the numbers of MECHANICS, "Events". All codes are enums of the header, with the comment after each as its text. The sample
-teams are the texts of examples/teams.
+teams are the texts of examples/teams, which rust/gen1-search has too.
 """
 
 import json
@@ -16,6 +16,8 @@ from tables import element_names, move_rows, species_rows, table
 
 OUT = ROOT / "python" / "gen1" / "src" / "gen1"
 JAVASCRIPT = ROOT / "js" / "names.d.mts"
+SEARCH = ROOT / "rust" / "gen1-search" / "src" / "sample_texts.rs"
+SEARCH_TEXTS = "//! The texts of the sample teams. Made by tools/gen; change examples/teams, not this.\n\n"
 TEXTS = '"""The texts of the sample teams. Made by tools/gen; change examples/teams, not this."""\n\n'
 ROWS = '"""The rows of species and moves. Made by tools/gen; change docs/TABLES.md, not this."""\n'
 
@@ -278,10 +280,25 @@ def header_version():
     return f"\n\n# The version of include/gen1.h that these are made of: its major, its minor and its third number.\nHEADER_VERSION = {numbers}\n"
 
 
+def sample_paths():
+    return sorted((ROOT / "examples" / "teams").glob("*.txt"))
+
+
 def sample_texts():
     """The text of each sample team by its name, in Python."""
-    paths = sorted((ROOT / "examples" / "teams").glob("*.txt"))
-    return TEXTS + "TEXTS = {\n" + "".join(f'    "{it.stem}": """\\\n{it.read_text()}""",\n' for it in paths) + "}\n"
+    return (
+        TEXTS
+        + "TEXTS = {\n"
+        + "".join(f'    "{it.stem}": """\\\n{it.read_text()}""",\n' for it in sample_paths())
+        + "}\n"
+    )
+
+
+def search_texts():
+    """The text of each sample team, in Rust."""
+    texts = [it.read_text() for it in sample_paths()]
+    head = f"/// One text for each team.\npub const TEXTS: [&str; {len(texts)}] = [\n"
+    return SEARCH_TEXTS + head + "".join(f'    "\\\n{it}",\n' for it in texts) + "];\n"
 
 
 def javascript():
@@ -303,4 +320,4 @@ def generated():
     """The text of each file."""
     rows = "".join([ROWS, *row_lists((ROOT / "docs" / "TABLES.md").read_text())])
     python = {OUT / "names.py": names(), OUT / "rows.py": rows, OUT / "sample_texts.py": sample_texts()}
-    return {**python, JAVASCRIPT: javascript()}
+    return {**python, JAVASCRIPT: javascript(), SEARCH: search_texts()}

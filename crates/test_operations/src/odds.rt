@@ -183,6 +183,21 @@ fn damage_by_rules_of_their_own(rt: HostRuntime) -> Result<(), Fail> {
     Ok(())
 }
 
+// A number above 0 and below one and a half times the level. At level 1 there is none, and a hit ends the battle.
+#[test]
+fn psywave_at_low_levels(rt: HostRuntime) -> Result<(), Fail> {
+    let levels = [
+        ("teams Tauros 3 Psywave / Tauros 100 Strength", 1, 3),
+        ("teams Tauros 2 Psywave / Tauros 100 Strength", 1, 2),
+        ("teams Tauros 1 Psywave / Tauros 100 Strength", 0, 0),
+    ];
+    for (begins, least, most) in levels {
+        let odds = odds(&set_up(begins)?, "Psywave")?;
+        assert_same(&rt, (begins, odds.least, odds.most), (begins, least, most));
+    }
+    Ok(())
+}
+
 #[test]
 fn numbers_of_hits(rt: HostRuntime) -> Result<(), Fail> {
     let battle = set_up("duel Tauros Tauros")?;
