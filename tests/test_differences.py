@@ -1,6 +1,6 @@
 """Plays the battles of docs/DIFFERENCES.md and compares them with the expected lines.
 
-Each battle is examples/differences/NAME.json, an input of `run` or `calc`. Its key "expected" has the lines that are printed and,
+Each battle is a line of examples/differences.jsonl, an input of `run` or `calc`. Its key "expected" has the lines that are printed and,
 where the input is refused, the first line on standard error. They are played by battle_tool where it is built, or by --program. A
 battle with a key "recorded" is a recorded one, from which `tools/gen recorded` writes it. docs/DIFFERENCES.md names each battle; the lines
 that it shows below a name are consecutive lines of that battle's file. It names each section of docs/MECHANICS.md that marks a choice as
@@ -21,16 +21,15 @@ MARKED = "What is modelled"
 PROVED = ROOT / "crates" / "battle_tool" / "out" / "battle_tool"
 # A battle's link, and a block of lines below it and before the next link.
 SHOWN = re.compile(
-    r"\(\.\./examples/differences/(\w+)\.json\)(?:(?!\(\.\./examples/differences/).)*?\n```\n(\|.*?)```", re.S
+    r"\[(\w+)\]\(\.\./examples/differences\.jsonl\)(?:(?!\(\.\./examples/differences).)*?\n```\n(\|.*?)```", re.S
 )
-LINKED = re.compile(r"\(\.\./examples/differences/(\w+)\.json\)")
-BATTLES = [path.stem for path in sorted(DIFFERENCES.glob("*.json"))]
+LINKED = re.compile(r"\[(\w+)\]\(\.\./examples/differences\.jsonl\)")
+BATTLES = {battle["name"]: battle for battle in map(json.loads, DIFFERENCES.read_text().splitlines())}
 
 
 def expected(name):
     """The lines of a battle, as one text."""
-    given = json.loads((DIFFERENCES / f"{name}.json").read_text())
-    return "".join(f"{line}\n" for line in given["expected"])
+    return "".join(f"{line}\n" for line in BATTLES[name]["expected"])
 
 
 @pytest.mark.parametrize("name", BATTLES)
@@ -38,24 +37,24 @@ def test_battle(name, pytestconfig):
     tool = pytestconfig.getoption("program") or PROVED
     if tool == PROVED and not PROVED.is_file():
         pytest.skip("crates/battle_tool/out/battle_tool is not built, and no --program was named")
-    path = DIFFERENCES / f"{name}.json"
-    subcommand = "calc" if "attacker" in json.loads(path.read_text()) else "run"
-    ran = subprocess.run([program(tool), subcommand], input=path.read_bytes(), capture_output=True, timeout=60)
+    battle = BATTLES[name]
+    subcommand = "calc" if "attacker" in battle else "run"
+    ran = subprocess.run(
+        [program(tool), subcommand], input=json.dumps(battle).encode(), capture_output=True, timeout=60
+    )
     got = ran.stdout.decode(errors="replace") + "".join(ran.stderr.decode(errors="replace").splitlines(True)[:1])
     assert got == expected(name)
     assert ran.returncode == int(bool(ran.stderr))
 
 
-def test_recorded_battles_are_as_recorded(compared):
-    found = dict(differences())
-    faults = [path.stem for path, text in found.items() if json.loads(path.read_text()) != json.loads(text)]
-    compared(len(found), (f"{name}: it is not the recorded battle; run `tools/gen recorded`" for name in faults))
+def test_recorded_battles_are_as_recorded():
+    assert DIFFERENCES.read_text() == differences(), "run `tools/gen recorded`"
 
 
 def test_the_document_names_each_battle(compared):
     linked = set(LINKED.findall(DOCUMENT.read_text()))
     faults = [f"docs/DIFFERENCES.md does not name {name}" for name in BATTLES if name not in linked]
-    faults += [f"docs/DIFFERENCES.md names {name}, and there is no such file" for name in linked - set(BATTLES)]
+    faults += [f"docs/DIFFERENCES.md names {name}, and there is no such line" for name in linked - set(BATTLES)]
     compared(len(linked | set(BATTLES)), faults)
 
 

@@ -4,9 +4,9 @@ Each battle of BATTLES, a line of traces.jsonl of tests/battles, is a row of cra
 each update the pair of choices, the recorded log and all 384 bytes. crates/test_engine/src/recorded.rt plays them. Run `rt fmt` in
 crates/test_engine after they are written.
 
-A file of examples/differences with a key "recorded", such as "corners 251, update 4", is the recorded battle of that line of that file, up
-to and with that update (tests/battles/README.md). Its lines are those of the recorded log, as tests/log_lines.py writes them. For a new
-one write a file with this key alone.
+A line of examples/differences.jsonl with a key "recorded", such as "corners 251, update 4", is the recorded battle of that line of that
+file, up to and with that update (tests/battles/README.md). Its lines are those of the recorded log, as tests/log_lines.py writes them. For
+a new one write a line with its name and this key alone.
 """
 
 import json
@@ -23,7 +23,7 @@ BATTLES = (17, 28, 50)
 
 FILE = ROOT / "crates" / "test_engine" / "src" / "recorded_battles.rt"
 
-DIFFERENCES = ROOT / "examples" / "differences"
+DIFFERENCES = ROOT / "examples" / "differences.jsonl"
 UPDATE = re.compile(r"(corners|traces) (\d+), update (\d+)")
 
 SIDES = ("one", "two")
@@ -103,26 +103,19 @@ def recording(words):
     return {"recorded": words, **battle["object"], "choices": [it["pair"] for it in played], "expected": shown}
 
 
-def in_lines(given):
-    """The text of a battle: a line for each key and for each member."""
-    rows = []
-    for key, value in given.items():
-        text = json.dumps(value, separators=(",", ":"))
-        if key in ("one", "two"):
-            text = "[" + ",\n        ".join(json.dumps(it, separators=(",", ":")) for it in value) + "]"
-        elif key == "expected":
-            text = "[\n" + ",\n".join(f"  {json.dumps(line, ensure_ascii=False)}" for line in value) + "]"
-        rows.append(f' "{key}":{text}')
-    return "{" + ",\n".join(rows)[1:] + "}\n"
+def difference(text):
+    """A line of DIFFERENCES, with its battle as recorded if it names one."""
+    given = json.loads(text)
+    if words := given.get("recorded"):
+        if not UPDATE.fullmatch(words):
+            sys.exit(f"{DIFFERENCES.relative_to(ROOT)}: '{words}' is not a recorded update")
+        given = {"name": given["name"], **recording(words)}
+    return json.dumps(given, separators=(",", ":"), ensure_ascii=False) + "\n"
 
 
 def differences():
-    """The text of each recorded battle of examples/differences."""
-    for path in sorted(DIFFERENCES.glob("*.json")):
-        if words := json.loads(path.read_text()).get("recorded"):
-            if not UPDATE.fullmatch(words):
-                sys.exit(f"{path.relative_to(ROOT)}: '{words}' is not a recorded update")
-            yield path, in_lines(recording(words))
+    """The text of DIFFERENCES."""
+    return "".join(map(difference, DIFFERENCES.read_text().splitlines()))
 
 
 def generated():
@@ -131,4 +124,4 @@ def generated():
     if len(battles) <= max(BATTLES):
         sys.exit(f"tests/battles has only {len(battles)} battles")
     text = HEAD + TABLE % (len(BATTLES), "".join(row(battles[line]) for line in BATTLES))
-    return {FILE: text, **dict(differences())}
+    return {FILE: text, DIFFERENCES: differences()}
