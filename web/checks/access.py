@@ -41,6 +41,10 @@ PLACES = {
         "document.querySelectorAll('#panel-calculator details').forEach((it) => (it.open = true));"
         "document.querySelectorAll('#calc-results .move')[1].click()",
     ),
+    "carried": (
+        "#play",
+        "document.getElementById('play-start').click(); document.getElementById('play-calculate').click()",
+    ),
     "builder": ("#teams", "document.querySelectorAll('#panel-teams details').forEach((it) => (it.open = true))"),
     "message": ("#replay?b=zzzz", ""),
 }
@@ -100,7 +104,7 @@ RULES = {
 }
 BROKEN = """
 const FOCUSED = 'button:not(:disabled), input, select, textarea, summary, a[href], [tabindex="0"]';
-const ROLES = ['alert', 'button', 'combobox', 'dialog', 'group', 'listbox', 'log', 'meter', 'option', 'status', 'tab', 'tablist', 'tabpanel'];
+const ROLES = ['alert', 'button', 'combobox', 'dialog', 'group', 'img', 'listbox', 'log', 'meter', 'option', 'status', 'tab', 'tablist', 'tabpanel'];
 const all = (selector) => [...document.querySelectorAll(selector)].filter((it) => it.checkVisibility());
 return (%s).map((it) => it.outerHTML.slice(0, 160));
 """

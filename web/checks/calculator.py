@@ -123,6 +123,13 @@ def damage_of(browser, move, side=1):
     return row["damage"][:2]
 
 
+def percent(part):
+    """A chance as the page writes it."""
+    if part in (0, 1):
+        return f"{round(100 * part)}%"
+    return "<0.1%" if part < 0.0005 else ">99.9%" if part > 0.9995 else f"{100 * part:.1f}%"
+
+
 def span(least, most):
     return f"{least}–{most}" if least != most else str(least)
 
@@ -197,15 +204,16 @@ def same_numbers(row, move, hp):
     chances = move["knock_out"]
     ways = lambda part: f"{part['numerator']:,} of {part['denominator']:,} ways"
     if "reason" in move:
-        assert move["reason"] in row["cells"][1] and row["cells"][2:5] == ["—", "—", "0%"], (row, move)
+        assert move["reason"] in row["cells"][1] and row["cells"][2:6] == ["—", "—", "—", "0%"], (row, move)
         return
     if move["hit_draws"] < 256:
-        assert row["titles"][4] == f"{move['hit_draws']} of 256 bytes", (row, move)
+        assert row["titles"][5] == f"{move['hit_draws']} of 256 bytes", (row, move)
     if chances:
         # A user that faints has no second use.
         faints = move["move"] in ("Explosion", "Self-Destruct")
         twice = "the user faints in the first use" if faints else ways(chances["twice"])
         assert row["titles"][2:4] == [ways(chances["once"]), twice], (row, move)
+        assert row["cells"][4] == ("—" if faints else percent((chances["uses"] + [1] * 2)[2])), (row, move)
         counts = [count for count, part in enumerate(move["hits"]) if part]
         each = (
             [move["usual"][0], move["usual"][-1]]
@@ -215,7 +223,7 @@ def same_numbers(row, move, hp):
         least, highest = each[0] * counts[0], each[1] * counts[-1]
         assert row["damage"][1].partition(" HP")[0] == span(least, highest), (row, move)
     if move["usual"]:
-        assert row["titles"][5] == f"{move['critical_draws']} of 256 bytes", (row, move)
+        assert row["titles"][6] == f"{move['critical_draws']} of 256 bytes", (row, move)
 
 
 def calculations_are_those_of_the_library(browser):
@@ -289,12 +297,12 @@ def stages_status_and_screens_count(browser):
     press(browser, 2, "Reflect")
     # Defense 576: 74 and 144, so 42 * 85 * 74 / 144 / 50 + 2 is 38, and 57 with its own type.
     assert damage_of(browser, "Body Slam")[1] == "48–57 HP"
-    assert "184–217" in browser.run(ROWS, 1)[0]["cells"][5]
+    assert "184–217" in browser.run(ROWS, 1)[0]["cells"][6]
     press(browser, 2, "Reflect")
     browser.fill("#calc-member-1 [name=stage-Accuracy]", "-6")
     browser.fill("#calc-member-1 [name=move-1]", "Guillotine")
     # At stage -6 its accuracy, 76 of 256, is a quarter of that.
-    assert browser.run(ROWS, 1)[0]["titles"][4] == "19 of 256 bytes"
+    assert browser.run(ROWS, 1)[0]["titles"][5] == "19 of 256 bytes"
     press(browser, 1, "Paralysed")
     press(browser, 1, "Frozen")
     assert browser.run(
@@ -310,14 +318,21 @@ def chances_of_a_knock_out_and_fixed_damage_are_shown(browser):
     for side in (1, 2):
         type_member(browser, side, member_of("Tauros", "Seismic Toss", "Fissure", "Super Fang"))
     row = lambda move: next(it for it in browser.run(ROWS, 1) if it["move"] == move)
+    # Of three uses at most one may miss: 3 * (255 / 256) ** 2 - 2 * (255 / 256) ** 3.
     for hp, once, twice in (("200", "0%", "99.2%"), ("100", "99.6%", ">99.9%")):
         browser.fill("#calc-member-2 [name=hp]", hp)
         found = row("Seismic Toss")
-        assert found["damage"][:2] == ["28.3%", "100 HP"] and found["cells"][2:] == [once, twice, "99.6%", "—"], found
+        assert found["damage"][:2] == ["28.3%", "100 HP"] and found["cells"][2:] == [
+            once,
+            twice,
+            ">99.9%",
+            "99.6%",
+            "—",
+        ], found
         assert found["titles"][3] == f"{'65,025' if hp == '200' else '65,535'} of 65,536 ways", found
         assert damage_of(browser, "Super Fang")[1] == f"{int(hp) // 2} HP"
     browser.fill("#calc-member-1 [name=stage-Speed]", "-1")
-    assert row("Fissure")["cells"][1:5] == ["the user is slower than the foe", "—", "—", "0%"], row("Fissure")
+    assert row("Fissure")["cells"][1:6] == ["the user is slower than the foe", "—", "—", "—", "0%"], row("Fissure")
 
 
 def what_the_user_pays_is_shown(browser):
@@ -364,7 +379,7 @@ def critical_hits_are_totals(browser):
     show(browser, (member_of("Jolteon", "Double Kick"), FRESH), (member_of("Snorlax", "Body Slam"), FRESH))
     assert (
         damage_of(browser, "Double Kick")[1] == "90–108 HP, 2 hits"
-        and browser.run(ROWS, 1)[0]["cells"][5] == "25.4%172–204"
+        and browser.run(ROWS, 1)[0]["cells"][6] == "25.4%172–204"
     )
 
 
@@ -539,7 +554,7 @@ def all_results_are_in_view(browser):
         inside, "#calc-results tr, #calc-line, #calc-chosen button, .member .toggle, .member select, .member .name-row"
     )
     browser.run(
-        "document.querySelectorAll('.member details').forEach((it) => (it.open = true)); window.scrollTo(0, 9999)"
+        "document.querySelectorAll('.member details').forEach((it) => (it.open = true)); document.getElementById('calc-attacker').scrollIntoView({block: 'end'})"
     )
     assert browser.run("return scrollY > 100") and browser.run(inside, "#calc-results tr")
     browser.look(390, 844, "light")
@@ -559,6 +574,42 @@ def all_results_are_in_view(browser):
         "return document.getElementById('calc-results-1').checkVisibility()"
     )
     browser.look(1280, 960, "light")
+
+
+BARS = """
+return [...document.querySelectorAll('#calc-plot rect:not(.enough)')].map((it) => [it.classList[0], ...it.textContent.split(/ HP: /)]);
+"""
+
+
+def bars_of(move):
+    """The bars of a move by the numbers of `gen1 calc --json`: how it hits, the damage, and its chance."""
+    lands, hard, found = move["hit_draws"] / 256, move["critical_draws"] / 256, {}
+    for kind, numbers, part in (("usual", move["usual"], 1 - hard), ("critical", move["critical"], hard)):
+        for hits, eighths in enumerate(move["hits"]):
+            for number in numbers if eighths else []:
+                key = (kind, number * hits)
+                found[key] = found.get(key, 0) + lands * part * eighths / 8 / len(numbers)
+    return found
+
+
+def the_plot_has_exact_chances(browser):
+    if not browser.program:
+        return
+    browser.open("#calculator")
+    one, two = member_of("Jolteon", "Pin Missile", "Double Kick", "Thunder"), member_of("Snorlax", "Body Slam")
+    show(browser, (one, FRESH), (two, FRESH))
+    words = [browser.program, "calc", "--json", *state_words(1, one, FRESH), *state_words(2, two, FRESH)]
+    for move in json.loads(subprocess.run(words, capture_output=True, text=True, check=True).stdout)["moves"]:
+        choose(browser, move["move"])
+        wanted, shown = bars_of(move), browser.run(BARS)
+        assert {(kind, int(number)) for kind, number, _ in shown} == set(wanted), move["move"]
+        assert all(chance == percent(wanted[kind, int(number)]) for kind, number, chance in shown), move["move"]
+        legend = browser.text("#calc-plot .legend")
+        assert f"a miss: {percent(1 - move['hit_draws'] / 256)}" in legend and "knocks out: from 523 HP" in legend
+        label = browser.run("return document.querySelector('#calc-plot svg').getAttribute('aria-label')")
+        assert label.startswith(f"Damage of one use of {move['move']}: usual ") and "critical" in label
+    show(browser, (member_of("Chansey", "Recover"), FRESH), (two, FRESH))
+    assert not browser.run("return document.querySelectorAll('#calc-plot *').length")
 
 
 CHECKS = [
@@ -581,5 +632,6 @@ CHECKS = [
     a_member_needs_no_moves,
     a_wrong_field_is_said,
     names_are_searched,
+    the_plot_has_exact_chances,
     all_results_are_in_view,
 ]

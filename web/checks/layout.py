@@ -149,6 +149,7 @@ def nothing_overlaps_in_the_other_parts(browser):
             ("replay", "replay"),
             ("teams", "play"),
             ("calculator", "calculator"),
+            ("carried", "calculator"),
             ("builder", "teams"),
         ):
             go(browser, part)

@@ -1,5 +1,5 @@
 // Bytes: joined, as text, and members as bytes in an address.
-import {MOVES, SPECIES} from "gen1";
+import {MOVES, SPECIES, TYPES} from "gen1";
 
 import {Problem} from "./dom.js";
 
@@ -8,9 +8,10 @@ import {Problem} from "./dom.js";
  * @typedef {import("./engine.js").Standing} Standing
  */
 
-/** The size of a member in an address, in bytes, and that of a member with its state. */
+/** The size of a member in an address, in bytes, that of a member with its state, and that of what it carries from a battle. */
 export const MEMBER = 24;
 export const STANDING = MEMBER + 10;
+export const CARRIED = 11;
 
 /**
  * Concatenated bytes.
@@ -103,6 +104,28 @@ export function memberOf(bytes) {
 /** @param {Standing} it */
 export function standingBytes({member, stages, status, conditions, hp}) {
   return joined(memberBytes(member), stages, [status, conditions, hp & 255, hp >> 8]);
+}
+
+/**
+ * What a member carries from a battle: four stats, two types, the HP of its Substitute; all 0 for nothing.
+ * @param {Standing} it
+ */
+export function carriedBytes({carried}) {
+  const bytes = new Uint8Array(CARRIED);
+  const view = new DataView(bytes.buffer);
+  carried?.stats.forEach((stat, at) => view.setUint16(2 * at, stat, true));
+  bytes.set(carried ? [...carried.types.map((type) => TYPES.indexOf(type)), carried.substitute] : [], 8);
+  return bytes;
+}
+
+/** @param {Uint8Array} bytes @returns {import("./engine.js").Carried | null} */
+export function carriedOf(bytes) {
+  const view = new DataView(bytes.buffer, bytes.byteOffset, CARRIED);
+  const types = [...bytes.subarray(8, 10)].map((type) => TYPES[type]);
+  if (types.includes(/** @type {any} */ (undefined)))
+    throw new Problem("The address is damaged: there is no such type.");
+  if (!bytes.some(Boolean)) return null;
+  return {stats: [0, 2, 4, 6].map((at) => view.getUint16(at, true)), types, substitute: bytes[10]};
 }
 
 /** @param {Uint8Array} bytes @returns {Standing} */

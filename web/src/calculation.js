@@ -112,17 +112,20 @@ export function ofUse(odds, foe) {
 /**
  * The damage of one use with its chances. All hits of a use deal the same.
  * @param {CalculatedMove} odds
+ * @param {boolean} [isCritical] only the uses that are, or are not, a critical hit; by default all, with a miss as 0
  */
-function damages(odds) {
+export function damages(odds, isCritical) {
   const lands = hitChance(odds);
   const critical = (odds.bound ?? 0) / 256;
   const [least, most] = odds.fixed ?? [0, 0];
   const each = (/** @type {number[]} */ numbers, /** @type {number} */ chance) =>
       numbers.map((number) => [number, chance / numbers.length]);
-  const ofHit = odds.damage ? [...each(odds.damage, 1 - critical), ...each(odds.critical ?? [], critical)] :
+  const usual = odds.damage ? each(odds.damage, 1 - critical) :
                               each(Array.from({length: most - least + 1}, (_, at) => least + at), 1);
+  const hard = odds.damage ? each(odds.critical ?? [], critical) : [];
+  const ofHit = isCritical === undefined ? [...usual, ...hard] : isCritical ? hard : usual;
   /** @type {Map<number, number>} */
-  const found = new Map([[0, 1 - lands]]);
+  const found = new Map(isCritical === undefined ? [[0, 1 - lands]] : []);
   odds.hits.forEach((part, count) => {
     for (const [number, chance] of part ? ofHit : [])
       found.set(number * count, (found.get(number * count) ?? 0) + chance * part * lands);

@@ -2,7 +2,8 @@
 import {MOVES} from "gen1";
 
 import {link, setAddress} from "./address.js";
-import {decoded, encoded, joined, STANDING, standingBytes, standingOf} from "./bytes.js";
+import {Against} from "./against.js";
+import {CARRIED, carriedBytes, carriedOf, decoded, encoded, joined, STANDING, standingBytes, standingOf} from "./bytes.js";
 import {line} from "./calculation.js";
 import {blame, copy, find, guarded, make, Problem} from "./dom.js";
 import {byBest, Results} from "./results.js";
@@ -14,18 +15,23 @@ import {setOf} from "./team_lists.js";
  * @typedef {import("./engine.js").Standing} Standing
  */
 
+/** The size of two members in an address: without and with what they carry from a battle. */
+const [PLAIN, WITH_CARRIED] = [2 * STANDING + 1, 2 * (STANDING + CARRIED) + 1];
 /** How many milliseconds after the last keystroke an error is shown. */
 const PAUSE = 700;
 
 /** The part of the page that calculates. */
 export class Calculator {
-  /** @param {import("./engine.js").Engine} engine */
-  constructor(engine) {
+  /** @param {import("./engine.js").Engine} engine @param {(tab: string) => void} goBack shows the battle from which members came */
+  constructor(engine, goBack) {
     this.engine = engine;
     this.forms = [1, 2].map((side) => this.formOf(side));
     this.results = new Results(engine.tables, () => this.drawn && this.draw(this.drawn));
+    this.against = new Against(engine, (foe) => this.face(foe));
     /** @type {{ both: Standing[], sides: Calculated[] } | null} */
     this.drawn = null;
+    /** The part of the page from which members came. */
+    this.from = "";
     this.code = "";
     this.isShown = false;
     this.timer = 0;
@@ -39,6 +45,11 @@ export class Calculator {
         (find(id, HTMLButtonElement).addEventListener("click", () => void guarded(work)));
     click("calc-swap", () => this.swap());
     click("calc-clear", () => this.clear());
+    click("calc-back", () => goBack(this.from));
+    click("calc-foes-open", () => {
+      find("calc-against", HTMLDetailsElement).open = true;
+      find("calc-team", HTMLSelectElement).focus();
+    });
     click("calc-copy", () => copy(find("calc-line", HTMLElement).textContent ?? "", "The line is copied."));
     click("calc-link",
         () => copy(link("calculator", {c: this.code}), "The link is copied. It holds both members and their states."));
@@ -60,15 +71,44 @@ export class Calculator {
     this.isShown = true;
     const code = values.get("c") ?? "";
     if (code && code !== this.code) {
-      const bytes = decoded(code);
-      if (bytes.length !== 2 * STANDING + 1) throw new Problem("The address is damaged: it does not have two members.");
-      const both = [0, 1].map((at) => standingOf(bytes.subarray(STANDING * at, STANDING * (at + 1))));
-      // The last byte is a further move of the attacker, or 0.
-      const extra = MOVES[bytes[2 * STANDING] - 1];
-      const {moves} = both[0].member;
-      if (extra && !moves.some(([move]) => move === extra)) moves.splice(Math.min(moves.length, 3), 1, [extra, 3]);
+      const both = this.standingsOf(decoded(code));
       this.forms.forEach((form, at) => form.set(both[at]));
     }
+    this.calculate();
+  }
+
+  /** @param {Uint8Array} bytes of an address */
+  standingsOf(bytes) {
+    if (![PLAIN, WITH_CARRIED].includes(bytes.length))
+      throw new Problem("The address is damaged: it does not have two members.");
+    const both = [0, 1].map((at) => standingOf(bytes.subarray(STANDING * at, STANDING * (at + 1))));
+    // The next byte is a further move of the attacker, or 0.
+    const extra = MOVES[bytes[2 * STANDING] - 1];
+    const {moves} = both[0].member;
+    if (extra && !moves.some(([move]) => move === extra)) moves.splice(Math.min(moves.length, 3), 1, [extra, 3]);
+    if (bytes.length === PLAIN) return both;
+    return both.map(
+        (it, at) => ({...it, carried: carriedOf(bytes.subarray(PLAIN + CARRIED * at, PLAIN + CARRIED * (at + 1)))}));
+  }
+
+  /**
+   * Shows the members of a battle.
+   * @param {import("./carried.js").Scene} scene
+   */
+  carry({both, teams, text, tab}) {
+    this.from = tab;
+    this.forms.forEach((form, at) => form.set(both[at]));
+    find("calc-from", HTMLElement).hidden = false;
+    find("calc-from-text", HTMLElement).textContent = text;
+    this.calculate();
+    this.against.carry(teams);
+    find("calc-back", HTMLElement).focus();
+  }
+
+  /** @param {Standing} foe the new defender */
+  face(foe) {
+    this.forms[1].set(foe);
+    this.results.choose(0, 0);
     this.calculate();
   }
 
@@ -102,7 +142,9 @@ export class Calculator {
       this.draw(this.drawn);
       this.say("");
       this.note(both);
-      this.code = encoded(joined(...both.map(standingBytes), [0]));
+      const more = both.some(({carried}) => carried) ? both.map(carriedBytes) : [];
+      this.code = encoded(joined(...both.map(standingBytes), [0], ...more));
+      this.against.show(both[0]);
       setAddress("calculator", {c: this.code});
     } catch (error) {
       if (!(error instanceof Problem)) throw error;

@@ -20,8 +20,11 @@ import {kindOf} from "./words.js";
  *   null if without a draw; why a use cannot hit; the chances of 0 to 5 hits; and whether the user charges first
  * @typedef {Odds & { knockOut: import("gen1").KnockOutInThree }} CalculatedMove
  * @typedef {{ hp: number, max: number, substitute: number, own: number[], stats: number[], moves: CalculatedMove[] }} Calculated
- * @typedef {{ member: Member, stages: number[], status: number, conditions: number, hp: number }} Standing a member and its state: six stages
- *   from 0 to 12, the byte of the status (docs/LAYOUT.md, "Member"), a bit for each of CONDITIONS, and the HP, where 0 is the maximum
+ * @typedef {{ stats: number[], types: import("gen1").TypeName[], substitute: number }} Carried what a battle has changed: the current stats, the
+ *   types, and the HP of the Substitute
+ * @typedef {{ member: Member, stages: number[], status: number, conditions: number, hp: number, carried?: Carried | null }} Standing a member and its
+ *   state: six stages from 0 to 12, the byte of the status (docs/LAYOUT.md, "Member"), a bit for each of CONDITIONS, the HP, where 0 is the maximum,
+ *   and what it carries from a battle
  */
 
 /** The most bytes of a log or of a team's text, as the program reads them (docs/PROGRAM.md). */
@@ -90,20 +93,22 @@ function refused(side, place, reason) {
 }
 
 /**
- * Sets the state of a side's only member. The stats follow from stages and status.
+ * Sets the state of a side's only member. The stats follow from stages and status, unless they are carried from a battle.
  * @param {import("gen1").SideState} side
  * @param {Standing} it
  */
-function stand({members: [member], active}, {stages, status, conditions, hp}) {
+function stand({members: [member], active}, {stages, status, conditions, hp, carried}) {
   member.status = status > 0 && status < 8 ? "sleep" : STATUSES[status];
   member.sleep = status < 8 ? status : 0;
   if (hp) member.hp = hp;
   if (!active) return;
   active.stages = stages.map((stage) => stage - MIDDLE);
-  active.stats = [0, 0, 0, 0];
+  active.stats = carried?.stats ?? [0, 0, 0, 0];
+  active.types = carried?.types ?? active.types;
   active.conditions = CONDITIONS.filter((_, bit) => (conditions >> bit) & 1).map(([, name]) => name);
   // A new Substitute has a quarter of the maximum HP.
-  active.substitute = active.conditions.includes("substitute") ? Math.floor(member.maxHp / 4) : 0;
+  const substitute = carried?.substitute || Math.floor(member.maxHp / 4);
+  active.substitute = active.conditions.includes("substitute") ? substitute : 0;
 }
 
 /**

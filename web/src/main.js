@@ -141,8 +141,15 @@ async function begin() {
   const module = await moduleOfPage();
   const engine = await Engine.of(module);
   const inputs = new Inputs(engine);
-  const replay = new Replay(engine, inputs);
-  const calculator = new Calculator(engine);
+  const calculate = (/** @type {import("./carried.js").Scene} */ scene) => {
+    open("calculator");
+    calculator.carry(scene);
+  };
+  const replay = new Replay(engine, inputs, calculate);
+  const calculator = new Calculator(engine, (from) => {
+    open(from);
+    find(from === "play" ? "play-calculate" : "replay-calculate", HTMLElement).focus();
+  });
   let tab = "";
   const turnTo = (/** @type {string} */ name) => {
     tab = name;
@@ -162,7 +169,7 @@ async function begin() {
   const play = new Play(engine, inputs, new Players(engine, module), (recorded, at) => {
     open("replay");
     return replay.show(recorded, {at});
-  });
+  }, calculate);
   const teams = new Teams(engine, (side, text) => {
     find(`play-team-${side}`, HTMLTextAreaElement).value = text;
     open("play");

@@ -1,6 +1,7 @@
 // Play: two persons at one screen, or against the computer. The page shows only what the person who plays may know.
 import {link, setAddress} from "./address.js";
 import {Card} from "./card.js";
+import {areOut, sceneOf, standingIn} from "./carried.js";
 import {choiceButtons, damageOf, detail, forecast, keyOf} from "./choices.js";
 import {find, guarded, keepForTab, keepingFocus, kept, make, Problem} from "./dom.js";
 import {Field} from "./field.js";
@@ -24,6 +25,7 @@ const GOING = ["bide", "thrash", "trapping", "charging", "recharge", "rage"];
 const KEYS = ["123456789", "qwertyuio"];
 const PLAYERS = ["person", "random", "greedy", "playouts", "cheating"];
 const SAVED = "battle";
+const GUESSED = "The foe has its highest possible stats, and moves of a usual set where it has not shown them.";
 
 /** The part of the page that plays. */
 export class Play {
@@ -32,12 +34,14 @@ export class Play {
    * @param {import("./inputs.js").Inputs} inputs
    * @param {import("./players.js").Players} players
    * @param {(recorded: import("./inputs.js").Recorded, at: number) => void | Promise<void>} watch shows a battle as a replay
+   * @param {(scene: import("./carried.js").Scene) => void} calculate shows the members that are out in the calculator
    */
-  constructor(engine, inputs, players, watch) {
+  constructor(engine, inputs, players, watch, calculate) {
     this.engine = engine;
     this.inputs = inputs;
     this.players = players;
     this.watch = watch;
+    this.calculate = calculate;
     this.setup = new Setup(engine);
     this.card = new Card(engine, find("play-card", HTMLElement), (side, at) => this.factsOf(side, at),
         document.querySelector(".journal"));
@@ -79,6 +83,7 @@ export class Play {
     click("play-again", () => this.leave());
     click("play-rematch", () => this.rematch());
     click("play-return", () => this.goBack());
+    click("play-calculate", () => this.isAtRest && this.calculate(this.scene));
     click("play-watch", () => this.watch(this.recorded(), this.game.steps.length));
     shareButtons(find("play-share", HTMLElement), () => ({
       recorded: this.recorded(),
@@ -422,6 +427,25 @@ export class Play {
     find("play-terms", HTMLElement).replaceChildren(...texts.map((text) => make("p", {class: "quiet"}, text)));
   }
 
+  /** Whether a side chooses, and both have a member out that has HP. */
+  get isAtRest() {
+    return this.showing.length > 0 && areOut(this.field.shown);
+  }
+
+  /** What the calculator takes from the position, as the side that chooses knows it. */
+  get scene() {
+    const {game, isOpen, near, titles, field} = this;
+    const {state} = isOpen ? this.engine.gen1.load(game.last.battle) : game.usual(near === 1 ? 1 : 2);
+    const order = near === 1 ? [0, 1] : [1, 0];
+    const standing = (/** @type {number} */ at, /** @type {number} */ place) => {
+      const [side, team] = order[at] ? [state.two, game.terms.two] : [state.one, game.terms.one];
+      return standingIn(side, place, at && !isOpen ? undefined : team[place - 1]);
+    };
+    const guess = isOpen ? "" : ` ${GUESSED}`;
+    return sceneOf(order.map((at) => field.shown[at]), order.map((at) => titles[at]), standing,
+        {tab: "play", text: `Turn ${game.view(1).turn} of the battle.${guess}`});
+  }
+
   /** Shows the buttons again, with or without their keys. */
   drawAgain() {
     if (this.match) this.drawChoices();
@@ -451,6 +475,7 @@ export class Play {
       place.replaceChildren(...(isShown ? [...this.heading(side), ...this.buttons(side)] : []));
       if (isShown || hadFocus) this.focus(place, hadFocus);
     }
+    find("play-calculate", HTMLElement).hidden = !this.isMoving && !this.isAtRest;
     this.drawCover();
     // The height of the log changes as choices appear and disappear.
     this.log.toEnd();

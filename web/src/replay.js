@@ -1,6 +1,7 @@
 // Replay: a recorded battle, forward and back by update and by turn.
 import {link, setAddress} from "./address.js";
 import {Card} from "./card.js";
+import {areOut, sceneOf, standingIn, standingSeen} from "./carried.js";
 import {find, guarded, inField, keepingFocus, make, Problem} from "./dom.js";
 import {Field} from "./field.js";
 import {isShort, mayBeShort, ofAddress, toAddress} from "./inputs.js";
@@ -25,9 +26,14 @@ const REST = 350;
 
 /** The part of the page that replays. */
 export class Replay {
-  /** @param {import("./engine.js").Engine} engine @param {import("./inputs.js").Inputs} inputs */
-  constructor(engine, inputs) {
+  /**
+   * @param {import("./engine.js").Engine} engine
+   * @param {import("./inputs.js").Inputs} inputs
+   * @param {(scene: import("./carried.js").Scene) => void} calculate shows the members that are out in the calculator
+   */
+  constructor(engine, inputs, calculate) {
     this.engine = engine;
+    this.calculate = calculate;
     this.inputs = inputs;
     /** @type {Recording | null} */
     this.recording = null;
@@ -61,6 +67,7 @@ export class Replay {
     click("replay-turn-forward", () => this.goTurns(1));
     click("replay-last", () => this.go(Infinity, true));
     click("replay-example", () => void this.example());
+    click("replay-calculate", () => areOut(this.field.shown) && this.calculate(this.scene));
     click("replay-read", () => void guarded(() => {
       const text = find("replay-text", HTMLTextAreaElement);
       return inField(text, () => this.show(this.inputs.parse(text.value), {at: 1}));
@@ -253,6 +260,23 @@ export class Replay {
     return member?.isKnown ? {shown, member, title: `Of side ${side}`, guess: null, forecasts: {}} : null;
   }
 
+  /**
+   * What the calculator takes from the position.
+   * @returns {import("./carried.js").Scene}
+   */
+  get scene() {
+    const {recorded, frames} = /** @type {Recording} */ (this.recording);
+    const {battle, view} = frames[this.at];
+    const sides = battle && this.see.value === "all" ? this.engine.state(battle).sides : null;
+    const {shown} = this.field;
+    const teams = "input" in recorded ? [recorded.input.one, recorded.input.two] : [];
+    const standing = (/** @type {number} */ side, /** @type {number} */ place) => (
+        sides ? standingIn(sides[side], place, teams[side][place - 1]) : standingSeen(this.engine, shown[side], place));
+    const guess = sides ? "" : " Both have their highest possible stats and the moves of a usual set.";
+    return sceneOf(
+        shown, ["side 1", "side 2"], standing, {tab: "replay", text: `Turn ${view.turn} of the replay.${guess}`});
+  }
+
   draw() {
     if (!this.recording) return;
     const {frames, last} = this.recording;
@@ -271,6 +295,7 @@ export class Replay {
       find(`replay-${id}`, HTMLButtonElement).setAttribute("aria-disabled", String(this.at === 0));
     for (const id of ["last", "turn-forward", "forward"])
       find(`replay-${id}`, HTMLButtonElement).setAttribute("aria-disabled", String(this.at === last));
+    find("replay-calculate", HTMLElement).setAttribute("aria-disabled", String(!areOut(sides)));
     const items = this.items(this.at);
     find("replay-lines", HTMLElement).replaceChildren(...(items.length ? items : [make("li", {class: "quiet"},
                                                                                      "No member has been sent out.")]));

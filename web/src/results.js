@@ -1,5 +1,5 @@
 // The calculator's results: a table for each direction, the best move first, and the numbers of the move that is chosen.
-import {costs, hitChance, hitCounts, isOneHit, ofHit, ofUse, onAverage, percent, tenth, without} from "./calculation.js";
+import {costs, damages, hitChance, hitCounts, isOneHit, ofHit, ofUse, onAverage, percent, target, tenth, without} from "./calculation.js";
 import {find, make} from "./dom.js";
 import {badge} from "./sides.js";
 import {span} from "./words.js";
@@ -13,22 +13,39 @@ import {span} from "./words.js";
 /** The heads of columns, each with its meaning. */
 const HEADS = [
   ["Move", ""], ["Damage", "of the maximum HP"], ["OHKO", "chance to knock out in one use"],
-  ["2HKO", "chance to knock out in two uses"], ["Hit", "chance to hit"],
+  ["2HKO", "chance to knock out in two uses"], ["3HKO", "chance to knock out in three uses"], ["Hit", "chance to hit"],
   ["Crit", "chance of a critical hit, and its damage"]
 ];
 const BYTES = (/** @type {number} */ bytes) => `${bytes} of 256 bytes`;
 
 /**
- * Moves with the best first: by the chance to knock out in one use, then in two, then by the damage on average.
+ * How good a move is: its chance to knock out in one use, then in two, then its damage on average.
+ * @param {CalculatedMove} odds
+ * @param {Calculated} foe
+ */
+export function keysOf(odds, foe) {
+  return [odds.knockOut.chanceOnce, odds.knockOut.chanceTwice, onAverage(odds, foe)];
+}
+
+/**
+ * Moves with the best first.
  * @param {CalculatedMove[]} moves
  * @param {Calculated} foe
  */
 export function byBest(moves, foe) {
-  const keyed =
-      moves.map((odds) => ({odds, keys: [odds.knockOut.chanceOnce, odds.knockOut.chanceTwice, onAverage(odds, foe)]}));
+  const keyed = moves.map((odds) => ({odds, keys: keysOf(odds, foe)}));
   const difference = (/** @type {number[]} */ one, /** @type {number[]} */ two) =>
       two.map((key, at) => key - one[at]).find((it) => it !== 0) ?? 0;
   return keyed.sort((one, two) => difference(one.keys, two.keys)).map(({odds}) => odds);
+}
+
+/**
+ * The best move of a side.
+ * @param {Calculated[]} sides
+ * @param {number} at the side, from 0
+ */
+export function best(sides, at) {
+  return byBest(sides[at].moves, sides[1 - at])[0];
 }
 
 /** @param {number} number @param {number} max */
@@ -54,6 +71,67 @@ function harm(range, {hp, max}) {
   const [least, most] = range.map((number) => Math.max(0, hp - number));
   return make("span", {class: "harm", "aria-hidden": "true"}, part("left", 0, most), part("maybe", most, least),
       part("lost", least, hp));
+}
+
+/** The width and the height of the plot in units of its own; it is stretched to its place. */
+const [WIDTH, HEIGHT] = [1000, 100];
+
+/** @param {string} name @param {Record<string, string | number>} attributes @param {string} [title] */
+function drawn(name, attributes, title) {
+  const made = document.createElementNS("http://www.w3.org/2000/svg", name);
+  for (const [key, value] of Object.entries(attributes)) made.setAttribute(key, String(value));
+  if (title) made.append(drawn("title", {}));
+  if (title) made.lastElementChild?.append(title);
+  return made;
+}
+
+/**
+ * The damage of one use with its chances, as bars; nothing for a move without damage. A chance includes misses, hits and critical hits.
+ * @param {CalculatedMove} odds
+ * @param {Calculated} foe
+ */
+function plot(odds, foe) {
+  if (odds.reason || isOneHit(odds) || !ofHit(odds, foe)) return [];
+  const [usual, critical] = [false, true].map((isCritical) => damages(odds, isCritical).filter(([number]) => number));
+  const needed = target(foe);
+  const numbers = [...usual, ...critical].map(([number]) => number);
+  const right = Math.max(needed, ...numbers) * 1.04;
+  const highest = Math.max(...[...usual, ...critical].map(([, chance]) => chance));
+  const bars = (/** @type {number[][]} */ list, /** @type {string} */ name) => list.map(([number, chance]) => {
+    const height = Math.max(2, (HEIGHT * chance) / highest);
+    const [x, width] = [(WIDTH * (number - 0.5)) / right, Math.max(WIDTH / right, 4)];
+    return drawn("rect", {class: name, x, y: HEIGHT - height, width, height}, `${number} HP: ${percent(chance)}`);
+  });
+  const image = drawn("svg", {viewBox: `0 0 ${WIDTH} ${HEIGHT}`, preserveAspectRatio: "none", role: "img"});
+  const words = [["usual", usual], ["critical", critical]].flatMap(
+      ([name, list]) => (list.length ? [`${name} ${wordsOf(/** @type {number[][]} */ (list))}`] : []));
+  image.setAttribute("aria-label", `Damage of one use of ${odds.move}: ${words.join(", ")}`);
+  const knocks =
+      drawn("rect", {class: "enough", x: (WIDTH * (needed - 0.5)) / right, y: 0, width: WIDTH, height: HEIGHT});
+  image.append(knocks, ...bars(usual, "usual"), ...bars(critical, "critical"));
+  return [image, legend(odds, usual, critical, needed)];
+}
+
+/** @param {number[][]} list damage with its chances */
+function wordsOf(list) {
+  const numbers = list.map(([number]) => number);
+  return `${span(Math.min(...numbers), Math.max(...numbers))} HP, ${percent(sumOf(list))}`;
+}
+
+/** @param {number[][]} list */
+const sumOf = (list) => list.reduce((sum, [, chance]) => sum + chance, 0);
+
+/** @param {CalculatedMove} odds @param {number[][]} usual @param {number[][]} critical @param {number} needed */
+function legend(odds, usual, critical, needed) {
+  const misses = 1 - hitChance(odds);
+  const items = [
+    ...(usual.length ? [make("span", {class: "usual"}, `a hit: ${wordsOf(usual)}`)] : []),
+    ...(critical.length ? [make("span", {class: "critical"}, `a critical hit: ${wordsOf(critical)}`)] : []),
+    ...(misses ? [make("span", {class: "miss"}, `a miss: ${percent(misses)}`)] : []),
+    make(
+        "span", {class: "enough"}, `${odds.knockOut.breaksSubstitute ? "breaks it" : "knocks out"}: from ${needed} HP`),
+  ];
+  return make("p", {class: "legend"}, ...items.flatMap((it) => [it, " "]));
 }
 
 /** The tables and the chosen move. */
@@ -89,8 +167,11 @@ export class Results {
         this.directions(names), ...[0, 1].map((at) => this.table(names, sides, sorted[at], at, odds)));
     if (focused) document.getElementById(focused)?.focus();
     const chosen = odds ? {at: this.at, odds} : null;
-    find("calc-chosen", HTMLElement).hidden = !chosen;
-    if (chosen) this.tell(sides, chosen);
+    for (const id of ["calc-chosen", "calc-more"]) find(id, HTMLElement).hidden = !chosen;
+    if (chosen) {
+      this.tell(sides, chosen);
+      find("calc-plot", HTMLElement).replaceChildren(...plot(chosen.odds, sides[1 - chosen.at]));
+    }
     return chosen;
   }
 
@@ -142,19 +223,33 @@ export class Results {
       click: () => this.choose(at, odds.slot),
     },
         move.name);
-    const {once, onceOf, chanceOnce, twice, twiceOf, chanceTwice} = odds.knockOut;
-    const isHarmful = ofHit(odds, foe) !== null && !odds.reason;
     const chance = (/** @type {number} */ part, /** @type {string} */ title) => make("td", {title}, percent(part));
     return make("tr", {"data-move": move.name, class: isChosen ? "chosen" : ""},
         make("th", {scope: "row"}, button, make("span", {class: "note"}, badge(move.type))),
         this.damage(odds, foe, costs(odds, move.effect, user, foe)),
-        isHarmful ? chance(chanceOnce, waysText(once, onceOf)) : make("td", {}, "—"),
-        isHarmful && move.effect !== "Explode" ?
-            chance(chanceTwice, waysText(twice, twiceOf)) :
-            make("td", {title: isHarmful ? "the user faints in the first use" : undefined}, "—"),
+        ...this.knockOuts(odds, foe, move.effect === "Explode"),
         odds.hit === null && !odds.reason ? make("td", {title: "without a draw"}, "100%") :
                                             chance(hitChance(odds), odds.reason ?? BYTES(odds.hit ?? 0)),
         this.critical(odds, foe));
+  }
+
+  /**
+   * The chances to knock out in one use, two and three.
+   * @param {CalculatedMove} odds @param {Calculated} foe @param {boolean} faints whether the user faints in the first use
+   */
+  knockOuts(odds, foe, faints) {
+    const isHarmful = ofHit(odds, foe) !== null && !odds.reason;
+    const {once, onceOf, chanceOnce, twice, twiceOf, chanceTwice, chanceThrice} = odds.knockOut;
+    const cells = [
+      {part: chanceOnce, title: waysText(once, onceOf)},
+      {part: chanceTwice, title: waysText(twice, twiceOf)},
+      // The ways of three uses are too many for a number.
+      {part: chanceThrice, title: undefined},
+    ];
+    return cells.map(({part, title}, more) => {
+      if (isHarmful && !(faints && more)) return make("td", {title}, percent(part));
+      return make("td", {title: isHarmful ? "the user faints in the first use" : undefined}, "—");
+    });
   }
 
   /** @param {CalculatedMove} odds @param {Calculated} foe */

@@ -13,6 +13,8 @@ const STATUSES = [
   [64, "PAR", "Paralysed"], [16, "BRN", "Burned"], [8, "PSN", "Poisoned"], [1, "SLP", "Asleep"], [32, "FRZ", "Frozen"]
 ];
 const ROLES = ["Attacker", "Defender"];
+/** The names of fields from which the stats or the types follow. */
+const CHANGING = /^(species|level|dv-|exp-|stage-)/;
 
 /** @param {number} stage */
 export const signed = (stage) => (stage > 0 ? `+${stage}` : String(stage));
@@ -60,6 +62,8 @@ export class StandingForm {
     this.hp = make("input", {type: "number", name: "hp", min: 1, max: 999, placeholder: "all", inputmode: "numeric"});
     this.slider = make("input", {type: "range", min: 1, max: 999, value: 999, "aria-label": `HP of side ${side}`});
     this.most = make("span", {class: "quiet"});
+    /** @type {import("./engine.js").Carried | null} what a battle has changed, until the member or its stages change */
+    this.carried = null;
     this.element = this.drawn();
     this.listen(changed);
   }
@@ -75,14 +79,21 @@ export class StandingForm {
     this.slider.addEventListener(
         "input", () => (this.hp.value = this.slider.value === this.slider.max ? "" : this.slider.value));
     for (const type of ["input", "change"])
-      this.element.addEventListener(type, (event) => event.target !== this.text && changed(event));
+      this.element.addEventListener(type, (event) => {
+        if (event.target === this.text) return;
+        const {name} = /** @type {HTMLInputElement} */ (event.target);
+        if (CHANGING.test(name)) this.carried = null;
+        changed(event);
+      });
     this.element.addEventListener("click", (event) => {
       const button = event.target instanceof Element ? event.target.closest(".toggle") : null;
       if (!button) return;
       const isOn = button.getAttribute("aria-pressed") === "true";
       // A member has at most one status.
-      if (this.status.some((it) => it === button))
+      if (this.status.some((it) => it === button)) {
         this.status.forEach((it) => it.setAttribute("aria-pressed", "false"));
+        this.carried = null;
+      }
       button.setAttribute("aria-pressed", String(!isOn));
       changed(event);
     });
@@ -152,12 +163,14 @@ export class StandingForm {
       status,
       conditions: this.conditions.reduce((sum, button, bit) => sum + (isOn(button) ? 1 << bit : 0), 0),
       hp: this.hp.value ? this.form.whole(this.hp, "HP") : 0,
+      carried: this.carried,
     };
   }
 
   /** @param {import("./engine.js").Standing} it */
-  set({member, stages, status, conditions, hp}) {
+  set({member, stages, status, conditions, hp, carried}) {
     this.form.set(member);
+    this.carried = carried ?? null;
     this.stages.forEach(({field}, at) => (field.value = String(stages[at] - MIDDLE)));
     const known = status > 0 && status < 8 ? 1 : status;
     this.status.forEach((button, at) => button.setAttribute("aria-pressed", String(STATUSES[at][0] === known)));
