@@ -2,6 +2,7 @@
 // by web/test, which bundles it: node FILE MODULE. The values are those of docs/MECHANICS.md and docs/PROGRAM.md.
 import {readFileSync} from "node:fs";
 
+import {chancesOf} from "../src/chances.js";
 import {choose, scores} from "../src/computer.js";
 import {Engine} from "../src/engine.js";
 import {guessed, playerOf} from "../src/guesses.js";
@@ -244,6 +245,76 @@ check("the computer is asked with what its side knows", () => {
       [null, [["Tauros", []]]]);
   equal(asked(["Strength"], "cheating").sight, null);
   equal([17, 18].includes(choose(engine, question)), true);
+});
+
+// A team of moves that miss, are often critical, change stages, go on, charge and put up a Substitute.
+const VARIED = [
+  ["Tauros", "Body Slam", "Blizzard", "Sand Attack", "Fissure"],
+  ["Starmie", "Thunder", "Minimize", "Substitute", "Hydro Pump"],
+  ["Persian", "Slash", "Double Team", "Fly", "Hypnosis"], ["Dragonite", "Wrap", "Thrash", "Sky Attack", "Thunder Wave"]
+].map(([species, ...moves]) => ({...tauros(...moves), species}));
+
+// Small random whole numbers, the same in each run.
+let drawn = 7;
+const below = (bound) => Math.floor((drawn = (drawn * 48271) % 0x7fffffff) / 0x7fffffff * bound);
+
+// What became of the use at a place in updates that came to it in the same way; of a knock-out with the same HP.
+function sampled(battle, pair, events, at, word) {
+  const isBegin = ({kind, line}) => ["move", "switch", "cant"].includes(kind) || /^.-activate.*confusion$/.test(line);
+  const from = events.map(isBegin).lastIndexOf(true, at);
+  const past = (list) =>
+      list.slice(0, from).map(({line}) => (word === "KO" ? line : line.replace(/\d+\/\d+.*/, ""))).join();
+  const counts = {hit: 0, miss: 0, crit: 0, KO: 0};
+  let [all, hits] = [0, 0];
+  for (let run = 0; run < 500; run++) {
+    const copy = engine.gen1.load(battle);
+    copy.reseed(Array.from({length: 10}, () => below(256)));
+    const found = engine.events(copy.update(...pair).log);
+    copy.free();
+    if (past(found) !== past(events) || found[from]?.line !== events[from].line) continue;
+    const next = found.findIndex((event, place) => place > from && (isBegin(event) || event.kind === "turn"));
+    const act = found.slice(from, next < 0 ? undefined : next);
+    const kinds = act.map(({kind}) => kind);
+    all++;
+    const isHit = !["-miss", "-fail", "-immune", "-prepare"].some((kind) => kinds.includes(kind));
+    if (isHit) hits++;
+    if (isHit) counts.hit++;
+    if (kinds.includes("-miss")) counts.miss++;
+    if (kinds.includes("-crit")) counts.crit++;
+    if (act.some(({kind, side}) => kind === "faint" && side !== events[from].side)) counts.KO++;
+  }
+  const of = word === "crit" ? hits : all;
+  return [counts[word] / of, of];
+}
+
+check("the chances of a replay are those of a sample", () => {
+  const found = {hit: 0, miss: 0, crit: 0, KO: 0};
+  for (let game = 0; game < 12; game++) {
+    const battle = engine.gen1.battle({...terms(VARIED, VARIED), seed: SEED.map(() => below(256))});
+    battle.updateSilent("pass", "pass");
+    while (!battle.isOver) {
+      const pair = [1, 2].map((side) => {
+        const offered = battle.choices(side);
+        return offered[below(offered.length)];
+      });
+      const before = battle.bytes;
+      const events = engine.events(battle.update(...pair).log);
+      for (const [at, text] of chancesOf(engine, before, events).entries()) {
+        const [, word, number] = /^(\w+) at [<>]?([\d.]+)%$/.exec(text ?? "") ?? [];
+        // A sample of a few of each kind.
+        if (!word || found[word] >= 30) continue;
+        const [share, of] = sampled(before, pair, events, at, word);
+        if (of < 60) continue;
+        const chance = Number(number) / 100;
+        // The bytes of a link battle are not quite independent.
+        const most = 4.5 * Math.sqrt(Math.max(chance * (1 - chance), 0.004) / of) + 0.015;
+        if (Math.abs(share - chance) > most)
+          throw new Error(`${events[at].line}: ${text}, ${share} of ${of}; ${events.map(({line}) => line).join(" ")}`);
+        found[word]++;
+      }
+    }
+  }
+  equal(Object.values(found).every((count) => count >= 15), true);
 });
 
 console.log(`${passed} passed, ${failed} failed`);

@@ -236,6 +236,25 @@ def a_spectator_sees_less(browser):
     assert not any(browser.run(hidden)) and " PP" not in browser.text("#replay-stage")
 
 
+def chances_are_beside_lines(browser):
+    """Through the whole example, with everything in view; checks/engine.js compares them with samples."""
+    browser.open()
+    browser.click("#replay-example")
+    browser.click("#replay-last")
+    browser.run("document.getElementById('replay-whole').open = true")
+    whole = "return [...document.querySelectorAll('#replay-whole-lines .chance')].map((it) => [it.closest('li').dataset.line.split('|')[1], it.textContent])"
+    browser.wait("return document.querySelectorAll('#replay-whole-lines .chance').length > 10")
+    said = browser.run(whole)
+    words = {"move": "hit", "-miss": "miss", "-crit": "crit", "faint": "KO"}
+    for kind, text in said:
+        assert re.fullmatch(rf"{words[kind]} at [<>]?[0-9.]+%", text) and text != "hit at 99.6%", (kind, text)
+    assert {kind for kind, _ in said} == set(words), said
+    for field, value, other in (("#replay-see", "spectator", "all"), ("#replay-raw", "raw", "words")):
+        browser.fill(field, value)
+        assert not browser.run("return document.querySelectorAll('#panel-replay .chance').length"), value
+        browser.fill(field, other)
+
+
 def a_battle_after_a_log_shows_all(browser):
     case = battle(20, 40)
     shown(browser, case["input"])
@@ -419,6 +438,7 @@ CHECKS = [
     a_spectator_sees_less,
     a_long_log_leaves_the_page_responsive,
     what_a_spectator_shares_is_the_log,
+    chances_are_beside_lines,
     a_battle_after_a_log_shows_all,
     a_text_is_dropped_on_a_field,
     a_saved_page_holds_its_battle,

@@ -6,12 +6,14 @@ import {Narrator, sideOf} from "./words.js";
 
 /**
  * Events as items of a list.
- * @param {GameEvent[]} events @param {string[]} texts of the events
+ * @param {GameEvent[]} events @param {string[]} texts of the events @param {string[]} [chances] of the events, where there are any
  */
-export function lineItems(events, texts) {
-  return events.map(
-      ({kind, line}, at) => make(
-          "li", {class: `line side-${sideOf(line)}${kind === "turn" ? " turn" : ""}`, "data-line": line}, texts[at]));
+export function lineItems(events, texts, chances = []) {
+  return events.map(({kind, line}, at) => {
+    const chance = chances[at] ? [" ", make("span", {class: "chance"}, chances[at])] : [];
+    return make("li", {class: `line side-${sideOf(line)}${kind === "turn" ? " turn" : ""}`, "data-line": line},
+        texts[at], ...chance);
+  });
 }
 
 /** The log of a battle in a list that scrolls. */

@@ -1,4 +1,5 @@
 // A recorded battle: its state after each update, from an input or from log bytes.
+import {chancesOf} from "./chances.js";
 import {Problem} from "./dom.js";
 import {Narrator} from "./words.js";
 
@@ -68,6 +69,8 @@ export class Recording {
     this.narrator = new Narrator();
     /** @type {string[][]} the sentences of the first frames */
     this.said = [];
+    /** @type {string[][]} the chances of updates that were shown */
+    this.odds = [];
     /** @type {Map<string, Known>} the members that a switch has shown, by "side place" */
     this.told = new Map();
     const {one, two} = "log" in recorded ? {one: PLACEHOLDERS, two: PLACEHOLDERS} : recorded.input;
@@ -152,6 +155,15 @@ export class Recording {
     while (this.said.length <= update)
       this.said.push(this.frames[this.said.length].events.map((event) => this.narrator.say(event)));
     return this.said[update];
+  }
+
+  /**
+   * The chances of the events of an update in words; none without the battle.
+   * @param {number} update
+   */
+  chances(update) {
+    const before = this.frames[update - 1]?.battle;
+    return (this.odds[update] ??= before ? chancesOf(this.engine, before, this.frames[update].events) : []);
   }
 
   /**

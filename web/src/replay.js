@@ -309,7 +309,8 @@ export class Replay {
   items(at) {
     const recording = /** @type {Recording} */ (this.recording);
     const {events} = recording.frames[at];
-    return lineItems(events, this.raw.value === "raw" ? events.map(({line}) => line) : recording.sentences(at));
+    if (this.raw.value === "raw") return lineItems(events, events.map(({line}) => line));
+    return lineItems(events, recording.sentences(at), this.see.value === "all" ? recording.chances(at) : []);
   }
 
   /** All lines so far, while they are shown. */
