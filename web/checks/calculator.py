@@ -467,7 +467,7 @@ def half_a_name_is_no_fault_yet(browser):
     browser.wait("return document.getElementById('calc-fault').textContent")
     assert (
         browser.text("#calc-fault")
-        == 'Side 1: there is no move "Body Sl". The results are those of the previous input.'
+        == 'Side 1: there is no move "Body Sl"; did you mean "Body Slam"? The results are those of the previous input.'
     )
     assert browser.run("return document.getElementById('calc-fault').getAttribute('role')") == "status"
     assert (

@@ -132,7 +132,9 @@ def a_battle_comes_into_the_calculator_and_back(browser):
     assert browser.run("return document.activeElement.id") == "play-calculate"
     assert not browser.run("return document.getElementById('panel-play').hidden")
     browser.open(address)
-    assert browser.run(CALCULATOR) == found
+    assert browser.run(CALCULATOR) == found and not browser.run(
+        "return document.getElementById('calc-from').checkVisibility()"
+    )
     browser.fill("#calc-member-1 [name=stage-Attack]", "2")
     # Twice 108, and half of that: its own Attack, so no other number is shown.
     assert browser.run(CALCULATOR)["now"][0] == ""

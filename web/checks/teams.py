@@ -202,7 +202,8 @@ def wrong_members_are_named(browser):
     assert browser.notice() == "Member 1: a move is there twice."
     put(browser, "move-2", "Body Slap")
     assert (
-        browser.text("#teams-fault") == 'This member: there is no move "Body Slap".'
+        browser.text("#teams-fault")
+        == 'This member: there is no move "Body Slap"; did you mean "Body Slam"? The team keeps the member as it was.'
         and text_of(browser).count("- Body Slam") == 2
     )
     put(browser, "move-2", "Surf")
@@ -213,6 +214,28 @@ def wrong_members_are_named(browser):
         browser.notice().startswith("The text: line 2: ")
         and browser.run("return document.activeElement.id") == "teams-text"
     )
+
+
+def a_wrong_value_changes_nothing(browser):
+    """Level 101 is typed by way of 1 and 10."""
+    fresh(browser)
+    read(browser, TAUROS)
+    put(browser, "level", "50")
+    kept = text_of(browser), stats(browser)
+    browser.type("#teams-member [name=level]", "101")
+    browser.wait("return document.getElementById('teams-fault').textContent")
+    assert browser.text("#teams-fault").endswith("from 1 to 100. The team keeps the member as it was.")
+    assert (text_of(browser), stats(browser)) == kept and "Level: 50" in kept[0] and field(browser, "level") == "101"
+    browser.type("#teams-member [name=level]", "55")
+    assert "Level: 55" in text_of(browser) and not browser.text("#teams-fault")
+
+
+def new_teams_have_different_names(browser):
+    fresh(browser)
+    for name in ("My team", "My team 2", "My team 3"):
+        browser.click("#teams-new")
+        assert browser.run("return document.getElementById('teams-name').value") == name
+    browser.run("localStorage.removeItem('teams')")
 
 
 def a_link_holds_a_team(browser):
@@ -250,6 +273,8 @@ CHECKS = [
     sample_teams_are_whole,
     members_are_moved_and_removed,
     wrong_members_are_named,
+    a_wrong_value_changes_nothing,
+    new_teams_have_different_names,
     a_link_holds_a_team,
     a_team_goes_to_play,
 ]

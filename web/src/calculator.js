@@ -20,6 +20,9 @@ const [PLAIN, WITH_CARRIED] = [2 * STANDING + 1, 2 * (STANDING + CARRIED) + 1];
 /** How many milliseconds after the last keystroke an error is shown. */
 const PAUSE = 700;
 
+/** @param {Standing[]} both */
+const namesOf = (both) => both.map(({member: {species}}) => species).join();
+
 /** The part of the page that calculates. */
 export class Calculator {
   /** @param {import("./engine.js").Engine} engine @param {(tab: string) => void} goBack shows the battle from which members came */
@@ -30,8 +33,9 @@ export class Calculator {
     this.against = new Against(engine, (foe) => this.face(foe));
     /** @type {{ both: Standing[], sides: Calculated[] } | null} */
     this.drawn = null;
-    /** The part of the page from which members came. */
+    /** The part of the page from which members came, and their species. */
     this.from = "";
+    this.came = "";
     this.code = "";
     this.isShown = false;
     this.timer = 0;
@@ -71,6 +75,7 @@ export class Calculator {
     this.isShown = true;
     const code = values.get("c") ?? "";
     if (code && code !== this.code) {
+      find("calc-from", HTMLElement).hidden = true;
       const both = this.standingsOf(decoded(code));
       this.forms.forEach((form, at) => form.set(both[at]));
     }
@@ -97,6 +102,7 @@ export class Calculator {
    */
   carry({both, teams, text, tab}) {
     this.from = tab;
+    this.came = namesOf(both);
     this.forms.forEach((form, at) => form.set(both[at]));
     find("calc-from", HTMLElement).hidden = false;
     find("calc-from-text", HTMLElement).textContent = text;
@@ -145,6 +151,8 @@ export class Calculator {
       const more = both.some(({carried}) => carried) ? both.map(carriedBytes) : [];
       this.code = encoded(joined(...both.map(standingBytes), [0], ...more));
       this.against.show(both[0]);
+      // What is said of the members holds until one of them is another.
+      find("calc-from-text", HTMLElement).hidden = namesOf(both) !== this.came;
       setAddress("calculator", {c: this.code});
     } catch (error) {
       if (!(error instanceof Problem)) throw error;

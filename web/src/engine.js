@@ -1,5 +1,5 @@
 // The engine: the JavaScript package (js), with states, odds and errors in the form that the page shows. A battle is 384 bytes.
-import {ArgumentTypeError, byteOf, load, LogError, MOVES, RefusedError, SPECIES, StateError, TeamError, TextError} from "gen1";
+import {ArgumentError, ArgumentTypeError, byteOf, load, LogError, MOVES, RefusedError, SPECIES, StateError, TeamError, TextError} from "gen1";
 
 import {Problem} from "./dom.js";
 import {kindOf} from "./words.js";
@@ -294,6 +294,24 @@ export class Engine {
       const said = error.message.replace(/expected: (packed: )?/, "expected ");
       throw new Problem(`${whose}: ${said}${said.endsWith("?") ? "" : "."}`);
     }
+  }
+
+  /**
+   * The name that the library takes a misspelt one for; empty if there is none.
+   * @param {"species" | "move"} kind
+   * @param {string} text
+   */
+  near(kind, text) {
+    try {
+      if (kind === "species")
+        this.gen1.base(text);
+      else
+        this.gen1.moveData(text);
+    } catch (error) {
+      if (error instanceof ArgumentError) return /; did you mean "(.+)"\?$/.exec(error.message)?.[1] ?? "";
+      throw error;
+    }
+    return "";
   }
 
   /**

@@ -83,13 +83,15 @@ export class MemberForm {
     this.types = make("span", {class: "types"});
     this.ups = SLOTS.map(() => 3);
     this.name = make("div", {class: "name-row"},
-        labelled("Species", this.species, new Search(this.species, speciesOptions(engine), picked).element),
+        labelled("Species", this.species,
+            new Search(this.species, speciesOptions(engine), (text) => engine.near("species", text), picked).element),
         labelled("Level", this.level));
     const options = moveOptions(engine);
+    const near = (/** @type {string} */ text) => engine.near("move", text);
     this.moveList = make("div", {class: "move-fields"},
         ...this.moves.map(
-            (field, slot) => (make("div", {}, labelled(`Move ${slot + 1}`, field, new Search(field, options).element),
-                this.facts[slot]))));
+            (field, slot) => (make("div", {},
+                labelled(`Move ${slot + 1}`, field, new Search(field, options, near).element), this.facts[slot]))));
     this.advanced = this.drawAdvanced();
   }
 
@@ -142,7 +144,13 @@ export class MemberForm {
 
   /** @param {string} message @param {HTMLElement} field */
   problem(message, field) {
-    return new Problem(`${this.whose}: ${message}.`, {field});
+    return new Problem(`${this.whose}: ${message}${message.endsWith("?") ? "" : "."}`, {field});
+  }
+
+  /** @param {"species" | "move"} kind @param {HTMLInputElement} field */
+  unknown(kind, field) {
+    const near = this.engine.near(kind, field.value);
+    return this.problem(`there is no ${kind} "${field.value}"${near && `; did you mean "${near}"?`}`, field);
   }
 
   /**
@@ -163,7 +171,7 @@ export class MemberForm {
    */
   moveIn(field) {
     const found = this.found(this.engine.tables.moves, field);
-    if (!found) throw this.problem(`there is no move "${field.value}"`, field);
+    if (!found) throw this.unknown("move", field);
     return found;
   }
 
@@ -174,8 +182,7 @@ export class MemberForm {
   member() {
     const species = this.found(this.engine.tables.species, this.species);
     if (!species)
-      throw this.problem(
-          this.species.value ? `there is no species "${this.species.value}"` : "choose a species", this.species);
+      throw this.species.value ? this.unknown("species", this.species) : this.problem("choose a species", this.species);
     const slots = SLOTS.filter((slot) => this.moves[slot].value.trim());
     return {
       species,

@@ -45,11 +45,13 @@ export class Search {
   /**
    * @param {HTMLInputElement} field
    * @param {Option[]} options
+   * @param {(text: string) => string} near the name that a misspelt one is near to, or an empty text
    * @param {(name: string) => void} [picked] called before the field's event
    */
-  constructor(field, options, picked = () => undefined) {
+  constructor(field, options, near, picked = () => undefined) {
     this.field = field;
     this.options = options;
+    this.near = near;
     this.picked = picked;
     this.at = -1;
     /** @type {Option[]} */
@@ -105,6 +107,8 @@ export class Search {
   /** @param {string} text */
   open(text) {
     this.shown = matches(this.options, text).slice(0, text ? MOST : undefined);
+    const near = this.shown.length ? "" : this.near(text);
+    if (near) this.shown = this.options.filter(({name}) => name === near);
     this.list.replaceChildren(...this.shown.map(
         ({name, shown}, at) => (make("div", {role: "option", id: `${this.list.id}-${at}`, "aria-selected": "false"},
             make("span", {class: "name"}, name), ...shown()))));

@@ -39,6 +39,8 @@ export class Teams {
     this.at = 0;
     this.timer = 0;
     this.isShown = false;
+    /** @type {Member | undefined} the member as it was when the field in which it is changed got the focus */
+    this.before = undefined;
     this.which = find("teams-which", HTMLSelectElement);
     this.name = find("teams-name", HTMLInputElement);
     this.text = find("teams-text", HTMLTextAreaElement);
@@ -57,7 +59,8 @@ export class Teams {
     this.name.addEventListener("change", () => this.edit(() => (this.team.name = this.name.value.trim() || "My team")));
     const click = (/** @type {string} */ id, /** @type {() => void | Promise<void>} */ work) =>
         (find(id, HTMLButtonElement).addEventListener("click", () => void guarded(work)));
-    click("teams-new", () => this.add({name: "My team", members: []}));
+    member.addEventListener("focusin", () => (this.before = this.team.members[this.at]));
+    click("teams-new", () => this.add({name: this.freshName(), members: []}));
     click(
         "teams-copy", () => this.add({name: `${this.team.name} (copy)`, members: structuredClone(this.team.members)}));
     click("teams-delete", () => this.remove());
@@ -115,6 +118,15 @@ export class Teams {
     this.form.species.focus();
   }
 
+  /** A name that no team has. */
+  freshName() {
+    const names = this.saved.map(({name}) => name);
+    let number = 1;
+    const name = () => (number === 1 ? "My team" : `My team ${number}`);
+    while (names.includes(name())) number++;
+    return name();
+  }
+
   /** Deletes a team of the person's own. */
   remove() {
     const at = this.saved.indexOf(this.team);
@@ -154,6 +166,7 @@ export class Teams {
 
   /** Puts the member into the form. */
   fill() {
+    this.before = undefined;
     this.form.set(this.team.members[this.at] ?? {...FULL, species: "", moves: []});
   }
 
@@ -177,12 +190,20 @@ export class Teams {
     } catch (error) {
       if (!(error instanceof Problem)) throw error;
       const {message, field} = error;
-      const say = () => this.say(message, field);
+      this.restore();
+      const say = () => this.say(`${message} The team keeps the member as it was.`, field);
       if (pause)
         this.timer = window.setTimeout(say, pause);
       else
         say();
     }
+  }
+
+  /** Undoes what a field has changed on the way to a wrong value: 10 on the way to 101. */
+  restore() {
+    const {before} = this;
+    if (before && JSON.stringify(before) !== JSON.stringify(this.team.members[this.at]))
+      this.edit(() => (this.team.members[this.at] = before));
   }
 
   /** @param {number} at the place from 0 */
