@@ -21,7 +21,7 @@ def faced(move, hp):
     """A cell of the table of a team, by an object of `gen1 calc --json`."""
     ends = [move["usual"][0], move["usual"][-1]] if move["usual"] else move["fixed"]
     shares = span(*(f"{100 * number / hp:.1f}" for number in ends))
-    return f"{move['move']} {shares}%KO in 1, 2, 3 uses: {', '.join(map(percent, uses(move)))}"
+    return f"{move['move']} {shares}%KO {' / '.join(map(percent, uses(move)))}"
 
 
 def a_team_is_faced(browser):

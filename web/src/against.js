@@ -103,7 +103,10 @@ export class Against {
     const name = String(user.member.species);
     const by = (/** @type {Row} */ one, /** @type {Row} */ two) =>
         two.keys.map((key, at) => key - one.keys[at]).find((it) => it) ?? 0;
-    const heads = ["Foe", `Best move of ${name}`, "Its best move"].map((text) => make("th", {scope: "col"}, text));
+    const note = () => make("span", {class: "note"}, "with KO in 1 / 2 / 3 uses");
+    const head = (/** @type {string} */ text, /** @type {Node | null} */ more) =>
+        make("th", {scope: "col"}, text, more);
+    const heads = [head("Foe", null), head(`Best move of ${name}`, note()), head("Its best move", note())];
     const focused = document.activeElement?.id ?? "";
     this.place.replaceChildren(make("table", {}, make("thead", {}, make("tr", {}, ...heads)),
         make("tbody", {}, ...rows.sort(by).map((row, at) => this.row(row, at)))));
@@ -138,6 +141,6 @@ export class Against {
     const hits = highest > 1 && odds.damage ? ` in ${span(fewest, highest)} hits` : "";
     return make("td", {}, make("strong", {}, odds.move),
         ` ${isOneHit(odds) ? "all HP" : `${span(least, most)}%${hits}`}`,
-        make("span", {class: "note"}, `KO in ${faints ? "1 use" : "1, 2, 3 uses"}: ${chances.join(", ")}`));
+        make("span", {class: "note"}, `KO ${chances.join(" / ")}`));
   }
 }
