@@ -2,6 +2,7 @@
 // by web/test, which bundles it: node FILE MODULE. The values are those of docs/MECHANICS.md and docs/PROGRAM.md.
 import {readFileSync} from "node:fs";
 
+import {standingIn} from "../src/carried.js";
 import {chancesOf} from "../src/chances.js";
 import {choose, scores} from "../src/computer.js";
 import {Engine} from "../src/engine.js";
@@ -286,6 +287,48 @@ function sampled(battle, pair, events, at, word) {
   const of = word === "crit" ? hits : all;
   return [counts[word] / of, of];
 }
+
+// Moves that change stats, types and conditions.
+const CHANGING = [
+  ["Tauros", "Body Slam", "Swords Dance", "Fire Blast", "Agility"],
+  ["Starmie", "Screech", "Conversion", "Substitute", "Reflect"],
+  ["Persian", "Slash", "Amnesia", "Light Screen", "Thunder Wave"],
+  ["Dragonite", "Growl", "Focus Energy", "Bubble Beam", "Haze"]
+].map(([species, ...moves]) => ({...tauros(...moves), species}));
+
+check("members in the calculator have the odds of their battle", () => {
+  let [count, other] = [0, 0];
+  for (let game = 0; game < 30; game++) {
+    const battle = engine.gen1.battle({...terms(CHANGING, CHANGING), seed: SEED.map(() => below(256))});
+    battle.updateSilent("pass", "pass");
+    while (!battle.isOver) {
+      battle.updateSilent(...[1, 2].map((side) => {
+        const offered = battle.choices(side);
+        return offered[below(offered.length)];
+      }));
+      const {one, two} = battle.state;
+      const sides = [one, two];
+      if (battle.isOver || sides.some(({members, active}) => !members[active.place - 1].hp)) continue;
+      const both = sides.map((side) => standingIn(side, side.active.place, CHANGING[side.active.place - 1]));
+      for (const [at, {hp, max, stats, moves}] of engine.calculate(both).entries()) {
+        const {active, members} = sides[at];
+        equal([hp, max, stats], [members[active.place - 1].hp, members[active.place - 1].maxHp, active.stats]);
+        for (const [place, odds] of engine.oddsOf(battle, at === 0 ? 1 : 2).entries()) {
+          const found = moves[place];
+          // What a condition that the calculator has not makes of a move, it doesn't know.
+          if (odds.reason !== found.reason) continue;
+          equal([found.damage, found.critical, found.bound, found.hit],
+              [odds.damage, odds.critical, odds.bound, odds.hit]);
+          count++;
+        }
+      }
+      const plain = engine.calculate(both.map((it) => ({...it, carried: null})));
+      if (plain.some(({stats}, at) => stats.join() !== sides[at].active.stats.join())) other++;
+    }
+  }
+  // Some of the stats are not those that stages and status give.
+  equal([count > 2000, other > 20], [true, true]);
+});
 
 check("the chances of a replay are those of a sample", () => {
   const found = {hit: 0, miss: 0, crit: 0, KO: 0};
