@@ -1,4 +1,5 @@
 """Members of a battle in the calculator, and one member against a team."""
+import base64
 import json
 import random
 import subprocess
@@ -140,6 +141,25 @@ def a_battle_comes_into_the_calculator_and_back(browser):
     assert browser.run(CALCULATOR)["now"][0] == ""
 
 
+def damaged_values_of_a_battle_are_refused(browser):
+    """After two members of 34 bytes and one byte, each has four stats, two types and the HP of its Substitute."""
+    begin_fight(browser, "3 1 4 1 5 9 2 6 5 3", "open")
+    browser.click("#play-calculate")
+    code = browser.wait("return location.hash.startsWith('#calculator?c=') && location.hash.slice(14)")
+    whole = base64.urlsafe_b64decode(code + "=" * (-len(code) % 4))
+    assert len(whole) == 2 * 34 + 1 + 2 * 11
+    stats = lambda value: whole[:69] + value.to_bytes(2, "little") + whole[71:]
+    for damaged, message in (
+        (stats(1000), "the members cannot be in this state"),
+        (whole[:77] + b"\x63" + whole[78:], "there is no such type"),
+        (whole[:-1], "it does not have two members"),
+    ):
+        browser.open(f"#calculator?c={base64.urlsafe_b64encode(damaged).decode().rstrip('=')}")
+        assert message in browser.notice() + browser.text("#calc-fault"), (message, browser.text("#calc-fault"))
+    browser.open(f"#calculator?c={base64.urlsafe_b64encode(stats(999)).decode().rstrip('=')}")
+    assert browser.run(CALCULATOR)["now"][0] == "→ 999"
+
+
 def what_is_hidden_does_not_come_into_the_calculator(browser):
     """In covered hands the foe has a usual set, and of its team only what came out; none of its own moves before they are used."""
     begin_fight(browser, "3 1 4 1 5 9 2 6 5 3", "covered")
@@ -186,6 +206,7 @@ def a_replay_comes_into_the_calculator(browser):
 CHECKS = [
     a_team_is_faced,
     a_battle_comes_into_the_calculator_and_back,
+    damaged_values_of_a_battle_are_refused,
     what_is_hidden_does_not_come_into_the_calculator,
     a_replay_comes_into_the_calculator,
 ]

@@ -267,7 +267,7 @@ function sampled(battle, pair, events, at, word) {
       list.slice(0, from).map(({line}) => (word === "KO" ? line : line.replace(/\d+\/\d+.*/, ""))).join();
   const counts = {hit: 0, miss: 0, crit: 0, KO: 0};
   let [all, hits] = [0, 0];
-  for (let run = 0; run < 500; run++) {
+  for (let run = 0; run < 400; run++) {
     const copy = engine.gen1.load(battle);
     copy.reseed(Array.from({length: 10}, () => below(256)));
     const found = engine.events(copy.update(...pair).log);
@@ -298,7 +298,7 @@ const CHANGING = [
 
 check("members in the calculator have the odds of their battle", () => {
   let [count, other] = [0, 0];
-  for (let game = 0; game < 30; game++) {
+  for (let game = 0; game < 6; game++) {
     const battle = engine.gen1.battle({...terms(CHANGING, CHANGING), seed: SEED.map(() => below(256))});
     battle.updateSilent("pass", "pass");
     while (!battle.isOver) {
@@ -327,7 +327,7 @@ check("members in the calculator have the odds of their battle", () => {
     }
   }
   // Some of the stats are not those that stages and status give.
-  equal([count > 2000, other > 20], [true, true]);
+  equal([count > 500, other > 3], [true, true]);
 });
 
 check("the chances of a replay are those of a sample", () => {
@@ -345,7 +345,11 @@ check("the chances of a replay are those of a sample", () => {
       for (const [at, text] of chancesOf(engine, before, events).entries()) {
         const [, word, number] = /^(\w+) at [<>]?([\d.]+)%$/.exec(text ?? "") ?? [];
         // A sample of a few of each kind.
-        if (!word || found[word] >= 30) continue;
+        if (!word || found[word] >= 20) continue;
+        // After another action the same HP are too rare for a sample of a knock-out.
+        if (word === "KO" &&
+            events.slice(0, at).filter(({kind}) => ["move", "switch", "cant"].includes(kind)).length > 1)
+          continue;
         const [share, of] = sampled(before, pair, events, at, word);
         if (of < 60) continue;
         const chance = Number(number) / 100;

@@ -148,7 +148,8 @@ async function begin() {
   const replay = new Replay(engine, inputs, calculate);
   const calculator = new Calculator(engine, (from) => {
     open(from);
-    find(from === "play" ? "play-calculate" : "replay-calculate", HTMLElement).focus();
+    // Without a battle there, the button is hidden, and the tab keeps the focus.
+    for (const id of [`tab-${from}`, `${from}-calculate`]) find(id, HTMLElement).focus();
   });
   let tab = "";
   const turnTo = (/** @type {string} */ name) => {

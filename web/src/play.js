@@ -475,7 +475,9 @@ export class Play {
       place.replaceChildren(...(isShown ? [...this.heading(side), ...this.buttons(side)] : []));
       if (isShown || hadFocus) this.focus(place, hadFocus);
     }
-    find("play-calculate", HTMLElement).hidden = !this.isMoving && !this.isAtRest;
+    const calculate = find("play-calculate", HTMLElement);
+    if (!this.isMoving) calculate.hidden = !this.isAtRest;
+    calculate.setAttribute("aria-disabled", String(this.isMoving));
     this.drawCover();
     // The height of the log changes as choices appear and disappear.
     this.log.toEnd();
