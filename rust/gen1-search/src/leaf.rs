@@ -1,7 +1,6 @@
 //! The value of a battle without a search: from HP, status, stages and conditions, with weights that were fitted to battles.
-//!
-//! Offsets are those of [docs/LAYOUT.md](https://hibsuloy.example/gen1/blob/main/docs/LAYOUT.md).
-use gen1::{Battle, Side};
+use gen1::layout::{ACTIVE, MEMBER, SIDE, active, member};
+use gen1::{Battle, Conditions, Side, layout};
 
 /// The number of features.
 pub const COUNT: usize = 20;
@@ -23,23 +22,23 @@ pub const WEIGHTS: [f64; COUNT] = [
 #[must_use]
 pub fn features(battle: &Battle) -> [f64; COUNT] {
     let bytes = battle.as_bytes();
-    let (one, two) = (side(&bytes[24..204]), side(&bytes[204..384]));
+    let [one, two] = Side::BOTH.map(|it| side(&bytes[layout::side(it)..][..SIDE]));
     core::array::from_fn(|at| f64::from(one[at] - two[at]))
 }
 
 /// The features of one side.
 fn side(bytes: &[u8]) -> [f32; COUNT] {
     let mut found = [0.0; COUNT];
-    let active = &bytes[144..];
-    for (at, member) in bytes[..144].chunks_exact(24).enumerate() {
-        let hp = u16::from_le_bytes([member[4], member[5]]);
+    let (members, block) = bytes.split_at(ACTIVE);
+    for (at, bytes) in members.chunks_exact(MEMBER).enumerate() {
+        let hp = number(bytes, member::HP);
         if hp == 0 {
             continue;
         }
-        let share = f32::from(hp) / f32::from(u16::from_le_bytes([member[2], member[3]]));
+        let share = f32::from(hp) / f32::from(number(bytes, member::MAX_HP));
         found[0] += 1.0;
         found[1] += share;
-        let status = match member[14] {
+        let status = match bytes[member::STATUS] {
             0 => None,
             1..8 => Some(2),
             32 => Some(3),
@@ -50,23 +49,42 @@ fn side(bytes: &[u8]) -> [f32; COUNT] {
         if let Some(status) = status {
             found[status] += 1.0;
         }
-        if at + 1 == usize::from(active[0]) {
+        if at + 1 == usize::from(block[active::PLACE]) {
             found[19] = share;
-            of_active(active, &mut found);
+            of_active(block, &mut found);
         }
     }
     found
 }
 
+/// The number of two bytes.
+fn number(bytes: &[u8], at: usize) -> u16 {
+    u16::from_le_bytes([bytes[at], bytes[at + 1]])
+}
+
 /// The features of an active member that lives.
 fn of_active(block: &[u8], found: &mut [f32; COUNT]) {
-    for (at, stage) in block[3..9].iter().enumerate() {
+    const SHOWN: [(usize, Conditions); 6] = [
+        (13, Conditions::SUBSTITUTE),
+        (14, Conditions::SEEDED),
+        (15, Conditions::CONFUSED),
+        (16, Conditions::REFLECT),
+        (17, Conditions::LIGHT_SCREEN),
+        (18, Conditions::RECHARGE),
+    ];
+    for (at, stage) in block[active::STAGES..][..6].iter().enumerate() {
         found[7 + at] = f32::from(*stage) - 6.0;
     }
-    let conditions = u32::from_le_bytes([block[17], block[18], block[19], block[20]]);
-    for (at, bit) in [(13, 9), (14, 12), (15, 6), (16, 15), (17, 14), (18, 10)] {
-        found[at] = (conditions >> bit & 1) as f32;
+    let conditions = conditions(block);
+    for (at, which) in SHOWN {
+        found[at] = f32::from(u8::from(conditions & which.bits() != 0));
     }
+}
+
+/// The bits of the conditions of an active block.
+pub(crate) fn conditions(block: &[u8]) -> u32 {
+    let low = u32::from(number(block, active::CONDITIONS));
+    low | u32::from(number(block, active::CONDITIONS + 2)) << 16
 }
 
 /// The weighted sum of the features: above 0 if side 1 is better off.

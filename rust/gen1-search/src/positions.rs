@@ -1,9 +1,9 @@
 //! Positions of a solver: the bytes of a battle without what the rest of it does not depend on, and a table of them.
-//!
-//! Offsets are those of [docs/LAYOUT.md](https://hibsuloy.example/gen1/blob/main/docs/LAYOUT.md).
+use crate::leaf;
 use alloc::vec::Vec;
 use core::fmt;
-use gen1::{Battle, Effect, MoveId};
+use gen1::layout::{ACTIVE, HEADER, MEMBER, SIDE, active, header, member};
+use gen1::{Battle, Conditions, Effect, MoveId, Side, layout};
 
 /// Whether a position holds the PP of the moves.
 #[derive(Clone, Copy, Debug, Default, PartialEq, Eq)]
@@ -15,23 +15,15 @@ pub enum Pp {
     Endless,
 }
 
-/// Where the sides begin, and the parts of a side: six members of 24 bytes, then the active block.
-const SIDES: [usize; 2] = [24, 204];
-const MEMBER: usize = 24;
-const ACTIVE: usize = 144;
-/// Within a member: HP, status, moves, PP and mark.
-const HP: usize = 4;
-const STATUS: usize = 14;
-const MOVES: usize = 15;
-const PP: usize = 19;
-const MARK: usize = 23;
-/// Within an active block: the conditions, the current move and the picked move; the bytes from 32 on are 0.
-const CONDITIONS: usize = 17;
-const CURRENT: usize = 29;
-const PICKED: usize = 30;
-const BLOCK: usize = 32;
-/// The conditions that belong to the current move: Bide, Thrash, Trapping, Charging, Recharge and Rage.
-const TIED: u32 = 1 << 0 | 1 << 1 | 1 << 2 | 1 << 4 | 1 << 10 | 1 << 11;
+/// The conditions that belong to the current move.
+const TIED: [Conditions; 6] = [
+    Conditions::BIDE,
+    Conditions::THRASH,
+    Conditions::TRAPPING,
+    Conditions::CHARGING,
+    Conditions::RECHARGE,
+    Conditions::RAGE,
+];
 
 /// How battles that continue one start become positions.
 #[derive(Clone, Debug, PartialEq, Eq)]
@@ -49,7 +41,7 @@ pub struct Keys {
 impl Keys {
     pub fn new(battle: &Battle, pp: Pp) -> Self {
         let start = *battle.as_bytes();
-        let mut known = members(&start).flat_map(|at| start[at + MOVES..][..4].iter());
+        let mut known = members(&start).flat_map(|at| start[at + member::MOVES..][..4].iter());
         let moves = known.clone().filter_map(|number| MoveId::new(*number));
         let mut effects = moves.map(MoveId::effect);
         let reads_damage = effects.any(|it| it == Effect::Counter || it.bides() || it.traps());
@@ -80,33 +72,28 @@ impl Keys {
     /// The numbers to draw are 0, the turn is 1 and its limit 9,999.
     pub fn canonical(&self, battle: &Battle) -> [u8; 384] {
         let mut bytes = battle.key();
-        if bytes[1..3] != [0, 0] {
-            bytes[1..3].copy_from_slice(&1u16.to_le_bytes());
+        if bytes[header::TURN..][..2] != [0, 0] {
+            bytes[header::TURN..][..2].copy_from_slice(&1u16.to_le_bytes());
         }
-        bytes[20..22].copy_from_slice(&9999u16.to_le_bytes());
+        bytes[header::LIMIT..][..2].copy_from_slice(&9999u16.to_le_bytes());
         if !self.reads_damage {
-            bytes[3..5].fill(0);
+            bytes[header::LAST_DAMAGE..][..2].fill(0);
         }
         for at in members(&self.start) {
-            if bytes[at + HP..][..2] == [0, 0] {
-                bytes[at + PP..][..4].fill(0);
+            if bytes[at + member::HP..][..2] == [0, 0] {
+                bytes[at + member::PP..][..4].fill(0);
             } else if self.pp == Pp::Endless {
-                bytes[at + PP..][..4].copy_from_slice(&self.start[at + PP..][..4]);
+                bytes[at + member::PP..][..4].copy_from_slice(&self.start[at + member::PP..][..4]);
             }
         }
-        for side in SIDES {
-            let block = &mut bytes[side + ACTIVE..][..36];
-            let conditions = u32::from_le_bytes([
-                block[CONDITIONS],
-                block[CONDITIONS + 1],
-                block[CONDITIONS + 2],
-                block[CONDITIONS + 3],
-            ]);
-            if conditions & TIED == 0 {
-                block[CURRENT] = 0;
+        let tied = TIED.iter().fold(0, |bits, which| bits | which.bits());
+        for side in Side::BOTH.map(layout::side) {
+            let block = &mut bytes[side + ACTIVE..side + SIDE];
+            if leaf::conditions(block) & tied == 0 {
+                block[active::CURRENT_MOVE] = 0;
             }
             if !self.reads_picks {
-                block[PICKED] = 0;
+                block[active::PICKED_MOVE] = 0;
             }
         }
         bytes
@@ -131,24 +118,39 @@ impl Keys {
 /// Where the members of a battle begin.
 fn members(bytes: &[u8; 384]) -> impl Iterator<Item = usize> + Clone + use<> {
     let bytes = *bytes;
-    let all = SIDES
-        .into_iter()
-        .flat_map(|side| (0..6).map(move |at| side + MEMBER * at));
-    all.filter(move |at| bytes[*at] != 0)
+    let sides = Side::BOTH.map(layout::side).into_iter();
+    let all = sides.flat_map(|side| (0..6).map(move |at| side + MEMBER * at));
+    all.filter(move |at| bytes[at + member::SPECIES] != 0)
 }
 
 /// Whether a byte may change in a battle.
 fn may_differ(start: &[u8; 384], at: usize) -> bool {
-    if at < SIDES[0] {
-        return [1, 2, 3, 4, 16, 17, 18].contains(&at);
+    if at < HEADER {
+        let parts = [
+            (header::TURN, 2),
+            (header::LAST_DAMAGE, 2),
+            (header::OUTCOME, 1),
+            (header::REQUESTS, 2),
+        ];
+        return parts
+            .iter()
+            .any(|(from, count)| (*from..from + count).contains(&at));
     }
-    let within = (at - SIDES[0]) % 180;
+    let within = (at - HEADER) % SIDE;
     if within >= ACTIVE {
-        return within - ACTIVE < BLOCK;
+        return within - ACTIVE < active::ZEROS;
     }
     let part = within % MEMBER;
-    start[at - part] != 0
-        && ([HP, HP + 1, STATUS, MARK].contains(&part) || (PP..MARK).contains(&part))
+    let changes = [
+        (member::HP, 2),
+        (member::STATUS, 1),
+        (member::PP, 4),
+        (member::MARK, 1),
+    ];
+    start[at - part + member::SPECIES] != 0
+        && changes
+            .iter()
+            .any(|(from, count)| (*from..from + count).contains(&part))
 }
 
 /// A set of keys, each with a number from 0 in the order of their insertion.

@@ -7,6 +7,7 @@ use crate::Dice;
 use crate::leaf;
 use alloc::vec::Vec;
 use core::ops::Range;
+use gen1::layout::{self, active, member};
 use gen1::{ArrayVec, Battle, OfferedMask, Side};
 
 /// The most updates of one pass.
@@ -331,28 +332,40 @@ fn picked(regrets: &[f32], dice: &mut Dice) -> usize {
 fn class(battle: &Battle, way: u64, ones: OfferedMask, twos: OfferedMask) -> u64 {
     let bytes = battle.as_bytes();
     let mut mixture = mixed(way, u64::from(ones.bits()) << 16 | u64::from(twos.bits()));
-    for side in [&bytes[24..204], &bytes[204..384]] {
-        let block = &side[144..];
-        let place = usize::from(block[0]);
-        let word = |at: usize| {
-            let mut word = [0; 8];
-            word.copy_from_slice(&block[at..at + 8]);
-            u64::from_le_bytes(word)
-        };
-        // The place, types and stages; conditions without the Substitute's HP and hidden counts.
-        mixture = mixed(mixture, word(0) ^ u64::from(block[8]) << 56);
-        mixture = mixed(mixture, word(17) & 0xffff_ffff);
-        if let Some(member) = place.checked_sub(1).map(|at| &side[24 * at..][..24]) {
-            let hp = u32::from(u16::from_le_bytes([member[4], member[5]]));
-            let max = u32::from(u16::from_le_bytes([member[2], member[3]]));
-            let eighth = (8 * hp).div_ceil(max.max(1));
-            let status = if member[14] & 7 > 0 { 1 } else { member[14] };
-            let moves = u32::from_le_bytes([member[15], member[16], member[17], member[18]]);
-            let rest = u64::from(member[0]) << 16 | u64::from(status) << 8 | u64::from(eighth);
-            mixture = mixed(mixture, u64::from(moves) << 32 | rest);
+    for side in Side::BOTH {
+        let (members, block) = bytes[layout::side(side)..][..layout::SIDE].split_at(layout::ACTIVE);
+        let place = usize::from(block[active::PLACE]);
+        // The place, types and stages, which are the first nine bytes; conditions without the Substitute's HP and hidden counts.
+        mixture = mixed(mixture, word(&block[..8]) ^ u64::from(block[8]) << 56);
+        mixture = mixed(mixture, u64::from(leaf::conditions(block)));
+        if let Some(at) = place.checked_sub(1) {
+            mixture = mixed(
+                mixture,
+                word_of(&members[layout::MEMBER * at..][..layout::MEMBER]),
+            );
         }
     }
     mixture
+}
+
+/// The species, moves, status and eighth of HP of a member.
+fn word_of(bytes: &[u8]) -> u64 {
+    let number = |at: usize| u32::from(u16::from_le_bytes([bytes[at], bytes[at + 1]]));
+    let eighth = (8 * number(member::HP)).div_ceil(number(member::MAX_HP).max(1));
+    // All counts of sleep are one status.
+    let status = match bytes[member::STATUS] {
+        1..8 => 1,
+        other => other,
+    };
+    let rest = u64::from(bytes[member::SPECIES]) << 16 | u64::from(status) << 8 | u64::from(eighth);
+    word(&bytes[member::MOVES..][..4]) << 32 | rest
+}
+
+/// The number of at most eight bytes.
+fn word(bytes: &[u8]) -> u64 {
+    let mut word = [0; 8];
+    word[..bytes.len()].copy_from_slice(bytes);
+    u64::from_le_bytes(word)
 }
 
 fn mixed(one: u64, two: u64) -> u64 {

@@ -95,6 +95,7 @@ mod from_state;
 #[rustfmt::skip]
 pub mod generated;
 mod guess;
+pub mod layout;
 mod lines;
 mod mask;
 mod odds;

@@ -221,3 +221,53 @@ fn who_is_out_is_shown_with_all_that_lasts() {
     let out = state.side(Side::Two).member_out().unwrap();
     assert_eq!((out.hp, out.max_hp, out.stats), (303, 403, [298; 4]));
 }
+
+/// The offsets of `gen1::layout` are those of the tables of docs/LAYOUT.md.
+#[test]
+fn offsets_are_those_of_the_page() {
+    use gen1::layout::{ACTIVE, HEADER, MEMBER, SIDE, active, header, member};
+    let page = Path::new(env!("CARGO_MANIFEST_DIR")).join("../../docs/LAYOUT.md");
+    let page = std::fs::read_to_string(page).expect("the page");
+    // The offset and the size of the field whose meaning begins so, in the table of a section.
+    let row = |section: &str, meaning: &str| -> [usize; 2] {
+        let body = page.split(&format!("\n## {section}\n")).nth(1).unwrap();
+        let cells = |line: &str| -> Vec<String> {
+            line.split('|').map(|it| it.trim().to_string()).collect()
+        };
+        let rows = body.split("\n## ").next().unwrap().lines().map(cells);
+        let found = rows.filter(|row| row.len() > 3 && row[3].starts_with(meaning));
+        let [found] = found.collect::<Vec<_>>().try_into().expect(meaning);
+        [&found[1], &found[2]].map(|it| it.parse().unwrap())
+    };
+    let fields = [
+        ("Header", "turn, u16", header::TURN, 2),
+        ("Header", "last damage", header::LAST_DAMAGE, 2),
+        ("Header", "outcome", header::OUTCOME, 1),
+        ("Header", "request of side 1", header::REQUESTS, 1),
+        ("Header", "request of side 2", header::REQUESTS + 1, 1),
+        ("Header", "turn limit", header::LIMIT, 2),
+        ("Member", "species", member::SPECIES, 1),
+        ("Member", "maximum HP", member::MAX_HP, 2),
+        ("Member", "HP", member::HP, 2),
+        ("Member", "status", member::STATUS, 1),
+        ("Member", "the moves", member::MOVES, 4),
+        ("Member", "the PP", member::PP, 4),
+        ("Member", "mark", member::MARK, 1),
+        ("Active block", "place", active::PLACE, 1),
+        ("Active block", "first type", active::TYPES, 1),
+        ("Active block", "stages", active::STAGES, 6),
+        ("Active block", "condition bits", active::CONDITIONS, 4),
+        ("Active block", "current move", active::CURRENT_MOVE, 1),
+        ("Active block", "picked move", active::PICKED_MOVE, 1),
+    ];
+    for (section, meaning, at, size) in fields {
+        assert_eq!(row(section, meaning), [at, size], "{meaning}");
+    }
+    assert!(page.contains(&format!("| {} | 4 | | 0 |", active::ZEROS)));
+    for side in Side::BOTH {
+        let line = format!("| {} | {SIDE} | side {side}", gen1::layout::side(side));
+        assert!(page.contains(&line), "{line}");
+    }
+    assert!(page.contains(&format!("| 0 | {HEADER} | header |")));
+    assert!(page.contains(&format!("six members of {MEMBER} bytes")) && ACTIVE == 6 * MEMBER);
+}
