@@ -3,6 +3,7 @@
 
 mod batch;
 mod bench;
+mod bot;
 mod calc;
 mod closed;
 mod commands;

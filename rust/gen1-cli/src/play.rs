@@ -1,13 +1,16 @@
 //! A game of a person against the computer, in the terminal.
+use crate::bot::{Bot, levels};
 use crate::commands::text_of;
 use crate::fault::Fault;
 use crate::files::{name_of, put, read, read_line};
 use crate::input::chosen::Chosen;
-use crate::input::{Given, ReadTerms};
+use crate::input::{Given, ReadTerms, team};
 use crate::random::Random;
 use crate::screen;
 use clap::{Args, ValueEnum};
-use gen1::{Battle, Choice, EventList, Offered, Side};
+use gen1::{
+    Battle, Choice, EventList, LogBuf, Offered, Player, Side, Team, Teller, TurnLimit, write_log,
+};
 use std::path::{Path, PathBuf};
 
 /// The arguments of `play`.
@@ -15,9 +18,16 @@ use std::path::{Path, PathBuf};
 pub struct Game {
     /// Teams and seed, as in the input of run; you are side 1. Without FILE both teams are drawn
     file: Option<PathBuf>,
-    /// How side 2 chooses
+    /// How side 2 chooses, without --level
     #[arg(long, value_enum, default_value = "playouts")]
     against: Foe,
+    #[arg(
+        long,
+        value_parser = clap::value_parser!(u8).range(1..=5),
+        conflicts_with = "against",
+        help = levels("Side 2 searches from what it knows, as gen1 think, with a level's nodes")
+    )]
+    level: Option<u8>,
     /// How many members a drawn team has
     #[arg(long, default_value_t = 3, value_parser = clap::value_parser!(u8).range(1..=6))]
     members: u8,
@@ -40,24 +50,34 @@ enum Foe {
 /// Plays a battle.
 pub fn play(game: &Game) -> Result<(), Fault> {
     let mut random = game.seed.map_or_else(Random::any, Random::new);
-    let mut battle = match game.file.as_deref() {
+    let (mut battle, teams) = match game.file.as_deref() {
         Some(path) => battle_in(path)?,
         None => {
             let members = usize::from(game.members);
             let (one, two) = (random.team(members), random.team(members));
-            Battle::new(&one, &two, random.seed())
+            (Battle::new(&one, &two, random.seed()), [one, two])
         }
     };
+    let mut foe = game
+        .level
+        .map(|level| Searcher::new(level, &teams, &mut random));
     let mut events = EventList::new();
     while !battle.is_over() {
         let Some(one) = asked(&battle)? else {
             return put("The battle is left.\n");
         };
-        let Some(two) = answer(game, &battle, &mut random) else {
+        let two = match &mut foe {
+            Some(foe) => foe.choice(&battle),
+            None => answer(game, &battle, &mut random),
+        };
+        let Some(two) = two else {
             break;
         };
         if battle.update_with(one, two, &mut events).is_ok() {
             put(text_of(&events))?;
+            if let Some(foe) = &mut foe {
+                foe.report(&battle, &events)?;
+            }
         }
     }
     put(match battle.outcome().winner() {
@@ -67,13 +87,49 @@ pub fn play(game: &Game) -> Result<(), Fault> {
     })
 }
 
-/// The battle that a file describes.
-fn battle_in(path: &Path) -> Result<Battle, Fault> {
+/// Side 2, which is told no more than a player may know.
+struct Searcher {
+    bot: Bot,
+    player: Player,
+    teller: Teller,
+}
+
+impl Searcher {
+    fn new(level: u8, teams: &[Team; 2], random: &mut Random) -> Searcher {
+        let foes = teams[0].members().len() as u8;
+        Searcher {
+            bot: Bot::new(level, random.bits()),
+            player: Player::with_foes(Side::Two, &teams[1], foes),
+            teller: Teller::new(Side::Two),
+        }
+    }
+
+    fn report(&mut self, battle: &Battle, events: &EventList) -> Result<(), Fault> {
+        let mut log = LogBuf::new();
+        write_log(events, &mut log);
+        let told = self.teller.report(battle, &log, &mut self.player);
+        told.map_err(|why| Fault::search(&why.to_string()))
+    }
+
+    fn choice(&mut self, battle: &Battle) -> Option<Choice> {
+        // Before the first update the player has not been shown its side.
+        if let [only] = battle.choices(Side::Two).as_slice() {
+            return Some(*only);
+        }
+        let limit = TurnLimit::new(battle.limit()).unwrap_or_default();
+        self.bot.choice(&self.player, battle.state().rules, limit)
+    }
+}
+
+/// The battle that a file describes, and its teams.
+fn battle_in(path: &Path) -> Result<(Battle, [Team; 2]), Fault> {
     let input = read(Some(path))?;
     let given = Given::of_json(&input, ReadTerms::default(), false);
     let start = given.and_then(|given| given.start(|_| Ok(())));
     let (start, ()) = start.map_err(|why| why.within(&name_of(Some(path))))?;
-    Ok(start.battle)
+    let [one, two] = &start.teams;
+    let teams = [team(1, &one.specs)?, team(2, &two.specs)?];
+    Ok((start.battle, teams))
 }
 
 /// The choice of the person; `None` at the end of the input.

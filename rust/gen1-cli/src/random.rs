@@ -25,6 +25,11 @@ impl Random {
         ((self.0 >> 32) as usize) % bound.max(1)
     }
 
+    /// 64 bits.
+    pub fn bits(&mut self) -> u64 {
+        (self.below(1 << 32) as u64) << 32 | self.below(1 << 32) as u64
+    }
+
     /// One of the items; `None` if there is none.
     pub fn pick<'a, T>(&mut self, items: &'a [T]) -> Option<&'a T> {
         items.get(self.below(items.len()))

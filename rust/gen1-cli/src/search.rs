@@ -1,4 +1,5 @@
 //! `gen1 think` and `gen1 solve`: searches over the battle of an input, by the crate gen1-search.
+use crate::bot::levels;
 use crate::commands::played;
 use crate::fault::Fault;
 use crate::files::{put, read_table, replace};
@@ -25,8 +26,7 @@ pub struct Think {
     /// The side that thinks, from what its player knows
     #[arg(long, default_value_t = 1, value_parser = clap::value_parser!(u8).range(1..=2))]
     side: u8,
-    /// How long the search is: 1 (200 nodes), 2 (1,000), 3 (6,000), 4 (35,000) or 5 (200,000)
-    #[arg(long, default_value_t = 3, value_parser = clap::value_parser!(u8).range(1..=5))]
+    #[arg(long, default_value_t = 3, value_parser = clap::value_parser!(u8).range(1..=5), help = levels("The level and its nodes"))]
     level: u8,
     /// The nodes of the search, in place of a level
     #[arg(long, value_parser = clap::value_parser!(u64).range(1..=1_000_000_000), conflicts_with = "level")]

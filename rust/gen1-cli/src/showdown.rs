@@ -1,10 +1,12 @@
 //! Forms of Pokémon Showdown (docs/PROGRAM.md): its battle log, a page with that log for its viewer, and the protocol of its simulator.
+use crate::bot::{Bot, levels};
 use crate::fault::{self, Fault};
 use crate::files::{put, read_line};
 use crate::game::play;
 use crate::input::Given;
 use crate::team::formats_in;
 use clap::{Args, ValueEnum};
+use gen1::{Side, TurnLimit};
 use gen1_showdown::{Heading, Hp, LineWriter, Options, Simulator, Viewer, numbered};
 use std::path::PathBuf;
 use std::time::SystemTime;
@@ -24,6 +26,26 @@ pub struct Showdown {
     /// Begins each update with the time, in seconds since 1970
     #[arg(long)]
     time: bool,
+    /// A player whose choices the program makes, from what it knows, as gen1 think does
+    #[arg(long, value_enum, value_name = "PLAYER")]
+    bot: Option<Entrant>,
+    #[arg(
+        long,
+        default_value_t = 3,
+        requires = "bot",
+        value_parser = clap::value_parser!(u8).range(1..=5),
+        help = levels("The bot's level and its nodes")
+    )]
+    level: u8,
+    /// A seed of the bot; the same seed and level make the same choices
+    #[arg(long, default_value_t = 1, requires = "bot")]
+    search_seed: u64,
+}
+
+#[derive(Clone, Copy, ValueEnum)]
+enum Entrant {
+    P1,
+    P2,
 }
 
 #[derive(Clone, Copy, ValueEnum)]
@@ -59,6 +81,13 @@ fn now() -> u64 {
 pub fn simulate(asked: &Showdown) -> Result<(), Fault> {
     let formats = formats_in(asked.formats.as_deref())?;
     let mut simulator = Simulator::with_formats(asked.options(), formats);
+    let mut bot = asked.bot.map(|entrant| {
+        let side = match entrant {
+            Entrant::P1 => Side::One,
+            Entrant::P2 => Side::Two,
+        };
+        (side, Bot::new(asked.level, asked.search_seed))
+    });
     for number in 1usize.. {
         let line = read_line()?;
         if line.is_empty() {
@@ -71,6 +100,20 @@ pub fn simulate(asked: &Showdown) -> Result<(), Fault> {
             fault::note(&note);
         }
         put(reply.text)?;
+        if let Some((side, bot)) = &mut bot {
+            chosen(&mut simulator, *side, bot)?;
+        }
+    }
+    Ok(())
+}
+
+/// Makes the choices that a bot has to make.
+fn chosen(simulator: &mut Simulator, side: Side, bot: &mut Bot) -> Result<(), Fault> {
+    while let Some((player, rules)) = simulator.to_choose(side) {
+        let Some(choice) = bot.choice(player, rules, TurnLimit::default()) else {
+            break;
+        };
+        put(simulator.choose(side, choice)?.text)?;
     }
     Ok(())
 }

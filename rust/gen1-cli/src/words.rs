@@ -119,3 +119,11 @@ pub struct Look {
     #[arg(long, conflicts_with = "bytes")]
     pub json: bool,
 }
+
+/// A number with a comma before each three digits.
+pub fn thousands(number: u64) -> String {
+    match number {
+        0..1000 => number.to_string(),
+        _ => format!("{},{:03}", thousands(number / 1000), number % 1000),
+    }
+}

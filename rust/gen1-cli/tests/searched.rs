@@ -455,3 +455,68 @@ fn a_battle_that_is_over_is_not_searched() {
         );
     }
 }
+
+/// A stream in which the program plays Bob, and Alice does what is offered first.
+fn bot_stream(alice: &str, words: &[&str]) -> String {
+    let bob = "Starmie||||harden,surf,recover|||||||]Rhydon||||earthquake,substitute|||||||";
+    let mut commands = format!(
+        ">start {{\"formatid\":\"gen1ou\",\"seed\":[1,2,3,4]}}\n\
+         >player p1 {{\"name\":\"Alice\",\"team\":\"{alice}\"}}\n>player p2 {{\"name\":\"Bob\",\"team\":\"{bob}\"}}\n"
+    );
+    commands += &">p1 default\n".repeat(100);
+    let words = [&["showdown", "--bot", "p2"], words].concat();
+    printed(&words, &commands)
+}
+
+/// The choices of Bob, as the end of a stream has them.
+fn choices_of_bob(stream: &str) -> Vec<String> {
+    let end = stream.split("end\n{").nth(1).expect("an end");
+    let end = format!("{{{}", end.lines().next().expect("an object"));
+    let end: Value = serde_json::from_str(&end).expect("JSON");
+    let inputs = end["inputLog"].as_array().expect("a list");
+    let texts = inputs.iter().filter_map(Value::as_str);
+    texts
+        .filter(|it| it.starts_with(">p2 "))
+        .map(String::from)
+        .collect()
+}
+
+/// Until Snorlax falls, Bob knows neither Alice's second move nor her second member.
+#[test]
+fn a_bot_plays_a_side_of_showdown_fairly() {
+    let words = ["--level", "1", "--search-seed", "5"];
+    let streams = [
+        "surf|||||||]Zapdos||||thunder",
+        "rest|||||||]Gengar||||explosion",
+    ]
+    .map(|hidden| bot_stream(&format!("Snorlax||||splash,{hidden}|||||||"), &words));
+    assert!(streams[0].contains("\n|win|Bob\n") || streams[0].contains("\n|win|Alice\n"));
+    let until_shown = |stream: &String| {
+        let shown = stream
+            .lines()
+            .position(|line| line.contains("|switch|p1a: ") && !line.contains("Snorlax"));
+        let turns = stream.lines().take(shown.expect("Snorlax falls"));
+        let count = turns.filter(|line| line.starts_with("|turn|")).count();
+        choices_of_bob(stream)[..count].to_vec()
+    };
+    let choices = until_shown(&streams[0]);
+    assert!(choices.len() > 1, "{choices:?}");
+    assert_eq!(choices, until_shown(&streams[1]));
+}
+
+#[test]
+fn a_game_against_a_level_is_repeated_by_its_seed() {
+    let game = |level: &str| {
+        printed(
+            &["play", "--level", level, "--seed", "5"],
+            &"1\n".repeat(500),
+        )
+    };
+    let text = game("1");
+    assert!(
+        text.ends_with("You lose.\n") || text.ends_with("You win.\n"),
+        "{text}"
+    );
+    assert_eq!(game("1"), text);
+    assert_ne!(game("2"), text);
+}

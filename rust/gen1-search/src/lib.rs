@@ -34,7 +34,7 @@ mod tree;
 pub use positions::{Pp, TableFault};
 pub use prior::{Prior, PriorFault};
 pub use solve::{Interval, Progress, SolveFault, SolveOptions, Solver, Stopped};
-pub use think::{Considered, ThinkFault, ThinkOptions, Thought, choice_words, think};
+pub use think::{Considered, LEVELS, ThinkFault, ThinkOptions, Thought, choice_words, think};
 
 /// A generator of random numbers (SplitMix64), whose numbers depend only on its seed.
 #[derive(Clone, Debug, PartialEq, Eq)]

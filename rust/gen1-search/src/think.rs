@@ -8,6 +8,9 @@ use gen1::{
     Battle, Choice, Choices, Guess, GuessFault, MoveId, Player, Rules, Side, TeamRefusal, TurnLimit,
 };
 
+/// The nodes of the levels of play, 1 to 5.
+pub const LEVELS: [u64; 5] = [200, 1_000, 6_000, 35_000, 200_000];
+
 /// How many updates a line of play shows.
 const SHOWN: usize = 4;
 /// The passes whose values are averaged together for the standard error, in each tree.
@@ -66,12 +69,11 @@ impl fmt::Debug for ThinkOptions<'_> {
 }
 
 impl ThinkOptions<'_> {
-    /// The options of a level of play, from 1 (200 nodes) to 5 (200,000). A lower number counts as 1, a higher one as 5.
+    /// The options of a level of play, 1 to 5, whose nodes are in [`LEVELS`]. A lower number counts as 1, a higher one as 5.
     #[must_use]
     pub fn level(level: u8) -> Self {
-        const NODES: [u64; 5] = [200, 1_000, 6_000, 35_000, 200_000];
         ThinkOptions {
-            nodes: NODES[usize::from(level.clamp(1, 5)) - 1],
+            nodes: LEVELS[usize::from(level.clamp(1, 5)) - 1],
             ..ThinkOptions::default()
         }
     }
@@ -357,7 +359,7 @@ fn search<'a>(
     share: Share,
 ) -> Searched<'a> {
     let mut found = Searched {
-        tree: Tree::new(side, &set.0, set.1),
+        tree: Tree::new(side, &set.0, set.1, share.nodes),
         nodes: 0,
         batches: alloc::vec![Sum::default(); BATCHES],
     };

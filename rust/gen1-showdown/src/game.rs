@@ -2,7 +2,7 @@
 use crate::lines::{Heading, Hp, LineWriter, Viewer};
 use crate::request::{choice_in, request};
 use crate::{Fault, Members, Seat, index, player_of, team};
-use gen1::{Battle, Choice, LogBuf, MemberSpec, Outcome, Rules, Side, events_of};
+use gen1::{Battle, Choice, LogBuf, MemberSpec, Outcome, Player, Rules, Side, events_of};
 use serde::Serialize;
 use serde_json::{Value, json};
 
@@ -63,7 +63,11 @@ impl Game {
         let seats = Side::BOTH.map(|side| {
             let (name, members) = &setup.players[index(side)];
             let name = crate::members::clean(name);
-            Seat::new(side, name, members, &teams[index(side)], setup.hp)
+            let mut seat = Seat::new(side, name, members, &teams[index(side)], setup.hp);
+            // Both are told the sizes of the teams (`|teamsize|`).
+            let foes = teams[index(side.other())].members().len() as u8;
+            seat.player = Player::with_foes(side, &teams[index(side)], foes);
+            seat
         });
         let lines = LineWriter::new(Heading {
             players: seats.each_ref().map(|seat| seat.name.clone()),
@@ -96,11 +100,27 @@ impl Game {
         if self.has_ended {
             return Ok(refusal(side, "Can't do anything: The game is over"));
         }
-        let seat = &mut self.seats[index(side)];
-        match choice_in(text, seat) {
-            Err(why) => return Ok(refusal(side, &why)),
-            Ok(choice) => seat.chosen = Some(choice),
+        match choice_in(text, &self.seats[index(side)]) {
+            Err(why) => Ok(refusal(side, &why)),
+            Ok(choice) => self.chosen(side, choice, time),
         }
+    }
+
+    /// What a side knows, while it has to choose.
+    pub fn to_choose(&self, side: Side) -> Option<&Player> {
+        let seat = &self.seats[index(side)];
+        let waits = self.has_ended || seat.waits() || seat.chosen.is_some();
+        (!waits).then_some(&seat.player)
+    }
+
+    /// Handles a choice that a side is offered.
+    pub fn chosen(
+        &mut self,
+        side: Side,
+        choice: Choice,
+        time: Option<u64>,
+    ) -> Result<String, Fault> {
+        self.seats[index(side)].chosen = Some(choice);
         match self.seats.each_ref().map(|seat| seat.chosen) {
             [Some(one), Some(two)] => self.update(one, two, time),
             _ => Ok(String::new()),

@@ -4,7 +4,7 @@ use crate::game::{Game, Setup};
 use crate::lines::{Heading, Hp};
 use crate::reading::{did_you_mean, key, nearest_word, shown};
 use crate::{Fault, Members, side_in};
-use gen1::Rules;
+use gen1::{Choice, Player, Rules, Side};
 use serde_json::{Value, json};
 use std::hash::{BuildHasher, Hasher, RandomState};
 
@@ -110,6 +110,31 @@ impl Simulator {
             Refused::Fault(fault) => fault,
             Refused::Command(why) => Fault::Line { line, why },
         })?;
+        Ok(Reply { text, note: None })
+    }
+
+    /// What the player of a side knows, and the rules of the battle, while the side has to choose: for a bot.
+    #[must_use]
+    pub fn to_choose(&self, side: Side) -> Option<(&Player, Rules)> {
+        let player = self.game.as_ref()?.to_choose(side)?;
+        Some((player, self.format.as_ref()?.rules))
+    }
+
+    /// Makes a choice of a side, as the command `>p1 CHOICE` does. One that the side is not offered now does nothing.
+    ///
+    /// # Errors
+    ///
+    /// The battle refuses the pair of choices, which is not known to happen.
+    pub fn choose(&mut self, side: Side, choice: Choice) -> Result<Reply, Fault> {
+        let is_offered = |(player, _): (&Player, _)| player.choices().contains(&choice);
+        if !self.to_choose(side).is_some_and(is_offered) {
+            return Ok(Reply::default());
+        }
+        let time = self.options.clock.map(|now| now());
+        let text = match &mut self.game {
+            Some(game) => game.chosen(side, choice, time)?,
+            None => String::new(),
+        };
         Ok(Reply { text, note: None })
     }
 
