@@ -1,5 +1,6 @@
-// The module's memory, and the arguments of a call in it. Pointers and sizes are BigInts in a module with a 64-bit memory.
+// The module, its memory, and the arguments of a call in it. Pointers and sizes are BigInts in a module with a 64-bit memory.
 import {Arena, BATTLE_SIZE} from "./arena.mjs";
+import {wrongType} from "./arguments.mjs";
 import {MemoryError, ModuleError} from "./errors.mjs";
 import {CODES} from "./header.mjs";
 import {layoutOf, readStruct} from "./structs.mjs";
@@ -179,5 +180,40 @@ export class Library {
   sentence(code) {
     this.begin();
     return this.written("gen1_error_text", CODES.SENTENCE_ROOM, code)[1];
+  }
+}
+
+const SOURCE = "a module: a URL, a path or their text, its bytes, or { proved, plain } with one of these each";
+const HAS_FILES = typeof process === "object" && Boolean(process?.versions?.node);
+// The scheme of a URL. One letter before a colon is a drive of Windows.
+const SCHEME = /^[a-z][a-z0-9+.-]+:/i;
+
+// The module of Node that reads files. Bundlers for browsers ignore it if its name is not in the import.
+const FILES = "node:fs/promises";
+
+// The bytes of a file.
+async function fileAt(place) {
+  const {readFile} = await import(/* webpackIgnore: true */ /* @vite-ignore */ FILES);
+  return readFile(place);
+}
+
+async function fetched(source) {
+  if (HAS_FILES && typeof source === "string" && !SCHEME.test(source)) return fileAt(source);
+  if (/^file:/i.test(source)) return fileAt(new URL(source));
+  const answer = await fetch(source);
+  if (!answer.ok) throw new Error(`${answer.status} ${answer.statusText}`);
+  return answer.arrayBuffer();
+}
+
+/** The instance of a module. If there is none, the host's error becomes the cause of a ModuleError. */
+export async function instanceOf(source, what) {
+  // Some hosts, such as GNOME's gjs, have no URL.
+  const isBytes = source instanceof ArrayBuffer || ArrayBuffer.isView(source);
+  if (!isBytes && typeof source !== "string" && !(source instanceof URL)) throw wrongType(source, what, SOURCE);
+  try {
+    return (await WebAssembly.instantiate(isBytes ? source : await fetched(source), {})).instance;
+  } catch (cause) {
+    const where = isBytes ? what : `${what}, ${source},`;
+    throw Object.assign(new ModuleError(`${where} is not a module that can run here: ${cause.message}`), {cause});
   }
 }

@@ -86,6 +86,7 @@ def shared(archive, work):
     """The shared library of the package."""
     made = work / "libgen1.so"
     wheels.shared_library(archive, made)
+    wheels.search_library(work / "libgen1_search.so")
     return made
 
 
@@ -227,10 +228,11 @@ def test_replay(kind, home, page, tmp_path):
     assert text.startswith(before) and text.endswith(after) and '"choices"' in text[len(before) : -len(after)]
 
 
-def test_tag_of_the_wheel(built, shared, needs):
-    """The wheel's tag names the newest version of glibc that objdump finds among the symbols of its library."""
+def test_tag_of_the_wheel(built, tmp_path, needs):
+    """The wheel's tag names the newest version of glibc that objdump finds among the symbols of its libraries."""
     needs("objdump")
-    said = good("objdump", "-T", shared, env=os.environ)
+    shutil.unpack_archive(built["wheel"], tmp_path, "zip")
+    said = "".join(good("objdump", "-T", it, env=os.environ) for it in (tmp_path / "gen1").glob("*.so"))
     needed = max((int(it) for it in re.findall(r"GLIBC_2\.(\d+)", said)), default=0)
     assert built["wheel"].name.endswith(f"-py3-none-manylinux_2_{needed}_{os.uname().machine}.whl")
 

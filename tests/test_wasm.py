@@ -1,13 +1,14 @@
 """The plain module of WebAssembly and its JavaScript package, under Node: recorded and random battles, and bad input."""
 
+import re
 import shutil
 
 import pytest
 from cargo import want_cargo
 from processes import add_counts, has, ran
 
-# The module is downloaded, so it may not grow beyond this.
-MOST_BYTES = 210_000
+# The modules are downloaded, so they may not grow beyond this.
+MOST_BYTES = {"gen1.wasm": 210_000, "search.wasm": 230_000}
 
 
 @pytest.fixture(scope="module")
@@ -25,8 +26,9 @@ def test_package(package):
     assert list(package.glob("*.tgz")) or not shutil.which("npm")
 
 
-def test_size_of_the_module(package):
-    assert (package / "gen1.wasm").stat().st_size < MOST_BYTES
+@pytest.mark.parametrize("module", MOST_BYTES)
+def test_size_of_the_module(package, module):
+    assert (package / module).stat().st_size < MOST_BYTES[module]
 
 
 def test_recorded_battles(package, unpacked, checks):
@@ -37,3 +39,9 @@ def test_recorded_battles(package, unpacked, checks):
 def test_random_bytes(package):
     """The package's own fuzzer ends without a fault."""
     ran("node", "test/fuzz.mjs", cwd=package)
+
+
+def test_search(package):
+    """The search knows no more than its player, refuses bad input, and takes at most 300 ms at level 3."""
+    said = ran("node", "test/search.mjs", cwd=package)
+    assert int(re.match(r"level 3: (\d+) ms", said)[1]) <= 300, said

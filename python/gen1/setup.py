@@ -14,8 +14,10 @@ except ImportError:  # a setuptools before 70.1, which has it from the package w
 
 HERE = Path(__file__).resolve().parent
 LIBRARY = HERE / "src" / "gen1" / "libgen1.so"
-# What a manylinux wheel may link without carrying it, of what the library could need: glibc.
-GLIBC = re.compile(rb"(libgen1|libc|libm|ld-linux[\w-]*)\.so[.\d]*")
+# The searches, which a package without cargo lacks.
+SEARCH = LIBRARY.with_name("libgen1_search.so")
+# What a manylinux wheel may link without carrying it, of what the libraries could need: glibc, and what unwinds.
+GLIBC = re.compile(rb"(libgen1|libgen1_search_c|libc|libm|libgcc_s|ld-linux[\w-]*)\.so[.\d]*")
 
 
 class Binary(Distribution):
@@ -26,7 +28,7 @@ class Binary(Distribution):
 
 
 def manylinux(platform, library):
-    """The platform's tag, as manylinux_2_N where the library links only glibc, and needs no version of it above 2.N.
+    """The platform's tag, as manylinux_2_N where the libraries link only glibc and libgcc_s, and need no version of glibc above 2.N.
 
     The names of what a library links, and of the versions that its symbols need, are texts in its file. A text elsewhere in it can only
     make the tag stricter.
@@ -42,7 +44,8 @@ class Wheel(bdist_wheel):
     """A wheel of no Python's own binary interface: the library is loaded by ctypes."""
 
     def get_tag(self):
-        return "py3", "none", manylinux(super().get_tag()[2], LIBRARY.read_bytes())
+        libraries = b"".join(it.read_bytes() for it in (LIBRARY, SEARCH) if it.is_file())
+        return "py3", "none", manylinux(super().get_tag()[2], libraries)
 
 
 for name in ("VERSION", "src/gen1/libgen1.so"):

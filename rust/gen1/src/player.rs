@@ -56,6 +56,14 @@ impl Player {
         Player { inner, side }
     }
 
+    /// The player that C keeps as `gen1_player` (include/gen1.h); `None` if its numbers are not those of a player.
+    #[doc(hidden)]
+    #[must_use]
+    pub fn from_plain(inner: plain::Player) -> Option<Self> {
+        let side = Side::from_number(inner.side)?;
+        (inner.foes <= 6).then_some(Player { inner, side })
+    }
+
     /// Reads the next bytes of the log of its side's teller, which may be cut anywhere.
     ///
     /// # Errors

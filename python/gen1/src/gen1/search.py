@@ -1,0 +1,322 @@
+"""Searches: a choice from what one side knows, and bounds of a battle's value.
+
+They are those of the crate gen1-search, whose README says how they work. Of
+it nothing is proved. They need libgen1_search.so beside libgen1.so, or
+where GEN1_SEARCH_LIBRARY says; a wheel of tools/python_wheel has it where
+cargo was installed. Without it each call raises `LibraryMissing`.
+
+>>> from gen1 import Battle, Choice, Member, Player, Teller
+>>> one, two = [Member("Gengar", ["Explosion", "Thunderbolt"])], [Member("Starmie", ["Surf"]), Member("Mew", ["Rest"])]
+>>> battle, teller, player = Battle(one, two, seed=range(10)), Teller(1), Player(1, one, foes=2)
+>>> teller.report(battle, battle.update(0, 0).log, player)
+>>> from gen1.search import think
+>>> think(player, level=2).choices[0].words
+'Thunderbolt'
+"""
+
+from __future__ import annotations
+
+import ctypes
+import json
+import os
+from collections.abc import Iterable
+from ctypes import POINTER, Structure, byref, c_char, c_double, c_size_t, c_uint8, c_uint16, c_uint32, c_uint64
+from dataclasses import dataclass
+from functools import cache
+from math import inf
+from numbers import Real
+from pathlib import Path
+from typing import Any
+
+from gen1._check import probability, shown, truth, within
+from gen1._library import PATH, TeamStruct
+from gen1._structs import BattleBytes, PlayerStruct
+from gen1.battle import Battle, TeamLike
+from gen1.choices import Choice, Rules
+from gen1.errors import BadArgument, BadType, Error, LibraryMissing
+from gen1.players import Player
+from gen1.teams import as_team
+
+# The longest result has nine choices with a line each.
+ROOM = 1 << 14
+MOST_WORD = (1 << 64) - 1
+MOST_TEAMS = 100_000
+
+
+class SearchFailed(Error):
+    """A search has nothing to do: no choice is offered, no guess fits what a
+    player knows, or the battle is over.
+    """
+
+
+class _ThinkStruct(Structure):
+    """ThinkForm of rust/gen1-search-ffi."""
+
+    _fields_ = [
+        ("nodes", c_uint64),
+        ("milliseconds", c_uint64),
+        ("seed", c_uint64),
+        ("trees", c_uint32),
+        ("guesses", c_uint32),
+        ("threads", c_uint32),
+        ("limit", c_uint16),
+        ("rules", c_uint8),
+        ("unused", c_uint8),
+        ("teams", POINTER(TeamStruct)),
+        ("weights", POINTER(c_double)),
+        ("count", c_size_t),
+    ]
+
+
+class _SolveStruct(Structure):
+    """SolveForm of rust/gen1-search-ffi."""
+
+    _fields_ = [
+        ("tolerance", c_double),
+        ("least", c_double),
+        ("memory", c_uint64),
+        ("milliseconds", c_uint64),
+        ("sweeps", c_uint32),
+        ("threads", c_uint32),
+        ("classes", c_uint8),
+        ("endless", c_uint8),
+    ]
+
+
+@dataclass(frozen=True)
+class Considered:
+    """A choice, and what the search found about it.
+
+    `probability` is how often to make it. `value` is how often the side
+    wins after it, against the foe's play in the search, or None if it was
+    not tried in the second half. `line` is how play may continue: for each
+    update the choices of the side and of the foe in words, this one first.
+    """
+
+    choice: Choice
+    words: str
+    probability: float
+    value: float | None
+    line: tuple[tuple[str, str], ...]
+
+
+@dataclass(frozen=True)
+class Thought:
+    """The result of `think`.
+
+    `choices` are the offered ones, the most probable first. `value` is how
+    often the side is estimated to win, a tie counting as half, and
+    `deviation` its standard error by the sampling alone: not that of the
+    guesses, nor that of the values at the leaves.
+    """
+
+    choices: tuple[Considered, ...]
+    value: float
+    deviation: float
+    nodes: int
+
+    @property
+    def best(self) -> Choice:
+        """The most probable choice."""
+        return self.choices[0].choice
+
+
+@dataclass(frozen=True)
+class Made:
+    """A choice of a side, and how often it makes it."""
+
+    choice: Choice
+    words: str
+    probability: float
+
+
+@dataclass(frozen=True)
+class Solved:
+    """The result of `solve`: side 1 wins with a probability from `low` to
+    `high` if both sides play as well as can be; a tie counts as half.
+
+    `stopped` says why the search ended: "solved", "memory", "endless" (the
+    rest are battles that never end), "sweeps" or "time". `plays` are the
+    choices of side 1 and of side 2.
+    """
+
+    low: float
+    high: float
+    stopped: str
+    positions: int
+    sweeps: int
+    plays: tuple[tuple[Made, ...], ...]
+
+
+@cache
+def _library() -> ctypes.CDLL:
+    """The library of the searches."""
+    named = os.environ.get("GEN1_SEARCH_LIBRARY")
+    path = Path(named) if named else Path(PATH).with_name("libgen1_search.so")
+    if not path.is_file():
+        raise LibraryMissing(
+            f"{path} is not there, which gen1.search needs: install cargo, and build the package by tools/python_wheel; "
+            "or set GEN1_SEARCH_LIBRARY to the library of `cargo build --release -p gen1-search-ffi`"
+        )
+    try:
+        found = ctypes.CDLL(str(path.resolve()))
+    except OSError as fault:
+        raise LibraryMissing(f"{path} cannot be loaded: {fault}") from fault
+    text = (POINTER(c_char), c_size_t)
+    found.gen1_search_nodes.restype, found.gen1_search_nodes.argtypes = c_uint64, (c_uint8,)
+    found.gen1_search_think.restype = found.gen1_search_solve.restype = c_size_t
+    found.gen1_search_think.argtypes = (POINTER(PlayerStruct), POINTER(_ThinkStruct), *text)
+    found.gen1_search_solve.argtypes = (POINTER(BattleBytes), POINTER(_SolveStruct), *text)
+    return found
+
+
+def level_nodes(level: int) -> int:
+    """How many nodes a search of a level has, 1 to 5. Raises `BadArgument`,
+    `BadType`, `LibraryMissing`.
+    """
+    return int(_library().gen1_search_nodes(within(level, "level", 1, 5)))
+
+
+def think(
+    player: Player,
+    *,
+    level: int = 3,
+    nodes: int | None = None,
+    seconds: float | None = None,
+    seed: int = 0,
+    teams: Iterable[TeamLike] | None = None,
+    weights: Iterable[float] | None = None,
+    rules: Rules | int = 0,
+    limit: int = 1000,
+    trees: int = 4,
+    guesses: int = 16,
+    threads: int = 1,
+) -> Thought:
+    """Searches for a side's best choice, from its player's view alone.
+
+    A search has as many nodes as its level, 1 to 5 (`level_nodes`), or as
+    `nodes` says. `seconds` ends it earlier; then it is not repeatable.
+    Otherwise the same player, seed, nodes, trees and guesses give the same
+    result, for any number of threads. `teams` are those that the foe may
+    have, each as probable as its weight over the sum of all, or all alike;
+    without them, the sample teams. `rules` and `limit` are those of the
+    battle, which a player doesn't know.
+
+    Other Python threads run during the search. Raises `SearchFailed` if the
+    player is offered no choice, or no guess fits what it knows;
+    `BadArgument`, `BadTeam`, `BadType`, `LibraryMissing`.
+    """
+    if not isinstance(player, Player):
+        raise BadType(f"player must be a Player, not {shown(player)}")
+    count = level_nodes(level) if nodes is None else within(nodes, "nodes", 1, MOST_WORD)
+    listed, each = _prior(teams, weights)
+    asked = _ThinkStruct(
+        nodes=count,
+        milliseconds=_milliseconds(seconds),
+        seed=within(seed, "seed", 0, MOST_WORD),
+        trees=within(trees, "trees", 1, 1024),
+        guesses=within(guesses, "guesses", 1, 4096),
+        threads=within(threads, "threads", 1, 256),
+        limit=within(limit, "limit", 1, 9999),
+        rules=within(rules, "rules", 0, 3, Rules),
+        teams=listed,
+        weights=each,
+        count=len(each),
+    )
+    found = _said(_library().gen1_search_think, player._held, asked)
+    choices = tuple(
+        Considered(
+            Choice(it["choice"]),
+            it["words"],
+            it["probability"],
+            it["value"],
+            tuple((own, foe) for own, foe in it["line"]),
+        )
+        for it in found["choices"]
+    )
+    return Thought(choices, found["value"], found["deviation"], found["nodes"])
+
+
+def solve(
+    battle: Battle,
+    *,
+    endless: bool = False,
+    tolerance: float = 1e-6,
+    memory: int = 1 << 30,
+    sweeps: int = 2000,
+    classes: int = 0,
+    least: float = 0.0,
+    seconds: float | None = None,
+    threads: int = 1,
+) -> Solved:
+    """Bounds how often side 1 wins a battle if both sides play as well as can
+    be. Draws are taken to be independent and equally likely.
+
+    With `endless` each move keeps its PP: fewer positions. The search ends
+    at an interval of the width `tolerance`, at `memory` bytes, after
+    `sweeps`, or after `seconds`; what was not searched is in the interval.
+    `classes` of damage, 1 to 39 for each roll, make it another game, with
+    fewer positions. Draws that are less probable together than `least` are
+    left out, and in the interval.
+
+    Other Python threads run during the search. Raises `SearchFailed` for a
+    battle that is over; `BadArgument`, `BadType`, `LibraryMissing`.
+    """
+    if not isinstance(battle, Battle):
+        raise BadType(f"battle must be a Battle, not {shown(battle)}")
+    asked = _SolveStruct(
+        tolerance=probability(tolerance, "tolerance"),
+        least=probability(least, "least"),
+        memory=within(memory, "memory", 1, MOST_WORD),
+        milliseconds=_milliseconds(seconds),
+        sweeps=within(sweeps, "sweeps", 1, 0xFFFFFFFF),
+        threads=within(threads, "threads", 1, 256),
+        classes=within(classes, "classes", 0, 39),
+        endless=truth(endless, "endless"),
+    )
+    found = _said(_library().gen1_search_solve, battle._held, asked)
+    plays = tuple(
+        tuple(Made(Choice(it["choice"]), it["words"], it["probability"]) for it in side) for side in found["plays"]
+    )
+    return Solved(found["low"], found["high"], found["stopped"], found["positions"], found["sweeps"], plays)
+
+
+def _said(call: Any, of: Any, asked: Structure) -> dict[str, Any]:
+    """The object that a search writes."""
+    text = ctypes.create_string_buffer(ROOM)
+    length = call(byref(of), byref(asked), text, ROOM)
+    found: dict[str, Any] = json.loads(text.raw[:length])
+    if "error" in found:
+        raise SearchFailed(found["error"])
+    return found
+
+
+def _prior(teams: Iterable[TeamLike] | None, weights: Iterable[float] | None) -> tuple[Any, Any]:
+    """The teams and their weights as arrays."""
+    if teams is None:
+        if weights is not None:
+            raise BadArgument("weights are those of teams: give both, or neither")
+        return (TeamStruct * 0)(), (c_double * 0)()
+    made = [as_team(it) for it in teams]
+    if not 1 <= len(made) <= MOST_TEAMS:
+        raise BadArgument(f"teams must be 1 to {MOST_TEAMS:,} teams, not {len(made):,}")
+    each = (
+        [1.0] * len(made) if weights is None else [_above_zero(it, f"weights[{at}]") for at, it in enumerate(weights)]
+    )
+    if len(each) != len(made):
+        raise BadArgument(f"weights must be {len(made):,}, one for each of the teams, not {len(each):,}")
+    return (TeamStruct * len(made))(*(it._struct for it in made)), (c_double * len(each))(*each)
+
+
+def _above_zero(value: object, what: str) -> float:
+    if isinstance(value, bool) or not isinstance(value, Real):
+        raise BadType(f"{what} must be a number, not {shown(value)}")
+    number = float(value)
+    if not 0 < number < inf:
+        raise BadArgument(f"{what} must be a number above 0, not {shown(value)}")
+    return number
+
+
+def _milliseconds(seconds: float | None) -> int:
+    """The milliseconds of an end by the clock; 0 for none."""
+    return 0 if seconds is None else max(1, int(1000 * min(_above_zero(seconds, "seconds"), 1e9)))
