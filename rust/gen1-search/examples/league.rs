@@ -1,13 +1,17 @@
 //! Battles between bots, and the fit of the leaf weights.
 //!
-//!     cargo run --release -p gen1-search --example league -- ONE TWO [BATTLES [SEED]]
+//!     cargo run --release -p gen1-search --example league -- BOT BOT .. [BATTLES [SEED]]
 //!     cargo run --release -p gen1-search --example league -- fit [BATTLES [SEED]]
 //!
-//! A bot is `random`, `greedy`, `monte:MS`, `think:MS` (milliseconds for each choice) or `nodes:N` (nodes for each choice). Each has a
-//! player's view. Two teams are drawn from the sample teams for each two battles, in which the bots swap sides. Battles are played side by
-//! side, one on each thread; a choice uses one thread.
+//! A bot is `random`, `greedy`, `monte:MS`, `think:MS` (milliseconds for each choice), `nodes:N` (nodes for each choice) or `level:N` (1 to
+//! 5). Each has a player's view. Each pair of bots plays BATTLES battles (100). Two teams are drawn from the sample teams for each two
+//! battles, in which the bots swap sides. Battles are played side by side, one on each thread; a choice uses one thread. Without a bot with
+//! milliseconds the table is the same for any number of threads (RAYON_NUM_THREADS).
+//!
+//! With three bots or more each has a rating by the model of Bradley and Terry, 400 for odds of 10 to 1, with the first bot at 0. The
+//! interval has 95 % of the ratings of tables that are drawn again from the battles.
 use gen1::{Battle, Choice, Guess, MoveId, Outcome, Player, PlayoutOptions, Side, Team, Teller};
-use gen1_search::{Dice, Prior, ThinkOptions, leaf, think};
+use gen1_search::{Dice, LEVELS, Prior, ThinkOptions, leaf, think};
 use rayon::prelude::*;
 use std::process::ExitCode;
 use std::time::{Duration, Instant};
@@ -32,6 +36,7 @@ impl Bot {
             "monte" => Bot::Monte(time),
             "think" => Bot::Think(time),
             "nodes" => Bot::Nodes(number),
+            "level" => Bot::Nodes(*LEVELS.get(usize::try_from(number).ok()?.checked_sub(1)?)?),
             _ => return None,
         })
     }
@@ -175,12 +180,11 @@ fn drawn<'a>(teams: &'a [Team], dice: &mut Dice) -> [&'a Team; 2] {
     [(); 2].map(|()| &teams[dice.below(teams.len())])
 }
 
-/// Prints how often the first bot wins.
-fn match_of(one: Bot, two: Bot, battles: u64, seed: u64) {
+/// What the first bot gets in each battle against the second: 1, 0, or 0.5 for a tie.
+fn scores(one: Bot, two: Bot, battles: u64, seed: u64) -> Vec<f64> {
     let prior = Prior::samples();
     let teams = teams(&prior);
-    let begun = Instant::now();
-    let scores: Vec<f64> = (0..battles)
+    (0..battles)
         .into_par_iter()
         .map(|number| {
             // Two battles have the same teams; in the second the bots swap sides, so each bot has each team once.
@@ -198,17 +202,84 @@ fn match_of(one: Bot, two: Bot, battles: u64, seed: u64) {
                 None => 0.5,
             }
         })
-        .collect();
-    let count = battles as f64;
-    let share = scores.iter().sum::<f64>() / count;
-    let spread =
-        1.96 * (scores.iter().map(|it| (it - share).powi(2)).sum::<f64>() / count / count).sqrt();
-    let time = begun.elapsed().as_secs();
-    println!(
-        "{:.1} % +- {:.1} % of {battles} battles won ({time} s)",
-        100.0 * share,
-        100.0 * spread
-    );
+        .collect()
+}
+
+fn mean(scores: &[f64]) -> f64 {
+    scores.iter().sum::<f64>() / scores.len() as f64
+}
+
+/// A pair of bots, by their numbers, and what the first got in each battle.
+type Pair = (usize, usize, Vec<f64>);
+
+/// Plays each pair of bots, and prints the shares of battles won and the ratings.
+fn league(names: &[String], bots: &[Bot], battles: u64, seed: u64) {
+    let mut pairs: Vec<Pair> = Vec::new();
+    for one in 0..bots.len() {
+        for two in one + 1..bots.len() {
+            let begun = Instant::now();
+            let scores = scores(bots[one], bots[two], battles, seed);
+            let (share, count) = (mean(&scores), battles as f64);
+            let variance = scores.iter().map(|it| (it - share).powi(2)).sum::<f64>() / count;
+            println!(
+                "{} against {}: {:.1} % +- {:.1} % of {battles} battles won ({} s)",
+                names[one],
+                names[two],
+                100.0 * share,
+                196.0 * (variance / count).sqrt(),
+                begun.elapsed().as_secs()
+            );
+            pairs.push((one, two, scores));
+        }
+    }
+    if bots.len() > 2 {
+        print_ratings(names, &pairs, seed);
+    }
+}
+
+/// The ratings of bots, of which the first has 0: 200 steps of the iteration by minorization for Bradley and Terry's model. Each pair has
+/// half a win for both more, so that no rating is without bound.
+fn ratings(count: usize, pairs: &[Pair]) -> Vec<f64> {
+    let mut strengths = vec![1.0; count];
+    for _ in 0..200 {
+        let (mut won, mut met) = (vec![0.0; count], vec![0.0; count]);
+        for (one, two, scores) in pairs {
+            let games = scores.len() as f64 + 1.0;
+            let wins = scores.iter().sum::<f64>() + 0.5;
+            won[*one] += wins;
+            won[*two] += games - wins;
+            let each = games / (strengths[*one] + strengths[*two]);
+            met[*one] += each;
+            met[*two] += each;
+        }
+        strengths = won.iter().zip(&met).map(|(won, met)| won / met).collect();
+    }
+    let first = strengths[0];
+    strengths
+        .iter()
+        .map(|it| 400.0 * (it / first).log10())
+        .collect()
+}
+
+/// Prints the ratings with their intervals.
+fn print_ratings(names: &[String], pairs: &[Pair], seed: u64) {
+    const TABLES: usize = 400;
+    let mut dice = Dice::new(seed);
+    let again = |dice: &mut Dice| -> Vec<f64> {
+        let drawn = pairs.iter().map(|(one, two, scores)| {
+            let scores = scores.iter().map(|_| scores[dice.below(scores.len())]);
+            (*one, *two, scores.collect())
+        });
+        ratings(names.len(), &drawn.collect::<Vec<Pair>>())
+    };
+    let tables: Vec<_> = (0..TABLES).map(|_| again(&mut dice)).collect();
+    println!("\n| Bot | rating | 95 % |\n|---|---:|---|");
+    for (at, (name, rating)) in names.iter().zip(ratings(names.len(), pairs)).enumerate() {
+        let mut all: Vec<f64> = tables.iter().map(|table| table[at]).collect();
+        all.sort_by(f64::total_cmp);
+        let (low, high) = (all[TABLES / 40], all[TABLES - 1 - TABLES / 40]);
+        println!("| `{name}` | {rating:.0} | {low:.0} to {high:.0} |");
+    }
 }
 
 /// A position's features, and how its battle ended for side 1.
@@ -291,15 +362,22 @@ fn main() -> ExitCode {
             return ExitCode::SUCCESS;
         }
     }
-    let bot = |at: usize| words.get(at).and_then(|word| Bot::read(word));
-    if let (Some(one), Some(two), Some(battles), Some(seed)) =
-        (bot(0), bot(1), number(2, 100), number(3, 1))
-    {
-        match_of(one, two, battles.max(1), seed);
+    let names: Vec<String> = words
+        .iter()
+        .take_while(|word| Bot::read(word).is_some())
+        .cloned()
+        .collect();
+    let bots: Vec<Bot> = names.iter().filter_map(|word| Bot::read(word)).collect();
+    if let (2.., Some(battles), Some(seed)) = (
+        bots.len(),
+        number(bots.len(), 100),
+        number(bots.len() + 1, 1),
+    ) {
+        league(&names, &bots, battles.max(1), seed);
         return ExitCode::SUCCESS;
     }
     eprintln!(
-        "league: ONE TWO [BATTLES [SEED]], or fit [BATTLES [SEED]]; a bot is random, greedy, monte:MS, think:MS or nodes:N"
+        "league: BOT BOT .. [BATTLES [SEED]], or fit [BATTLES [SEED]]; a bot is random, greedy, monte:MS, think:MS, nodes:N or level:N"
     );
     ExitCode::from(2)
 }

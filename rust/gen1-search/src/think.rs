@@ -359,7 +359,7 @@ fn search<'a>(
     share: Share,
 ) -> Searched<'a> {
     let mut found = Searched {
-        tree: Tree::new(side, &set.0, set.1, share.nodes),
+        tree: Tree::new(side, &set.0, set.1),
         nodes: 0,
         batches: alloc::vec![Sum::default(); BATCHES],
     };

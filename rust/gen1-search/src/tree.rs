@@ -12,10 +12,6 @@ use gen1::{ArrayVec, Battle, OfferedMask, Side};
 
 /// The most updates of one pass.
 const DEPTH: usize = 64;
-/// The most nodes for which a tree has memory from the start: growing means to wait for the system, where threads wait for each other.
-const ROOM: u64 = 1 << 16;
-/// The numbers of a node in a usual tree: of six choices of each side.
-const NUMBERS: usize = 96;
 /// How often a side explores, by any of its choices.
 const EXPLORED: f32 = 0.1;
 
@@ -93,9 +89,8 @@ pub struct Tree<'a> {
 }
 
 impl<'a> Tree<'a> {
-    /// A tree without passes, with memory for as many. In each guess `side` is offered the same number of choices.
-    pub fn new(side: Side, guesses: &'a [Battle], seed: u64, passes: u64) -> Self {
-        let room = passes.clamp(512, ROOM) as usize;
+    /// A tree without passes. In each guess `side` is offered the same number of choices.
+    pub fn new(side: Side, guesses: &'a [Battle], seed: u64) -> Self {
         let choices = guesses.first().map_or(0, |it| it.offered_mask(side).len());
         Tree {
             side,
@@ -106,9 +101,9 @@ impl<'a> Tree<'a> {
                 strategy: alloc::vec![0.0; choices],
                 got: alloc::vec![Sum::default(); choices],
             },
-            nodes: Vec::with_capacity(room),
-            numbers: Vec::with_capacity(NUMBERS * room),
-            slots: alloc::vec![(0, 0); 2 * room.next_power_of_two()],
+            nodes: Vec::new(),
+            numbers: Vec::new(),
+            slots: alloc::vec![(0, 0); 1 << 10],
             dice: Dice::new(seed),
         }
     }

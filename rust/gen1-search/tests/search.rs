@@ -364,6 +364,64 @@ fn hidden_members_and_moves_make_no_difference() {
     assert_eq!((thoughts[0].choices.len(), thoughts[0].nodes), (3, 400));
 }
 
+/// The foe's team, and one that differs in the last three members and the last move of each other, none of which the foe shows.
+fn alike_teams(dice: &mut Dice) -> [Team; 2] {
+    let samples = Prior::samples();
+    let [foe, other] = [(); 2].map(|()| &samples.teams()[dice.below(12)].0);
+    let mut hidden = foe.clone();
+    for spec in &mut hidden[..3] {
+        spec.moves.truncate(3);
+        spec.moves
+            .push((gen1::MoveId::from_name("Splash").unwrap(), 3));
+    }
+    hidden[3..].clone_from_slice(&other[3..]);
+    [foe, &hidden].map(|specs| Team::new(specs).unwrap())
+}
+
+#[test]
+fn what_is_not_shown_makes_no_difference_at_200_positions() {
+    let (prior, mut dice, mut positions) = (Prior::samples(), Dice::new(8), 0);
+    let hidden = ["move 4", "switch 4", "switch 5", "switch 6"];
+    while positions < 200 {
+        let own = Team::new(&prior.teams()[dice.below(12)].0).unwrap();
+        let foes = alike_teams(&mut dice);
+        let mut hosts = foes.each_ref().map(|foe| {
+            let player = Player::with_foes(Side::One, &own, 6);
+            (
+                Battle::new(&own, foe, [3; 10]),
+                Teller::new(Side::One),
+                player,
+            )
+        });
+        let mut pair = (Choice::Pass, Choice::Pass);
+        for _ in 0..20 {
+            for (battle, teller, player) in &mut hosts {
+                let update = battle.update(pair.0, pair.1).unwrap();
+                teller.report(battle, &update.log(), player).unwrap();
+            }
+            let battle = &hosts[0].0;
+            let mut theirs = battle.choices(Side::Two);
+            theirs.retain(|it| !hidden.contains(&it.to_string().as_str()));
+            if battle.is_over() || theirs.is_empty() {
+                break;
+            }
+            let mut options = options(40);
+            (options.seed, options.trees, options.guesses) = (positions, 1, 2);
+            let [one, two] = hosts
+                .each_ref()
+                .map(|it| think(&it.2, &prior, &options).unwrap());
+            assert_eq!(one, two);
+            assert_ne!(hosts[0].0.as_bytes(), hosts[1].0.as_bytes());
+            positions += 1;
+            let mine = battle.choices(Side::One);
+            pair = (
+                mine[dice.below(mine.len())],
+                theirs[dice.below(theirs.len())],
+            );
+        }
+    }
+}
+
 #[test]
 #[cfg(feature = "threads")]
 fn any_number_of_threads_gives_the_same_thought() {
