@@ -249,12 +249,12 @@ def test_the_header_is_that_of_the_sources(both, compared):
 
 
 def test_exchanged_fields_are_found(both, compared):
-    """In each struct two fields of one type are exchanged, such as both sides: each exchange is a fault."""
+    """In each struct of the header two fields of one type are exchanged, such as both sides: each exchange is a fault."""
     exchanges = [
         (struct, one, two)
         for struct, fields in both.structs.items()
         for one, two in combinations(range(len(fields)), 2)
-        if fields[one][1:] == fields[two][1:]
+        if struct in both.named and fields[one][1:] == fields[two][1:]
     ]
     faults = []
     for struct, one, two in exchanges:

@@ -28,7 +28,7 @@ LAYERS = (
     (
         "Battle",
         "the order of a turn, which kind of update is due, refusals, the log of an update; no offsets and no files",
-        ("gen1_player", "gen1_room", "gen1_playouts", "gen1_outcomes", "gen1_engine", "gen1_turn"),
+        ("gen1_host", "gen1_player", "gen1_room", "gen1_playouts", "gen1_outcomes", "gen1_engine", "gen1_turn"),
     ),
     (
         "Operations",

@@ -4,6 +4,7 @@
 //! - `battles`: views and bytes of whole battles
 //! - `views`: what each event changes of a spectator's view
 //! - `following`: a view that follows log bytes
+//! - `hosts`: tables
 //! - `own_sides`: what a side is shown of itself
 //! - `players`: what a player knows
 //! - `rooms`: rooms
@@ -21,6 +22,8 @@ mod comparing;
 mod events;
 #[cfg(test)]
 mod following;
+#[cfg(test)]
+mod hosts;
 #[cfg(test)]
 mod own_sides;
 #[cfg(test)]

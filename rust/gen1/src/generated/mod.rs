@@ -8,6 +8,7 @@ pub mod effects;
 pub mod engine;
 pub mod events;
 pub mod hits;
+pub mod host;
 pub mod layout;
 pub mod machine;
 pub mod multiturn;

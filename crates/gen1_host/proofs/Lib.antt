@@ -1,0 +1,20 @@
+-- A table and its rows.
+pub mod Tables
+-- Submissions, and what tellers make of logs.
+pub mod Submissions
+-- Each row at a table that goes on.
+pub mod Calls
+-- Choices that are taken back.
+pub mod Cancels
+-- What is sent.
+pub mod Sending
+-- Rows one after the other.
+pub mod Rows
+-- Worked examples.
+pub mod WorkedTables
+-- What a side and the audience see after each row.
+pub mod QuietSubmissions
+pub mod QuietRows
+pub mod EndedPairs
+pub mod Secrecy
+pub mod Audience

@@ -1,0 +1,10 @@
+-- A table: two players, what each was told, how it may end, and what becomes of it by each row.
+pub mod Table
+-- What each side and the audience are sent.
+pub mod Messages
+-- The replies to rows.
+pub mod Replies
+-- A table as a plain struct.
+pub mod Hosts
+-- What no message and no reply reveals.
+pub mod Secrecy

@@ -1,0 +1,160 @@
+//! Choices at a table: submitted, taken back, and made when time has run out (docs/MECHANICS.md, "Hosts").
+ghost use Rattle.std.specs.Prelude.{List, None, OnErr, false, length, ◌≡◌, ◌≤◌};
+ghost use Rattle.gen1_machine.specs.declared.event.Event.{Event};
+ghost use Rattle.gen1_machine.specs.Room.{Course, is_asked_to_pass};
+ghost use Rattle.gen1_events.specs.Splits.{IsReading};
+ghost use Rattle.gen1_player.specs.Telling.{meets_all};
+ghost use Rattle.gen1_room.specs.Plain.{Keeps};
+ghost use Rattle.gen1_room.specs.Rooms.{submission_of};
+ghost use Rattle.gen1_host.specs.Table.{Cancel, Expire, Submit, Table, goes_on, has_none_to_cancel, reply_to_submission, submitted, taken_back};
+ghost use Rattle.gen1_host.specs.Hosts.{Follows, Hosts, IsWithin, Takes};
+
+use crate::host::{Host, is_closed};
+use crate::reply::{HostRefusal, HostReply, Replied, refusal_of, reply_to};
+use crate::room::{NONE, copy_of, draw_from, first_due, has_chosen, is_asked_to_pass, log_of};
+use gen1_machine::Side;
+use gen1_player::Teller;
+use gen1_rolls::LinkRandom;
+use gen1_room::plain::{PlainRoom, submit as submit_to_room};
+
+/// Submits the byte of a side's choice for the pair with the given number. If there are numbers, the battle draws them from then on.
+///
+/// A refusal changes nothing, with any bytes of the host. Once both choices are there the battle is updated.
+pub fn submit(
+    host: &mut Host,
+    side: Side,
+    number: u32,
+    byte: u8,
+    numbers: &Option<LinkRandom>,
+) -> HostReply
+    ensures takes { (t : Table) → Hosts host.old t
+        → Takes (Submit numbers.now (submission_of side number byte)) t host.new result }
+    ensures within { IsWithin host.old → IsWithin host.new }
+    ensures refused { OnErr result (host.new ≡ host.old) }
+{
+    if is_closed(host) {
+        return Err(HostRefusal::Over);
+    }
+    submit_now(host, side, number, byte, numbers)
+}
+
+// At a table that goes on.
+fn submit_now(
+    host: &mut Host,
+    side: Side,
+    number: u32,
+    byte: u8,
+    numbers: &Option<LinkRandom>,
+) -> HostReply
+    ensures follows { (t : Table) → Hosts host.old t
+        → Follows (reply_to_submission numbers.now (submission_of side number byte) t)
+        t (submitted numbers.now (submission_of side number byte) t) host.new result }
+    ensures within { IsWithin host.old → IsWithin host.new }
+    ensures refused { OnErr result (host.new ≡ host.old) }
+{
+    let mut room = copy_of(&host.room);
+    draw_from(&mut room, numbers);
+    match submit_to_room(&mut room, side, number, byte) {
+        Ok(submitted) => {
+            go_on(host, room);
+            Ok(reply_to(&submitted))
+        }
+        Err(why) => Err(refusal_of(why)),
+    }
+}
+
+// The room becomes this one. If a pair has ended, both tellers have told the events before it, and no draw is offered.
+fn go_on(host: &mut Host, next: PlainRoom)
+    ensures hosts { (t : Table) (c : Course) → Hosts host.old t → Keeps next c → next.log_length ≤ 512
+        → Hosts host.new (goes_on t c) }
+    ensures within { next.log_length ≤ 512 → IsWithin host.old → IsWithin host.new }
+{
+    if next.number == host.room.number {
+        host.room = next;
+        return;
+    }
+    meet_last(host);
+    host.room = next;
+}
+
+// Both tellers tell the log of the last pair.
+fn meet_last(host: &mut Host)
+    ensures hosts { (t : Table) → Hosts host.old t
+        → Hosts host.new (record t { one = meets_all t.course.events t.one; two = meets_all t.course.events t.two; draw = None }) }
+    ensures room { host.new.room ≡ host.old.room }
+    ensures within { IsWithin host.old → IsWithin host.new }
+{
+    meet(&mut host.one, log_of(&host.room));
+    meet(&mut host.two, log_of(&host.room));
+    host.draw = 0;
+}
+
+// Bytes that are not a log leave the teller as it was.
+fn meet(teller: &mut Teller, log: &[u8])
+    requires few { length log.now ≤ 512 }
+    ensures { (events : List Event) → IsReading log.now events → teller.new ≡ meets_all events teller.old }
+{
+    let _ = teller.tell_log(log);
+}
+
+/// Takes a side's choice for the pair with the given number back, if the house rules allow it and the other side's choice is missing.
+pub fn cancel(host: &mut Host, side: Side, number: u32) -> HostReply
+    ensures takes { (t : Table) → Hosts host.old t → Takes (Cancel side number) t host.new result }
+    ensures within { IsWithin host.old → IsWithin host.new }
+    ensures refused { OnErr result (host.new ≡ host.old) }
+{
+    if is_closed(host) {
+        return Err(HostRefusal::Over);
+    }
+    if host.may_cancel == 0 {
+        return Err(HostRefusal::NotAllowed);
+    }
+    if number != host.room.number {
+        return Err(HostRefusal::Stale(host.room.number));
+    }
+    if has_none_to_cancel(&host.room, side) {
+        return Err(HostRefusal::NothingChosen);
+    }
+    take_back(host, side);
+    Ok(Replied::Kept)
+}
+
+fn has_none_to_cancel(room: &PlainRoom, side: Side) -> bool
+    ensures { (c : Course) → Keeps room.now c → result ≡ has_none_to_cancel side c }
+{
+    let is_missing = !has_chosen(room, side);
+    is_asked_to_pass(room, side) | is_missing
+}
+
+fn take_back(host: &mut Host, side: Side)
+    ensures hosts { (t : Table) → Hosts host.old t → is_asked_to_pass side t.course ≡ false → Hosts host.new (taken_back side t) }
+    ensures within { IsWithin host.old → IsWithin host.new }
+{
+    match side {
+        Side::One => host.room.one = NONE,
+        Side::Two => host.room.two = NONE,
+    }
+}
+
+/// A side's time for the pair with the given number has run out: its first choice is made, or it forfeits, by the house rules.
+pub fn expire(host: &mut Host, side: Side, number: u32, numbers: &Option<LinkRandom>) -> HostReply
+    ensures takes { (t : Table) → Hosts host.old t → Takes (Expire numbers.now side number) t host.new result }
+    ensures within { IsWithin host.old → IsWithin host.new }
+    ensures refused { OnErr result (host.new ≡ host.old) }
+{
+    if is_closed(host) {
+        return Err(HostRefusal::Over);
+    }
+    if number != host.room.number {
+        return Err(HostRefusal::Stale(host.room.number));
+    }
+    if has_chosen(&host.room, side) {
+        return Err(HostRefusal::AlreadyChosen);
+    }
+    if host.late_forfeits != 0 {
+        host.ending = side.number();
+        return Ok(Replied::Ended);
+    }
+    let byte = first_due(&host.room, side);
+    submit_now(host, side, number, byte, numbers)
+}
