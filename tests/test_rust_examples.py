@@ -142,6 +142,7 @@ def played(row, number, work):
     words += [
         f"--spectator={sys.executable} {work / 'spectator.py'} {files[3]}",
         "--patience=120",
+        "--replays",
         "--refusals=100000",
     ]
     ended = run("room", "host", files[0], *words)
@@ -151,7 +152,7 @@ def played(row, number, work):
 def compare(row, number, ended, got, checks):
     """Compares what the players and the spectator received: side, team, logs, offers and replies; and the logs."""
     logs = [it["log"] for it in row["updates"]]
-    checks.same(f"room {number}: the spectator", got[2].hex(), "".join(logs))
+    checks.same(f"room {number}: the spectator", got[2].hex(), "".join(told(told(logs, 0), 1)))
     refused = ""
     for side in (0, 1):
         wanted, asked = transcript(row, side, number % 2)

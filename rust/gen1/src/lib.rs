@@ -39,6 +39,7 @@
 //! | a player's view | [`Player`], [`Teller`], [`Battle::own_side`], [`Battle::from_player`] |
 //! | a spectator's view | [`Spectator`] |
 //! | two players who choose independently | [`Room`] |
+//! | everything that two players and an audience are sent | [`Host`] |
 //!
 //! # Names
 //!
@@ -95,6 +96,7 @@ mod from_state;
 #[rustfmt::skip]
 pub mod generated;
 mod guess;
+mod host;
 pub mod layout;
 mod lines;
 mod mask;
@@ -114,6 +116,8 @@ mod update;
 pub use crate::generated::engine::{BattleResult, Choices, LoadFault, Refusal, write_log};
 #[doc(inline)]
 pub use crate::generated::events::{LogBuf, LogFault, LogReader};
+#[doc(inline)]
+pub use crate::generated::host::{HostRefusal, HostReply, Replied};
 #[doc(inline)]
 pub use crate::generated::layout::Conditions;
 #[doc(inline)]
@@ -146,6 +150,7 @@ pub use battle::Battle;
 pub use event::LineFault;
 pub use from_state::{StateFault, StateField};
 pub use guess::{Guess, GuessFault};
+pub use host::{Host, HostOptions, Message, Notice, Row};
 pub use lines::{Events, Line, Lines, events_of};
 pub use mask::OfferedMask;
 pub use odds::{Between, Chances, DamageRefusal, HpChange, Odds, ThreeChances};

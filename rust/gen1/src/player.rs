@@ -138,14 +138,19 @@ impl Player {
     /// The outcome so far.
     #[must_use]
     pub fn outcome(&self) -> Outcome {
-        match self.inner.public.outcome {
-            1 => Outcome::WinOne,
-            2 => Outcome::WinTwo,
-            3 => Outcome::Tie,
-            4 => Outcome::Fault(1),
-            5 => Outcome::Fault(2),
-            _ => Outcome::Ongoing,
-        }
+        outcome_at(self.inner.public.outcome)
+    }
+}
+
+/// The outcome with this byte (docs/LAYOUT.md, "Header").
+pub(crate) fn outcome_at(byte: u8) -> Outcome {
+    match byte {
+        1 => Outcome::WinOne,
+        2 => Outcome::WinTwo,
+        3 => Outcome::Tie,
+        4 => Outcome::Fault(1),
+        5 => Outcome::Fault(2),
+        _ => Outcome::Ongoing,
     }
 }
 

@@ -2,7 +2,9 @@
 use crate::pipes::{Mailbox, Process, Said};
 use crate::protocol::{RUBBISH, TOO_MANY, ask_line, log_line};
 use crate::sheet::Sheet;
-use gen1::{Battle, Room, RoomRefusal, Side, Teller};
+use gen1::{Battle, HostRefusal, HostReply, Row, Side};
+use std::fs::File;
+use std::io::{self, Read};
 use std::time::{Duration, Instant};
 
 /// The limits for a player: time, and refusals.
@@ -12,13 +14,13 @@ pub struct Terms {
     pub patience: Duration,
     /// How many lines of a player are refused before it is out.
     pub refusals: u32,
+    /// Whether the battle draws the numbers that follow from its seed, and none of the operating system.
+    pub replays: bool,
 }
 
 /// A player in the room.
 struct Player {
     side: Side,
-    /// It makes the log that the player may see.
-    teller: Teller,
     process: Process,
     /// How often each code was sent, from code 0, which means accepted.
     answers: [u32; 7],
@@ -28,7 +30,7 @@ struct Player {
 
 /// A battle between processes.
 pub struct Host {
-    room: Room,
+    table: gen1::Host,
     players: [Player; 2],
     spectator: Process,
     mailbox: Mailbox,
@@ -52,7 +54,6 @@ impl Host {
             let side = sides.next().expect("there are two sides");
             Player {
                 side,
-                teller: Teller::in_pixels(side),
                 process,
                 answers: [0; 7],
                 out: None,
@@ -66,7 +67,7 @@ impl Host {
             ));
         }
         let mut host = Host {
-            room: Room::new(battle),
+            table: gen1::Host::new(battle),
             players,
             spectator,
             mailbox,
@@ -79,7 +80,7 @@ impl Host {
 
     /// Plays the battle to its end, and returns a report on each player.
     pub fn run(mut self) -> String {
-        while !self.room.battle().is_over() {
+        while !self.table.is_closed() {
             if self.choose_for_missing() {
                 continue;
             }
@@ -109,14 +110,13 @@ impl Host {
 
     /// Handles a line of a player, or its end: replies, and submits the choice to the room. A line has no other effect.
     fn hear(&mut self, side: Side, said: Said) {
-        let number = self.room.number();
+        let number = self.table.number();
         let code = match said {
             Said::Gone => return self.put_out(side, "it left"),
             Said::Rubbish => RUBBISH,
             Said::Choice(pair, byte) => self
-                .room
-                .submit_byte(side, pair, byte)
-                .map_or_else(RoomRefusal::number, |_| 0),
+                .submit(side, pair, byte)
+                .map_or_else(HostRefusal::number, |_| 0),
         };
         let most = self.terms.refusals;
         let player = self.player(side);
@@ -133,45 +133,60 @@ impl Host {
             }
             _ => player.process.send(format!("refused {code} {number}\n")),
         }
-        if self.room.number() != number {
+        if self.table.number() != number {
             self.tell_all();
         }
     }
 
-    /// Sends the log of the last pair to the spectator, and to each player as its side may see it. Asks each player that has to choose.
+    /// Submits a choice, with numbers for the battle to draw if this ends the pair.
+    fn submit(&mut self, side: Side, number: u32, byte: u8) -> HostReply {
+        let numbers = self.numbers();
+        self.table.apply(&Row::Submit {
+            side,
+            number,
+            byte,
+            numbers,
+        })
+    }
+
+    /// Ten numbers of the operating system. Otherwise a player that has seen nine draws could predict all that follow.
+    fn numbers(&self) -> Option<[u8; 10]> {
+        let drawn = || -> io::Result<[u8; 10]> {
+            let mut numbers = [0; 10];
+            File::open("/dev/urandom")?.read_exact(&mut numbers)?;
+            Ok(numbers)
+        };
+        (!self.terms.replays).then(|| drawn().expect("/dev/urandom can be read"))
+    }
+
+    /// Sends the spectator and each player what the table has for it. Asks each player that has to choose.
     fn tell_all(&mut self) {
         self.until = Instant::now() + self.terms.patience;
-        self.spectator.send(self.room.log());
-        for at in 0..2 {
-            let side = Side::BOTH[at];
-            let told = self.players[at].teller.tell_log(self.room.log());
-            let mut text = log_line(&told.expect("the log of a room"));
-            let choices: Vec<u8> = self
-                .room
-                .choices(side)
-                .iter()
-                .map(|choice| choice.byte())
-                .collect();
-            if !choices.is_empty() {
-                text += &ask_line(self.room.number(), &choices);
+        self.spectator.send(self.table.notice().log());
+        for player in &self.players {
+            let message = self.table.message(player.side);
+            let mut text = log_line(message.log());
+            if self.table.awaits(player.side) {
+                let choices: Vec<u8> = message
+                    .offered()
+                    .iter()
+                    .map(|it| it.choice().byte())
+                    .collect();
+                text += &ask_line(message.number(), &choices);
             }
-            self.players[at].process.send(text);
+            player.process.send(text);
         }
     }
 
     /// Makes the first choice for a player that is out, and returns whether there was one to make.
     fn choose_for_missing(&mut self) -> bool {
-        let number = self.room.number();
+        let (number, numbers) = (self.table.number(), self.numbers());
         for side in Side::BOTH {
-            if self.player(side).out.is_none() {
+            if self.player(side).out.is_none() || !self.table.awaits(side) {
                 continue;
             }
-            // There are no choices if the side is not asked, or the player chose before it was out.
-            let Some(&first) = self.room.choices(side).first() else {
-                continue;
-            };
-            if self.room.submit(side, number, first).is_ok() {
-                if self.room.number() != number {
+            if self.table.expire(side, number, numbers).is_ok() {
+                if self.table.number() != number {
                     self.tell_all();
                 }
                 return true;
@@ -183,16 +198,15 @@ impl Host {
     /// Ends the time for this pair: a player that has not chosen is out.
     fn time_is_up(&mut self) {
         for side in Side::BOTH {
-            // A side has choices until it has made one.
-            if self.player(side).out.is_none() && !self.room.choices(side).is_empty() {
+            if self.player(side).out.is_none() && self.table.awaits(side) {
                 self.put_out(side, "it was silent");
             }
         }
     }
 
-    /// From now on the room chooses for a side.
+    /// From now on the host chooses for a side.
     fn put_out(&mut self, side: Side, why: &'static str) {
-        let number = self.room.number();
+        let number = self.table.number();
         self.mailbox.deafen(side);
         let player = self.player(side);
         player.out = Some((number, why));

@@ -71,6 +71,9 @@ struct Opening {
     /// How many lines of a player are refused before it is out
     #[arg(long, default_value_t = 1000)]
     refusals: u32,
+    /// Draws the numbers that follow from the seed of FILE, to play a battle again. Otherwise the operating system's are drawn
+    #[arg(long)]
+    replays: bool,
 }
 
 /// Plays the battle, and prints the report on each player to standard error.
@@ -89,6 +92,7 @@ fn host(opening: &Opening) -> Result<(), (u8, String)> {
     let terms = Terms {
         patience: Duration::from_secs(opening.patience),
         refusals: opening.refusals,
+        replays: opening.replays,
     };
     let report = Host::new(battle, [one, two], spectator, mailbox, terms).run();
     io::stderr()

@@ -11,12 +11,11 @@
 //! | `taken NUMBER` | the player's choice for this pair was accepted |
 //! | `refused CODE NUMBER` | its line was refused, and nothing has changed; NUMBER is that of the current pair |
 //!
-//! and writes lines `NUMBER BYTE`. Codes 1 to 4 are those of the room (docs/MECHANICS.md, "Rooms"): 1 over, 2 another pair is current,
+//! and writes lines `NUMBER BYTE`. Codes 1 to 4 are those of the host (docs/MECHANICS.md, "Hosts"): 1 over, 2 another pair is current,
 //! 3 already chosen, 4 not offered. Code 5 means that the line is not two numbers separated by one space. Code 6 means that the player
 //! was refused too often; it is the last line that it gets.
 //!
-//! The spectator reads the battle's log bytes, and nothing else. They have the places and the exact HP of both sides, so they are for the
-//! host's own record. A public spectator gets what the tellers of both sides make of them, one after the other.
+//! The spectator reads log bytes, and nothing else: those that an audience may see, without places and with HP in 48ths.
 
 /// The longest line of a player, without its line feed: two numbers of ten and three digits.
 pub const LINE_MOST: usize = 14;

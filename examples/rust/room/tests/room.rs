@@ -1,4 +1,4 @@
-//! Rooms between processes: the lines of the battle that docs/PROGRAM.md shows, whatever a player does.
+//! Rooms between processes: the lines of the battle that docs/PROGRAM.md shows, with HP in 48ths, whatever a player does.
 use std::fs;
 use std::path::PathBuf;
 use std::process::{Command, Output};
@@ -7,14 +7,14 @@ const TAUROS: &str = concat!(
     r#"[{"species":"Tauros","level":100,"dvs":[15,15,15,15],"#,
     r#""exp":[65535,65535,65535,65535,65535],"moves":[["Strength",3]]}]"#,
 );
-const LINES: &str = "|switch|p1a: Tauros|Tauros|353/353
-|switch|p2a: Tauros|Tauros|353/353
+const LINES: &str = "|switch|p1a: Tauros|Tauros|48/48
+|switch|p2a: Tauros|Tauros|48/48
 |turn|1
 |move|p1a: Tauros|Strength|p2a: Tauros
 |-crit|p2a: Tauros
-|-damage|p2a: Tauros|149/353
+|-damage|p2a: Tauros|20/48
 |move|p2a: Tauros|Strength|p1a: Tauros
-|-damage|p1a: Tauros|263/353
+|-damage|p1a: Tauros|35/48
 |turn|2
 |move|p1a: Tauros|Strength|p2a: Tauros
 |-crit|p2a: Tauros
@@ -34,7 +34,7 @@ fn room(name: &str, words: &[&str]) -> Output {
         format!(r#"{{"seed":[1,36,255,7,31,100,179,254,127,10],"one":{TAUROS},"two":{TAUROS}}}"#);
     fs::write(&file, text).expect("the file is written");
     Command::new(env!("CARGO_BIN_EXE_room"))
-        .arg("host")
+        .args(["host", "--replays"])
         .arg(&file)
         .args(words)
         .output()
@@ -128,7 +128,7 @@ fn each_gets_what_it_may_know() {
     assert_eq!(told(&done), ("", (out(1) + &out(2)).as_str()));
     let got = files.map(|file| fs::read(file).expect("it was written"));
     // Both switches and turn 1, by docs/MECHANICS.md, "Log bytes".
-    let start = "0201800164610161010002028001646101610100010100";
+    let start = "0201800164300030000002028001643000300000010100";
     let digits: String = got[2].iter().map(|byte| format!("{byte:02x}")).collect();
     assert!(
         digits.starts_with(start) && digits.ends_with("1a01"),
@@ -150,7 +150,7 @@ fn a_board_is_shown() {
     let done = room("board", &["--spectator", "room spectator --board"]);
     let (lines, _) = told(&done);
     assert!(
-        lines.contains("|turn|2\n# turn 2: p1 Tauros 263/353, p2 Tauros 149/353\n"),
+        lines.contains("|turn|2\n# turn 2: p1 Tauros 35/48, p2 Tauros 20/48\n"),
         "{lines}"
     );
 }

@@ -3,6 +3,7 @@
 
 mod engine;
 mod events;
+mod host;
 mod layout;
 mod machine;
 mod odds;

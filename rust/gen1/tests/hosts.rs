@@ -1,0 +1,441 @@
+//! Hosts against rooms and tellers that are called by hand; what a side is sent while the other side's choices differ; endings; rows.
+use gen1::{
+    Battle, Choice, Host, HostOptions, HostRefusal, MemberSpec, MoveId, Outcome, OwnSide, Player,
+    Replied, Request, Room, RoomRefusal, Row, Side, Species, Submitted, Team, Teller, member,
+};
+
+/// Knuth's generator: the upper bits of its states.
+struct Dice(u64);
+
+impl Dice {
+    fn below(&mut self, bound: usize) -> usize {
+        self.0 = self
+            .0
+            .wrapping_mul(6364136223846793005)
+            .wrapping_add(1442695040888963407);
+        (self.0 >> 33) as usize % bound
+    }
+
+    fn numbers(&mut self) -> [u8; 10] {
+        std::array::from_fn(|_| self.below(256) as u8)
+    }
+
+    fn member(&mut self) -> MemberSpec {
+        let species = Species::new(1 + self.below(151) as u8).unwrap();
+        let mut spec = member(species.name(), &["Struggle"]).unwrap();
+        spec.moves.clear();
+        while spec.moves.len() < 4 {
+            let id = MoveId::new(1 + self.below(164) as u8).unwrap();
+            let is_known = spec.moves.iter().any(|(known, _)| *known == id);
+            if !is_known && !matches!(id.number(), 102 | 118 | 119 | 144) {
+                spec.moves.push((id, 3));
+            }
+        }
+        spec
+    }
+
+    fn team(&mut self) -> Team {
+        let count = 1 + self.below(6);
+        let members: Vec<MemberSpec> = (0..count).map(|_| self.member()).collect();
+        Team::new(&members).unwrap()
+    }
+
+    fn side(&mut self) -> Side {
+        Side::BOTH[self.below(2)]
+    }
+
+    /// A choice that a side is offered.
+    fn choice(&mut self, host: &Host, side: Side) -> Choice {
+        let choices = host.battle().choices(side);
+        choices[self.below(choices.len())]
+    }
+}
+
+fn bytes_of(own: &OwnSide) -> String {
+    let members = own.members.map(|it| {
+        (
+            it.species, it.level, it.status, it.moves, it.pp, it.hp, it.max_hp, it.stats,
+        )
+    });
+    let active = (
+        own.conditions,
+        own.stats,
+        own.place,
+        own.types,
+        own.stages,
+        own.disabled_slot,
+    );
+    let all = (own.turn, own.held, own.request, own.outcome, own.count);
+    format!("{members:?}{active:?}{all:?}")
+}
+
+/// A room and two tellers, which a host is compared with.
+struct ByHand {
+    room: Room,
+    tellers: [Teller; 2],
+    told: [Vec<u8>; 2],
+    for_all: Vec<u8>,
+}
+
+impl ByHand {
+    fn new(battle: Battle, exact_hp: bool) -> Self {
+        let teller = |side| {
+            if exact_hp {
+                Teller::new(side)
+            } else {
+                Teller::in_pixels(side)
+            }
+        };
+        let mut it = ByHand {
+            room: Room::new(battle),
+            tellers: Side::BOTH.map(teller),
+            told: [vec![], vec![]],
+            for_all: vec![],
+        };
+        it.tell();
+        it
+    }
+
+    fn tell(&mut self) {
+        let [mut one, mut two] = self.tellers;
+        let first = one.tell_log(self.room.log()).unwrap();
+        self.for_all = two.tell_log(&first).unwrap().to_vec();
+        for (teller, told) in self.tellers.iter_mut().zip(&mut self.told) {
+            *told = teller.tell_log(self.room.log()).unwrap().to_vec();
+        }
+    }
+
+    /// The room's reply in the host's words.
+    fn submit(
+        &mut self,
+        side: Side,
+        number: u32,
+        byte: u8,
+        numbers: Option<[u8; 10]>,
+    ) -> Result<Replied, HostRefusal> {
+        let kept = self.room.clone();
+        if let Some(numbers) = numbers {
+            self.room.reseed(numbers);
+        }
+        match self.room.submit_byte(side, number, byte) {
+            Ok(Submitted::Waiting) => Ok(Replied::Kept),
+            Ok(Submitted::Advanced(_)) => {
+                self.tell();
+                Ok(Replied::Ended)
+            }
+            Err(why) => {
+                self.room = kept;
+                Err(match why {
+                    RoomRefusal::Over => HostRefusal::Over,
+                    RoomRefusal::Stale(number) => HostRefusal::Stale(number),
+                    RoomRefusal::AlreadyChosen => HostRefusal::AlreadyChosen,
+                    RoomRefusal::NotOffered => HostRefusal::NotOffered,
+                })
+            }
+        }
+    }
+
+    fn is_shown_by(&self, host: &Host) {
+        assert_eq!(host.battle().as_bytes(), self.room.battle().as_bytes());
+        assert_eq!(
+            (host.number(), host.result()),
+            (self.room.number(), self.room.result())
+        );
+        for (side, told) in Side::BOTH.into_iter().zip(&self.told) {
+            let message = host.message(side);
+            let battle = self.room.battle();
+            assert_eq!(message.log(), told);
+            assert_eq!(bytes_of(message.own()), bytes_of(&battle.own_side(side)));
+            assert_eq!(message.offered(), battle.offered_mask(side));
+            assert_eq!(host.awaits(side), !self.room.choices(side).is_empty());
+        }
+        assert_eq!(host.notice().log(), self.for_all);
+        assert_eq!(host.notice().outcome(), self.room.result().outcome);
+    }
+}
+
+#[test]
+fn a_host_is_a_room_with_tellers() {
+    for seed in 0..60 {
+        let mut dice = Dice(seed);
+        let battle = Battle::new(&dice.team(), &dice.team(), dice.numbers());
+        let exact_hp = seed % 2 == 0;
+        let options = HostOptions {
+            exact_hp,
+            ..HostOptions::default()
+        };
+        let mut host = Host::with_options(battle.clone(), options);
+        let mut by_hand = ByHand::new(battle, exact_hp);
+        for _ in 0..200 {
+            by_hand.is_shown_by(&host);
+            let side = dice.side();
+            let number = host.number() + (dice.below(8) == 0) as u32;
+            let byte = match dice.below(4) {
+                0 => dice.below(256) as u8,
+                _ if host.is_closed() => 0,
+                _ => dice.choice(&host, side).byte(),
+            };
+            let numbers = (dice.below(3) > 0).then(|| dice.numbers());
+            let row = Row::Submit {
+                side,
+                number,
+                byte,
+                numbers,
+            };
+            assert_eq!(
+                host.apply(&row),
+                by_hand.submit(side, number, byte, numbers)
+            );
+        }
+    }
+}
+
+/// Everything that a side sees of a host.
+fn sight(host: &Host, side: Side) -> String {
+    let message = host.message(side);
+    let own = bytes_of(message.own());
+    format!(
+        "{} {:?} {own} {:?} {:?}",
+        message.number(),
+        message.log(),
+        message.offered(),
+        message.draw()
+    )
+}
+
+#[test]
+fn a_choice_is_hidden_until_the_pair_ends() {
+    for seed in 0..40 {
+        let mut dice = Dice(1000 + seed);
+        let battle = Battle::new(&dice.team(), &dice.team(), dice.numbers());
+        let options = HostOptions {
+            may_cancel: true,
+            ..HostOptions::default()
+        };
+        let mut host = Host::with_options(battle, options);
+        for _ in 0..30 {
+            if host.is_closed() {
+                break;
+            }
+            let (number, side) = (host.number(), dice.side());
+            let other = side.other();
+            // The Pass of a side that is asked nothing is there, so the other side's choice would end the pair.
+            if !host.awaits(side) {
+                let _ = host.submit(other, number, dice.choice(&host, other), None);
+                continue;
+            }
+            // At one table the other side has chosen, at the other one it has not, or something else.
+            let (mut first, mut second) = (host.clone(), host.clone());
+            let _ = first.submit(
+                other,
+                number,
+                dice.choice(&host, other),
+                Some(dice.numbers()),
+            );
+            if dice.below(2) == 0 {
+                let _ = second.submit(other, number, dice.choice(&host, other), None);
+                let _ = second.cancel(other, number);
+            }
+            assert_eq!(sight(&first, side), sight(&second, side));
+            assert_eq!(first.notice().log(), second.notice().log());
+            assert_eq!(first.awaits(side), second.awaits(side));
+            for row in [
+                Row::Submit {
+                    side,
+                    number: number + 1,
+                    byte: 0,
+                    numbers: None,
+                },
+                Row::Submit {
+                    side,
+                    number,
+                    byte: 255,
+                    numbers: None,
+                },
+                Row::Cancel { side, number },
+                Row::OfferDraw { side },
+            ] {
+                assert_eq!(first.apply(&row), second.apply(&row));
+                assert_eq!(sight(&first, side), sight(&second, side));
+            }
+            for side in Side::BOTH {
+                let _ = host.submit(side, number, dice.choice(&host, side), Some(dice.numbers()));
+            }
+        }
+    }
+}
+
+fn table(options: HostOptions) -> (Host, Team) {
+    let team = Team::new(&[
+        member("Tauros", &["Body Slam"]).unwrap(),
+        member("Starmie", &["Surf"]).unwrap(),
+    ]);
+    let team = team.unwrap();
+    (
+        Host::with_options(Battle::new(&team, &team, [7; 10]), options),
+        team,
+    )
+}
+
+#[test]
+fn a_forfeit_is_the_other_sides_win() {
+    let (mut host, team) = table(HostOptions::default());
+    let mut player = Player::new(Side::Two, &team);
+    player.receive(&host.message(Side::Two)).unwrap();
+    host.submit(Side::Two, 0, Choice::MOVE_1, None).unwrap();
+    assert_eq!(host.forfeit(Side::One), Ok(Replied::Ended));
+    assert_eq!((host.number(), host.result().outcome), (1, Outcome::WinTwo));
+    // The log is the event of the win: its tag and the number of the side.
+    assert_eq!(host.message(Side::One).log(), [0x1a, 2]);
+    assert_eq!(host.notice().log(), [0x1a, 2]);
+    player.receive(&host.message(Side::Two)).unwrap();
+    assert_eq!(
+        (player.outcome(), player.choices().len()),
+        (Outcome::WinTwo, 0)
+    );
+    assert_eq!(player.own().request, 0);
+    assert!(!host.awaits(Side::One) && host.is_closed());
+    assert_eq!(host.forfeit(Side::Two), Err(HostRefusal::Over));
+    assert_eq!(
+        host.submit(Side::One, 1, Choice::MOVE_1, None),
+        Err(HostRefusal::Over)
+    );
+}
+
+#[test]
+fn a_draw_needs_both_sides_and_the_same_pair() {
+    let (mut host, _) = table(HostOptions::default());
+    assert_eq!(host.offer_draw(Side::One), Ok(Replied::Kept));
+    assert_eq!(host.offer_draw(Side::One), Ok(Replied::Kept));
+    assert_eq!(host.message(Side::Two).draw(), Some(Side::One));
+    for side in Side::BOTH {
+        host.submit(side, 0, Choice::MOVE_1, None).unwrap();
+    }
+    assert_eq!(host.message(Side::Two).draw(), None);
+    assert_eq!(host.offer_draw(Side::Two), Ok(Replied::Kept));
+    assert!(!host.is_closed());
+    assert_eq!(host.offer_draw(Side::One), Ok(Replied::Ended));
+    assert_eq!(host.result().outcome, Outcome::Tie);
+    assert_eq!(host.result().request_one, Request::Pass);
+    assert_eq!(host.message(Side::One).log(), [0x1b]);
+}
+
+#[test]
+fn time_runs_out() {
+    let (mut host, _) = table(HostOptions::default());
+    assert_eq!(host.expire(Side::One, 1, None), Err(HostRefusal::Stale(0)));
+    assert_eq!(host.expire(Side::One, 0, None), Ok(Replied::Kept));
+    assert_eq!(
+        host.expire(Side::One, 0, None),
+        Err(HostRefusal::AlreadyChosen)
+    );
+    assert_eq!(host.expire(Side::Two, 0, None), Ok(Replied::Ended));
+    let (mut chosen, _) = table(HostOptions::default());
+    for side in Side::BOTH {
+        chosen.submit(side, 0, Choice::MOVE_1, None).unwrap();
+    }
+    assert_eq!(host, chosen);
+    let late_forfeits = true;
+    let (mut host, _) = table(HostOptions {
+        late_forfeits,
+        ..HostOptions::default()
+    });
+    assert_eq!(host.expire(Side::Two, 0, None), Ok(Replied::Ended));
+    assert_eq!(host.result().outcome, Outcome::WinOne);
+}
+
+#[test]
+fn a_choice_is_taken_back() {
+    let (mut host, _) = table(HostOptions::default());
+    host.submit(Side::One, 0, Choice::MOVE_1, None).unwrap();
+    assert_eq!(host.cancel(Side::One, 0), Err(HostRefusal::NotAllowed));
+    let (mut host, _) = table(HostOptions {
+        may_cancel: true,
+        ..HostOptions::default()
+    });
+    let before = host.clone();
+    assert_eq!(host.cancel(Side::One, 0), Err(HostRefusal::NothingChosen));
+    host.submit(Side::One, 0, Choice::MOVE_1, None).unwrap();
+    assert_eq!(host.cancel(Side::Two, 0), Err(HostRefusal::NothingChosen));
+    assert_eq!(host.cancel(Side::One, 1), Err(HostRefusal::Stale(0)));
+    assert_eq!(host.cancel(Side::One, 0), Ok(Replied::Kept));
+    assert_eq!(host, before);
+    assert!(host.awaits(Side::One));
+}
+
+#[test]
+fn rows_are_bytes() {
+    let numbers = Some([1, 2, 3, 4, 5, 6, 7, 8, 9, 10]);
+    let row = Row::Submit {
+        side: Side::Two,
+        number: 258,
+        byte: 0x11,
+        numbers,
+    };
+    let bytes = [1, 2, 0x11, 1, 2, 1, 0, 0, 1, 2, 3, 4, 5, 6, 7, 8, 9, 10];
+    assert_eq!(row.to_bytes(), bytes);
+    let draw = [4, 1, 0, 0, 0, 0, 0, 0, 0, 0, 0, 0, 0, 0, 0, 0, 0, 0];
+    assert_eq!(
+        Row::from_bytes(&draw),
+        Some(Row::OfferDraw { side: Side::One })
+    );
+    let mut dice = Dice(5);
+    for _ in 0..20_000 {
+        let mut bytes = bytes;
+        for _ in 0..1 + dice.below(3) {
+            bytes[dice.below(18)] = [0, 1, 2, 3, 4, 5, 6, 255][dice.below(8)];
+        }
+        if let Some(row) = Row::from_bytes(&bytes) {
+            assert_eq!(row.to_bytes(), bytes);
+        }
+    }
+    // An offer of a draw has no number, and there is no side 3 and no row of kind 6.
+    for (place, byte) in [(4, 1), (1, 3), (0, 6), (3, 1), (17, 1)] {
+        let mut bytes = draw;
+        bytes[place] = byte;
+        assert_eq!(Row::from_bytes(&bytes), None);
+    }
+}
+
+#[test]
+fn rows_lead_to_the_same_host() {
+    for seed in 0..30 {
+        let mut dice = Dice(2000 + seed);
+        let battle = Battle::new(&dice.team(), &dice.team(), dice.numbers());
+        let options = HostOptions {
+            may_cancel: true,
+            ..HostOptions::default()
+        };
+        let mut host = Host::with_options(battle.clone(), options);
+        let mut stored = Vec::new();
+        for _ in 0..100 {
+            let (side, number) = (dice.side(), host.number());
+            let numbers = Some(dice.numbers());
+            let row = match dice.below(20) {
+                0 => Row::OfferDraw { side },
+                1..4 => Row::Cancel { side, number },
+                4 => Row::Expire {
+                    side,
+                    number,
+                    numbers,
+                },
+                _ if host.is_closed() => Row::Forfeit { side },
+                _ => Row::Submit {
+                    side,
+                    number,
+                    byte: dice.choice(&host, side).byte(),
+                    numbers,
+                },
+            };
+            if host.apply(&row).is_ok() {
+                stored.push(row.to_bytes());
+            }
+        }
+        let mut again = Host::with_options(battle, options);
+        for bytes in stored {
+            assert!(again.apply(&Row::from_bytes(&bytes).unwrap()).is_ok());
+        }
+        assert_eq!(again, host);
+        assert_eq!(sight(&again, Side::One), sight(&host, Side::One));
+    }
+}
