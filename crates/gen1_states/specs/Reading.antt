@@ -1,5 +1,5 @@
 -- The plain state of a battle (docs/LAYOUT.md, "Plain states").
-use Rattle.std.specs.Prelude.{[], if◌then◌else◌, replicate, unwrap_or, ℕ, ◌==◌, ◌∷◌}
+use Rattle.std.specs.Prelude.{All, List, [], if◌then◌else◌, replicate, slice_index, unwrap_or, ℕ, ◌==◌, ◌≡◌, ◌≤◌, ◌∷◌}
 use Rattle.gen1_tables.specs.declared.effect.Stat.TheVariants.{Attack, Defense, Special, Speed}
 use Rattle.gen1_tables.specs.Types.{number_of}
 use Rattle.gen1_rolls.specs.Link.{ring_at}
@@ -90,6 +90,21 @@ side_state side f = record {
       ∷ member_state (member_at 4 (party side f)) ∷ member_state (member_at 5 (party side f)) ∷ member_state (member_at 6 (party side f)) ∷ [];
   active = active_now side f;
 }
+
+-- the bytes of the header that are copied as they are, valid or not (docs/LAYOUT.md, "Header")
+pub record IsCopied (header : List ℕ) (b : BattleState) : Type 0 where
+  pub rules : b.rules ≡ slice_index header 19
+  pub outcome : b.outcome ≡ slice_index header 16
+  pub requests : b.requests ≡ slice_index header 17 ∷ slice_index header 18 ∷ []
+  pub index : b.index ≡ slice_index header 5
+  pub numbers :
+      b.numbers
+      ≡ slice_index header 6 ∷ slice_index header 7 ∷ slice_index header 8 ∷ slice_index header 9 ∷ slice_index header 10 ∷ slice_index header 11
+      ∷ slice_index header 12 ∷ slice_index header 13 ∷ slice_index header 14 ∷ slice_index header 15 ∷ []
+
+-- each status is 0 to 5, of any bytes
+abbrev pub HasKinds : SideState → Type 0
+HasKinds side = All (λ (m : MemberState). m.status ≤ 5) side.members
 
 -- the whole
 

@@ -1,11 +1,11 @@
 //! The plain state of a battle (docs/LAYOUT.md, "Plain states").
-ghost use Rattle.std.specs.Prelude.{◌≡◌, ◌≤◌};
+ghost use Rattle.std.specs.Prelude.{All, ◌≡◌, ◌≤◌};
 ghost use Rattle.gen1_layout.specs.Words.{Reads, ReadsPacked, active_in, member_at, member_in, party};
 ghost use Rattle.gen1_stats.specs.declared.status.Status.{Status};
 ghost use Rattle.gen1_machine.specs.LogBytes.{kind_or_0};
 ghost use Rattle.gen1_machine.specs.State.{State, kind_of};
 ghost use Rattle.gen1_layout.specs.Within.{Stands};
-ghost use Rattle.gen1_states.specs.Reading.{active_now, active_state, member_state, no_active, side_state, sleep_of, state_of};
+ghost use Rattle.gen1_states.specs.Reading.{HasKinds, IsCopied, active_now, active_state, member_state, no_active, side_state, sleep_of, state_of};
 
 use crate::plain::{ActiveState, BattleState, MemberState, SideState};
 use bitflags::Flags;
@@ -22,7 +22,10 @@ use gen1_tables::Stat;
 
 /// The state that a battle's bytes represent, every field of it.
 pub fn state_of(battle: &Packed) -> BattleState
-    ensures { (s : State) → Stands battle.now s → result ≡ state_of s }
+    ensures stands { (s : State) → Stands battle.now s → result ≡ state_of s }
+    // For any bytes, valid or not.
+    ensures copied { IsCopied battle.now.header result }
+    ensures kinds { All HasKinds result.sides }
 {
     let header = battle.header();
     BattleState {
@@ -42,7 +45,8 @@ pub fn state_of(battle: &Packed) -> BattleState
 }
 
 fn side_state(battle: &Packed, side: Side) -> SideState
-    ensures { (s : State) → Stands battle.now s → result ≡ side_state side s.field }
+    ensures stands { (s : State) → Stands battle.now s → result ≡ side_state side s.field }
+    ensures kinds { HasKinds result }
 {
     SideState {
         members: [
@@ -60,7 +64,8 @@ fn side_state(battle: &Packed, side: Side) -> SideState
 fn member_state(battle: &Packed, side: Side, place: u8) -> MemberState
     requires low { 1 ≤ place }
     requires high { place ≤ 6 }
-    ensures { ReadsPacked battle.now result λ f. member_state (member_at place (party side f)) }
+    ensures packs { ReadsPacked battle.now result λ f. member_state (member_at place (party side f)) }
+    ensures kind { result.status ≤ 5 }
 {
     let block = battle.member(side, place);
     let status = battle.status_at(side, place);
@@ -84,7 +89,8 @@ fn member_state(battle: &Packed, side: Side, place: u8) -> MemberState
 }
 
 fn kind_of(status: Status) -> u8
-    ensures { result ≡ kind_or_0 (kind_of status) }
+    ensures value { result ≡ kind_or_0 (kind_of status) }
+    ensures small { result ≤ 5 }
 {
     match status {
         Status::Healthy => 0,
