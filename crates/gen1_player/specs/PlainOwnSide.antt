@@ -1,5 +1,5 @@
 -- What a side is shown of itself, as a plain struct (include/gen1.h, "players").
-use Rattle.std.specs.Prelude.{Bool, List, None, [], false, if◌then◌else◌, length, replicate, slice_index_or, ℕ, ◌-◌, ◌==◌, ◌∷◌}
+use Rattle.std.specs.Prelude.{All, Bool, List, None, [], false, if◌then◌else◌, length, replicate, slice_index_or, ℕ, ◌-◌, ◌==◌, ◌≡◌, ◌≤◌, ◌∷◌}
 use Rattle.gen1_tables.specs.Types.{number_of}
 use Rattle.gen1_stats.specs.Members.{Member}
 use Rattle.gen1_machine.specs.Layout.{number_of_bits, outcome_byte, request_byte}
@@ -54,6 +54,17 @@ no_member = record { species = 0; level = 0; hp = 0; max = 0; kind = None; stats
 -- The member at a place, counted from 1.
 abbrev pub own_at : ℕ → OwnSide → OwnMember
 own_at place o = slice_index_or o.members (place - 1) no_member
+
+-- Of any bytes, valid or not: kinds, flags and codes of the lists, the unused byte 0, and at most six members.
+abbrev pub IsListedMember : PlainMember → Type 0
+IsListedMember m = (m.status ≤ 5) × (m.unused ≡ 0)
+
+pub record IsListed (o : PlainSide) : Type 0 where
+  pub members : All IsListedMember o.members
+  pub held : o.held ≤ 1
+  pub request : o.request ≤ 2
+  pub outcome : o.outcome ≤ 5
+  pub count : o.count ≤ 6
 
 -- 1 for a member, 0 for a place without one.
 abbrev pub is_present : Member → ℕ

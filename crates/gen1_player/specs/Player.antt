@@ -1,6 +1,6 @@
 -- What a player knows: a function of its own team, of the log bytes that it was told, and of what it was last shown of itself
 -- (docs/MECHANICS.md, "Player's view").
-use Rattle.std.specs.Prelude.{List, [], length, map, replicate, slice_index_or, ℕ, ◌++◌, ◌-◌, ◌≡◌, ◌∷◌}
+use Rattle.std.specs.Prelude.{List, [], length, map, replicate, slice_index_or, take, ℕ, ◌++◌, ◌-◌, ◌≡◌, ◌≤◌, ◌∷◌}
 use Rattle.gen1_stats.specs.Members.{Member}
 use Rattle.gen1_machine.specs.declared.event.Event.{Event}
 use Rattle.gen1_machine.specs.declared.side.Side.{Side}
@@ -78,6 +78,13 @@ player_of side team foes events held shown = record {
   held = held ++ replicate (10 - length held) 0;
   unused = 0;
 }
+
+-- What a feed leaves of any bytes, valid or not: at most ten bytes are held, with zeros after them, and no more changes than these and
+-- what is public.
+pub record IsFed (old new : Player) : Type 0 where
+  pub few : new.held_count ≤ 10
+  pub zeros : new.held ≡ take new.held_count new.held ++ replicate (10 - new.held_count) 0
+  pub others : new ≡ record old { public = new.public; held_count = new.held_count; held = new.held }
 
 -- It knows what follows from its side and team, the number of the foe's members (0 if it wasn't given), the bytes that it was told, and
 -- what it was shown last; and nothing else.

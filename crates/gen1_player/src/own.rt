@@ -7,7 +7,7 @@ ghost use Rattle.gen1_machine.specs.LogBytes.{kind_or_0};
 ghost use Rattle.gen1_machine.specs.Rules.{bit_of};
 ghost use Rattle.gen1_machine.specs.State.{State, kind_of};
 ghost use Rattle.gen1_player.specs.OwnSide.{own_active, own_conditions, own_member, own_side};
-ghost use Rattle.gen1_player.specs.PlainOwnSide.{is_present, nobody_out, plain_active, plain_member, plain_out, plain_side, shown_bits};
+ghost use Rattle.gen1_player.specs.PlainOwnSide.{IsListed, IsListedMember, is_present, nobody_out, plain_active, plain_member, plain_out, plain_side, shown_bits};
 
 use bitflags::Flags;
 use gen1_layout::{Conditions, Packed, byte_of_outcome, byte_of_request};
@@ -107,6 +107,7 @@ pub fn own_side(battle: &Packed, side: Side) -> OwnSide
     ensures stands { (s : State) → Stands battle.now s → result ≡ plain_side (own_side side s.field) }
     // For any bytes, valid or not.
     ensures few { result.count ≤ 6 }
+    ensures listed { IsListed result }
 {
     let out = active(battle, side);
     let stats = out.stats;
@@ -138,8 +139,9 @@ pub fn own_side(battle: &Packed, side: Side) -> OwnSide
 fn member(battle: &Packed, side: Side, place: u8) -> OwnMember
     requires low { 1 ≤ place }
     requires high { place ≤ 6 }
-    ensures { ReadsPacked battle.now result λ f. plain_member
+    ensures packs { ReadsPacked battle.now result λ f. plain_member
         (own_member (member_at place (party side f))) }
+    ensures listed { IsListedMember result }
 {
     let block = battle.member(side, place);
     OwnMember {
@@ -161,7 +163,8 @@ fn member(battle: &Packed, side: Side, place: u8) -> OwnMember
 }
 
 fn kind_of(status: Status) -> u8
-    ensures { result ≡ kind_or_0 (kind_of status) }
+    ensures value { result ≡ kind_or_0 (kind_of status) }
+    ensures small { result ≤ 5 }
 {
     match status {
         Status::Healthy => 0,
@@ -238,7 +241,8 @@ fn shown_conditions(battle: &Packed, side: Side) -> u32
 
 // Whether the foe's trapping move holds the active member. Before the first update nothing does.
 fn held(battle: &Packed, side: Side) -> u8
-    ensures { (s : State) → Stands battle.now s → result ≡ bit_of (own_side side s.field).held }
+    ensures stands { (s : State) → Stands battle.now s → result ≡ bit_of (own_side side s.field).held }
+    ensures flag { result ≤ 1 }
 {
     if battle.turn() == 0 {
         0
@@ -248,7 +252,8 @@ fn held(battle: &Packed, side: Side) -> u8
 }
 
 fn traps(battle: &Packed, side: Side) -> u8
-    ensures { Reads battle.now result λ f. bit_of (is_some (underway_in side f).trapping) }
+    ensures stands { Reads battle.now result λ f. bit_of (is_some (underway_in side f).trapping) }
+    ensures flag { result ≤ 1 }
 {
     if battle.is_on(side, Conditions::TRAPPING) {
         1
