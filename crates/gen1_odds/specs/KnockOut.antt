@@ -133,6 +133,19 @@ three_of after ways target = record {
   zeros = replicate 7 0;
 }
 
+-- Of any bytes, valid or not: a flag, and zeros after it. The ways of two uses are those of one, twice over.
+
+pub record AreChances (c : Chances) : Type 0 where
+  pub square : c.twice_of ≡ c.once_of * c.once_of
+  pub flag : c.breaks_substitute ≤ 1
+  pub zeros : c.zeros ≡ replicate 7 0
+
+pub record AreThree (c : ThreeChances) : Type 0 where
+  pub square : c.twice_of ≡ c.once_of * c.once_of
+  pub cube : c.thrice_of ≡ in_words (c.once_of * c.once_of * c.once_of)
+  pub flag : c.breaks_substitute ≤ 1
+  pub zeros : c.zeros ≡ replicate 7 0
+
 abbrev pub no_change : HpChange
 no_change = record { gained = 0; lost = 0 }
 

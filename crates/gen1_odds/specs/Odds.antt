@@ -1,6 +1,6 @@
 -- The odds of a use of a move, for the present state of two members (docs/MECHANICS.md, "Critical hits" to "Hit test",
 -- "Fixed damage and one-hit moves", "Many hits").
-use Rattle.std.specs.Prelude.{Bool, List, None, Option, Some, [], count_by, false, if◌then◌else◌, max, min, nat_lt, not, replicate, true, unwrap_or, ℕ, ◌&&◌, ◌*◌, ◌-◌, ◌/◌, ◌==◌, ◌||◌, ◌∷◌}
+use Rattle.std.specs.Prelude.{Bool, List, None, Option, Some, [], count_by, false, if◌then◌else◌, max, min, nat_lt, not, replicate, true, unwrap_or, ℕ, ◌&&◌, ◌*◌, ◌-◌, ◌/◌, ◌==◌, ◌||◌, ◌≡◌, ◌≤◌, ◌⊎◌, ◌∷◌}
 use Rattle.std.specs.List.{range_with_len}
 use Rattle.gen1_tables.specs.declared.effect.Effect.{Effect}
 use Rattle.gen1_tables.specs.declared.effect.Effect.TheVariants as effects
@@ -151,6 +151,17 @@ recoil move damage = if recoils move.effect then recoil_of move damage else 0
 
 abbrev pub flag : Bool → ℕ
 flag holds = if holds then 1 else 0
+
+-- Of any bytes, valid or not: damages or the code for having none, the code of a reason, and a flag.
+
+abbrev pub IsCoded : Damages → Type 0
+IsCoded d = ((d.count ≡ 39) × (d.code ≡ 0)) ⊎ (d ≡ no_damages 48) ⊎ (d ≡ no_damages 49)
+
+pub record IsListed (o : Odds) : Type 0 where
+  pub usual : IsCoded o.usual
+  pub critical : IsCoded o.critical
+  pub reason : o.reason ≤ 23
+  pub charges_first : o.charges_first ≤ 1
 
 abbrev pub odds_in : Rules → Side → Move → Field → Odds
 odds_in r side move f = record {

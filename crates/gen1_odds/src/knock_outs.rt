@@ -1,7 +1,7 @@
 //! The chance that one use of a move knocks out the foe, or two or three in a row (docs/MECHANICS.md, "Landing", "Many hits").
 ghost use Rattle.std.specs.Prelude.{max, min, ◌*◌, ◌+◌, ◌≡◌, ◌≤◌};
 ghost use Rattle.gen1_layout.specs.Words.{Reads, move_at, ℕ};
-ghost use Rattle.gen1_odds.specs.KnockOut.{after_fixed, after_usual, between_in, chances_in, chances_of, fixed_ways, halves_in, needed_in, three_chances_in, three_of};
+ghost use Rattle.gen1_odds.specs.KnockOut.{AreChances, AreThree, after_fixed, after_usual, between_in, chances_in, chances_of, fixed_ways, halves_in, needed_in, three_chances_in, three_of};
 ghost use Rattle.gen1_odds.specs.Trials.{ReadsUnder};
 
 use crate::chances::deals_usual;
@@ -85,6 +85,8 @@ struct Target {
 /// Fang halves the HP that are left.
 pub fn knock_out(battle: &Packed, side: Side, id: MoveId) -> Chances
     ensures stands { ReadsUnder battle.now result λ r. chances_in r side (move_at id) }
+    // For any bytes, valid or not.
+    ensures shape { AreChances result }
 {
     let odds = odds_of(battle, side, id);
     let need = needed(battle, side.other());
@@ -108,6 +110,8 @@ pub fn knock_out_in_three(
     between: &Between,
 ) -> ThreeChances
     ensures stands { ReadsUnder battle.now result λ r. three_chances_in between.now r side (move_at id) }
+    // For any bytes, valid or not.
+    ensures shape { AreThree result }
 {
     let odds = odds_of(battle, side, id);
     let target = Target {

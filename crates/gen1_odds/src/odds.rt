@@ -2,7 +2,7 @@
 //! hits").
 ghost use Rattle.std.specs.Prelude.{◌≡◌, ◌≤◌};
 ghost use Rattle.gen1_layout.specs.Words.{Reads, move_at};
-ghost use Rattle.gen1_odds.specs.Odds.{damages_in, flag, no_damages, odds_in};
+ghost use Rattle.gen1_odds.specs.Odds.{IsCoded, IsListed, damages_in, flag, no_damages, odds_in};
 ghost use Rattle.gen1_odds.specs.Trials.{ReadsUnder};
 
 use crate::chances::{critical_draws, deals_usual, hit_draws};
@@ -69,6 +69,7 @@ pub fn odds_of(battle: &Packed, side: Side, id: MoveId) -> Odds
     ensures hits { result.hit_draws ≤ 256 }
     ensures usual_few { result.usual.count ≤ 39 }
     ensures critical_few { result.critical.count ≤ 39 }
+    ensures listed { IsListed result }
 {
     let reason = reason_of(battle, side, id);
     let (least, most) = fixed(battle, side, id);
@@ -86,7 +87,8 @@ pub fn odds_of(battle: &Packed, side: Side, id: MoveId) -> Odds
 }
 
 pub(crate) fn flag(holds: bool) -> u8
-    ensures { result ≡ flag holds }
+    ensures value { result ≡ flag holds }
+    ensures bit { result ≤ 1 }
 {
     if holds { 1 } else { 0 }
 }
@@ -94,6 +96,7 @@ pub(crate) fn flag(holds: bool) -> u8
 fn damages_of(battle: &Packed, side: Side, id: MoveId, critical: bool) -> Damages
     ensures stands { Reads battle.now result (damages_in side (move_at id) critical) }
     ensures few { result.count ≤ 39 }
+    ensures coded { IsCoded result }
 {
     if !deals_usual(battle, side, id) {
         return no_damages(UNUSUAL);

@@ -1,5 +1,5 @@
 //! Why a use of a move can't hit (docs/MECHANICS.md, "Hit test", "Damage formula", "Fixed damage and one-hit moves").
-ghost use Rattle.std.specs.Prelude.{None, Some, if◌then◌else◌, ◌≡◌};
+ghost use Rattle.std.specs.Prelude.{None, Some, if◌then◌else◌, ◌≡◌, ◌≤◌};
 ghost use Rattle.gen1_layout.specs.Words.{Reads, active_in, move_at};
 ghost use Rattle.gen1_machine.specs.HitTest.{eats_dreams};
 ghost use Rattle.gen1_odds.specs.Reasons.{bide_by, counter_by, counter_reason, first, fixed_reason, hurts_in, one_hit_reason, reason_by, reason_code, reason_in, reason_number, settled_reason, usual_reason, why_harmless, why_missed, why_settled};
@@ -74,7 +74,8 @@ pub enum Reason {
 impl Reason {
     /// The number of the reason, from 1, as `Odds` has it.
     pub fn number(self) -> u8
-        ensures { result ≡ reason_number self }
+        ensures value { result ≡ reason_number self }
+        ensures last { result ≤ 23 }
     {
         match self {
             Reason::Fallen => 1,
@@ -106,7 +107,8 @@ impl Reason {
 
 /// The number of a reason, or 0 for none.
 pub(crate) fn reason_code(reason: Option<Reason>) -> u8
-    ensures { result ≡ reason_code reason }
+    ensures value { result ≡ reason_code reason }
+    ensures last { result ≤ 23 }
 {
     match reason {
         Some(why) => why.number(),
