@@ -1097,7 +1097,10 @@ typedef struct gen1_state {
     uint8_t numbers[10];      /* the nine link numbers in use, then the tenth seed byte, which is never drawn */
 } gen1_state;
 
-/* Writes the state that a battle's bytes represent to `*state`, every field of it. */
+/*
+ * Writes the state that a battle's bytes represent to `*state`, every field of it. Of bytes that are no battle, `rules`, `outcome`,
+ * `requests`, `index` and `numbers` are copied as they are, and each `status` is 0 to 5.
+ */
 void gen1_get_state(const gen1_battle *battle, gen1_state *state);
 
 /* The field of a state that is wrong. A value from `low` to `high` breaks the field's other rule, which its code gives. */
@@ -1319,7 +1322,8 @@ uint32_t gen1_spectator_begin(gen1_spectator *spectator, const gen1_team *one, c
  * counts as soon as its last byte has been fed.
  *
  * Returns 0; or GEN1_ERROR_LOG_TAG or GEN1_ERROR_LOG_FIELD if these bytes, after the held ones, are not part of a log. Then
- * nothing has changed, and none of the bytes has been used.
+ * nothing has changed, and none of the bytes has been used. With 0, whatever the bytes of the spectator were, its counts fit its
+ * arrays, with zeros after them, and stages, flags and outcome are in their ranges.
  */
 uint8_t gen1_spectator_feed(gen1_spectator *spectator, const uint8_t *log, size_t count);
 
@@ -1452,7 +1456,8 @@ uint32_t gen1_player_begin(gen1_player *player, uint8_t side, const gen1_team *t
 
 /*
  * Feeds a player the next `count` of the bytes that gen1_tell wrote for its side, cut anywhere. Returns 0; or GEN1_ERROR_LOG_TAG or
- * GEN1_ERROR_LOG_FIELD as gen1_spectator_feed does. Then nothing has changed.
+ * GEN1_ERROR_LOG_FIELD as gen1_spectator_feed does. Then nothing has changed. With 0, whatever the bytes of the player were, at most
+ * 10 bytes are held, with zeros after them, and only they and `known` have changed.
  */
 uint8_t gen1_player_feed(gen1_player *player, const uint8_t *told, size_t count);
 

@@ -6,6 +6,8 @@ ghost use Rattle.gen1_machine.specs.State.{State};
 ghost use Rattle.gen1_machine.specs.declared.side.Side.{Side};
 ghost use Rattle.gen1_machine.specs.declared.side.Side.TheVariants.{One};
 ghost use Rattle.gen1_layout.specs.Within.{Stands};
+ghost use Rattle.gen1_odds.specs.KnockOut.{AreChances, AreThree};
+ghost use Rattle.gen1_odds.specs.Odds.{IsListed};
 ghost use Rattle.gen1_c.specs.Odds.{Tells, between_fault, chances_due, drained_due, facing, hit_test_due, odds_due, odds_of_state, recoil_due, three_chances_due, use_due};
 ghost use Rattle.gen1_c.specs.Teams.{sheet_of};
 ghost use Rattle.gen1_c.specs.Update.{IsNoSide};
@@ -42,6 +44,8 @@ pub extern "C" fn gen1_odds_now(battle: &Packed, side: u8, number: u8, odds: &mu
     ensures code { result ≢ 0 → result ≢ 11 → result ≢ 40 → result ≡ 50 }
     ensures kept { result ≢ 0 → odds.new ≡ odds.old }
     ensures within { result ≡ 0 → (odds.new.usual.count ≤ 39) × (odds.new.critical.count ≤ 39) }
+    ensures draws { result ≡ 0 → (odds.new.critical_draws ≤ 255) × (odds.new.hit_draws ≤ 256) }
+    ensures listed { result ≡ 0 → IsListed odds.new }
 {
     match use_of(battle, side, number) {
         Ok(used) => {
@@ -63,6 +67,7 @@ pub extern "C" fn gen1_knock_out(battle: &Packed, side: u8, number: u8, chances:
     // For any bytes, valid or not.
     ensures code { result ≢ 0 → result ≢ 11 → result ≢ 40 → result ≡ 50 }
     ensures kept { result ≢ 0 → chances.new ≡ chances.old }
+    ensures shape { result ≡ 0 → AreChances chances.new }
 {
     match use_of(battle, side, number) {
         Ok(used) => {
@@ -90,6 +95,7 @@ pub extern "C" fn gen1_knock_out_in_three(
     // For any bytes, valid or not.
     ensures code { result ≢ 0 → result ≢ 11 → result ≢ 40 → result ≡ 50 }
     ensures kept { result ≢ 0 → chances.new ≡ chances.old }
+    ensures shape { result ≡ 0 → AreThree chances.new }
 {
     match use_of(battle, side, number) {
         Ok(used) => {

@@ -8,8 +8,8 @@ ghost use Rattle.gen1_machine.specs.Numbers.{side_number};
 ghost use Rattle.gen1_events.specs.declared.fault.LogFault.{LogFault};
 ghost use Rattle.gen1_layout.specs.Within.{Stands};
 ghost use Rattle.gen1_player.specs.OwnSide.{own_side};
-ghost use Rattle.gen1_player.specs.PlainOwnSide.{plain_side};
-ghost use Rattle.gen1_player.specs.Player.{IsPlayer, Shown, not_shown, player_of};
+ghost use Rattle.gen1_player.specs.PlainOwnSide.{IsListed, plain_side};
+ghost use Rattle.gen1_player.specs.Player.{IsFed, IsPlayer, Shown, not_shown, player_of};
 ghost use Rattle.gen1_c.specs.Players.{BreaksOff, Tells, begin_code, first_teller, log_code, side_code};
 ghost use Rattle.gen1_c.specs.Teams.{sheets_of, team_fault};
 ghost use Rattle.gen1_c.specs.Update.{IsNoSide};
@@ -64,6 +64,7 @@ pub extern "C" fn gen1_player_feed(player: &mut Player, told: &[u8]) -> u8
         → (fault : LogFault) × (result ≡ log_code fault) × BreaksOff fault (before ++ told.now) }
     // For any bytes, valid or not.
     ensures code { result ≢ 0 → (32 ≤ result) × (result ≤ 34) }
+    ensures left { result ≡ 0 → IsFed player.old player.new }
     ensures kept { result ≢ 0 → player.new ≡ player.old }
 {
     match player.feed(told) {
@@ -138,6 +139,7 @@ pub extern "C" fn gen1_get_own_side(battle: &Packed, side: u8, own: &mut OwnSide
     ensures code { result ≢ 0 → result ≡ 40 }
     ensures kept { result ≢ 0 → own.new ≡ own.old }
     ensures few { result ≡ 0 → own.new.count ≤ 6 }
+    ensures listed { result ≡ 0 → IsListed own.new }
 {
     let Some(side) = Side::from_number(side) else {
         return NO_SIDE;

@@ -5,7 +5,7 @@ ghost use Rattle.gen1_machine.specs.View.{View, first_view};
 ghost use Rattle.gen1_events.specs.Reader.{Reading, part};
 ghost use Rattle.gen1_events.specs.declared.fault.LogFault.{LogFault};
 ghost use Rattle.gen1_spectator.specs.Following.{Follows};
-ghost use Rattle.gen1_spectator.specs.Plain.{IsExact, IsInRange, IsPlainSpectator, reading_of, view_of};
+ghost use Rattle.gen1_spectator.specs.Plain.{IsExact, IsInRange, IsLaidOut, IsPlainSpectator, reading_of, view_of};
 ghost use Rattle.gen1_c.specs.Battle.{teams_fault};
 ghost use Rattle.gen1_c.specs.Codes.{log_code};
 ghost use Rattle.gen1_c.specs.Teams.{sheets_of, team_fault};
@@ -51,6 +51,7 @@ pub extern "C" fn gen1_spectator_feed(watch: &mut PlainSpectator, log: &[u8]) ->
     ensures ranges { IsPlainSpectator watch.old → IsInRange watch.old → IsInRange watch.new }
     // For any bytes, valid or not.
     ensures code { result ≢ 0 → (32 ≤ result) × (result ≤ 34) }
+    ensures laid_out { result ≡ 0 → IsLaidOut watch.new }
     ensures kept { result ≢ 0 → watch.new ≡ watch.old }
 {
     match feed(watch, log) {

@@ -1,12 +1,12 @@
 //! The state that a battle's bytes represent, as plain structs, and back (include/gen1.h, "looking").
-ghost use Rattle.std.specs.Prelude.{◌↔◌, ◌≡◌, ◌≢◌};
+ghost use Rattle.std.specs.Prelude.{All, ◌↔◌, ◌≡◌, ◌≢◌};
 ghost use Rattle.gen1_layout.specs.LoadingMeaning.{IsBattle, StandsForSome};
 ghost use Rattle.gen1_layout.specs.Parts.{parts_of};
 ghost use Rattle.gen1_layout.specs.Within.{Stands};
 ghost use Rattle.gen1_machine.specs.State.{State};
 ghost use Rattle.gen1_states.specs.Bytes.{bytes_of};
 ghost use Rattle.gen1_states.specs.Completed.{completed};
-ghost use Rattle.gen1_states.specs.Reading.{state_of};
+ghost use Rattle.gen1_states.specs.Reading.{HasKinds, IsCopied, state_of};
 ghost use Rattle.gen1_states.specs.WholeTests.{fault_of};
 ghost use Rattle.gen1_c.specs.View.{fault_form};
 
@@ -35,7 +35,10 @@ pub struct StateFaultForm {
 /// Writes the state that a battle's bytes represent, every field of it.
 #[unsafe(no_mangle)]
 pub extern "C" fn gen1_get_state(battle: &Packed, state: &mut BattleState)
-    ensures { (s : State) → Stands battle.now s → state.new ≡ state_of s }
+    ensures stands { (s : State) → Stands battle.now s → state.new ≡ state_of s }
+    // For any bytes, valid or not.
+    ensures copied { IsCopied battle.now.header state.new }
+    ensures kinds { All HasKinds state.new.sides }
 {
     *state = state_of(battle);
 }
