@@ -4,16 +4,19 @@ ghost use Rattle.gen1_player.specs.Fair.{Fair, HidesTheCounts, HidesTheFoe, Offe
 
 /// What a side is offered follows from what it is shown of itself (docs/MECHANICS.md, "Offered choices", "What a side is shown of
 /// itself").
+#[tactic(auto, using(crate::proofs::Fairness::offers_what_is_shown))]
 pub fn offers_what_is_shown()
     ensures { OffersWhatIsShown }
 {}
 
 /// Whatever the foe is, a side is shown the same of itself, except for whether the foe's trapping holds it.
+#[tactic(auto, using(crate::proofs::Fairness::hides_the_foe))]
 pub fn hides_the_foe()
     ensures { HidesTheFoe }
 {}
 
 /// Hidden counts of a side change nothing of what it is shown.
+#[tactic(auto, using(crate::proofs::Fairness::hides_the_counts))]
 pub fn hides_the_counts()
     ensures { HidesTheCounts }
 {}

@@ -16,6 +16,7 @@ pub fn players_hold_the_public()
 
 /// After any run from the start, Mist, Focus Energy, Disable, rage and, of a living member, Leech Seed are announced exactly if they
 /// are on, and the types are those of the active member.
+#[tactic(auto, using(crate::proofs::Conditions::conditions_agree))]
 pub fn conditions_agree()
     ensures { ConditionsAgree }
 {}
