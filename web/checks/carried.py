@@ -156,8 +156,8 @@ def damaged_values_of_a_battle_are_refused(browser):
     ):
         browser.open(f"#calculator?c={base64.urlsafe_b64encode(damaged).decode().rstrip('=')}")
         assert message in browser.notice() + browser.text("#calc-fault"), (message, browser.text("#calc-fault"))
-    browser.open(f"#calculator?c={base64.urlsafe_b64encode(stats(999)).decode().rstrip('=')}")
-    assert browser.run(CALCULATOR)["now"][0] == "→ 999"
+    browser.open(f"#calculator?c={code}")
+    assert not browser.notice() + browser.text("#calc-fault")
 
 
 def what_is_hidden_does_not_come_into_the_calculator(browser):
