@@ -178,6 +178,6 @@ def test_the_tables():
     text = (ROOT / "docs" / "TABLES.md").read_text()
     for kind in (Species, Move):
         for it in kind:
-            assert f"| {it:3d} | {it.label} " in text
+            assert f"| {it:d} | {it.label} |" in text
     assert (len(Species), len(Move)) == (151, 165)
     assert Member(Species.MR_MIME, [Move.SELF_DESTRUCT]) == Member("Mr. Mime", ["Self-Destruct"]) == Member(122, [120])
