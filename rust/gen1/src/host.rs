@@ -180,6 +180,9 @@ impl Host {
 
     /// Offers a draw. It is agreed on if the other side has offered one for this pair; an offer ends with the pair.
     ///
+    /// An offer ends no pair, so no message is due. Report it to the other side by itself: [`Message::draw`] has it. A player that
+    /// received the same message twice would read its log twice.
+    ///
     /// # Errors
     ///
     /// [`Over`](crate::HostRefusal::Over). Nothing has changed.
