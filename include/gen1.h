@@ -303,6 +303,9 @@ enum {
     GEN1_ERROR_STALE = 52,          /* the number is not that of the current pair */
     GEN1_ERROR_CHOSEN = 53,         /* the side has already chosen */
     GEN1_ERROR_NOT_OFFERED = 54,    /* the choice is not offered to the side */
+    GEN1_ERROR_NO_CANCEL = 55,      /* the host does not let a side take its choice back */
+    GEN1_ERROR_NOTHING_CHOSEN = 56, /* the side has made no choice that it could take back */
+    GEN1_ERROR_ROW = 57,            /* the kind of the row is not 1 to 5 */
 
     /* Teams out of text: what was expected. */
     GEN1_ERROR_TEXT_SPECIES = 64,   /* the name of a species of the first generation */
@@ -1478,6 +1481,116 @@ uint8_t gen1_teller_begin(gen1_teller *teller, uint8_t side, uint8_t pixels);
  * and an error of the log as gen1_next_event returns it. Then nothing has changed.
  */
 uint8_t gen1_tell(gen1_teller *teller, const uint8_t *log, size_t count, uint8_t *told, size_t room, size_t *length);
+
+/* ---- hosts ---- */
+
+/*
+ * A battle of two players and an audience, each of whom is sent what it may know (docs/MECHANICS.md, "Hosts"). A host is a room, the
+ * tellers of both sides, offers of a draw, and the rules of its house. It is what a server keeps of a battle.
+ *
+ * The caller owns a host, and may copy and store it. To make one, set `room.battle` by gen1_new or gen1_load and call
+ * gen1_host_begin, which writes all other fields. From then on change it only by gen1_host_apply.
+ *
+ * The sender of a row is told only whether the host took it, and whether that ended the pair. After each pair send the message of
+ * gen1_host_message to each side, and the notice of gen1_host_notice to the audience. Nothing else of a host may be sent. Until a
+ * pair has ended, what a side is sent does not depend on what the other side has chosen, or on whether it has.
+ *
+ * Store the battle that the host began with, its options, and each row that it took: the same rows lead to the same host.
+ */
+typedef struct gen1_host {
+    gen1_room room;         /* the battle, the choices for the current pair, and the log of the last one */
+    gen1_teller one;        /* side 1's teller, as it was before the events of the last pair */
+    gen1_teller two;        /* side 2's */
+    uint8_t ending;         /* the side that has forfeited, 1 or 2; 3 after an agreed draw, else 0 */
+    uint8_t draw;           /* the side that offers a draw, or 0 */
+    uint8_t may_cancel;     /* 1 if a side may take its choice back while the other's is missing, else 0 */
+    uint8_t late_forfeits;  /* 1 if a side whose time has run out forfeits, 0 if its first choice is made */
+} gen1_host;
+
+#define GEN1_HOST_SIZE 928 /* the size of a gen1_host, for other languages; its alignment is 4 */
+
+/* The kinds of rows. */
+enum gen1_row_kind {
+    GEN1_ROW_SUBMIT = 1,     /* the side submits `choice` for the pair with this number */
+    GEN1_ROW_CANCEL = 2,     /* it takes its choice for this pair back */
+    GEN1_ROW_EXPIRE = 3,     /* its time for this pair has run out */
+    GEN1_ROW_OFFER_DRAW = 4, /* it offers a draw, or accepts the other side's offer */
+    GEN1_ROW_FORFEIT = 5     /* it forfeits: the other side wins */
+};
+
+/* What happens at a host. The fields that a kind does not name are not read. */
+typedef struct gen1_row {
+    uint8_t kind;        /* a gen1_row_kind */
+    uint8_t side;        /* 1 or 2 */
+    uint8_t choice;      /* submit: the choice */
+    uint8_t has_numbers; /* submit, expire: whether the battle draws `numbers` from then on; draw new ones from the operating
+                            system's source for each row, since nine draws in a row give all that follow */
+    uint32_t number;     /* submit, cancel, expire: the number of the pair */
+    uint8_t numbers[10]; /* submit, expire: ten link numbers */
+    uint8_t unused[2];   /* not read */
+} gen1_row;
+
+#define GEN1_ROW_SIZE 20 /* the size of a gen1_row, for other languages; its alignment is 4 */
+
+/* All that a side is sent after a pair that has ended, and at the beginning. */
+typedef struct gen1_message {
+    gen1_own_side own;          /* what the side is shown of itself; at a host that has ended it is asked nothing */
+    uint32_t number;            /* the number of the current pair */
+    uint16_t offered;           /* the mask of its choices, as gen1_offered returns it; 0 once the battle is over */
+    uint16_t log_length;        /* 0 to 512: how many bytes of `log` belong to the last pair */
+    uint8_t draw;               /* the side that offers a draw, or 0 */
+    uint8_t unused[3];          /* 0 */
+    uint8_t log[GEN1_LOG_ROOM]; /* the log of the last pair as the side is told it, then zeros */
+} gen1_message;
+
+#define GEN1_MESSAGE_SIZE 696 /* the size of a gen1_message, for other languages; its alignment is 4 */
+
+/* All that the audience is sent after a pair that has ended, and at the beginning. */
+typedef struct gen1_notice {
+    uint32_t number;            /* the number of the current pair */
+    uint16_t log_length;        /* 0 to 512: how many bytes of `log` belong to the last pair */
+    uint8_t outcome;            /* a gen1_outcome */
+    uint8_t draw;               /* the side that offers a draw, or 0 */
+    uint8_t log[GEN1_LOG_ROOM]; /* the log of the last pair as both sides' tellers tell it, one after the other, then zeros */
+} gen1_notice;
+
+#define GEN1_NOTICE_SIZE 520 /* the size of a gen1_notice, for other languages; its alignment is 4 */
+
+/*
+ * Makes a host of the battle in `host->room.battle`. If the battle is before its first update, that update is played at once. With
+ * `pixels`, each side and the audience are told a foe's HP in 48ths. The three options count as set if they are not 0.
+ */
+void gen1_host_begin(gen1_host *host, uint8_t pixels, uint8_t may_cancel, uint8_t late_forfeits);
+
+/*
+ * Applies a row to a host.
+ *
+ * Returns 0 if the host takes it. Once both choices of a pair are there, the battle is updated and the number rises by one; so it does
+ * at a forfeit and at an agreed draw. Otherwise it returns the first of these codes that applies, and nothing has changed:
+ * GEN1_ERROR_SIDE, GEN1_ERROR_ROW (the kind is not 1 to 5), GEN1_ERROR_OVER, GEN1_ERROR_NO_CANCEL, GEN1_ERROR_STALE (not of an offer or
+ * a forfeit), GEN1_ERROR_CHOSEN (submit and expire), GEN1_ERROR_NOT_OFFERED (submit), GEN1_ERROR_NOTHING_CHOSEN (cancel).
+ *
+ * An offer of a draw ends with the pair. It ends no pair, so no message is due: report it to the other side by itself.
+ */
+uint8_t gen1_host_apply(gen1_host *host, const gen1_row *row);
+
+/* Writes what a side is to be sent now. Returns 0, or GEN1_ERROR_SIDE; then nothing has changed. */
+uint8_t gen1_host_message(const gen1_host *host, uint8_t side, gen1_message *message);
+
+/* Writes what the audience is to be sent now. */
+void gen1_host_notice(const gen1_host *host, gen1_notice *notice);
+
+/* Returns the number of the current pair: how many have ended. At a host that has ended early it is past the last one. */
+uint32_t gen1_host_number(const gen1_host *host);
+
+/*
+ * Returns the sides whose choices are missing: 1 for side 1, plus 2 for side 2; 0 once the battle is over. It is for the host: a side
+ * may be told it only of itself.
+ */
+uint8_t gen1_host_awaited(const gen1_host *host);
+
+/* Returns the outcome of the host and the request to each side, as gen1_result does for its battle. It is for the host. */
+uint8_t gen1_host_result(const gen1_host *host);
 
 #ifdef __cplusplus
 }

@@ -27,6 +27,7 @@
 //! - `choice`: choices taken apart, and in words
 //! - `reseed`: other numbers to draw
 //! - `rooms`: rooms of two players
+//! - `hosts`: hosts of two players and an audience
 //! - `spectators`: what a spectator knows
 //! - `players`: what a player knows, and what it is told
 //! - `the_theorem`: all calls that play a battle, and their contract as one
@@ -44,6 +45,7 @@ mod effects;
 pub mod event_bytes;
 pub mod events;
 mod fronts;
+pub mod hosts;
 pub mod lines;
 pub mod masks;
 pub mod member_stats;
@@ -68,6 +70,7 @@ pub use batches::BatchUpdate;
 pub use events::EventFields;
 pub use gen1_playouts::Playouts;
 pub use gen1_states::{ActiveState, BattleState, MemberState, SideState};
+pub use hosts::RowForm;
 pub use names::{BaseForm, MoveForm};
 pub use outcomes::{OutcomeForm, OutcomeList};
 pub use playouts::PlayoutForm;
