@@ -1510,7 +1510,7 @@ typedef struct gen1_host {
 #define GEN1_HOST_SIZE 928 /* the size of a gen1_host, for other languages; its alignment is 4 */
 
 /* The kinds of rows. */
-enum gen1_row_kind {
+enum {
     GEN1_ROW_SUBMIT = 1,     /* the side submits `choice` for the pair with this number */
     GEN1_ROW_CANCEL = 2,     /* it takes its choice for this pair back */
     GEN1_ROW_EXPIRE = 3,     /* its time for this pair has run out */
@@ -1520,7 +1520,7 @@ enum gen1_row_kind {
 
 /* What happens at a host. The fields that a kind does not name are not read. */
 typedef struct gen1_row {
-    uint8_t kind;        /* a gen1_row_kind */
+    uint8_t kind;        /* GEN1_ROW_SUBMIT to GEN1_ROW_FORFEIT */
     uint8_t side;        /* 1 or 2 */
     uint8_t choice;      /* submit: the choice */
     uint8_t has_numbers; /* submit, expire: whether the battle draws `numbers` from then on; draw new ones from the operating
@@ -1549,7 +1549,7 @@ typedef struct gen1_message {
 typedef struct gen1_notice {
     uint32_t number;            /* the number of the current pair */
     uint16_t log_length;        /* 0 to 512: how many bytes of `log` belong to the last pair */
-    uint8_t outcome;            /* a gen1_outcome */
+    uint8_t outcome;            /* GEN1_OUTCOME_ONGOING to GEN1_OUTCOME_FAULT_TWO */
     uint8_t draw;               /* the side that offers a draw, or 0 */
     uint8_t log[GEN1_LOG_ROOM]; /* the log of the last pair as both sides' tellers tell it, one after the other, then zeros */
 } gen1_notice;

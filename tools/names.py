@@ -99,6 +99,15 @@ CODES = (
         {},
     ),
     (
+        "HostRefusal",
+        "Why a host refused a row, of `HostRefused.code`.",
+        "ERROR_STALE",
+        "ERROR_NOTHING_CHOSEN",
+        "ERROR_",
+        {},
+    ),
+    ("RowKind", "What happens at a host, of `Row.kind`.", "ROW_SUBMIT", "ROW_FORFEIT", "ROW_", {}),
+    (
         "EventKind",
         "Which event of a log, of `Event.kind`.",
         "EVENT_TURN",
@@ -142,9 +151,9 @@ CODES = (
     ),
 )
 # Codes that a class has besides those, before them.
-SHARED = {"RoomRefusal": ("ERROR_OVER",), "DamageFault": ("ERROR_SIDE", "ERROR_MOVE")}
+SHARED = {"RoomRefusal": ("ERROR_OVER",), "HostRefusal": ("ERROR_OVER",), "DamageFault": ("ERROR_SIDE", "ERROR_MOVE")}
 # Classes whose labels are the names.
-NAMED_ONLY = ("LoadFault", "StateField")
+NAMED_ONLY = ("LoadFault", "RowKind", "StateField")
 # Enums of MECHANICS, "Events": the class, its docstring, and the heading of the names.
 KINDS = (
     ("Stat", "A stat with stages.", "Stat"),

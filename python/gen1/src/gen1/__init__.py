@@ -18,6 +18,8 @@ Use help(gen1.Battle) for one class. The main names:
     base, move_data, Type        rows of the tables
     Recorder                     a battle to play again, as JSON or a page
     Room                         two players who choose independently
+    Host, Row, Message, Notice   two players and an audience, each of whom is
+                                 sent what it may know
     Player, Teller               a player's view of a battle
     Spectator                    a spectator's view of a battle
     Error                        the base class of all errors
@@ -51,6 +53,7 @@ from gen1.errors import (
     BadText,
     BadType,
     Error,
+    HostRefused,
     LibraryMissing,
     NoDamage,
     NumpyMissing,
@@ -95,11 +98,14 @@ from gen1.events import (
     lines,
     log_bytes,
 )
+from gen1.hosts import Host, Row
+from gen1.messages import Message, Notice
 from gen1.names import (
     Conditions,
     DamageFault,
     Effect,
     EventKind,
+    HostRefusal,
     LoadFault,
     LogFault,
     Move,
@@ -110,6 +116,7 @@ from gen1.names import (
     Refusal,
     Request,
     RoomRefusal,
+    RowKind,
     Source,
     Species,
     Stat,
@@ -207,6 +214,9 @@ __all__ = [
     "HealEvent",
     "Health",
     "HitCountEvent",
+    "Host",
+    "HostRefusal",
+    "HostRefused",
     "HpChange",
     "ImmuneEvent",
     "LibraryMissing",
@@ -214,6 +224,7 @@ __all__ = [
     "LogFault",
     "Member",
     "MemberState",
+    "Message",
     "MissEvent",
     "Move",
     "MoveData",
@@ -221,6 +232,7 @@ __all__ = [
     "MustRechargeEvent",
     "NewFault",
     "NoDamage",
+    "Notice",
     "NumpyMissing",
     "Odds",
     "OddsReason",
@@ -247,6 +259,8 @@ __all__ = [
     "Room",
     "RoomRefusal",
     "RoomRefused",
+    "Row",
+    "RowKind",
     "Rules",
     "Seen",
     "SeenMove",

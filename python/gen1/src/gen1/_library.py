@@ -16,7 +16,10 @@ from gen1._structs import (
     BattleBytes,
     BetweenStruct,
     ChancesStruct,
+    HostStruct,
+    MessageStruct,
     MoveStruct,
+    NoticeStruct,
     OddsStruct,
     OutcomeListStruct,
     OutcomeOptionsStruct,
@@ -25,6 +28,7 @@ from gen1._structs import (
     PlayoutOptionsStruct,
     PlayoutsStruct,
     RoomStruct,
+    RowStruct,
     SpectatorStruct,
     StateFaultStruct,
     StateStruct,
@@ -198,3 +202,11 @@ player_show = bind("gen1_player_show", None, _PLAYER, _OWN, c_uint16)
 get_own_side = bind("gen1_get_own_side", c_uint8, _BATTLE, c_uint8, _OWN)
 teller_begin = bind("gen1_teller_begin", c_uint8, _TELLER, c_uint8, c_uint8)
 tell = bind("gen1_tell", c_uint8, _TELLER, _BYTES, c_size_t, ctypes.c_void_p, c_size_t, _SIZES)
+_HOST = POINTER(HostStruct)
+host_begin = bind("gen1_host_begin", None, _HOST, c_uint8, c_uint8, c_uint8)
+host_apply = bind("gen1_host_apply", c_uint8, _HOST, POINTER(RowStruct))
+host_message = bind("gen1_host_message", c_uint8, _HOST, c_uint8, POINTER(MessageStruct))
+host_notice = bind("gen1_host_notice", None, _HOST, POINTER(NoticeStruct))
+host_number = bind("gen1_host_number", c_uint32, _HOST)
+host_awaited = bind("gen1_host_awaited", c_uint8, _HOST)
+host_result = bind("gen1_host_result", c_uint8, _HOST)

@@ -378,6 +378,59 @@ class TellerStruct(Structure):
     _fields_ = [("side", c_uint8), ("pixels", c_uint8), ("places", c_uint8 * 6)]
 
 
+class HostStruct(Structure):
+    """gen1_host."""
+
+    _fields_ = [
+        ("room", RoomStruct),
+        ("tellers", TellerStruct * 2),
+        ("ending", c_uint8),
+        ("draw", c_uint8),
+        ("may_cancel", c_uint8),
+        ("late_forfeits", c_uint8),
+    ]
+
+
+class RowStruct(Structure):
+    """gen1_row."""
+
+    _fields_ = [
+        ("kind", c_uint8),
+        ("side", c_uint8),
+        ("choice", c_uint8),
+        ("has_numbers", c_uint8),
+        ("number", c_uint32),
+        ("numbers", c_uint8 * 10),
+        ("unused", c_uint8 * 2),
+    ]
+
+
+class MessageStruct(Structure):
+    """gen1_message."""
+
+    _fields_ = [
+        ("own", OwnSideStruct),
+        ("number", c_uint32),
+        ("offered", c_uint16),
+        ("log_length", c_uint16),
+        ("draw", c_uint8),
+        ("unused", c_uint8 * 3),
+        ("log", c_uint8 * LOG_ROOM),
+    ]
+
+
+class NoticeStruct(Structure):
+    """gen1_notice."""
+
+    _fields_ = [
+        ("number", c_uint32),
+        ("log_length", c_uint16),
+        ("outcome", c_uint8),
+        ("draw", c_uint8),
+        ("log", c_uint8 * LOG_ROOM),
+    ]
+
+
 def reader(kind: type[Structure]) -> Callable[[bytes], dict[str, Any]]:
     """Reads all fields of a struct at once, which is faster than one by one: numbers, and of arrays the bytes."""
     numbers: dict[Any, str] = {c_uint8: "B", c_uint16: "H", c_uint32: "I"}

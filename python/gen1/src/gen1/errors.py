@@ -6,7 +6,17 @@ from __future__ import annotations
 
 from typing import Any
 
-from gen1.names import DamageFault, LoadFault, LogFault, NewFault, Refusal, RoomRefusal, StateField, TextFault
+from gen1.names import (
+    DamageFault,
+    HostRefusal,
+    LoadFault,
+    LogFault,
+    NewFault,
+    Refusal,
+    RoomRefusal,
+    StateField,
+    TextFault,
+)
 
 
 class Error(Exception):
@@ -142,11 +152,11 @@ class Refused(Error):
     is offered.
     """
 
-    code: Refusal | RoomRefusal
+    code: Refusal | RoomRefusal | HostRefusal
 
     def __init__(
         self,
-        code: Refusal | RoomRefusal,
+        code: Refusal | RoomRefusal | HostRefusal,
         said: str,
         side: int = 0,
         choice: int | None = None,
@@ -181,6 +191,32 @@ class RoomRefused(Refused):
     ) -> None:
         super().__init__(code, said, side, choice, offered)
         self.number, self.current = number, current
+
+
+class HostRefused(Refused):
+    """A host refused a row (docs/MECHANICS.md, "Hosts"); the host is
+    unchanged.
+
+    `side` is the side of the row and `choice` the byte that it submitted,
+    or None. `current` is the number of the current pair, and `offered` has
+    the choices that the side may submit. None of them reveals whether the
+    foe has chosen.
+    """
+
+    code: HostRefusal
+
+    def __init__(
+        self,
+        code: HostRefusal,
+        said: str,
+        *,
+        side: int,
+        current: int,
+        choice: int | None,
+        offered: tuple[int, ...],
+    ) -> None:
+        super().__init__(code, said, side, choice, offered)
+        self.current = current
 
 
 class NoDamage(Error, ValueError):

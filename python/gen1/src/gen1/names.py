@@ -538,6 +538,27 @@ class RoomRefusal(Named):
     NOT_OFFERED = 54, "the choice is not offered to the side"
 
 
+class HostRefusal(Named):
+    """Why a host refused a row, of `HostRefused.code`."""
+
+    OVER = 24, "the battle is over"
+    STALE = 52, "the number is not that of the current pair"
+    CHOSEN = 53, "the side has already chosen"
+    NOT_OFFERED = 54, "the choice is not offered to the side"
+    NO_CANCEL = 55, "the host does not let a side take its choice back"
+    NOTHING_CHOSEN = 56, "the side has made no choice that it could take back"
+
+
+class RowKind(Named):
+    """What happens at a host, of `Row.kind`."""
+
+    SUBMIT = 1, "submit"
+    CANCEL = 2, "cancel"
+    EXPIRE = 3, "expire"
+    OFFER_DRAW = 4, "offer draw"
+    FORFEIT = 5, "forfeit"
+
+
 class EventKind(Named):
     """Which event of a log, of `Event.kind`."""
 

@@ -16,6 +16,7 @@ from gen1._structs import ANNOUNCED, LOG_ROOM, OwnMemberStruct, PlayerStruct, Pu
 from gen1.battle import Battle, TeamLike
 from gen1.choices import Choice, Side, a_side
 from gen1.errors import BadArgument, BadLog, BadTeam, BadType
+from gen1.messages import Message, a_message
 from gen1.names import LogFault, Move, NewFault, Outcome, Request, Species, Stat, Status, Type
 from gen1.own_sides import OwnSide, own_side_from
 from gen1.spectators import fault_place
@@ -163,11 +164,6 @@ class Player:
         """
         if not isinstance(own, OwnSide):
             raise BadType(f"own must be an OwnSide, not {shown(own)}")
-        team = self._team
-        if team != _OWN_TEAM(own._held):
-            raise BadArgument(
-                f"own must be the side of the player's team, {_names(team)}, not {_names(_OWN_TEAM(own._held))}"
-            )
         mask = 0
         for at, it in enumerate(listed(offered, "offered", len(CHOICES))):
             if at == len(CHOICES):
@@ -176,6 +172,32 @@ class Player:
             if number not in _BITS:
                 raise BadArgument(f"offered[{at}] must be a choice, not {digits(number)}")
             mask |= _BITS[number]
+        self._show(own, mask)
+
+    def receive(self, message: Message) -> None:
+        """Reads the message that the player's host sent it: its log, and what
+        it is shown of itself. Call it once for each message, in order.
+
+        Raises `BadArgument` for a message to the other side's team, and for
+        one that was skipped or repeated, as far as its turn shows;
+        `BadLog`, `BadType`. Then the player is unchanged.
+        """
+        told, own = a_message(message), message.own
+        informed = self.copy()
+        informed._show(own, told._held.offered)
+        informed.feed(told.log)
+        if own.request is Request.MOVE and not self.turn < informed.turn == own.turn:
+            raise BadArgument(
+                "message must be the next one: the player was at turn "
+                f"{self.turn:,}, is at {informed.turn:,} after its log, and the message is of turn {own.turn:,}"
+            )
+        self._held = informed._held
+
+    def _show(self, own: OwnSide, mask: int) -> None:
+        if self._team != _OWN_TEAM(own._held):
+            raise BadArgument(
+                f"own must be the side of the player's team, {_names(self._team)}, not {_names(_OWN_TEAM(own._held))}"
+            )
         _library.player_show(byref(self._held), byref(own._held), mask)
 
     @property
