@@ -65,9 +65,7 @@ class Row:
                 raise BadArgument(f"a row of kind {self.kind.label} has no {name}, not {shown(getattr(self, name))}")
 
     @classmethod
-    def submit(
-        cls, side: Side | int, number: int, choice: Choice | int, numbers: Numbers = "fresh"
-    ) -> Row:
+    def submit(cls, side: Side | int, number: int, choice: Choice | int, numbers: Numbers = "fresh") -> Row:
         """A side submits its choice for the pair with this number.
 
         `numbers` is "fresh" for new ones of the operating system's source.
@@ -112,7 +110,9 @@ class Row:
             raise BadArgument(f"data must be the {ROW_BYTES} bytes of a row, not {len(given):,}")
         kind, side, choice, has_numbers = given[:4]
         if kind not in list(RowKind) or side not in (1, 2):
-            raise BadArgument(f"data is not a row: its kind is {kind} of 1 to {len(RowKind)}, its side {side} of 1 and 2")
+            raise BadArgument(
+                f"data is not a row: its kind is {kind} of 1 to {len(RowKind)}, its side {side} of 1 and 2"
+            )
         numbers = given[8:] if has_numbers else None
         row = cls(RowKind(kind), Side(side), int.from_bytes(given[4:8], "little"), choice, numbers)
         if bytes(row) != given:
@@ -217,9 +217,7 @@ class Host:
         _library.host_notice(byref(self._held), byref(made))
         return notice_of(made)
 
-    def submit(
-        self, side: Side | int, number: int, choice: Choice | int, numbers: Numbers = "fresh"
-    ) -> bool:
+    def submit(self, side: Side | int, number: int, choice: Choice | int, numbers: Numbers = "fresh") -> bool:
         """Submits a side's choice for the pair with this number.
 
         Once both choices are there, the battle is updated. It draws from

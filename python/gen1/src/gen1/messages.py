@@ -52,13 +52,15 @@ class _Sent:
         return Side(self._held.draw) if self._held.draw else None
 
     def __bytes__(self) -> bytes:
-        return bytes(self._held)
+        return bytes(memoryview(self._held))
 
     def __reduce__(self) -> tuple[Any, ...]:
         return type(self).from_bytes, (bytes(self),)  # type: ignore[attr-defined]
 
     def __eq__(self, other: object) -> bool:
-        return type(other) is type(self) and bytes(self) == bytes(other)
+        if not isinstance(other, type(self)):
+            return NotImplemented
+        return bytes(self) == bytes(other)
 
     def __hash__(self) -> int:
         return hash(bytes(self))

@@ -178,9 +178,9 @@ class Player:
         """Reads the message that the player's host sent it: its log, and what
         it is shown of itself. Call it once for each message, in order.
 
-        Raises `BadArgument` for a message to the other side's team, and for
-        one that was skipped or repeated, as far as its turn shows;
-        `BadLog`, `BadType`. Then the player is unchanged.
+        Raises `BadArgument` for a message to another team, and for one that
+        does not begin a later turn than the last one, such as one that was
+        read before; `BadLog`, `BadType`. Then the player is unchanged.
         """
         told, own = a_message(message), message.own
         informed = self.copy()

@@ -1,0 +1,326 @@
+"""Hosts: against a room and tellers that are called by hand, what each side receives while the foe's choices differ, endings, and bytes."""
+
+import copy
+import pickle
+import random
+import threading
+
+import pytest
+from conftest import BIG, NO_NUMBERS, random_team
+from gen1 import (
+    BadArgument,
+    BadType,
+    Battle,
+    Choice,
+    Error,
+    Host,
+    HostRefusal,
+    HostRefused,
+    Member,
+    Message,
+    Notice,
+    Outcome,
+    Player,
+    Refused,
+    Request,
+    Room,
+    RoomRefused,
+    Row,
+    RowKind,
+    Side,
+    Team,
+    TieEvent,
+    WinEvent,
+)
+from gen1.players import Teller
+
+TAUROS = Team([Member("Tauros", ["Body Slam", "Hyper Beam"]), Member("Starmie", ["Surf", "Recover"])])
+SEED = bytes([1, 36, 255, 7, 31, 100, 179, 254, 127, 10])
+
+
+def a_host(**options):
+    return Host(Battle(TAUROS, TAUROS, SEED), **options)
+
+
+def code_of(call):
+    """The code of the refusal of a call that is to change nothing; None if it is not refused."""
+    try:
+        call()
+    except HostRefused as fault:
+        return fault.code
+    return None
+
+
+class ByHand:
+    """A room and its tellers, as a host without this package's `Host` would keep them."""
+
+    def __init__(self, battle, exact_hp):
+        self.room, self.pixels = Room(battle), not exact_hp
+        self.tellers = [Teller(side, self.pixels) for side in Side]
+        self.all = [Teller(side, self.pixels) for side in Side]
+        self.tell()
+
+    def tell(self):
+        self.told = [teller.tell(self.room.log) for teller in self.tellers]
+        self.told_all = self.all[1].tell(self.all[0].tell(self.room.log))
+
+    def submit(self, row):
+        kept = self.room.copy()
+        if row.numbers is not None:
+            self.room.reseed(row.numbers)
+        try:
+            ended = self.room.submit(row.side, row.number, row.choice) is not None
+        except RoomRefused as fault:
+            self.room = kept
+            return int(fault.code)
+        if ended:
+            self.tell()
+        return ended
+
+    def is_shown_by(self, host):
+        battle = self.room.battle
+        assert (host.battle, host.number, host.result) == (battle, self.room.number, battle.result)
+        for side, told in zip(Side, self.told):
+            message = host.message(side)
+            assert (message.log, message.own, message.choices) == (told, battle.own_side(side), battle.choices(side))
+            assert (message.number, message.draw, message.outcome) == (host.number, None, battle.result.outcome)
+            assert host.awaits(side) == bool(self.room.choices(side))
+        notice = host.notice()
+        assert (notice.log, notice.number, notice.outcome) == (self.told_all, host.number, battle.result.outcome)
+
+
+@pytest.mark.parametrize("seed", range(20))
+def test_a_host_is_a_room_with_tellers(seed):
+    dice = random.Random(seed)
+    one, two, exact = random_team(dice), random_team(dice), seed % 2 == 0
+    start = Battle(one, two, dice.randbytes(10), limit=60)
+    host, room, rows = Host(start, exact_hp=exact), ByHand(start.copy(), exact), []
+    players = {side: Player(side, team) for side, team in zip(Side, (one, two))}
+    for side in Side:
+        players[side].receive(host.message(side))
+    while not host.is_closed:
+        side, number = dice.choice(list(Side)), host.number + (dice.random() < 0.1)
+        byte = dice.choice([0, 0x12, 255, *host.message(side).choices])
+        row = Row.submit(side, number, byte, dice.choice([None, dice.randbytes(10)]))
+        before = host.copy()
+        try:
+            reply: object = host.apply(row)
+        except HostRefused as fault:
+            reply = int(fault.code)
+            assert host == before and len(str(fault)) > 10 and (fault.current, fault.side) == (host.number, side)
+            assert fault.choice == byte and fault.offered == host.message(side).choices
+        else:
+            rows.append(bytes(row))
+        assert reply == room.submit(row)
+        room.is_shown_by(host)
+        if reply is True:
+            for it in Side:
+                players[it].receive(host.message(it))
+    for side in Side:
+        assert players[side].own == host.battle.own_side(side) and players[side].outcome is host.result.outcome
+    again = Host(start, exact_hp=exact)
+    for data in rows:
+        again.apply(Row.from_bytes(data))
+    assert again == host
+
+
+@pytest.mark.parametrize("seed", range(20))
+def test_a_side_receives_the_same_whatever_the_foe_does(seed):
+    """Two hosts whose side 2 differs in its team, choices and offers before the pair ends; side 1 receives the same bytes."""
+    dice = random.Random(seed)
+    foes = [
+        Member("Tauros", ["Body Slam", move], pp_ups=[3, ups]) for move, ups in (("Blizzard", 0), ("Earthquake", 3))
+    ]
+    hosts = [Host(Battle(TAUROS, [foe, spare], SEED)) for foe, spare in zip(foes, random_team(dice).members * 2)]
+    pair = 0
+    while all(host.awaits(1) and Choice.MOVE_1 in host.message(2).choices for host in hosts):
+        numbers, mine = dice.randbytes(10), dice.choice(hosts[0].message(1).choices)
+        for at, host in enumerate(hosts):
+            if at:
+                assert code_of(lambda: host.submit(2, pair, 0x14)) is HostRefusal.NOT_OFFERED
+                host.submit(2, pair, Choice.MOVE_1, numbers)
+            assert host.submit(1, pair, mine, numbers) == bool(at)
+            if not at:
+                host.submit(2, pair, Choice.MOVE_1, numbers)
+        pair += 1
+        received = [[bytes(host.message(1)), bytes(host.notice())] for host in hosts]
+        assert received[0] == received[1]
+    assert pair > 0
+
+
+def test_refusals_in_their_order():
+    for host, cancel in (a_host(), HostRefusal.NO_CANCEL), (a_host(may_cancel=True), HostRefusal.NOTHING_CHOSEN):
+        assert code_of(lambda: host.cancel(1, 0)) is cancel
+        assert code_of(lambda: host.submit(1, 5, 0x11)) is HostRefusal.STALE
+        assert code_of(lambda: host.submit(1, 0, 0x14)) is HostRefusal.NOT_OFFERED
+        host.submit(1, 0, 0x11)
+        assert code_of(lambda: host.submit(1, 0, 0x14)) is HostRefusal.CHOSEN
+        assert code_of(lambda: host.expire(1, 0)) is HostRefusal.CHOSEN
+        assert code_of(lambda: host.expire(1, 1)) is HostRefusal.STALE
+        if cancel is HostRefusal.NOTHING_CHOSEN:
+            assert host.cancel(1, 0) is False and host.awaits(1)
+        host.forfeit(1)
+        calls = (host.forfeit, host.offer_draw, *(lambda side, it=it: it(side, 0) for it in (host.cancel, host.expire)))
+        assert {code_of(lambda: call(2)) for call in calls} == {HostRefusal.OVER}
+    with pytest.raises(Refused, match="side 1's choice is not offered: move 4; it can choose move 1, move 2, switch 2"):
+        a_host().submit(1, 0, Choice.MOVE_4)
+
+
+@pytest.mark.parametrize("end", ["forfeit", "draw", "late"])
+def test_endings(end):
+    host = a_host(late_forfeits=end == "late")
+    players = {side: Player(side, TAUROS) for side in Side}
+    for side in Side:
+        players[side].receive(host.message(side))
+    host.submit(1, 0, 0x11)
+    if end == "draw":
+        assert host.offer_draw(1) is False and host.offer_draw(1) is False and host.message(2).draw is Side.ONE
+        assert host.offer_draw(2) is True
+    else:
+        assert host.forfeit(2) if end == "forfeit" else host.expire(2, 0)
+    outcome = Outcome.TIE if end == "draw" else Outcome.WIN_ONE
+    event = TieEvent() if end == "draw" else WinEvent(Side.ONE)
+    assert host.is_closed and host.number == 1 and host.result.outcome is outcome
+    assert host.result.requests == (Request.NOTHING, Request.NOTHING)
+    for side in Side:
+        message = host.message(side)
+        players[side].receive(message)
+        assert message.events == host.notice().events == (event,) and message.choices == ()
+        assert message.outcome is players[side].outcome is host.notice().outcome is outcome
+        assert not host.awaits(side)
+
+
+def test_time_that_has_run_out_makes_the_first_choice():
+    host = a_host()
+    host.submit(1, 0, 0x12, SEED)
+    assert host.expire(2, 0, SEED)
+    other = a_host()
+    other.submit(1, 0, 0x12, SEED)
+    other.submit(2, 0, other.message(2).choices[0], SEED)
+    assert host == other
+
+
+def test_numbers_are_fresh_unless_given():
+    ended = []
+    for numbers in ("fresh", "fresh", None, None):
+        host = a_host()
+        host.submit(1, 0, 0x11, numbers)
+        host.submit(2, 0, 0x11, numbers)
+        ended.append(host.battle.bytes)
+    assert len(set(ended)) == 3
+    assert (
+        Row.submit(1, 0, 0x11).numbers != Row.submit(1, 0, 0x11).numbers and len(Row.expire(2, 0).numbers or b"") == 10
+    )
+
+
+def test_bytes_of_rows():
+    row = Row.submit(2, 258, Choice.SWITCH_3, SEED)
+    assert bytes(row) == bytes([1, 2, 0x23, 1, 2, 1, 0, 0]) + SEED
+    rows = [row, Row.submit(1, 0, 0, None), Row.cancel(1, 7), Row.expire(2, 9), Row.offer_draw(1), Row.forfeit(2)]
+    for it in rows:
+        assert Row.from_bytes(bytes(it)) == it == pickle.loads(pickle.dumps(it)) and len(bytes(it)) == 18
+    assert [it.kind for it in rows[1:]] == list(RowKind)
+    dice = random.Random(3)
+    for _ in range(20_000):
+        data = bytearray(bytes(dice.choice(rows)))
+        data[dice.randrange(18)] = dice.randrange(256)
+        try:
+            made = Row.from_bytes(data)
+        except BadArgument as fault:
+            assert "data is not a row" in str(fault) or "a row of kind" in str(fault)
+        else:
+            assert bytes(made) == data
+    for wrong in (b"", bytes(17), bytes(19)):
+        with pytest.raises(BadArgument, match="18 bytes of a row"):
+            Row.from_bytes(wrong)
+    for value in NO_NUMBERS:
+        with pytest.raises((BadType, BadArgument)):
+            Row.submit(1, value, 0x11)
+        with pytest.raises(BadType):
+            Row.cancel(value, 0)
+    for value in (-1, 1 << 32):
+        with pytest.raises(BadArgument):
+            Row.cancel(1, value)
+    for value in BIG:
+        with pytest.raises(BadArgument):
+            Row.submit(1, 0, value)
+    with pytest.raises(BadArgument, match="seed must be 10 bytes"):
+        Row.submit(1, 0, 0x11, bytes(9))
+
+
+def test_bytes_of_messages():
+    host, dice = a_host(), random.Random(5)
+    host.submit(1, 0, 0x11)
+    host.submit(2, 0, 0x21 + 1)
+    for sent, length in ((host.message(1), 696), (host.message(2), 696), (host.notice(), 520)):
+        kind = type(sent)
+        assert len(bytes(sent)) == length
+        assert kind.from_bytes(bytes(sent)) == sent == pickle.loads(pickle.dumps(sent)) == copy.deepcopy(sent)
+        assert hash(kind.from_bytes(bytearray(bytes(sent)))) == hash(sent)
+        for _ in range(3000):
+            data = bytearray(bytes(sent))
+            data[dice.randrange(length)] = dice.randrange(256)
+            try:
+                made = kind.from_bytes(data)
+            except BadArgument as fault:
+                assert "data is not a " in str(fault)
+            else:
+                assert made.number >= 0 and made.events is not None and made.outcome is not None and repr(made)
+        for wrong in (b"", bytes(length - 1), bytes(length + 1)):
+            with pytest.raises(BadArgument, match=f"data must be the {length} bytes of a "):
+                kind.from_bytes(wrong)
+    assert Message.from_bytes(bytes(host.message(1))) != Notice.from_bytes(bytes(host.notice()))
+
+
+def test_a_player_receives_each_message_once():
+    host, player = a_host(), Player(1, TAUROS)
+    player.receive(host.message(1))
+    kept = player.copy()
+    for wrong in (host.message(1), Message.from_bytes(bytes(host.message(1)))):
+        with pytest.raises(BadArgument, match="message must be the next one"):
+            player.receive(wrong)
+    other = Host(Battle([Member("Mew", ["Psychic"])], TAUROS, SEED))
+    with pytest.raises(BadArgument, match="own must be the side of the player's team"):
+        player.receive(other.message(1))
+    with pytest.raises(BadType):
+        player.receive(host)
+    assert player == kept
+
+
+def test_wrong_arguments():
+    host = a_host()
+    for options in ({"exact_hp": 1}, {"may_cancel": None}, {"late_forfeits": "yes"}):
+        with pytest.raises(BadType):
+            a_host(**options)
+    for call in (
+        lambda: Host(host),
+        lambda: host.apply(bytes(18)),
+        lambda: host.message(None),
+        lambda: host.awaits("1"),
+    ):
+        with pytest.raises(BadType):
+            call()
+    for call in (lambda: host.message(3), lambda: host.forfeit(0), lambda: host.submit(1, -1, 0x11)):
+        with pytest.raises(BadArgument):
+            call()
+    assert host == a_host() != a_host(may_cancel=True) and isinstance(HostRefused, type(Error))
+
+
+def test_many_threads():
+    """Both sides submit each choice from several threads: each pair ends once."""
+    host, ended = a_host(), []
+
+    def play(side):
+        for _ in range(3000):
+            try:
+                if host.submit(side, host.number, Choice.MOVE_1):
+                    ended.append(side)
+            except HostRefused:
+                pass
+
+    threads = [threading.Thread(target=play, args=(side,)) for side in (1, 1, 2, 2)]
+    for it in threads:
+        it.start()
+    for it in threads:
+        it.join()
+    assert len(ended) == host.number
