@@ -19,7 +19,7 @@ import sys
 from collections.abc import Callable
 
 import gen1
-from gen1 import Battle, Choice, Member, Move, Outcome, Player, Side, Team, Teller
+from gen1 import Battle, Choice, Host, Member, Move, Outcome, Player, Side, Team
 
 # A bot chooses from a player's view, with dice and a number of guesses to make.
 Bot = Callable[[Player, random.Random, int], Choice]
@@ -70,11 +70,11 @@ def fair(player: Player, dice: random.Random, guesses: int) -> Choice:
     return best(starts, player.side, player.choices, dice)
 
 
-def cheating(battle: Battle) -> Bot:
-    """A bot that searches copies of this battle, with other numbers to draw."""
+def cheating(host: Host) -> Bot:
+    """A bot that searches copies of the host's battle, with other numbers to draw."""
 
     def bot(player: Player, dice: random.Random, guesses: int) -> Choice:
-        starts = [battle.copy() for _ in range(guesses)]
+        starts = [host.battle for _ in range(guesses)]
         for it in starts:
             it.reseed(dice.randbytes(10))
         return best(starts, player.side, player.choices, dice)
@@ -88,21 +88,22 @@ def at_random(player: Player, dice: random.Random, guesses: int) -> Choice:
 
 
 def play(names: tuple[str, str], dice: random.Random, guesses: int) -> Outcome:
-    """One battle between two bots. Each gets its own player's view; only the cheating bot also gets the battle."""
+    """One battle between two bots. Each gets its own player's view; only the cheating bot also gets the host."""
     teams = list(gen1.sample_teams().values())
     sides = dice.choice(teams), dice.choice(teams)
-    battle = Battle(*sides, dice.randbytes(10))
-    known = {"fair": fair, "cheating": cheating(battle), "random": at_random}
+    host = Host(Battle(*sides, dice.randbytes(10)), exact_hp=True)
+    known = {"fair": fair, "cheating": cheating(host), "random": at_random}
     bots = [known[it] for it in names]
     players = [Player(side, team, foes=6) for side, team in zip(Side, sides)]
-    tellers = [Teller(side) for side in Side]
-    update = battle.update(Choice.PASS, Choice.PASS)
     while True:
-        for teller, player in zip(tellers, players):
-            teller.report(battle, update.log, player)
-        if update.result.is_over:
-            return update.result.outcome
-        update = battle.update(*(chosen(bot, player, dice, guesses) for bot, player in zip(bots, players)))
+        for player in players:
+            player.receive(host.message(player.side))
+        if host.is_closed:
+            return host.result.outcome
+        number = host.number
+        for bot, player in zip(bots, players):
+            if host.number == number and host.awaits(player.side):
+                host.submit(player.side, number, chosen(bot, player, dice, guesses), None)
 
 
 def chosen(bot: Bot, player: Player, dice: random.Random, guesses: int) -> Choice:

@@ -9,7 +9,8 @@ use crate::random::Random;
 use crate::screen;
 use clap::{Args, ValueEnum};
 use gen1::{
-    Battle, Choice, EventList, LogBuf, Offered, Player, Side, Team, Teller, TurnLimit, write_log,
+    Battle, Choice, Host, HostOptions, LogFault, Offered, Player, Rules, Side, Team, TurnLimit,
+    events_of,
 };
 use std::path::{Path, PathBuf};
 
@@ -50,7 +51,7 @@ enum Foe {
 /// Plays a battle.
 pub fn play(game: &Game) -> Result<(), Fault> {
     let mut random = game.seed.map_or_else(Random::any, Random::new);
-    let (mut battle, teams) = match game.file.as_deref() {
+    let (battle, teams) = match game.file.as_deref() {
         Some(path) => battle_in(path)?,
         None => {
             let members = usize::from(game.members);
@@ -60,64 +61,83 @@ pub fn play(game: &Game) -> Result<(), Fault> {
     };
     let mut foe = game
         .level
-        .map(|level| Searcher::new(level, &teams, &mut random));
-    let mut events = EventList::new();
-    while !battle.is_over() {
-        let Some(one) = asked(&battle)? else {
-            return put("The battle is left.\n");
-        };
-        let two = match &mut foe {
-            Some(foe) => foe.choice(&battle),
-            None => answer(game, &battle, &mut random),
-        };
-        let Some(two) = two else {
+        .map(|level| Searcher::new(level, &teams, &mut random, &battle));
+    let options = HostOptions {
+        exact_hp: true,
+        ..HostOptions::default()
+    };
+    let mut host = Host::with_options(battle, options);
+    loop {
+        report(&host, &mut foe)?;
+        if host.is_closed() {
             break;
-        };
-        if battle.update_with(one, two, &mut events).is_ok() {
-            put(text_of(&events))?;
-            if let Some(foe) = &mut foe {
-                foe.report(&battle, &events)?;
-            }
+        }
+        let number = host.number();
+        if host.awaits(Side::One) {
+            let Some(choice) = asked(&host.battle())? else {
+                return put("The battle is left.\n");
+            };
+            submit(&mut host, Side::One, choice)?;
+        }
+        if host.number() == number && host.awaits(Side::Two) {
+            let choice = match &mut foe {
+                Some(foe) => foe.choice(),
+                None => answer(game, &host.battle(), &mut random),
+            };
+            submit(&mut host, Side::Two, choice.unwrap_or_default())?;
         }
     }
-    put(match battle.outcome().winner() {
+    put(match host.result().outcome.winner() {
         Some(Side::One) => "You win.\n",
         Some(Side::Two) => "You lose.\n",
         None => "Nobody wins.\n",
     })
 }
 
+/// Prints what the person is told of the last pair, and tells a foe that searches its part.
+fn report(host: &Host, foe: &mut Option<Searcher>) -> Result<(), Fault> {
+    let message = host.message(Side::One);
+    // What a host tells is a log, so neither fails.
+    let unread = |why: LogFault| Fault::search(&why.to_string());
+    let events = events_of(message.log()).collect::<Result<Vec<_>, _>>();
+    put(text_of(&events.map_err(unread)?))?;
+    match foe {
+        Some(foe) => foe.player.receive(&host.message(Side::Two)).map_err(unread),
+        None => Ok(()),
+    }
+}
+
+/// Submits a choice for the current pair. The battle draws on, so that a seed repeats the game.
+fn submit(host: &mut Host, side: Side, choice: Choice) -> Result<(), Fault> {
+    let reply = host.submit(side, host.number(), choice, None);
+    reply.map_err(|why| Fault::search(&why.to_string()))?;
+    Ok(())
+}
+
 /// Side 2, which is told no more than a player may know.
 struct Searcher {
     bot: Bot,
     player: Player,
-    teller: Teller,
+    rules: Rules,
+    limit: TurnLimit,
 }
 
 impl Searcher {
-    fn new(level: u8, teams: &[Team; 2], random: &mut Random) -> Searcher {
+    fn new(level: u8, teams: &[Team; 2], random: &mut Random, battle: &Battle) -> Searcher {
         let foes = teams[0].members().len() as u8;
         Searcher {
             bot: Bot::new(level, random.bits()),
             player: Player::with_foes(Side::Two, &teams[1], foes),
-            teller: Teller::new(Side::Two),
+            rules: battle.state().rules,
+            limit: TurnLimit::new(battle.limit()).unwrap_or_default(),
         }
     }
 
-    fn report(&mut self, battle: &Battle, events: &EventList) -> Result<(), Fault> {
-        let mut log = LogBuf::new();
-        write_log(events, &mut log);
-        let told = self.teller.report(battle, &log, &mut self.player);
-        told.map_err(|why| Fault::search(&why.to_string()))
-    }
-
-    fn choice(&mut self, battle: &Battle) -> Option<Choice> {
-        // Before the first update the player has not been shown its side.
-        if let [only] = battle.choices(Side::Two).as_slice() {
+    fn choice(&mut self) -> Option<Choice> {
+        if let [only] = self.player.choices().as_slice() {
             return Some(*only);
         }
-        let limit = TurnLimit::new(battle.limit()).unwrap_or_default();
-        self.bot.choice(&self.player, battle.state().rules, limit)
+        self.bot.choice(&self.player, self.rules, self.limit)
     }
 }
 
