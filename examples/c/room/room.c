@@ -7,9 +7,11 @@
  * The first argument is a file with a battle as decimal numbers (../play.c); its choices are ignored. A player reads and writes lines:
  *
  *     ask NUMBER CHOICE ..   the number of the current pair, and the bytes of the choices that are offered for it
- *     taken | refused CODE   the result of the player's last line: a code of gen1_room_submit, or 255 for a line that is not a choice
+ *     taken | refused CODE   the result of the player's last line: a code of gen1_host_apply, or 255 for a line that is not a choice
  *     line TEXT              a line of the battle, as its side may see it: the foe's HP in 48ths
  *     NUMBER CHOICE          (from the player) a choice for a pair
+ *
+ * The battle draws the numbers of the file, so that a battle can be played again. A server passes new ones with each row (gen1.h).
  *
  * Neither player sees the other's choice before both have chosen. Any other line of a player is refused with a code, and changes nothing.
  * A player that floods the room is read no faster than the other, and lines that it does not read in time are dropped. For a player that
@@ -41,7 +43,6 @@ enum { RUBBISH = 255, CODES };
 
 typedef struct player {
     uint8_t side;
-    gen1_teller teller;
     pid_t pid;
     int to, from;         /* the room's ends of both pipes; -1 once closed */
     char line[LINE_MOST]; /* the incomplete line so far; longer lines are cut, and so refused */
@@ -69,33 +70,28 @@ static void send(player *to, const char *format, ...) {
         close_end(&to->to);
 }
 
-/* Asks a player for its choice, if it has to make one. */
-static void ask(player *of, const gen1_room *at) {
+/* Sends a player the lines of the last pair as its side may see them, and asks it for its choice, if it has to make one. */
+static void tell(player *to, const gen1_host *at) {
+    gen1_message message;
+    char line[GEN1_LINE_ROOM], words[9 * 4 + 1] = "";
     uint8_t choices[9];
-    char words[9 * 4 + 1] = "";
-    uint8_t count = gen1_room_choices(at, of->side, choices);
+    size_t place = 0, length = 0;
+    gen1_host_message(at, to->side, &message);
+    while (gen1_next_line(message.log, message.log_length, &place, line, sizeof line, &length) == 0)
+        send(to, "line %s", line);
+    if ((gen1_host_awaited(at) & to->side) == 0)
+        return;
+    uint8_t count = gen1_choices(&at->room.battle, to->side, choices);
     for (int k = 0; k < count; k++)
         snprintf(words + strlen(words), sizeof words - strlen(words), " %d", choices[k]);
-    if (count > 0)
-        send(of, "ask %lu%s\n", (unsigned long)at->number, words);
+    send(to, "ask %lu%s\n", (unsigned long)message.number, words);
 }
 
-/* Sends a player the lines of the last update as its side may see them, and asks it for its choice. */
-static void tell(player *to, const gen1_room *at) {
-    uint8_t told[GEN1_LOG_ROOM];
-    char line[GEN1_LINE_ROOM];
-    size_t count = 0, place = 0, length = 0;
-    gen1_tell(&to->teller, at->log, at->log_length, told, sizeof told, &count);
-    while (gen1_next_line(told, count, &place, line, sizeof line, &length) == 0)
-        send(to, "line %s", line);
-    ask(to, at);
-}
-
-/* Prints the lines of the last update, and sends both players theirs. The room's own log is for the host alone. */
-static void tell_both(player players[2], const gen1_room *at) {
+/* Prints the lines of the last pair, and sends both players theirs. The room's own log is for the host alone. */
+static void tell_both(player players[2], const gen1_host *at) {
     char line[GEN1_LINE_ROOM];
     size_t place = 0, length = 0;
-    while (gen1_next_line(at->log, at->log_length, &place, line, sizeof line, &length) == 0)
+    while (gen1_next_line(at->room.log, at->room.log_length, &place, line, sizeof line, &length) == 0)
         fputs(line, stdout);
     tell(&players[0], at);
     tell(&players[1], at);
@@ -117,24 +113,26 @@ static bool read_line(const char *line, uint32_t *number, uint8_t *choice) {
 }
 
 /* Handles a line of a player: it is accepted, or refused with a code. */
-static void take_line(player players[2], player *from, gen1_room *at) {
-    uint32_t number, before = at->number;
-    uint8_t choice, code = RUBBISH;
+static void take_line(player players[2], player *from, gen1_host *at) {
+    gen1_row row = {.kind = GEN1_ROW_SUBMIT, .side = from->side};
+    uint32_t before = gen1_host_number(at);
+    uint8_t code = RUBBISH;
     from->line[from->filled < LINE_MOST ? from->filled : LINE_MOST - 1] = '\0';
-    if (from->filled < LINE_MOST && strlen(from->line) == from->filled && read_line(from->line, &number, &choice))
-        code = gen1_room_submit(at, from->side, number, choice);
+    if (from->filled < LINE_MOST && strlen(from->line) == from->filled &&
+        read_line(from->line, &row.number, &row.choice))
+        code = gen1_host_apply(at, &row);
     from->filled = 0;
     from->refused[code]++;
     if (code == 0)
         send(from, "taken\n");
     else
         send(from, "refused %d\n", code);
-    if (at->number != before)
+    if (gen1_host_number(at) != before)
         tell_both(players, at);
 }
 
 /* Reads what a player has sent, up to a limit at a time. */
-static void listen_to(player players[2], player *from, gen1_room *at) {
+static void listen_to(player players[2], player *from, gen1_host *at) {
     char bytes[READ_AT_ONCE];
     ssize_t count = read(from->from, bytes, sizeof bytes);
     if (count <= 0)
@@ -146,15 +144,15 @@ static void listen_to(player players[2], player *from, gen1_room *at) {
             from->line[from->filled++] = bytes[k];
 }
 
-/* Makes the first choice for each player that has left, or, if the time is up, for each that has not chosen. */
-static void choose_for_missing(player players[2], gen1_room *at, bool is_time_up) {
-    uint32_t before = at->number;
-    for (int k = 0; k < 2 && at->number == before; k++) {
-        uint8_t choices[9];
-        if ((is_time_up || players[k].from < 0) && gen1_room_choices(at, players[k].side, choices) > 0)
-            gen1_room_submit(at, players[k].side, at->number, choices[0]);
-    }
-    if (at->number != before)
+/* Ends the time of each player that has left, or, if the time is up, of each that has not chosen: its first choice is made. */
+static void expire_missing(player players[2], gen1_host *at, bool is_time_up) {
+    uint32_t before = gen1_host_number(at);
+    for (int k = 0; k < 2; k++)
+        if (is_time_up || players[k].from < 0) {
+            gen1_row row = {.kind = GEN1_ROW_EXPIRE, .side = players[k].side, .number = before};
+            gen1_host_apply(at, &row); /* it is refused if the side has chosen, or if the pair has ended */
+        }
+    if (gen1_host_number(at) != before)
         tell_both(players, at);
 }
 
@@ -168,7 +166,7 @@ static time_t now(void) {
 }
 
 /* Waits for either player until a time, and reads what they sent. */
-static void listen_to_both(player players[2], gen1_room *at, time_t until) {
+static void listen_to_both(player players[2], gen1_host *at, time_t until) {
     struct pollfd ends[2] = {{.fd = players[0].from, .events = POLLIN}, {.fd = players[1].from, .events = POLLIN}};
     time_t left = until - now();
     if (poll(ends, 2, left > 0 ? (int)left * 1000 : 0) > 0)
@@ -177,15 +175,15 @@ static void listen_to_both(player players[2], gen1_room *at, time_t until) {
                 listen_to(players, &players[k], at);
 }
 
-static void run_room(player players[2], gen1_room *at, int patience) {
+static void run_host(player players[2], gen1_host *at, int patience) {
     time_t until = now() + patience;
     tell_both(players, at);
-    while (GEN1_RESULT_OUTCOME(gen1_result(&at->battle)) == GEN1_OUTCOME_ONGOING) {
-        uint32_t number = at->number;
-        choose_for_missing(players, at, now() >= until);
-        if (at->number == number)
+    while (GEN1_RESULT_OUTCOME(gen1_host_result(at)) == GEN1_OUTCOME_ONGOING) {
+        uint32_t number = gen1_host_number(at);
+        expire_missing(players, at, now() >= until);
+        if (gen1_host_number(at) == number)
             listen_to_both(players, at, until);
-        if (at->number != number)
+        if (gen1_host_number(at) != number)
             until = now() + patience;
     }
 }
@@ -220,9 +218,7 @@ static player begin(uint8_t side, const char *command) {
     }
     close(to[0]);
     close(from[1]);
-    player made = {.side = side, .pid = pid, .to = to[1], .from = from[0]};
-    gen1_teller_begin(&made.teller, side, 1);
-    return made;
+    return (player){.side = side, .pid = pid, .to = to[1], .from = from[0]};
 }
 
 /* Gives a process time to end. It is not reaped yet, so that its process ID stays reserved. */
@@ -255,7 +251,7 @@ static int seconds_of(const char *word) {
 
 int main(int count, char **words) {
     battle_file file;
-    gen1_room at;
+    gen1_host at;
     int patience = count == 5 ? seconds_of(words[4]) : USUAL_PATIENCE;
     if (count < 4 || count > 5 || patience < 1) {
         fprintf(stderr, "usage: room BATTLE PLAYER PLAYER [SECONDS]\nSECONDS are 1 to %d\n", MOST_PATIENCE);
@@ -267,15 +263,15 @@ int main(int count, char **words) {
         return 2;
     }
     fclose(from);
-    uint32_t fault = gen1_new(&at.battle, &file.one, &file.two, file.seed, file.rules, file.limit);
+    uint32_t fault = gen1_new(&at.room.battle, &file.one, &file.two, file.seed, file.rules, file.limit);
     if (fault != 0) {
         print_team_fault(fault);
         return 1;
     }
-    gen1_room_begin(&at);
+    gen1_host_begin(&at, 1, 0, 0);
     signal(SIGPIPE, SIG_IGN);
     player players[2] = {begin(GEN1_ONE, words[2]), begin(GEN1_TWO, words[3])};
-    run_room(players, &at, patience);
+    run_host(players, &at, patience);
     fflush(stdout);
     end(&players[0]);
     end(&players[1]);
