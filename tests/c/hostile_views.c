@@ -136,7 +136,7 @@ static void try_error_text(void) {
         {GEN1_ERROR_LOG_TAG, GEN1_ERROR_WALK_END},
         {GEN1_ERROR_SIDE, GEN1_ERROR_PLACE},
         {GEN1_ERROR_UNUSUAL, GEN1_ERROR_NOBODY_OUT},
-        {GEN1_ERROR_STALE, GEN1_ERROR_NOT_OFFERED},
+        {GEN1_ERROR_STALE, GEN1_ERROR_ROW},
         {GEN1_ERROR_TEXT_SPECIES, GEN1_ERROR_TEXT_TEAM},
     };
     size_t room = draw(140);

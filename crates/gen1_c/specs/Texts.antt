@@ -81,12 +81,15 @@ damage_sentences =
     codes "nobody is out: the battle is before its first update" ∷
     []
 
--- rooms, from 52 on
+-- rooms and hosts, from 52 on
 abbrev pub room_sentences : List (List ℕ)
 room_sentences =
     codes "the number is not that of the current pair of choices" ∷
     codes "the side has chosen" ∷
     codes "the choice is not offered to the side" ∷
+    codes "the host does not let a side take its choice back" ∷
+    codes "the side has made no choice that it could take back" ∷
+    codes "the kind of the row is not 1 to 5" ∷
     []
 
 -- teams out of text: what was expected, from 64 on
