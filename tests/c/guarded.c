@@ -7,7 +7,7 @@
 #include <string.h>
 #include <sys/mman.h>
 
-enum { NAMES = 64, TOLD = 10 };
+enum { NAMES = 80, TOLD = 10 };
 
 typedef struct guarded {
     uint8_t *pages;

@@ -18,10 +18,11 @@
 extern try_call *const tries_of_battles[],
     *const tries_of_batches[], *const tries_of_texts[], *const tries_of_views[], *const tries_of_rooms[],
                                                                                      *const tries_of_odds[],
-                                                                                         *const tries_of_players[];
+                                                                                         *const tries_of_players[],
+                                                                                             *const tries_of_hosts[];
 
-static try_call *const *const tries[] = {tries_of_battles, tries_of_batches, tries_of_texts,  tries_of_views,
-                                         tries_of_rooms,   tries_of_odds,    tries_of_players};
+static try_call *const *const tries[] = {tries_of_battles, tries_of_batches, tries_of_texts,   tries_of_views,
+                                         tries_of_rooms,   tries_of_odds,    tries_of_players, tries_of_hosts};
 
 int main(int count, char **words) {
     if (count != 3) {

@@ -21,6 +21,9 @@ uint8_t __real_gen1_odds_now(const gen1_battle *, uint8_t, uint8_t, gen1_odds *)
 uint32_t __real_gen1_odds_between(const gen1_member *, const gen1_member *, uint8_t, gen1_odds *);
 uint8_t __real_gen1_walk_begin(const gen1_battle *, uint8_t, uint8_t, uint8_t, gen1_walk *);
 uint8_t __real_gen1_walk_next(gen1_walk *, gen1_way *);
+uint8_t __real_gen1_host_apply(gen1_host *, const gen1_row *);
+uint8_t __real_gen1_host_message(const gen1_host *, uint8_t, gen1_message *);
+void __real_gen1_host_notice(const gen1_host *, gen1_notice *);
 uint8_t __real_gen1_outcomes(const gen1_battle *, uint8_t, uint8_t, const gen1_outcome_options *, gen1_successor *,
                              size_t, uint32_t *, size_t, gen1_outcome_list *);
 
@@ -181,4 +184,30 @@ uint8_t __wrap_gen1_walk_next(gen1_walk *walk, gen1_way *way) {
     if (WRONG == 30 && answer == 0 && walk->over == 1)
         walk->over = 2;
     return answer;
+}
+
+/* 31: the numbers of a row are left out. 32: a refused row withdraws the offer of a draw. */
+uint8_t __wrap_gen1_host_apply(gen1_host *host, const gen1_row *row) {
+    gen1_row numberless = *row;
+    numberless.has_numbers = 0;
+    uint8_t answer = __real_gen1_host_apply(host, WRONG == 31 ? &numberless : row);
+    if (WRONG == 32 && answer != 0)
+        host->draw = 0;
+    return answer;
+}
+
+/* 33: a side is sent the other side's own side. */
+uint8_t __wrap_gen1_host_message(const gen1_host *host, uint8_t side, gen1_message *message) {
+    uint8_t answer = __real_gen1_host_message(host, side, message);
+    if (WRONG == 33 && answer == 0)
+        gen1_get_own_side(&host->room.battle, (uint8_t)(3 - side), &message->own);
+    return answer;
+}
+
+/* 34: the audience is sent what side 1 is. */
+void __wrap_gen1_host_notice(const gen1_host *host, gen1_notice *notice) {
+    gen1_message message;
+    __real_gen1_host_notice(host, notice);
+    if (WRONG == 34 && __real_gen1_host_message(host, GEN1_ONE, &message) == 0)
+        memcpy(notice->log, message.log, sizeof notice->log);
 }
