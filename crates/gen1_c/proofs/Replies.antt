@@ -1,5 +1,5 @@
 -- Sides by their numbers, and replies of a room as codes.
-use Rattle.std.proofs.Common.{Bool, Err, IsSome, None, Ok, Option, Result, Some, ap, arith, false, inl, inr, refl, subst, sym, true, ℕ, ◌↔◌, ◌≡◌, ◌≤◌, ◌∙◌}
+use Rattle.std.proofs.Common.{Bool, Err, IsSome, None, Ok, Option, Result, Some, ap, arith, false, inl, inr, option_map, refl, subst, sym, true, ℕ, ◌↔◌, ◌≡◌, ◌≤◌, ◌∙◌}
 use Rattle.gen1_machine.specs.declared.side.Side.{Side}
 use Rattle.gen1_machine.specs.declared.side.Side.TheVariants.{One, Two}
 use Rattle.gen1_machine.specs.Numbers.{side_number}
@@ -16,6 +16,15 @@ use Rattle.gen1_engine.specs.declared.result.BattleResult.{BattleResult}
 use Rattle.gen1_room.specs.Forfeits.{ForfeitsAs as Forfeits}
 use Rattle.gen1_room.specs.declared.plain.PlainRoom.{PlainRoom}
 use Rattle.gen1_room.specs.Rooms.{reply_of_submitted, why_of}
+use Rattle.gen1_engine.specs.Update.{result_of}
+use Rattle.gen1_host.specs.declared.reply.HostRefusal.{HostRefusal}
+use Rattle.gen1_host.specs.declared.reply.Replied.{Replied}
+use Rattle.gen1_host.specs.declared.reply.Replied.TheVariants as replied
+use Rattle.gen1_host.specs.declared.row.Row.{Row as PlainRow}
+use Rattle.gen1_host.specs.Hosts.{result_at, result_by, row_at}
+use Rattle.gen1_host.specs.Replies.{reply_of_taken, why_of as host_why_of}
+use Rattle.gen1_host.specs.Table.{Agreed, Ending, Forfeited, HostReply, Refused, Row, Table}
+use Rattle.gen1_c.specs.Hosts.{reply_code as host_reply_code, why_code as host_why_code}
 use Rattle.gen1_c.specs.Rooms.{ForfeitsAs, reply_code, why_code}
 
 in_range : (which : Side) → (1 ≤ side_number which) × (side_number which ≤ 2)
@@ -61,3 +70,35 @@ fault_low s valid code e = elim valid.field [
   | inl u ↦ absurd (let f = sym u.outcome ∙ e in cc)
   | inr v ↦ let low = subst (λ (o : Outcome). IsOutcome o) e v.field.outcome in omega (arith, low)
 ]
+
+-- a host's replies
+
+pub taken_row : (x : Replied) (r : HostReply) → reply_of_taken x ≡ r → 0 ≡ host_reply_code r
+taken_row replied.Kept r e = ap host_reply_code e
+taken_row replied.Ended r e = ap host_reply_code e
+
+pub refused_row : (why : HostRefusal) (n : ℕ) (r : HostReply) → n ≡ host_why_code (host_why_of why) → Refused (host_why_of why) ≡ r → n ≡ host_reply_code r
+refused_row why n r k e = k ∙ ap host_reply_code e
+
+-- a form that describes one row describes no other
+pub that_row : (x : PlainRow) (it : Row) (due : Option Row) → Some (row_at x) ≡ due → due ≡ Some it → row_at x ≡ it
+that_row x it due e k = ap (λ (o : Option Row). elim o [ Some row ↦ row | None ↦ it ]) (e ∙ k)
+
+-- a form that describes no row does not describe this one
+pub no_row : (x : Option PlainRow) (it : Row) (due : Option Row) → option_map row_at x ≡ due → ((row : PlainRow) → x ≡ Some row → ⊥) → due ≡ Some it → ⊥
+no_row None it due e not k = absurd (let f = e ∙ k in cc)
+no_row (Some row) it due e not k = not row refl
+
+-- the code of a fault in a host's result is low
+
+low_early : (e : Ending) (code : ℕ) → (result_by e).outcome ≡ outcomes.Fault code → code ≤ 2
+low_early (Forfeited One) code k = absurd (let f = k in cc)
+low_early (Forfeited Two) code k = absurd (let f = k in cc)
+low_early Agreed code k = absurd (let f = k in cc)
+
+pub low_at : (t : Table) → IsState t.course.state → (code : ℕ) → (result_at t).outcome ≡ outcomes.Fault code → code ≤ 2
+low_at t valid code e = by t.ending e
+  where
+    by : (o : Option Ending) → (let r : BattleResult = elim o [ Some ending ↦ result_by ending | None ↦ result_of t.course.state ] in r).outcome ≡ outcomes.Fault code → code ≤ 2
+    by (Some ending) k = low_early ending code k
+    by None k = fault_low t.course.state valid code k

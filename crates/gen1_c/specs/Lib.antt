@@ -44,6 +44,8 @@ pub mod View
 pub mod Choices
 -- What a room replies.
 pub mod Rooms
+-- What a host takes, and what it replies.
+pub mod Hosts
 -- The odds of a move.
 pub mod Odds
 -- What a player knows, and what it is told.

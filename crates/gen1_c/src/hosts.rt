@@ -1,4 +1,16 @@
 //! Hosts, who tell two players and an audience what they may know (include/gen1.h, "hosts"; docs/MECHANICS.md, "Hosts").
+ghost use Rattle.std.specs.Prelude.{None, Some, drop, option_map, replicate, ◌≡◌, ◌≢◌, ◌≤◌};
+ghost use Rattle.gen1_machine.specs.Numbers.{side_number};
+ghost use Rattle.gen1_machine.specs.State.{State};
+ghost use Rattle.gen1_machine.specs.declared.side.Side.{Side};
+ghost use Rattle.gen1_layout.specs.Within.{Stands};
+ghost use Rattle.gen1_host.specs.Hosts.{Hosts, IsNotice, IsSent, IsWithin, awaited_mask, first_table, result_at, row_at};
+ghost use Rattle.gen1_host.specs.Messages.{message as message_at, notice as notice_at};
+ghost use Rattle.gen1_host.specs.Replies.{why_of};
+ghost use Rattle.gen1_host.specs.Table.{Row as TableRow, Table, after_row, current_pair, reply_to_row};
+ghost use Rattle.gen1_c.specs.Hosts.{byte_of_result, is_set, numbers_of, reply_code, row_of, rules_of, why_code};
+ghost use Rattle.gen1_c.specs.Update.{IsNoSide, IsResult};
+
 use crate::codes::SIDE;
 use gen1_host::{Host, HostRefusal, HouseRules, Message, Notice, Row};
 use gen1_layout::{byte_of_outcome, byte_of_request};
@@ -41,7 +53,12 @@ pub struct RowForm {
 
 /// Makes a host of the battle in it, and starts the battle if it is before its first update.
 #[unsafe(no_mangle)]
-pub extern "C" fn gen1_host_begin(host: &mut Host, pixels: u8, may_cancel: u8, late_forfeits: u8) {
+pub extern "C" fn gen1_host_begin(host: &mut Host, pixels: u8, may_cancel: u8, late_forfeits: u8)
+    ensures hosts { (s : State) → Stands host.old.room.battle s
+        → Hosts host.new (first_table (is_set pixels) (rules_of may_cancel late_forfeits) s) }
+    // For any bytes of the battle, valid or not.
+    ensures within { IsWithin host.new }
+{
     let rules = HouseRules {
         may_cancel: may_cancel != 0,
         late_forfeits: late_forfeits != 0,
@@ -51,7 +68,17 @@ pub extern "C" fn gen1_host_begin(host: &mut Host, pixels: u8, may_cancel: u8, l
 
 /// Applies a row. Returns 0 if the host takes it, else the code of the refusal.
 #[unsafe(no_mangle)]
-pub extern "C" fn gen1_host_apply(host: &mut Host, row: &RowForm) -> u8 {
+pub extern "C" fn gen1_host_apply(host: &mut Host, row: &RowForm) -> u8
+    ensures takes { (t : Table) (which : Side) (it : TableRow) → Hosts host.old t → row.now.side ≡ side_number which
+        → row_of which row.now ≡ Some it
+        → Hosts host.new (after_row it t) × (result ≡ reply_code (reply_to_row it t)) }
+    ensures no_side { IsNoSide row.now.side → result ≡ 40 }
+    ensures no_kind { (which : Side) → row.now.side ≡ side_number which → row_of which row.now ≡ None → result ≡ 57 }
+    // For any bytes, valid or not.
+    ensures within { IsWithin host.old → IsWithin host.new }
+    ensures kept { result ≢ 0 → host.new ≡ host.old }
+    ensures code { result ≢ 0 → result ≢ 24 → result ≢ 40 → (52 ≤ result) × (result ≤ 57) }
+{
     let Some(side) = Side::from_number(row.side) else {
         return SIDE;
     };
@@ -64,7 +91,9 @@ pub extern "C" fn gen1_host_apply(host: &mut Host, row: &RowForm) -> u8 {
     }
 }
 
-fn row_of(row: &RowForm, side: Side) -> Option<Row> {
+fn row_of(row: &RowForm, side: Side) -> Option<Row>
+    ensures { option_map row_at result ≡ row_of side row.now }
+{
     let number = row.number;
     match row.kind {
         1 => Some(Row::Submit {
@@ -85,14 +114,20 @@ fn row_of(row: &RowForm, side: Side) -> Option<Row> {
     }
 }
 
-fn numbers_of(row: &RowForm) -> Option<LinkRandom> {
+fn numbers_of(row: &RowForm) -> Option<LinkRandom>
+    ensures { result ≡ numbers_of row.now }
+{
     if row.has_numbers == 0 {
         return None;
     }
     Some(LinkRandom::new(row.numbers))
 }
 
-fn code_of(why: HostRefusal) -> u8 {
+fn code_of(why: HostRefusal) -> u8
+    ensures value { result ≡ why_code (why_of why) }
+    ensures some { 1 ≤ result }
+    ensures listed { result ≢ 24 → (52 ≤ result) × (result ≤ 56) }
+{
     match why {
         HostRefusal::Over => OVER,
         HostRefusal::Stale(_) => STALE,
@@ -106,7 +141,18 @@ fn code_of(why: HostRefusal) -> u8 {
 /// Writes what a side is to be sent after the last pair that has ended, and at the beginning. Returns 0, or 40 if `side` is neither
 /// 1 nor 2; then nothing has changed.
 #[unsafe(no_mangle)]
-pub extern "C" fn gen1_host_message(host: &Host, side: u8, message: &mut Message) -> u8 {
+pub extern "C" fn gen1_host_message(host: &Host, side: u8, message: &mut Message) -> u8
+    ensures sent { (t : Table) (which : Side) → Hosts host.now t → side ≡ side_number which
+        → (result ≡ 0) × IsSent message.new (message_at which t) }
+    ensures no_side { IsNoSide side → result ≡ 40 }
+    // For any bytes of the host, valid or not.
+    ensures code { result ≢ 0 → result ≡ 40 }
+    ensures kept { result ≢ 0 → message.new ≡ message.old }
+    ensures short { result ≡ 0 → message.new.log_length ≤ 512 }
+    ensures cleared { result ≡ 0
+        → drop message.new.log_length message.new.log ≡ drop message.new.log_length (replicate 512 0) }
+    ensures unused { result ≡ 0 → message.new.unused ≡ replicate 3 0 }
+{
     let Some(side) = Side::from_number(side) else {
         return SIDE;
     };
@@ -116,25 +162,40 @@ pub extern "C" fn gen1_host_message(host: &Host, side: u8, message: &mut Message
 
 /// Writes what the audience is to be sent after the last pair that has ended, and at the beginning.
 #[unsafe(no_mangle)]
-pub extern "C" fn gen1_host_notice(host: &Host, notice: &mut Notice) {
+pub extern "C" fn gen1_host_notice(host: &Host, notice: &mut Notice)
+    ensures sent { (t : Table) → Hosts host.now t → IsNotice notice.new (notice_at t) }
+    // For any bytes of the host, valid or not.
+    ensures short { notice.new.log_length ≤ 512 }
+    ensures cleared { drop notice.new.log_length notice.new.log ≡ drop notice.new.log_length (replicate 512 0) }
+{
     *notice = gen1_host::notice_to_all(host);
 }
 
 /// Returns the number of the current pair. At a host that has ended early it is past the last one.
 #[unsafe(no_mangle)]
-pub extern "C" fn gen1_host_number(host: &Host) -> u32 {
+pub extern "C" fn gen1_host_number(host: &Host) -> u32
+    ensures { (t : Table) → Hosts host.now t → result ≡ current_pair t }
+{
     gen1_host::number(host)
 }
 
 /// Returns the sides whose choices are missing: 1 for side 1, plus 2 for side 2.
 #[unsafe(no_mangle)]
-pub extern "C" fn gen1_host_awaited(host: &Host) -> u8 {
+pub extern "C" fn gen1_host_awaited(host: &Host) -> u8
+    ensures mask { (t : Table) → Hosts host.now t → result ≡ awaited_mask t }
+    // For any bytes of the host, valid or not.
+    ensures small { result ≤ 3 }
+{
     gen1_host::awaited(host)
 }
 
 /// Returns the result of a host: that of its battle, or of its early end.
 #[unsafe(no_mangle)]
-pub extern "C" fn gen1_host_result(host: &Host) -> u8 {
+pub extern "C" fn gen1_host_result(host: &Host) -> u8
+    ensures shows { (t : Table) → Hosts host.now t → result ≡ byte_of_result (result_at t) }
+    // For any bytes of the host, valid or not.
+    ensures listed { IsResult result }
+{
     let now = gen1_host::result(host);
     let one = byte_of_request(now.request_one);
     let two = byte_of_request(now.request_two);
