@@ -9,6 +9,8 @@ use crate::{
 
 /// What a host of two players allows, and how it shows HP. The default is the careful one: HP as a bar, and neither rule.
 #[derive(Clone, Copy, Debug, Default, PartialEq, Eq, Hash)]
+#[cfg_attr(feature = "serde", derive(serde::Serialize, serde::Deserialize))]
+#[cfg_attr(feature = "serde", serde(default, deny_unknown_fields))]
 pub struct HostOptions {
     /// Whether a side and the audience are told the exact HP of a foe. Otherwise it is told in 48ths of the maximum.
     pub exact_hp: bool,
@@ -355,7 +357,7 @@ impl Row {
 /// What a [`Host`] sends a side. [`Player::receive`] takes it in.
 #[derive(Clone, Copy, Debug)]
 pub struct Message {
-    inner: plain::Message,
+    pub(crate) inner: plain::Message,
 }
 
 impl Message {
@@ -393,7 +395,7 @@ impl Message {
 /// What a [`Host`] sends the audience.
 #[derive(Clone, Copy, Debug)]
 pub struct Notice {
-    inner: plain::Notice,
+    pub(crate) inner: plain::Notice,
 }
 
 impl Notice {

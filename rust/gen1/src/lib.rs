@@ -111,6 +111,7 @@ mod spectator;
 mod state;
 mod teams;
 mod update;
+mod wire;
 
 #[doc(inline)]
 pub use crate::generated::engine::{BattleResult, Choices, LoadFault, Refusal, write_log};
@@ -163,6 +164,8 @@ pub use spectator::Spectator;
 pub use state::{ActiveState, MemberState, SideState, State};
 pub use teams::{NameFault, member};
 pub use update::{Chosen, EventSink, Offered, Silent, Update};
+#[doc(inline)]
+pub use wire::WireFault;
 
 /// Teams from the text of a team builder: its export text, and packed lines ([docs/TEAM_TEXT.md](https://hibsuloy.example/gen1/blob/main/docs/TEAM_TEXT.md)).
 ///

@@ -157,6 +157,21 @@ fn serde() {
             .to_string()
             .contains("384 bytes")
     );
+    let row = gen1::Row::Cancel {
+        side: Side::One,
+        number: 7,
+    };
+    let text = serde_json::to_string(&row).unwrap();
+    assert_eq!(text, "[2,1,0,0,7,0,0,0,0,0,0,0,0,0,0,0,0,0]");
+    assert_eq!(serde_json::from_str::<gen1::Row>(&text).unwrap(), row);
+    let fault = serde_json::from_str::<gen1::Row>(&text.replace("[2", "[6")).unwrap_err();
+    assert!(fault.to_string().starts_with("not a row"));
+    let message = gen1::Host::new(battle.clone()).message(Side::Two);
+    let text = serde_json::to_string(&message).unwrap();
+    let again = serde_json::from_str::<gen1::Message>(&text).unwrap();
+    assert_eq!(again.to_bytes(), message.to_bytes());
+    let fault = serde_json::from_str::<gen1::Notice>(&text).unwrap_err();
+    assert!(fault.to_string().contains("the 520 bytes of a notice"));
     assert_eq!(
         serde_json::to_string(&battle.choices(Side::One).as_slice()).unwrap(),
         r#"["move 1","move 2"]"#

@@ -1,7 +1,8 @@
 //! Hosts against rooms and tellers that are called by hand; what a side is sent while the other side's choices differ; endings; rows.
 use gen1::{
-    Battle, Choice, Host, HostOptions, HostRefusal, MemberSpec, MoveId, Outcome, OwnSide, Player,
-    Replied, Request, Room, RoomRefusal, Row, Side, Species, Submitted, Team, Teller, member,
+    Battle, Choice, Host, HostOptions, HostRefusal, MemberSpec, Message, MoveId, Notice, Outcome,
+    OwnSide, Player, Replied, Request, Room, RoomRefusal, Row, Side, Species, Submitted, Team,
+    Teller, member,
 };
 
 /// Knuth's generator: the upper bits of its states.
@@ -437,5 +438,79 @@ fn rows_lead_to_the_same_host() {
         }
         assert_eq!(again, host);
         assert_eq!(sight(&again, Side::One), sight(&host, Side::One));
+    }
+}
+
+/// A message and a notice, whose fields stand where include/gen1.h has them.
+#[test]
+fn what_is_sent_is_bytes() {
+    let (mut host, team) = table(HostOptions::default());
+    let mut player = Player::new(Side::One, &team);
+    host.submit(Side::Two, 0, Choice::MOVE_1, None).unwrap();
+    host.submit(Side::One, 0, Choice::SWITCH_2, None).unwrap();
+    host.offer_draw(Side::Two).unwrap();
+    let (message, notice) = (host.message(Side::One), host.notice());
+    let (sent, all) = (message.to_bytes(), notice.to_bytes());
+    let length = message.log().len();
+    // 172 bytes of the own side, then the number, the mask, the length of the log, the offer, and from byte 184 the log.
+    assert_eq!(sent[172..176], 1u32.to_le_bytes());
+    assert_eq!(sent[178..180], (length as u16).to_le_bytes());
+    assert_eq!(sent[180..184], [2, 0, 0, 0]);
+    assert_eq!(sent[184..184 + length], *message.log());
+    assert!(sent[184 + length..].iter().all(|it| *it == 0));
+    // Of the first member the species, the level and the moves; of the side the turn, the place and the number of members.
+    assert_eq!(sent[..8], [128, 100, 0, 0, 34, 0, 0, 0]);
+    assert_eq!(sent[156..159], [2, 0, 2]);
+    assert_eq!(sent[171], 2);
+    assert_eq!(all[..8], [1, 0, 0, 0, notice.log().len() as u8, 0, 0, 2]);
+    assert_eq!(all[8..8 + notice.log().len()], *notice.log());
+    let again = Message::from_bytes(&sent).unwrap();
+    assert_eq!(again.to_bytes(), sent);
+    assert_eq!(bytes_of(again.own()), bytes_of(message.own()));
+    assert_eq!(again.offered(), message.offered());
+    player.receive(&again).unwrap();
+    assert_eq!(Notice::from_bytes(&all).unwrap().to_bytes(), all);
+}
+
+#[test]
+fn bytes_that_nobody_sends_are_refused() {
+    let (host, _) = table(HostOptions::default());
+    let (sent, all) = (host.message(Side::One).to_bytes(), host.notice().to_bytes());
+    for (place, byte, field) in [
+        (0, 152, "species"),
+        (1, 101, "species"),
+        (2, 6, "members"),
+        (4, 166, "members"),
+        (171, 7, "count"),
+        (171, 0, "count"),
+        (158, 3, "place"),
+        (159, 15, "types"),
+        (161, 13, "stages"),
+        (167, 5, "disabled_slot"),
+        (168, 2, "held"),
+        (169, 3, "request"),
+        (170, 6, "outcome"),
+        (177, 16, "offered"),
+        (180, 3, "draw"),
+        (181, 1, "unused"),
+        (179, 3, "log"),
+        (184, 29, "log"),
+    ] {
+        let mut wrong = sent;
+        wrong[place] = byte;
+        let fault = Message::from_bytes(&wrong).unwrap_err();
+        assert_eq!(fault.field(), field);
+        let text = format!("not a message: {field} is out of its range");
+        assert_eq!(fault.to_string(), text);
+    }
+    for (place, byte, field) in [
+        (5, 3, "log"),
+        (6, 6, "outcome"),
+        (7, 3, "draw"),
+        (8, 0, "log"),
+    ] {
+        let mut wrong = all;
+        wrong[place] = byte;
+        assert_eq!(Notice::from_bytes(&wrong).unwrap_err().field(), field);
     }
 }
