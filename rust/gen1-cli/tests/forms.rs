@@ -302,7 +302,19 @@ impl Plain {
                 fields[4] = &self.active[foe];
             }
             "-miss" => fields.truncate(3),
-            "-fail" => fields.truncate(3),
+            "-fail" => {
+                // A status there is that of the target.
+                let has_status = |word: &&str| ["slp", "psn", "tox", "par"].contains(word);
+                if fields.get(3).is_some_and(has_status) {
+                    fields[2] = &self.active[usize::from(fields[2].starts_with("p1"))];
+                }
+                fields.truncate(3);
+            }
+            // The target's Mist, which the engine has as a miss.
+            "-activate" if fields[3] == "move: Mist" => {
+                let user = usize::from(fields[2].starts_with("p1"));
+                fields = vec!["", "-miss", &self.active[user]];
+            }
             "cant" | "-start" => fields.truncate(4),
             _ => (),
         }

@@ -326,6 +326,43 @@ const M1: [&str; 2] = ["move 1", "move 1"];
 const M2: [&str; 2] = ["move 2", "move 2"];
 const GO_ON: [&str; 2] = ["default", "default"];
 
+#[test]
+fn a_failure_names_the_status_or_the_mist_of_the_target() {
+    has_lines(
+        [
+            "Gengar||||thunderwave,toxic|||||||",
+            "Snorlax||||rest,splash|||||||",
+        ],
+        2,
+        &[
+            ["move 1", "move 2"],
+            ["move 1", "move 2"],
+            ["move 2", "move 2"],
+        ],
+        &[
+            "|-status|p2a: Snorlax|par",
+            "|move|p1a: Gengar|Thunder Wave|p2a: Snorlax",
+            "|-fail|p2a: Snorlax|par",
+            "|move|p1a: Gengar|Toxic|p2a: Snorlax",
+            "|-fail|p1a: Gengar",
+        ],
+    );
+    has_lines(
+        ["Golbat||||mist,splash|||||||", "Snorlax||||growl|||||||"],
+        2,
+        &[M1, ["move 2", "move 1"]],
+        &[
+            "|-start|p1a: Golbat|Mist",
+            "|move|p2a: Snorlax|Growl|p1a: Golbat",
+            "|-activate|p1a: Golbat|move: Mist",
+            "|move|p1a: Golbat|Splash|p1a: Golbat",
+            "|-activate|p1a: Golbat|move: Splash",
+            "|move|p2a: Snorlax|Growl|p1a: Golbat",
+            "|-activate|p1a: Golbat|move: Mist",
+        ],
+    );
+}
+
 /// The forms that clients read, by Showdown's documents SIM-PROTOCOL and PROTOCOL and by what its first generation is remembered to send.
 #[test]
 fn moves_have_their_targets_and_what_they_go_on_from() {

@@ -3,7 +3,7 @@
 //! | For | Take |
 //! |---|---|
 //! | a whole simulator, commands in and messages out | [`Simulator`] |
-//! | the lines of a battle that you run | [`LineWriter`] |
+//! | the lines of a battle that you run, or of a [`Host`](gen1::Host) | [`LineWriter`] |
 //! | a player of a battle: its request, its choices read | [`Seat`] |
 //! | a log read back, as the knowledge of a [`Player`](gen1::Player) or as a battle to search | [`Follower`] |
 //! | teams as text, with nicknames | [`Members`] |
@@ -35,6 +35,7 @@ pub mod reading;
 mod request;
 mod seat;
 mod simulator;
+mod texts;
 
 pub use follow::{Follower, Note};
 pub use formats::{Complaint, Formats};

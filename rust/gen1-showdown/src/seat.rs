@@ -2,8 +2,8 @@
 use crate::lines::Hp;
 use crate::{Fault, Members, names_of};
 use gen1::{
-    Battle, Choice, Conditions, Event, EventList, Kind, LogBuf, MoveId, Player, Side, Team, Teller,
-    Volatile, events_of, write_log,
+    Battle, Choice, Conditions, Event, EventList, Kind, LogBuf, Message, MoveId, OfferedMask,
+    OwnSide, Player, Side, Team, Teller, Volatile, events_of, write_log,
 };
 
 /// A player of a battle. Requests and choices are made only from these fields, which hold nothing that the player may not know.
@@ -71,16 +71,30 @@ impl Seat {
     /// The bytes are not a log.
     pub fn tell(&mut self, battle: &Battle, log: &[u8]) -> Result<(), Fault> {
         let told = self.teller.tell_log(log)?;
+        let offered = battle.offered_mask(self.side);
+        self.take(&told, &battle.own_side(self.side), offered)
+    }
+
+    /// Takes in the message that the player's host sent it, once each and in order.
+    ///
+    /// # Errors
+    ///
+    /// Its log is not a log. Then nothing has changed.
+    pub fn receive(&mut self, message: &Message) -> Result<(), Fault> {
+        self.take(message.log(), message.own(), message.offered())
+    }
+
+    /// Takes in what the player is told of an update, and shown after it.
+    fn take(&mut self, told: &[u8], own: &OwnSide, offered: OfferedMask) -> Result<(), Fault> {
         let mut events = EventList::new();
-        for event in events_of(&told) {
+        for event in events_of(told) {
             // An update has at most as many events as the list holds.
             let _ = events.try_push(self.shown(event?));
         }
         let mut told = LogBuf::new();
         write_log(&events, &mut told);
         self.player.feed(&told)?;
-        let offered = battle.offered_mask(self.side);
-        self.player.show(&battle.own_side(self.side), offered);
+        self.player.show(own, offered);
         let own = *self.player.own();
         if self.most_pp.is_empty() {
             self.most_pp = own.members.iter().map(|member| member.pp).collect();

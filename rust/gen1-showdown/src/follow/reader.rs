@@ -83,6 +83,11 @@ impl<'a> Fields<'a> {
         self.0.contains(&tag)
     }
 
+    fn has_status(&self) -> bool {
+        let second = self.0.get(1);
+        second.is_some_and(|word| value_of(KINDS, word).is_some())
+    }
+
     /// Whether a line says what other lines say too: the move of a charge or of Bide, which another line begins; and what Haze ends, and
     /// Haze itself.
     fn is_told_otherwise(&self, word: &str) -> Result<bool, String> {
@@ -313,6 +318,8 @@ impl Reader {
                 return self.of_health(who, word, fields).map(Some);
             }
             "-boost" | "-unboost" => return shift(who, word, fields),
+            // Mist, which a move of the foe met.
+            "-activate" if fields.has("move: Mist") => Event::Miss(self.foe_of(who)?),
             "cant" | "-start" | "-end" | "-activate" => {
                 let name = second("what it is")?;
                 let event = named(who, word, name);
@@ -330,6 +337,8 @@ impl Reader {
             "-resisted" => Event::Resisted(who),
             "-immune" => Event::Immune(who),
             "-miss" => Event::Miss(who),
+            // A move that would inflict a status that its target has.
+            "-fail" if fields.has_status() => Event::Fail(self.foe_of(who)?),
             "-fail" => Event::Fail(who),
             "-mustrecharge" => Event::MustRecharge(who),
             _ => return Ok(None),
