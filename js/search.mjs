@@ -12,7 +12,7 @@ const NEEDED = ["memory", "gen1_search_nodes", "gen1_search_think", "gen1_search
 const OPTIONS = ["level", "nodes", "seed", "trees", "guesses", "rules", "limit"];
 // The longest result has nine choices with a line each.
 const ROOM = 1 << 14;
-// The size of ThinkForm of rust/gen1-search-ffi, whose pointers to teams are 0: the sample teams.
+// The size of ThinkForm of rust/gen1-extras-ffi, whose pointers to teams are 0: the sample teams.
 const THINK_SIZE = 56;
 const MOST_NODES = 1e9;
 

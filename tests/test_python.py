@@ -86,7 +86,7 @@ def shared(archive, work):
     """The shared library of the package."""
     made = work / "libgen1.so"
     wheels.shared_library(archive, made)
-    wheels.search_library(work / "libgen1_search.so")
+    wheels.extras_library(work / "libgen1_extras.so")
     return made
 
 

@@ -14,10 +14,10 @@ except ImportError:  # a setuptools before 70.1, which has it from the package w
 
 HERE = Path(__file__).resolve().parent
 LIBRARY = HERE / "src" / "gen1" / "libgen1.so"
-# The searches, which a package without cargo lacks.
-SEARCH = LIBRARY.with_name("libgen1_search.so")
+# The searches and Showdown's protocol, which a package without cargo lacks.
+EXTRAS = LIBRARY.with_name("libgen1_extras.so")
 # What a manylinux wheel may link without carrying it, of what the libraries could need: glibc, and what unwinds.
-GLIBC = re.compile(rb"(libgen1|libgen1_search_c|libc|libm|libgcc_s|ld-linux[\w-]*)\.so[.\d]*")
+GLIBC = re.compile(rb"(libgen1|libgen1_extras_c|libc|libm|libgcc_s|ld-linux[\w-]*)\.so[.\d]*")
 
 
 class Binary(Distribution):
@@ -44,7 +44,7 @@ class Wheel(bdist_wheel):
     """A wheel of no Python's own binary interface: the library is loaded by ctypes."""
 
     def get_tag(self):
-        libraries = b"".join(it.read_bytes() for it in (LIBRARY, SEARCH) if it.is_file())
+        libraries = b"".join(it.read_bytes() for it in (LIBRARY, EXTRAS) if it.is_file())
         return "py3", "none", manylinux(super().get_tag()[2], libraries)
 
 

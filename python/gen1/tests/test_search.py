@@ -20,7 +20,7 @@ def is_there():
     return True
 
 
-there = pytest.mark.skipif(not is_there(), reason="libgen1_search.so is missing: no cargo")
+there = pytest.mark.skipif(not is_there(), reason="libgen1_extras.so is missing: no cargo")
 SAMPLES = [list(it.members) for it in sample_teams().values()]
 
 
@@ -143,6 +143,6 @@ def test_bad_arguments(gengar, battle):
 def test_a_missing_library_is_named(tmp_path):
     """The error says how to build it."""
     words = "from gen1 import search; search.level_nodes(1)"
-    env = {**os.environ, "GEN1_SEARCH_LIBRARY": str(tmp_path / "none.so")}
+    env = {**os.environ, "GEN1_EXTRAS_LIBRARY": str(tmp_path / "none.so")}
     done = subprocess.run([sys.executable, "-c", words], env=env, capture_output=True, text=True)
     assert "LibraryMissing" in done.stderr and "tools/python_wheel" in done.stderr, done.stderr

@@ -1,8 +1,8 @@
 """Searches: a choice from what one side knows, and bounds of a battle's value.
 
 They are those of the crate gen1-search, whose README says how they work. Of
-it nothing is proved. They need libgen1_search.so beside libgen1.so, or
-where GEN1_SEARCH_LIBRARY says; a wheel of tools/python_wheel has it where
+it nothing is proved. They need libgen1_extras.so beside libgen1.so, or
+where GEN1_EXTRAS_LIBRARY says; a wheel of tools/python_wheel has it where
 cargo was installed. Without it each call raises `LibraryMissing`.
 
 >>> from gen1 import Battle, Choice, Member, Player, Teller
@@ -18,22 +18,19 @@ from __future__ import annotations
 
 import ctypes
 import json
-import os
 from collections.abc import Iterable
-from ctypes import POINTER, Structure, byref, c_char, c_double, c_size_t, c_uint8, c_uint16, c_uint32, c_uint64
+from ctypes import POINTER, Structure, byref, c_double, c_size_t, c_uint8, c_uint16, c_uint32, c_uint64
 from dataclasses import dataclass
-from functools import cache
 from math import inf
 from numbers import Real
-from pathlib import Path
 from typing import Any
 
 from gen1._check import probability, shown, truth, within
-from gen1._library import PATH, TeamStruct
-from gen1._structs import BattleBytes, PlayerStruct
+from gen1._extras import extras
+from gen1._library import TeamStruct
 from gen1.battle import Battle, TeamLike
 from gen1.choices import Choice, Rules
-from gen1.errors import BadArgument, BadType, Error, LibraryMissing
+from gen1.errors import BadArgument, BadType, Error
 from gen1.players import Player
 from gen1.teams import as_team
 
@@ -50,7 +47,7 @@ class SearchFailed(Error):
 
 
 class _ThinkStruct(Structure):
-    """ThinkForm of rust/gen1-search-ffi."""
+    """ThinkForm of rust/gen1-extras-ffi."""
 
     _fields_ = [
         ("nodes", c_uint64),
@@ -69,7 +66,7 @@ class _ThinkStruct(Structure):
 
 
 class _SolveStruct(Structure):
-    """SolveForm of rust/gen1-search-ffi."""
+    """SolveForm of rust/gen1-extras-ffi."""
 
     _fields_ = [
         ("tolerance", c_double),
@@ -148,33 +145,11 @@ class Solved:
     plays: tuple[tuple[Made, ...], ...]
 
 
-@cache
-def _library() -> ctypes.CDLL:
-    """The library of the searches."""
-    named = os.environ.get("GEN1_SEARCH_LIBRARY")
-    path = Path(named) if named else Path(PATH).with_name("libgen1_search.so")
-    if not path.is_file():
-        raise LibraryMissing(
-            f"{path} is not there, which gen1.search needs: install cargo, and build the package by tools/python_wheel; "
-            "or set GEN1_SEARCH_LIBRARY to the library of `cargo build --release -p gen1-search-ffi`"
-        )
-    try:
-        found = ctypes.CDLL(str(path.resolve()))
-    except OSError as fault:
-        raise LibraryMissing(f"{path} cannot be loaded: {fault}") from fault
-    text = (POINTER(c_char), c_size_t)
-    found.gen1_search_nodes.restype, found.gen1_search_nodes.argtypes = c_uint64, (c_uint8,)
-    found.gen1_search_think.restype = found.gen1_search_solve.restype = c_size_t
-    found.gen1_search_think.argtypes = (POINTER(PlayerStruct), POINTER(_ThinkStruct), *text)
-    found.gen1_search_solve.argtypes = (POINTER(BattleBytes), POINTER(_SolveStruct), *text)
-    return found
-
-
 def level_nodes(level: int) -> int:
     """How many nodes a search of a level has, 1 to 5. Raises `BadArgument`,
     `BadType`, `LibraryMissing`.
     """
-    return int(_library().gen1_search_nodes(within(level, "level", 1, 5)))
+    return int(extras().gen1_search_nodes(within(level, "level", 1, 5)))
 
 
 def think(
@@ -223,7 +198,7 @@ def think(
         weights=each,
         count=len(each),
     )
-    found = _said(_library().gen1_search_think, player._held, asked)
+    found = _said(extras().gen1_search_think, player._held, asked)
     choices = tuple(
         Considered(
             Choice(it["choice"]),
@@ -274,7 +249,7 @@ def solve(
         classes=within(classes, "classes", 0, 39),
         endless=truth(endless, "endless"),
     )
-    found = _said(_library().gen1_search_solve, battle._held, asked)
+    found = _said(extras().gen1_search_solve, battle._held, asked)
     plays = tuple(
         tuple(Made(Choice(it["choice"]), it["words"], it["probability"]) for it in side) for side in found["plays"]
     )

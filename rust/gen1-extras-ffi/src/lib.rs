@@ -1,4 +1,5 @@
-//! The searches of gen1-search behind three functions, which the packages for Python and JavaScript call.
+//! The searches of gen1-search behind three functions, which the packages for Python and JavaScript call, and the protocol of
+//! gen1-showdown behind one, for Python.
 //!
 //! A result is a JSON text, so its layout is stated nowhere else. `gen1_player`, `gen1_battle` and `gen1_team` are those of include/gen1.h.
 #![cfg_attr(target_family = "wasm", no_std)]
@@ -7,6 +8,8 @@
 extern crate alloc;
 
 mod forms;
+#[cfg(feature = "showdown")]
+mod showdown;
 mod texts;
 #[cfg(target_family = "wasm")]
 mod wasm;
@@ -75,6 +78,38 @@ pub unsafe extern "C" fn gen1_search_solve(
     });
     // SAFETY: the caller says so.
     unsafe { put(&texts::or_error(found), text, room) }
+}
+
+/// Does what an object in JSON says, and returns an object in JSON, which `gen1_showdown_free` gives back. Several threads may call it.
+///
+/// # Safety
+///
+/// `ask` has `length` bytes.
+#[cfg(feature = "showdown")]
+#[unsafe(no_mangle)]
+pub unsafe extern "C" fn gen1_showdown_call(
+    ask: *const u8,
+    length: usize,
+    written: &mut usize,
+) -> *mut u8 {
+    // SAFETY: the caller says so.
+    let ask = unsafe { core::slice::from_raw_parts(ask, length) };
+    let text = showdown::call(ask).into_bytes().into_boxed_slice();
+    *written = text.len();
+    alloc::boxed::Box::into_raw(text).cast()
+}
+
+/// Gives back a text.
+///
+/// # Safety
+///
+/// `gen1_showdown_call` returned it, with this length, and it was not given back before.
+#[cfg(feature = "showdown")]
+#[unsafe(no_mangle)]
+pub unsafe extern "C" fn gen1_showdown_free(text: *mut u8, length: usize) {
+    let text = core::ptr::slice_from_raw_parts_mut(text, length);
+    // SAFETY: the caller says so.
+    drop(unsafe { alloc::boxed::Box::from_raw(text) });
 }
 
 /// Runs a search on threads of its own, so that a process may be forked between two searches.
