@@ -26,6 +26,7 @@ Use help(gen1.Battle) for one class. The main names:
     BattleArray                  many battles at once (needs numpy)
     BattleEnv, TwoPlayerEnv      environments for learning (need numpy)
     gen1.search                  think and solve: searches that play well
+    gen1.showdown                Showdown's protocol: lines, requests, teams
 
 The rules are in docs/MECHANICS.md of the repository. The library implements
 all of them. One is implemented in Python too: gen1.draws, which lists the
