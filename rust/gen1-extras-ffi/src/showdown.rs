@@ -130,7 +130,7 @@ enum Ask {
 
 /// What lasts from call to call.
 enum Object {
-    Lines(LineWriter),
+    Lines(Box<LineWriter>),
     Seat(Box<Seat>),
     Simulator(Box<Simulator>),
 }
@@ -301,7 +301,7 @@ fn on_lines(ask: Ask) -> Result<Value, Refused> {
                 rules,
                 hp,
             };
-            return Ok(kept(Object::Lines(LineWriter::new(heading))));
+            return Ok(kept(Object::Lines(Box::new(LineWriter::new(heading)))));
         }
         Ask::Update {
             of,
