@@ -247,6 +247,51 @@ def as_command(choice, seat, members):
     return f"switch {listed.index(members.names[int(choice) - 0x21]) + 1}"
 
 
+def without_trap(text):
+    return re.sub(r"\|\[from\] move: (Bind|Wrap|Fire Spin|Clamp)", "", text)
+
+
+def test_what_one_viewer_is_sent_gives_its_lines():
+    """Without the host: from messages or notices, and for a viewer that comes back from the told logs."""
+    dice, went_on = random.Random(6), set()
+    for _ in range(40):
+        teams = [mixed(dice), mixed(dice)]
+        host, lines, seats = hosted(teams, exact_hp=dice.random() < 0.5)
+        own = {side: [3, 3] for side in (1, 2, None)}
+        for side in Side:
+            own[side][side - 1] = teams[side - 1]
+        alone = {side: Lines(("Alice", "Eve"), own[side]) for side in own}
+        logs = {side: [] for side in own}
+        while True:
+            sent_to = {1: host.message(1), 2: host.message(2), None: host.notice()}
+            for side, of_one in alone.items():
+                of_one.receive(sent_to[side])
+                viewer = Viewer(f"p{side}") if side else Viewer.SPECTATOR
+                due = lines.text(viewer)
+                assert of_one.text(viewer) == (due if side else without_trap(due))
+                went_on |= set(re.findall(r"\[from\] move: ([\w ]+)", due))
+                logs[side].append(sent_to[side].log)
+            if host.is_closed or host.number == 60:
+                break
+            for side in list(filter(host.awaits, Side)):
+                host.submit(side, host.number, dice.choice(host.message(side).choices))
+            sent(host, lines, seats)
+        for side, seat in seats.items():
+            back, again = Seat(side, "Alice" if side == 1 else "Eve", teams[side - 1], foes=3), Lines(
+                ("Alice", "Eve"), own[side]
+            )
+            for log in logs[side][:-1]:
+                back.hear(log)
+                again.hear(log)
+            back.receive(host.message(side))
+            again.receive(host.message(side))
+            assert back.request(3) == seat.request(3)
+            plain = re.compile(r"(Disable)\|[\w -]+$", re.M)
+            ends = [plain.sub(r"\1", without_trap(it.text(Viewer(f"p{side:d}")))) for it in (again, lines)]
+            assert ends[0] == ends[1]
+    assert went_on >= {"Wrap", "Clamp", "Thrash", "Petal Dance", "Rage", "Fly"}
+
+
 def test_nothing_hidden_changes_the_lines_of_the_others():
     """Two battles whose side 2 differs only in what it has not shown write the same lines for side 1 and for spectators."""
     dice, positions, differed, went_on = random.Random(3), 0, 0, set()
@@ -413,6 +458,11 @@ def test_bad_arguments(battle):
         lambda: Lines(("Alice", "E\n|win|Alice"), teams),
         lambda: lines.line("one\n|win|Alice"),
         lambda: lines.end(3),
+        lambda: Lines(("Alice", "Eve"), [7, 3]),
+        lambda: lines.receive(Host(battle).notice()) or lines.receive(Host(battle).message(1)),
+        lambda: Lines(("Alice", "Eve"), [teams[0], 2]).receive(Host(battle).notice()),
+        lambda: lines.hear(b"\xff"),
+        lambda: seat.hear(b"\xff"),
         lambda: lines.update(battle, b"\xff", battle),
         lambda: seat.tell(battle, b"\xff"),
         lambda: seat.request(-1),

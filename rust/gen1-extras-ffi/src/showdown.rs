@@ -59,6 +59,14 @@ enum Ask {
         notice: String,
         time: Option<u64>,
     },
+    /// Adds the lines of a pair as it was told to a side or to the audience; or has a seat hear it. A side's message says what it is shown.
+    Hear {
+        of: u64,
+        log: String,
+        side: Option<u8>,
+        message: Option<String>,
+        time: Option<u64>,
+    },
     /// Ends the battle by a win of a side, or by a tie.
     End {
         of: u64,
@@ -229,6 +237,18 @@ fn done(ask: Ask) -> Result<Value, Refused> {
             Ok(kept(Object::Simulator(Box::new(simulator))))
         }
         Ask::Take { of, line } => taken(of, &line),
+        Ask::Hear {
+            of,
+            log,
+            side,
+            message,
+            time,
+        } => {
+            let side = side.map(side_of).transpose()?;
+            let message = message.as_deref().map(message_in).transpose()?;
+            let log = bytes_in(&log)?;
+            with(of, |object| heard(object, &log, side.zip(message), time))
+        }
         Ask::Free { of } => {
             objects().1.remove(&of);
             Ok(json!({}))
@@ -282,6 +302,23 @@ fn taken(of: u64, line: &str) -> Result<Value, Refused> {
         }
         _ => Err(Refused::of("call", "the object is no simulator")),
     })
+}
+
+fn heard(
+    object: &mut Object,
+    log: &[u8],
+    own: Option<(Side, Message)>,
+    time: Option<u64>,
+) -> Result<Value, Refused> {
+    match object {
+        Object::Lines(lines) => {
+            let own = own.as_ref().map(|(side, message)| (*side, message.own()));
+            lines.hear(log, own, time)?;
+        }
+        Object::Seat(seat) => seat.hear(log)?,
+        Object::Simulator(_) => return Err(Refused::of("call", "a simulator hears nothing")),
+    }
+    Ok(json!({}))
 }
 
 fn on_lines(ask: Ask) -> Result<Value, Refused> {

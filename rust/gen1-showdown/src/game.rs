@@ -1,7 +1,7 @@
 //! A battle of the simulator: choices in, messages out (docs/PROGRAM.md, "showdown").
-use crate::lines::{Heading, Hp, LineWriter, Viewer};
+use crate::lines::{Heading, LineWriter, Viewer};
 use crate::request::{choice_in, request};
-use crate::{Fault, Members, Seat, index, player_of, team};
+use crate::{Fault, Hp, Members, Seat, index, player_of, team};
 use gen1::{Battle, Choice, LogBuf, MemberSpec, Outcome, Player, Rules, Side, events_of};
 use serde::Serialize;
 use serde_json::{Value, json};

@@ -36,14 +36,16 @@ mod request;
 mod seat;
 mod simulator;
 mod texts;
+mod words;
 
 pub use follow::{Follower, Note};
 pub use formats::{Complaint, Formats};
-pub use lines::{Heading, Hp, LineWriter, Viewer};
+pub use lines::{Heading, LineWriter, Viewer};
 pub use members::{Members, names_of, numbered};
 pub use request::{choice_in, request};
 pub use seat::{Seat, Slot};
 pub use simulator::{Options, Reply, Simulator};
+pub use words::Hp;
 
 use gen1::{LogFault, Refusal, Side, TeamRefusal};
 use std::error::Error;

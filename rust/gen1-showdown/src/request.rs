@@ -1,5 +1,5 @@
 //! The request to a player, as an object, and the choice with which the player replies (docs/PROGRAM.md, "Requests", "showdown").
-use crate::lines::{Hp, acts_on_user};
+use crate::words::{Hp, acts_on_user};
 use crate::{Seat, id_of, player_of};
 use gen1::{Choice, Health, MoveId, OwnMember};
 use serde::Serialize;

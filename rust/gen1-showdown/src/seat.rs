@@ -1,5 +1,5 @@
 //! A player of a battle: what it knows, and its names for members and moves.
-use crate::lines::Hp;
+use crate::words::Hp;
 use crate::{Fault, Members, names_of};
 use gen1::{
     Battle, Choice, Conditions, Event, EventList, Kind, LogBuf, Message, MoveId, OfferedMask,
@@ -26,7 +26,7 @@ pub struct Seat {
     foes_use: Option<MoveId>,
     is_toxic: bool,
     /// The PP of each member's moves at the start of the battle.
-    most_pp: Vec<[u8; 4]>,
+    most_pp: [[u8; 4]; 6],
     /// The choice of the player, until the other side has chosen too.
     pub chosen: Option<Choice>,
 }
@@ -48,6 +48,7 @@ impl Seat {
     #[must_use]
     pub fn new(side: Side, name: String, members: &Members, team: &Team, hp: Hp) -> Seat {
         let names = names_of(members);
+        let own = Battle::new(team, team, [0; 10]).own_side(side);
         Seat {
             side,
             name,
@@ -59,7 +60,7 @@ impl Seat {
             current: None,
             foes_use: None,
             is_toxic: false,
-            most_pp: Vec::new(),
+            most_pp: own.members.map(|member| member.pp),
             chosen: None,
         }
     }
@@ -86,6 +87,21 @@ impl Seat {
 
     /// Takes in what the player is told of an update, and shown after it.
     fn take(&mut self, told: &[u8], own: &OwnSide, offered: OfferedMask) -> Result<(), Fault> {
+        self.hear(told)?;
+        self.player.show(own, offered);
+        let choices = self.player.choices();
+        let passes = choices.as_slice() == [Choice::Pass];
+        self.chosen = passes.then_some(Choice::Pass);
+        Ok(())
+    }
+
+    /// Takes in what the player was told of a pair, without what it was shown after it. For a player that comes back, [`Seat::receive`] then
+    /// takes in the last message.
+    ///
+    /// # Errors
+    ///
+    /// The log is not one. Then nothing has changed.
+    pub fn hear(&mut self, told: &[u8]) -> Result<(), Fault> {
         let mut events = EventList::new();
         for event in events_of(told) {
             // An update has at most as many events as the list holds.
@@ -94,18 +110,6 @@ impl Seat {
         let mut told = LogBuf::new();
         write_log(&events, &mut told);
         self.player.feed(&told)?;
-        self.player.show(own, offered);
-        let own = *self.player.own();
-        if self.most_pp.is_empty() {
-            self.most_pp = own.members.iter().map(|member| member.pp).collect();
-        }
-        let out = usize::from(own.place).saturating_sub(1);
-        if let Some(at) = self.order.iter().position(|place| *place == out) {
-            self.order.swap(0, at);
-        }
-        let choices = self.player.choices();
-        let passes = choices.as_slice() == [Choice::Pass];
-        self.chosen = passes.then_some(Choice::Pass);
         self.note(&events);
         Ok(())
     }
@@ -128,7 +132,13 @@ impl Seat {
         for event in events {
             let is_own = event.who().is_some_and(|who| who.side == self.side);
             match event {
-                Event::Switch(..) if is_own => (self.current, self.is_toxic) = (None, false),
+                Event::Switch(_, place, ..) if is_own => {
+                    (self.current, self.is_toxic) = (None, false);
+                    let out = usize::from(place.number()) - 1;
+                    if let Some(at) = self.order.iter().position(|place| *place == out) {
+                        self.order.swap(0, at);
+                    }
+                }
                 Event::Switch(..) => self.foes_use = None,
                 Event::Move(_, id, _) | Event::Prepare(_, id) if is_own => self.current = Some(*id),
                 Event::Move(_, id, _) | Event::Prepare(_, id) => self.foes_use = Some(*id),

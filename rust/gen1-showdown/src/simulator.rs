@@ -1,9 +1,9 @@
 //! The simulator: commands of Showdown's protocol in, messages out (docs/PROGRAM.md, "showdown").
 use crate::formats::Formats;
 use crate::game::{Game, Setup};
-use crate::lines::{Heading, Hp};
+use crate::lines::Heading;
 use crate::reading::{did_you_mean, key, nearest_word, shown};
-use crate::{Fault, Members, side_in};
+use crate::{Fault, Hp, Members, side_in};
 use gen1::{Choice, Player, Rules, Side};
 use serde_json::{Value, json};
 use std::hash::{BuildHasher, Hasher, RandomState};

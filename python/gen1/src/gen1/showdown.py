@@ -41,7 +41,7 @@ from gen1.choices import Choice, Rules, Side, a_side
 from gen1.errors import BadArgument, BadTeam, BadType, Error
 from gen1.events import Event, events
 from gen1.hosts import Host
-from gen1.messages import a_message
+from gen1.messages import Message, Notice, a_message
 from gen1.names import Species
 from gen1.players import Player
 from gen1.teams import Member, Team, as_team
@@ -248,14 +248,16 @@ class Lines(_Kept):
     not be sent.
     """
 
-    __slots__ = ("_pair",)
+    __slots__ = ("_pair", "_side")
     # The pair of the last report; None before the first.
     _pair: int | None
+    # The side whose members are known, if they are those of one side.
+    _side: int | None
 
     def __init__(
         self,
         players: Sequence[str],
-        members: Sequence[Members],
+        members: Sequence[Members | int],
         *,
         tier: str = "[Gen 1] Link battle",
         rules: Iterable[str] = (),
@@ -265,12 +267,18 @@ class Lines(_Kept):
         sizes of their teams, the format's name and its clauses
         (`Formats.tier`, `Formats.clauses`).
 
+        `members` are those of both sides; or of a side that is not known
+        their number, for the lines of one viewer (`receive`). Then its
+        members have the names of their species.
+
         `hp` is the form of a foe's HP, made from what a side is told: with
         `Hp.EXACT` the lines of a host that tells 48ths have 48ths. Raises
         `BadArgument`, `BadType`.
         """
         names = [_text(it, f"players[{at}]") for at, it in enumerate(_both(players, "players"))]
-        teams = [list(_members(it).names) for it in _both(members, "members")]
+        teams = [_names(it) for it in _both(members, "members")]
+        known = [side for side in (1, 2) if any(teams[side - 1])]
+        self._side = known[0] if len(known) == 1 else None
         clauses = [_text(it, "rules") for it in listed(rules, "rules")]
         self._pair = None
         super().__init__("new_lines", players=names, names=teams, tier=_text(tier, "tier"), rules=clauses, hp=_hp(hp))
@@ -302,6 +310,33 @@ class Lines(_Kept):
         messages = [bytes(host.message(side)).hex() for side in Side]
         self._ask("report", messages=messages, notice=bytes(host.notice()).hex(), time=_time(time))
         self._pair = number
+
+    def receive(self, sent: object, time: int | None = None) -> None:
+        """Adds the lines of a pair for one viewer, who was sent a message or a
+        notice: the player of the side whose members are known, or a
+        spectator. Each is taken in once, in order.
+
+        `text` of this viewer has them. A spectator sees no `[from]` at a
+        trapping move that goes on, as nothing that it is sent says so.
+        Raises `BadArgument`, `BadType`.
+        """
+        if not isinstance(sent, (Message, Notice)):
+            raise BadType(f"sent must be a Message or a Notice, not {shown(sent)}")
+        if isinstance(sent, Message) != (self._side is not None):
+            raise BadArgument(
+                "a message is for the player of the one side whose members are known, a notice for others"
+            )
+        number = _next(self._pair, sent.number)
+        message = bytes(sent).hex() if isinstance(sent, Message) else None
+        self._ask("hear", log=sent.log.hex(), side=self._side, message=message, time=_time(time))
+        self._pair = number
+
+    def hear(self, log: ReadableBuffer) -> None:
+        """Adds the lines of an earlier pair for one viewer, of which only the
+        told log was kept. Its own Disable lacks the move, and a trapping
+        move that goes on has no `[from]`. Raises `BadArgument`, `BadType`.
+        """
+        self._ask("hear", log=octets(log, "log").hex(), side=None, message=None, time=None)
 
     def end(self, winner: Side | int | None) -> None:
         """Ends the battle by a win of a side, or by a tie. Raises
@@ -365,6 +400,13 @@ class Seat(_Kept):
         number = _next(self._pair, given.number)
         self._ask("receive", message=bytes(given).hex())
         self._pair = number
+
+    def hear(self, log: ReadableBuffer) -> None:
+        """Takes in the told log of an earlier pair, for a player that comes
+        back; `receive` then takes in the last message. Raises
+        `BadArgument`, `BadType`.
+        """
+        self._ask("hear", log=octets(log, "log").hex(), side=None, message=None, time=None)
 
     def tell(self, battle: Battle, log: ReadableBuffer) -> None:
         """Takes in an update of a battle that you run: the battle after it, and
@@ -588,6 +630,13 @@ def _members(value: object) -> Members:
     if not isinstance(value, Members):
         raise BadType(f"members must be Members, not {shown(value)}")
     return value
+
+
+def _names(value: object) -> list[str]:
+    """The names of a side's members; empty ones if only their number is known."""
+    if isinstance(value, Members):
+        return list(value.names)
+    return [""] * within(value, "the number of members", 1, 6)
 
 
 def _hp(value: object) -> str:
