@@ -1,7 +1,6 @@
 //! Showdown's protocol as calls in JSON: an object that says what is asked, and an object that says what came of it.
 //!
 //! Bytes are hexadecimal texts. Members are a list of objects, as `read_members` writes them. What lasts from call to call has a number.
-use gen1::generated::host as plain;
 use gen1::{Battle, LogFault, MemberSpec, Message, Notice, Rules, Side, Team, TeamRefusal};
 use gen1_showdown::reading::Typed;
 use gen1_showdown::{
@@ -362,8 +361,7 @@ fn on_lines(ask: Ask) -> Result<Value, Refused> {
             time,
         } => {
             let messages = [message_in(&one)?, message_in(&two)?];
-            let notice = plain_in(&notice)?;
-            let notice = Notice::from_plain(notice).ok_or_else(|| no_bytes("a notice"))?;
+            let notice = notice_in(&notice)?;
             with_lines(of, |lines| {
                 Ok(lines.report([&messages[0], &messages[1]], &notice, time)?)
             })?;
@@ -593,27 +591,15 @@ fn battle_in(text: &str) -> Result<Battle, Refused> {
 }
 
 fn message_in(text: &str) -> Result<Message, Refused> {
-    Message::from_plain(plain_in(text)?).ok_or_else(|| no_bytes("a message"))
+    let bytes = bytes_in(text)?;
+    let bytes = bytes.as_slice().try_into();
+    let bytes = bytes.map_err(|_| no_bytes("a message"))?;
+    Message::from_bytes(bytes).map_err(|why| Refused::of("call", why))
 }
 
-/// A struct of whole numbers without padding, so that any bytes are one.
-///
-/// # Safety
-///
-/// The type is such a struct.
-unsafe trait Plain: Copy {}
-
-// SAFETY: both are `repr(C)`, and their comments and the tests of include/gen1.h say that they have no padding.
-unsafe impl Plain for plain::Message {}
-// SAFETY: as above.
-unsafe impl Plain for plain::Notice {}
-
-/// The struct that a text has the bytes of.
-fn plain_in<T: Plain>(text: &str) -> Result<T, Refused> {
+fn notice_in(text: &str) -> Result<Notice, Refused> {
     let bytes = bytes_in(text)?;
-    if bytes.len() != size_of::<T>() {
-        return Err(no_bytes("a message or a notice"));
-    }
-    // SAFETY: there are as many bytes, and any bytes are such a struct.
-    Ok(unsafe { bytes.as_ptr().cast::<T>().read_unaligned() })
+    let bytes = bytes.as_slice().try_into();
+    let bytes = bytes.map_err(|_| no_bytes("a notice"))?;
+    Notice::from_bytes(bytes).map_err(|why| Refused::of("call", why))
 }

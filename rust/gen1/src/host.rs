@@ -361,15 +361,6 @@ pub struct Message {
 }
 
 impl Message {
-    /// The message that C keeps as `gen1_message` (include/gen1.h); `None` if its numbers are not those of a message.
-    #[doc(hidden)]
-    #[must_use]
-    pub fn from_plain(inner: plain::Message) -> Option<Self> {
-        let own = &inner.own;
-        let fits = own.place <= own.count && own.count <= 6 && inner.log_length <= 512;
-        fits.then_some(Message { inner })
-    }
-
     /// The number of the current pair, for which the side now chooses.
     #[must_use]
     pub fn number(&self) -> u32 {
@@ -408,13 +399,6 @@ pub struct Notice {
 }
 
 impl Notice {
-    /// The notice that C keeps as `gen1_notice` (include/gen1.h); `None` if its numbers are not those of a notice.
-    #[doc(hidden)]
-    #[must_use]
-    pub fn from_plain(inner: plain::Notice) -> Option<Self> {
-        (inner.log_length <= 512).then_some(Notice { inner })
-    }
-
     /// The number of the current pair.
     #[must_use]
     pub fn number(&self) -> u32 {
