@@ -1,6 +1,7 @@
--- Lists of successors: what is added, and what of it follows.
-use Rattle.std.proofs.Common.{◌≡◌, ◌≢◌, ℕ, Err, IfOk, Ok, OnOk, Result, ◌+◌, ◌<◌, List, length, get_or-set_other, get_or-set_same, set, ◌⊎◌, inl, inr, ap, subst, sym, ◌∙◌, arith}
+-- Lists of successors: what is added, what of it follows, and which array is too short for it.
+use Rattle.std.proofs.Common.{◌≡◌, ◌≢◌, ℕ, Err, IfOk, Ok, OnOk, Result, ◌+◌, ◌<◌, ◌≤◌, List, length, get_or-set_other, get_or-set_same, set, ◌⊎◌, inl, inr, ap, subst, sym, ◌∙◌, arith}
 use Rattle.std.proofs.lemmas.List.{get_or_default}
+use Rattle.std.specs.Prelude.{slice_index}
 use Rattle.gen1_machine.specs.declared.choice.Choice.{Choice}
 use Rattle.gen1_machine.specs.State.{State}
 use Rattle.gen1_layout.specs.Parts.{Parts}
@@ -11,6 +12,7 @@ use Rattle.gen1_outcomes.specs.declared.successor.Successor.{Successor}
 use Rattle.gen1_layout.specs.Within.{Stands}
 use Rattle.gen1_engine.specs.Update.{AreOffered}
 use Rattle.gen1_outcomes.specs.Following.{CanFollow, Walk}
+use Rattle.gen1_outcomes.specs.Merging.{IsFull}
 use Rattle.gen1_outcomes.specs.Listing.{AreThose, AreThoseOr, EachFollows, StillFollow, battle_at, untold}
 
 same_or : (m n : ℕ) → (m ≡ n) ⊎ (m ≢ n)
@@ -99,3 +101,19 @@ pub on_ok_then : (w v : Walk) (first before count : ℕ) (start old new : List S
     → StillFollow w first start before old → OnOk r (StillFollow v before old count new) → OnOk r (StillFollow w first start count new)
 on_ok_then w v first before count start old new (Ok done) is still more = still_then w v first before count start old new is still more
 on_ok_then w v first before count start old new (Err fault) is still more = tt
+
+-- The last places of a table before one, in a circle, are taken.
+abbrev pub AreTaken : List ℕ → ℕ → ℕ → Type 0
+AreTaken table slot count =
+    (k : ℕ) → k < length table → ((k < slot) × (slot ≤ k + count)) ⊎ ((slot ≤ k) × (slot + length table ≤ k + count)) → slice_index table k ≢ 0
+
+less_or : (m n : ℕ) → (m < n) ⊎ (n ≤ m)
+less_or m n = grind arith
+
+pub all_taken : (table : List ℕ) (slot count : ℕ) → length table ≤ count → slot < length table → AreTaken table slot count → IsFull table
+all_taken table slot count enough within those k inside =
+    those k inside
+    (elim (less_or k slot) [
+      | inl less ↦ inl (less, omega (arith, enough, within))
+      | inr more ↦ inr (more, omega (arith, enough, more))
+    ])

@@ -1,10 +1,13 @@
 -- How one way leads to the next.
-use Rattle.std.proofs.Common.{◌≡◌, ◌≢◌, ℕ, ◌*◌, ◌/◌, ◌%◌, ◌-◌, ◌<◌, ◌≤◌, List, length, get_or, get_or-set_other, get_or-set_same, set, ap, subst, sym, ◌∙◌, arith}
+use Rattle.std.proofs.Common.{◌≡◌, ◌≢◌, ℕ, Bool, false, true, inl, inr, refl, ◌*◌, ◌/◌, ◌%◌, ◌-◌, ◌<◌, ◌≤◌, List, length, get_or, get_or-set_other, get_or-set_same, set, ap, subst, sym, ◌∙◌, arith}
 use Rattle.std.proofs.Math.Nat.{mul_assoc, mul_comm}
 use Rattle.std.proofs.lemmas.List.{get_or_default}
+use Rattle.gen1_outcomes.specs.declared.nodes.Chance.{Chance}
 use Rattle.gen1_outcomes.specs.declared.nodes.Node.{Node}
 use Rattle.gen1_outcomes.specs.declared.nodes.Nodes.{Nodes}
-use Rattle.gen1_outcomes.specs.Nodes.{GoesOn, IsDone, LeadsOn}
+use Rattle.gen1_outcomes.specs.declared.plain.PlainWalk.{PlainWalk}
+use Rattle.gen1_outcomes.specs.Nodes.{AllDone, GoesOn, IsChance, IsDone, LeadsOn}
+use Rattle.gen1_outcomes.specs.Plain.{ArePlain, IsWay}
 
 pub leads_on : (old new : Nodes) (list : List Node) (len : ℕ) (node : Node) → new.list ≡ set list (len - 1) node → new.len ≡ len → new.options ≡ old.options → list ≡ old.list
     → len ≤ old.len → 0 < len → len ≤ length list → (d : Node) → GoesOn (get_or list (len - 1) d) node
@@ -27,6 +30,14 @@ leads_on old new list len node is same_len options same shorter some within d go
           subst (λ (y : Node). GoesOn (get_or old.list (len - 1) none) y) new_is (subst (λ (x : Node). GoesOn x node) (get_or_default list (len - 1) d none inside ∙ old_is) goes);
       after = λ k none more less. done k none (omega (arith, more)) less;
     }
+
+-- The probability of a way of a plain walk, and what comes after it.
+pub way_is : (nodes next : Nodes) (chance : Chance) (walk : PlainWalk) (on : Bool) → IsChance nodes chance → (on ≡ true → LeadsOn nodes next) → (on ≡ false → AllDone nodes)
+    → (on ≡ true → walk.over ≡ 0) → (on ≡ false → walk.over ≡ 1) → walk.count ≡ next.len → ArePlain next.len next.list walk.draws → IsWay chance walk
+way_is nodes next chance walk true is leads done going over count draws =
+    record { nodes = nodes; chance = is; next = inl (record { going = going refl; next = next; leads = leads refl; count = count; draws = draws }) }
+way_is nodes next chance walk false is leads done going over count draws =
+    record { nodes = nodes; chance = is; next = inr (record { over = over refl; done = done refl }) }
 
 -- Halves are in the same proportion.
 pub halved : (n t w c : ℕ) → n * t ≡ w * c → n % 2 ≡ 0 → w % 2 ≡ 0 → n / 2 * t ≡ w / 2 * c

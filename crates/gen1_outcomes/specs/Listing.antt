@@ -1,10 +1,11 @@
 -- A list of the battles that can follow from a pair of choices, with their weights.
-use Rattle.std.specs.Prelude.{List, take, slice_index_or, ℕ, ◌*◌, ◌+◌, ◌<◌, ◌≡◌, ◌⊎◌}
+use Rattle.std.specs.Prelude.{List, take, slice_index_or, ℕ, ◌*◌, ◌+◌, ◌<◌, ◌≡◌, ◌≤◌, ◌⊎◌}
 use Rattle.std.specs.List.{sum_by}
 use Rattle.gen1_machine.specs.declared.choice.Choice.{Choice}
 use Rattle.gen1_machine.specs.State.{State}
 use Rattle.gen1_layout.specs.Parts.{Parts}
 use Rattle.gen1_layout.specs.Shows.{Telling}
+use Rattle.gen1_outcomes.specs.declared.outcomes.Outcomes.{Outcomes}
 use Rattle.gen1_outcomes.specs.declared.successor.Successor.{Successor}
 use Rattle.gen1_layout.specs.Within.{Stands}
 use Rattle.gen1_engine.specs.Update.{AreOffered}
@@ -45,3 +46,8 @@ abbrev pub StillFollow : Walk → ℕ → List Successor → ℕ → List Succes
 StillFollow w before old count new =
     (s : State) → Stands w.start s → AreOffered s w.one w.two
     → EachFollows s w.one w.two before old → EachFollows s w.one w.two count new
+
+-- The probabilities have a denominator. If nothing is left out, an outcome is listed.
+pub record HasSome (list : Outcomes) : Type 0 where
+  pub whole : 1 ≤ list.whole
+  pub one : list.left_out ≡ 0 → 1 ≤ list.count

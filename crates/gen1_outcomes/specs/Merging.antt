@@ -1,18 +1,34 @@
--- Where a battle is in a list, and what a list leaves out.
-use Rattle.std.specs.Prelude.{List, drop, length, min, slice_index, take, ℕ, ◌%◌, ◌*◌, ◌+◌, ◌-◌, ◌/◌, ◌<◌, ◌≡◌}
+-- Where a battle is in a list, which array is too short for it, and what a list leaves out.
+use Rattle.std.specs.Prelude.{List, drop, length, min, slice_index, take, ℕ, ◌%◌, ◌*◌, ◌+◌, ◌-◌, ◌/◌, ◌<◌, ◌≡◌, ◌≢◌}
 use Rattle.std.specs.Int.{from_le_bytes, w64}
 use Rattle.gen1_layout.specs.Parts.{Parts, joined}
+use Rattle.gen1_outcomes.specs.declared.fault.OutcomesFault.{OutcomesFault}
+use Rattle.gen1_outcomes.specs.declared.fault.OutcomesFault.TheVariants as faults
 use Rattle.gen1_outcomes.specs.declared.merging.Place.{Place}
 use Rattle.gen1_outcomes.specs.declared.merging.Place.TheVariants as places
 use Rattle.gen1_outcomes.specs.declared.merging.Tally.{Tally}
 use Rattle.gen1_outcomes.specs.declared.successor.Successor.{Successor}
 use Rattle.gen1_outcomes.specs.Listing.{battle_at}
 
--- A place of the list whose battle has the same bytes, or a place of the table.
+-- A place of the table is free; or all are taken.
+abbrev pub HasFree : List ℕ → Type 0
+HasFree table = (slot : ℕ) × (slot < length table) × (slice_index table slot ≡ 0)
+
+abbrev pub IsFull : List ℕ → Type 0
+IsFull table = (slot : ℕ) → slot < length table → slice_index table slot ≢ 0
+
+-- The array that a fault names is too short: the table is full, or if it has a free place, the list is.
+abbrev pub IsShort : OutcomesFault → List ℕ → Type 0
+IsShort (faults.Refused why) table = Unit {0}
+IsShort faults.Places table = HasFree table
+IsShort faults.Table table = IsFull table
+IsShort faults.Size table = Unit {0}
+
+-- A place of the list whose battle has the same bytes, or a free place of the table, if it has one.
 abbrev pub IsPlace : List Successor → List ℕ → Parts → Place → Type 0
 IsPlace xs table battle (places.Taken k) = (k < length xs) × ((none : Successor) → joined (battle_at xs k none) ≡ joined battle)
-IsPlace xs table battle (places.Free slot) = slot < length table
-IsPlace xs table battle places.Full = Unit {0}
+IsPlace xs table battle (places.Free slot) = (slot < length table) × (slice_index table slot ≡ 0)
+IsPlace xs table battle places.Full = IsFull table
 
 -- The least probability stays, and if it is 0, nothing more is left out.
 pub record LeavesOut (old new : Tally) : Type 0 where

@@ -5,8 +5,11 @@ use Rattle.gen1_rolls.specs.declared.look.Look.TheVariants.{Below, Factor, Remai
 use Rattle.gen1_machine.specs.declared.choice.Choice.{Choice}
 use Rattle.gen1_layout.specs.Parts.{Parts}
 use Rattle.gen1_engine.specs.Replay.{choices_at}
+use Rattle.gen1_outcomes.specs.declared.nodes.Chance.{Chance}
 use Rattle.gen1_outcomes.specs.declared.nodes.Node.{Node}
+use Rattle.gen1_outcomes.specs.declared.nodes.Nodes.{Nodes}
 use Rattle.gen1_outcomes.specs.Bytes.{size}
+use Rattle.gen1_outcomes.specs.Nodes.{AllDone, IsChance, LeadsOn}
 use Rattle.gen1_outcomes.specs.declared.plain.PlainDraw.{PlainDraw}
 use Rattle.gen1_outcomes.specs.declared.plain.PlainWalk.{PlainWalk}
 
@@ -83,6 +86,25 @@ pub record IsPlain (node : Node) (draw : PlainDraw) : Type 0 where
 abbrev pub ArePlain : ℕ → List Node → List PlainDraw → Type 0
 ArePlain count nodes draws =
     (k : ℕ) → (node : Node) → (draw : PlainDraw) → k < count → IsPlain (slice_index_or nodes k node) (slice_index_or draws k draw)
+
+-- The draws of a way lead on to those of the next one, which the walk has.
+pub record GoesOnTo (nodes : Nodes) (walk : PlainWalk) : Type 0 where
+  pub going : walk.over ≡ 0
+  pub next : Nodes
+  pub leads : LeadsOn nodes next
+  pub count : walk.count ≡ next.len
+  pub draws : ArePlain next.len next.list walk.draws
+
+-- The draws of a way are the last ones, and the walk is over.
+pub record EndsWith (nodes : Nodes) (walk : PlainWalk) : Type 0 where
+  pub over : walk.over ≡ 1
+  pub done : AllDone nodes
+
+-- A probability is that of the draws of a way, after which a walk goes on, or ends.
+pub record IsWay (c : Chance) (walk : PlainWalk) : Type 0 where
+  pub nodes : Nodes
+  pub chance : IsChance nodes c
+  pub next : GoesOnTo nodes walk ⊎ EndsWith nodes walk
 
 -- The bytes of draws that are always 0 are written with 0, or stay.
 abbrev pub KeepsUnused : List PlainDraw → List PlainDraw → Type 0

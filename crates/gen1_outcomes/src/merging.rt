@@ -1,9 +1,10 @@
 //! Battles that are equal become one (docs/MECHANICS.md, "Link numbers").
-ghost use Rattle.std.specs.Prelude.{IfOk, IsTrue, OnOk, length, ◌+◌, ◌<◌, ◌≡◌, ◌≤◌};
+ghost use Rattle.std.specs.Prelude.{IfErr, IfOk, IsOkUnless, IsTrue, OnOk, length, slice_index, ◌+◌, ◌<◌, ◌≡◌, ◌≤◌};
 ghost use Rattle.gen1_layout.specs.Parts.{joined};
 ghost use Rattle.gen1_outcomes.specs.Chances.{IsBelow};
 ghost use Rattle.gen1_outcomes.specs.Listing.{AreThose, AreThoseOr};
-ghost use Rattle.gen1_outcomes.specs.Merging.{IsPlace, LeavesOut, hash_of, mixed, with_block, with_member, with_side, word_at};
+ghost use Rattle.gen1_outcomes.specs.declared.fault.OutcomesFault.TheVariants.{Size};
+ghost use Rattle.gen1_outcomes.specs.Merging.{IsPlace, IsShort, LeavesOut, hash_of, mixed, with_block, with_member, with_side, word_at};
 
 use crate::chances::is_below;
 use crate::fault::OutcomesFault;
@@ -36,6 +37,7 @@ impl Tally {
     pub fn count_ways(&mut self, ways: u32) -> Result<(), OutcomesFault>
         ensures count { self.new.count ≡ self.old.count }
         ensures ways { OnOk result (self.new.ways ≡ self.old.ways + ways) }
+        ensures size { IsOkUnless result Size }
         ensures left_out { LeavesOut self.old self.new }
     {
         match self.ways.checked_add(ways) {
@@ -73,6 +75,7 @@ pub fn add(
     ensures battles { OnOk result (AreThoseOr battle.now tally.old.count successors.old
         tally.new.count successors.new) }
     ensures left_out { OnOk result (LeavesOut tally.old tally.new) }
+    ensures short { IfErr result (λ why. IsShort why table.new) }
 {
     if is_below(chance, tally.least) {
         return leave_out(successors, tally, chance);
@@ -102,6 +105,7 @@ pub fn leave_out(
     ensures count { tally.new.count ≡ tally.old.count }
     ensures battles { AreThose successors.old successors.new }
     ensures left_out { OnOk result (LeavesOut tally.old tally.new) }
+    ensures size { IsOkUnless result Size }
 {
     let weight = scaled_weight(successors, tally, chance)?;
     match tally.left_out.checked_add(weight) {
@@ -123,10 +127,12 @@ fn append(
 ) -> Result<(), OutcomesFault>
     requires within { tally.old.count ≤ length successors.old }
     requires slot { slot < length table.old }
+    requires free { slice_index table.old slot ≡ 0 }
     ensures within { tally.new.count ≤ length successors.new }
     ensures battles { OnOk result (AreThoseOr successor.battle tally.old.count successors.old
         tally.new.count successors.new) }
     ensures left_out { OnOk result (LeavesOut tally.old tally.new) }
+    ensures short { IfErr result (λ why. IsShort why table.new) }
 {
     if tally.count >= successors.len() {
         return Err(OutcomesFault::Places);
@@ -142,7 +148,8 @@ fn append(
 
 fn add_weight(successors: &mut [Successor], place: usize, weight: u128) -> Result<(), OutcomesFault>
     requires { place < length successors.old }
-    ensures { AreThose successors.old successors.new }
+    ensures battles { AreThose successors.old successors.new }
+    ensures size { IsOkUnless result Size }
 {
     match successors[place].weight().checked_add(weight) {
         Some(sum) => {
@@ -253,6 +260,7 @@ fn scaled_weight(
     ensures count { tally.new.count ≡ tally.old.count }
     ensures battles { AreThose successors.old successors.new }
     ensures left_out { IfOk result (λ _. LeavesOut tally.old tally.new) }
+    ensures size { IsOkUnless result Size }
 {
     if tally.whole == chance.whole {
         return Ok(chance.num);
@@ -273,6 +281,7 @@ fn scale(successors: &mut [Successor], tally: &mut Tally, more: u128) -> Result<
     ensures count { tally.new.count ≡ tally.old.count }
     ensures battles { AreThose successors.old successors.new }
     ensures left_out { OnOk result (LeavesOut tally.old tally.new) }
+    ensures size { IsOkUnless result Size }
 {
     match (
         tally.whole.checked_mul(more),
@@ -292,7 +301,8 @@ fn scale(successors: &mut [Successor], tally: &mut Tally, more: u128) -> Result<
 
 fn multiply(successors: &mut [Successor], place: usize, more: u128) -> Result<(), OutcomesFault>
     requires { place < length successors.old }
-    ensures { AreThose successors.old successors.new }
+    ensures battles { AreThose successors.old successors.new }
+    ensures size { IsOkUnless result Size }
 {
     match successors[place].weight().checked_mul(more) {
         Some(weight) => {

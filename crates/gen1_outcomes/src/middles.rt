@@ -1,6 +1,7 @@
 //! Positions between the two actions of a turn. Positions that agree are merged (docs/MECHANICS.md, "Link numbers").
-ghost use Rattle.std.specs.Prelude.{IfOk, IfSome, IsFalse, IsTrue, OnOk, slice_index, slice_index_or, ℕ, ◌+◌, ◌-◌, ◌<◌, ◌≡◌, ◌≤◌};
+ghost use Rattle.std.specs.Prelude.{IfOk, IfSome, IsFalse, IsOkUnless, IsTrue, OnOk, slice_index, slice_index_or, ℕ, ◌+◌, ◌-◌, ◌<◌, ◌≡◌, ◌≤◌};
 ghost use Rattle.gen1_layout.specs.Parts.{joined};
+ghost use Rattle.gen1_outcomes.specs.declared.fault.OutcomesFault.TheVariants.{Size};
 
 use crate::beginning::Rest;
 use crate::chances::plus;
@@ -96,6 +97,7 @@ impl Middle {
     pub fn chance_with(&self, nodes: &Nodes) -> Result<Chance, OutcomesFault>
         ensures few { IfOk result (λ _. self.now.draws + nodes.now.len ≤ 24) }
         ensures chance { IfOk result (λ c. IsChance nodes.now c) }
+        ensures size { IsOkUnless result Size }
     {
         if self.draws + nodes.len > DEPTH {
             return Err(OutcomesFault::Size);
@@ -119,7 +121,8 @@ impl Middle {
 
     // Adds the ways of another position.
     fn get(&mut self, other: &Middle) -> Result<(), OutcomesFault>
-        ensures { OnOk result (Gets other.now self.old self.new) }
+        ensures gets { OnOk result (Gets other.now self.old self.new) }
+        ensures size { IsOkUnless result Size }
     {
         match plus(self.chance, other.chance) {
             Some(chance) => match self.ways.checked_add(other.ways) {
@@ -180,6 +183,7 @@ impl Middles {
     pub fn add(&mut self, middle: &Middle) -> Result<(), OutcomesFault>
         requires room { self.old.len < 16 }
         ensures added { OnOk result (IsAdded middle.now self.old self.new) }
+        ensures size { IsOkUnless result Size }
     {
         match self.find(middle) {
             Some(place) => self.join(place, middle),
@@ -196,6 +200,7 @@ impl Middles {
         requires alike { (past : Middle)
             → GoOnAlike (slice_index_or self.old.list place past) middle.now }
         ensures joined { OnOk result (Joins middle.now self.old self.new) }
+        ensures size { IsOkUnless result Size }
     {
         let mut joined = self.list[place];
         joined.get(middle)?;

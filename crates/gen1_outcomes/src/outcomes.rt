@@ -1,10 +1,11 @@
 //! All battles that an update can lead to (docs/MECHANICS.md, "Link numbers").
-ghost use Rattle.std.specs.Prelude.{IfOk, IsTrue, OnOk, length, replicate, ◌+◌, ◌<◌, ◌≡◌, ◌≤◌};
+ghost use Rattle.std.specs.Prelude.{IfErr, IfOk, IsOkUnless, IsTrue, OnOk, length, replicate, ◌+◌, ◌<◌, ◌≡◌, ◌≤◌};
 ghost use Rattle.gen1_machine.specs.State.{State};
 ghost use Rattle.gen1_layout.specs.Within.{Stands};
 ghost use Rattle.gen1_engine.specs.Update.{AreOffered};
-ghost use Rattle.gen1_outcomes.specs.Listing.{AreThose, EachFollows, StillFollow, sum_of};
-ghost use Rattle.gen1_outcomes.specs.Merging.{LeavesOut};
+ghost use Rattle.gen1_outcomes.specs.declared.fault.OutcomesFault.TheVariants.{Size};
+ghost use Rattle.gen1_outcomes.specs.Listing.{AreThose, EachFollows, HasSome, StillFollow, sum_of};
+ghost use Rattle.gen1_outcomes.specs.Merging.{IsShort, LeavesOut};
 
 use crate::chances::is_below;
 use crate::fault::OutcomesFault;
@@ -57,6 +58,8 @@ pub fn list_outcomes(
     ensures sum { IfOk result (λ o. sum_of o.count successors.new + o.left_out ≡ o.whole) }
     ensures within { IfOk result (λ o. o.count ≤ length successors.new) }
     ensures all { options.least ≡ 0 → IfOk result (λ o. o.left_out ≡ 0) }
+    ensures some { IfOk result (λ o. HasSome o) }
+    ensures short { IfErr result (λ why. IsShort why table.new) }
 {
     match Ways::new(battle, pair.0, pair.1, options) {
         Err(why) => Err(OutcomesFault::Refused(why)),
@@ -85,6 +88,8 @@ fn list_ways(
     ensures sum { IfOk result (λ o. sum_of o.count successors.new + o.left_out ≡ o.whole) }
     ensures within { IfOk result (λ o. o.count ≤ length successors.new) }
     ensures all { ways.now.options.least ≡ 0 → IfOk result (λ o. o.left_out ≡ 0) }
+    ensures some { IfOk result (λ o. HasSome o) }
+    ensures short { IfErr result (λ why. IsShort why table.new) }
 {
     let mut tally = Tally {
         count: 0,
@@ -109,6 +114,7 @@ fn add_all(
     ensures follow { OnOk result (StillFollow ways.now tally.old.count successors.old
         tally.new.count successors.new) }
     ensures left_out { OnOk result (LeavesOut tally.old tally.new) }
+    ensures short { IfErr result (λ why. IsShort why table.new) }
 {
     if ways.has_two_actions() {
         return add_in_parts(ways, successors, table, tally);
@@ -128,6 +134,7 @@ fn add_in_parts(
     ensures follow { OnOk result (StillFollow ways.now tally.old.count successors.old
         tally.new.count successors.new) }
     ensures left_out { OnOk result (LeavesOut tally.old tally.new) }
+    ensures short { IfErr result (λ why. IsShort why table.new) }
 {
     let mut nodes = Nodes::new(ways.options());
     let mut middles = Middles::new();
@@ -156,6 +163,7 @@ fn keep(
     ensures count { tally.new.count ≡ tally.old.count }
     ensures battles { AreThose successors.old successors.new }
     ensures left_out { OnOk result (LeavesOut tally.old tally.new) }
+    ensures size { IsOkUnless result Size }
 {
     if is_below(middle.chance, tally.least) {
         leave_out(successors, tally, middle.chance)?;
@@ -178,6 +186,7 @@ fn make_room(
     ensures follow { OnOk result (StillFollow ways.now tally.old.count successors.old
         tally.new.count successors.new) }
     ensures left_out { OnOk result (LeavesOut tally.old tally.new) }
+    ensures short { IfErr result (λ why. IsShort why table.new) }
 {
     if middles.is_full() {
         go_on_from(ways, middles, successors, table, tally)?;
@@ -199,6 +208,7 @@ fn go_on_from(
     ensures follow { OnOk result (StillFollow ways.now tally.old.count successors.old
         tally.new.count successors.new) }
     ensures left_out { OnOk result (LeavesOut tally.old tally.new) }
+    ensures short { IfErr result (λ why. IsShort why table.new) }
 {
     'places: for place in 0..middles.len {
         finish(ways, &middles.list[place], successors, table, tally)?;
@@ -219,6 +229,7 @@ fn finish(
     ensures follow { OnOk result (StillFollow ways.now tally.old.count successors.old
         tally.new.count successors.new) }
     ensures left_out { OnOk result (LeavesOut tally.old tally.new) }
+    ensures short { IfErr result (λ why. IsShort why table.new) }
 {
     let mut nodes = ways.restart(middle);
     let mut next = copy_of(ways.start());
@@ -240,8 +251,10 @@ fn finished(successors: &[Successor], tally: Tally) -> Result<Outcomes, Outcomes
     ensures left_out { IfOk result (λ o. o.left_out ≡ tally.left_out) }
     ensures within { IfOk result (λ o. o.count ≤ length successors.now) }
     ensures sum { IfOk result (λ o. sum_of o.count successors.now + o.left_out ≡ o.whole) }
+    ensures some { IfOk result (λ o. HasSome o) }
+    ensures size { IsOkUnless result Size }
 {
-    if sums_to(&successors[..tally.count], tally.left_out, tally.whole) {
+    if tally.whole > 0 && sums_to(&successors[..tally.count], tally.left_out, tally.whole) {
         Ok(Outcomes {
             count: tally.count,
             whole: tally.whole,

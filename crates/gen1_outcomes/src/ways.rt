@@ -1,11 +1,12 @@
 //! Each way of an update apart (docs/MECHANICS.md, "Link numbers").
-ghost use Rattle.std.specs.Prelude.{IfErr, IfOk, IfSome, IsOk, Some, [], ◌≡◌};
+ghost use Rattle.std.specs.Prelude.{IfErr, IfOk, IfSome, IsOk, IsOkUnless, Some, [], ◌≡◌};
 ghost use Rattle.gen1_machine.specs.State.{State};
 ghost use Rattle.gen1_layout.specs.Within.{Stands};
 ghost use Rattle.gen1_layout.specs.Words.{AddsAtMost, HasRoom, Reads};
 ghost use Rattle.gen1_engine.specs.Update.{AreOffered, Tests};
 ghost use Rattle.gen1_outcomes.specs.Beginning.{have_two_actions};
 ghost use Rattle.gen1_rolls.specs.Draws.{stream_of};
+ghost use Rattle.gen1_outcomes.specs.declared.fault.OutcomesFault.TheVariants.{Size};
 ghost use Rattle.gen1_outcomes.specs.Following.{CanFollow, Follows};
 ghost use Rattle.gen1_outcomes.specs.Listing.{untold};
 ghost use Rattle.gen1_outcomes.specs.Nodes.{IsChance};
@@ -173,6 +174,7 @@ impl Ways {
             → AreOffered s self.now.one self.now.two
             → CanFollow s self.now.one self.now.two battle.new untold }
         ensures chance { IfOk result (λ c. IsChance nodes.new c) }
+        ensures size { IsOkUnless result Size }
     {
         *battle = copy_of(&self.start);
         let path = middle.path_to(&nodes.path());

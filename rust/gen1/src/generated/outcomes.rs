@@ -1503,7 +1503,7 @@ mod outcomes {
 
     // The result, if the weights and what is left out sum to their denominator.
     fn finished(successors: &[Successor], tally: Tally) -> Result<Outcomes, OutcomesFault> {
-        if sums_to(&successors[..tally.count], tally.left_out, tally.whole) {
+        if tally.whole > 0 && sums_to(&successors[..tally.count], tally.left_out, tally.whole) {
             Ok(Outcomes {
                 count: tally.count,
                 whole: tally.whole,

@@ -5,6 +5,6 @@ pub places-preserved : goal.places-preserved
 places-preserved c =
     record {
       count = c.places.invariant.count;
-      battles = λ k none. c.in_ok-multiply.ensures k none ∙ c.places.invariant.battles k none;
+      battles = λ k none. c.in_ok-multiply.ensures.battles k none ∙ c.places.invariant.battles k none;
       left_out = c.places.invariant.left_out;
     }

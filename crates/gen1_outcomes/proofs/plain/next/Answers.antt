@@ -1,7 +1,9 @@
-use Rattle.std.proofs.Common.{refl, subst, sym}
+use Rattle.std.proofs.Common.{Bool, ap, not, refl, subst, sym, ◌∙◌}
+use Rattle.std.specs.Int.{from_bool}
 use Rattle.gen1_layout.specs.Parts.{Parts}
 use Rattle.gen1_layout.specs.Within.{Stands}
 use Rattle.gen1_outcomes.proofs.Offered.{follows_pair}
+use Rattle.gen1_outcomes.proofs.Walking.{way_is}
 use Rattle.gen1_outcomes.proofs.plain.next.Goals as goal
 
 pub returns-in-Some-chance-clause-follows : goal.returns-in-Some-chance-clause-follows
@@ -27,3 +29,9 @@ returns-in-None-clause-underway g c ne =
       choices = rw (sym c.in-Some.ensures.value, sym c.in-Some-from_byte.ensures.value) refl;
       has_draws = c.if-not-read_nodes.ensures.reads refl;
     }
+
+pub returns-in-Some-chance-clause-chance : goal.returns-in-Some-chance-clause-chance
+returns-in-Some-chance-clause-chance g c =
+    way_is _ c.advance.new.self c.in-Some-chance.chance _ c.advance.result c.in-Some-chance.ensures.some c.advance.ensures.on c.advance.ensures.done
+    (λ on. c.from-walk.ensures ∙ ap (λ (b : Bool). from_bool (not b)) on) (λ off. c.from-walk.ensures ∙ ap (λ (b : Bool). from_bool (not b)) off)
+    refl c.write_nodes.ensures.draws
