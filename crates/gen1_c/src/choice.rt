@@ -78,6 +78,7 @@ pub extern "C" fn gen1_choice_words(
     ensures kept { result ≢ 0 → (text.new ≡ text.old) × (written.new ≡ written.old) }
     ensures within { result ≡ 0 → written.new < length text.old }
     ensures code { result ≢ 0 → (40 ≤ result) × (result ≤ 44) × (result ≢ 42) }
+    ensures short { result ≡ 0 → written.new ≤ 21 }
 {
     let Some(side) = Side::from_number(side) else {
         return SIDE;
@@ -101,6 +102,7 @@ fn write_move(battle: &Packed, side: Side, slot: u8, text: &mut [u8], written: &
     ensures kept { result ≢ 0 → (text.new ≡ text.old) × (written.new ≡ written.old) }
     ensures within { result ≡ 0 → written.new < length text.old }
     ensures code { result ≢ 0 → (40 ≤ result) × (result ≤ 44) × (result ≢ 42) }
+    ensures short { result ≡ 0 → written.new ≤ 21 }
 {
     if slot == 0 {
         return write_text(b"move 0", text, written);
@@ -127,6 +129,7 @@ fn write_switch(battle: &Packed, side: Side, place: u8, text: &mut [u8], written
     ensures kept { result ≢ 0 → (text.new ≡ text.old) × (written.new ≡ written.old) }
     ensures within { result ≡ 0 → written.new < length text.old }
     ensures code { result ≢ 0 → (40 ≤ result) × (result ≤ 44) × (result ≢ 42) }
+    ensures short { result ≡ 0 → written.new ≤ 21 }
 {
     match Species::new(battle.species_at(side, place)) {
         Some(species) => {
@@ -144,6 +147,7 @@ fn write_joined(head: &[u8], name: &[u8], text: &mut [u8], written: &mut usize) 
         (record { bytes = text.new; count = written.new }) result }
     ensures within { result ≡ 0 → written.new < length text.old }
     ensures code { result ≢ 0 → (40 ≤ result) × (result ≤ 44) × (result ≢ 42) }
+    ensures count { result ≡ 0 → written.new ≡ length head.now + length name.now }
 {
     let count = head.len() + name.len();
     if text.len() <= count {

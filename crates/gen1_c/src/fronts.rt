@@ -27,6 +27,7 @@ pub(crate) fn write_text(text: &[u8], room: &mut [u8], written: &mut usize) -> u
     ensures writes { Writes (Ok text.now) (record { bytes = room.old; count = written.old })
         (record { bytes = room.new; count = written.new }) result }
     ensures within { result ≡ 0 → written.new < length room.old }
+    ensures count { result ≡ 0 → written.new ≡ length text.now }
     ensures code { result ≢ 0 → result ≡ 41 }
 {
     if room.len() <= text.len() {

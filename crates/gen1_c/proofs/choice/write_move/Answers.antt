@@ -1,9 +1,10 @@
-use Rattle.std.proofs.Common.{List, Ok, ap, codes, sym, ◌++◌, ◌+◌, ◌∙◌, ◌≡◌, ◌∷◌, ℕ}
+use Rattle.std.proofs.Common.{List, Ok, ap, arith, codes, length, subst, sym, ◌++◌, ◌+◌, ◌∙◌, ◌≡◌, ◌≤◌, ◌∷◌, ℕ}
 use Rattle.gen1_tables.specs.Names.{move_name}
 use Rattle.gen1_layout.specs.Within.{setting_of}
 use Rattle.gen1_offers.proofs.BetweenUpdates.{packs_of}
 use Rattle.gen1_c.proofs.Begun.{let_through}
 use Rattle.gen1_c.proofs.Hits.{within_out}
+use Rattle.gen1_c.proofs.ShortLines.{move_within}
 use Rattle.gen1_c.proofs.Writing.{move_early, move_named, move_unnamed, none_through, refused, written}
 use Rattle.gen1_c.proofs.choice.write_move.Goals as goal
 
@@ -27,3 +28,9 @@ returns-in-None-clause-writes c s h =
     let is = c.move_in.ensures.stands (setting_of s) s.field (within_out h out) in
     refused _ (move_unnamed c.args.side c.args.slot s.field c.move_in.result c.if-slot-eq0.false out is
     (none_through _ c.move_in.result (sym c.new.ensures ∙ c.in-None.is)))
+
+pub returns-in-Some-clause-short : goal.returns-in-Some-clause-short
+returns-in-Some-clause-short c zero =
+    let long = subst (λ (l : List ℕ). length l ≤ 14) (sym (c.as_bytes.ensures.value ∙ c.name.ensures)) (move_within _) in
+    let count = c.write_joined.ensures.count zero in
+    omega (arith, long, count)

@@ -1,8 +1,9 @@
-use Rattle.std.proofs.Common.{List, Ok, ap, codes, sym, ◌++◌, ◌+◌, ◌∙◌, ◌∷◌, ℕ}
+use Rattle.std.proofs.Common.{List, Ok, ap, arith, codes, length, subst, sym, ◌++◌, ◌+◌, ◌∙◌, ◌≤◌, ◌∷◌, ℕ}
 use Rattle.gen1_tables.specs.Names.{species_name}
 use Rattle.gen1_layout.specs.Within.{setting_of}
 use Rattle.gen1_offers.proofs.BetweenUpdates.{packs_of}
 use Rattle.gen1_c.proofs.Begun.{let_through}
+use Rattle.gen1_c.proofs.ShortLines.{species_short}
 use Rattle.gen1_c.proofs.Writing.{none_through, refused, switch_named, switch_unnamed, written}
 use Rattle.gen1_c.proofs.choice.write_switch.Goals as goal
 
@@ -19,3 +20,9 @@ returns-in-None-clause-writes c s h =
     let is = c.species_at.ensures.packs (setting_of s) s.field (packs_of h) in
     refused _ (switch_unnamed c.args.side c.args.place s.field c.species_at.result is
     (none_through _ c.species_at.result (sym c.new.ensures ∙ c.in-None.is)))
+
+pub returns-in-Some-clause-short : goal.returns-in-Some-clause-short
+returns-in-Some-clause-short c zero =
+    let long = subst (λ (l : List ℕ). length l ≤ 12) (sym (c.as_bytes.ensures.value ∙ c.name.ensures)) (species_short _) in
+    let count = c.write_joined.ensures.count zero in
+    omega (arith, long, count)
