@@ -126,8 +126,9 @@ def of_many(_folders):
 
 
 def of_look(_folders):
-    """It has no input, and compares by itself."""
-    yield Case("status", (), b"", re.compile(b"(.*\n)+outcome [12]\n(.*\n)+"), b"", 0)
+    """It has no input, and compares by itself. The battle comes out alike in a room and at a host."""
+    alike = rb"in a room.*: outcome \2 in turn (\d+),.*\nat a host: outcome \2 in turn \4,.*\n"
+    yield Case("status", (), b"", re.compile(rb"(.*\n)+outcome ([12])\n(.*\n)+" + alike), b"", 0)
 
 
 def of_replay(folders):

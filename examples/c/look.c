@@ -135,6 +135,35 @@ static bool play_in_room(const gen1_team *team, const uint8_t seed[10]) {
     return true;
 }
 
+/* Plays the same battle at a host, where nobody chooses in time, and a player that knows only what side 1 is sent. */
+static bool play_at_host(const gen1_team *team, const uint8_t seed[10]) {
+    gen1_host host;
+    gen1_player player;
+    gen1_message message;
+    gen1_notice notice;
+    if (gen1_new(&host.room.battle, team, team, seed, 0, GEN1_LIMIT) != 0 ||
+        gen1_player_begin(&player, GEN1_ONE, team, 0) != 0)
+        return false;
+    gen1_host_begin(&host, 1, 0, 0);
+    do {
+        if (gen1_host_message(&host, GEN1_ONE, &message) != 0 ||
+            gen1_player_feed(&player, message.log, message.log_length) != 0)
+            return false;
+        gen1_player_show(&player, &message.own, message.offered);
+        for (uint8_t side = GEN1_ONE; side <= GEN1_TWO; side++) {
+            /* A server gives the row ten new numbers. This one draws on, as the room does. */
+            gen1_row row = {.kind = GEN1_ROW_EXPIRE, .side = side, .number = message.number};
+            bool is_due = gen1_host_number(&host) == message.number && (gen1_host_awaited(&host) & side) != 0;
+            if (is_due && gen1_host_apply(&host, &row) != 0)
+                return false;
+        }
+    } while (message.own.outcome == GEN1_OUTCOME_ONGOING);
+    gen1_host_notice(&host, &notice);
+    printf("at a host: outcome %d in turn %d, and side 2 has %d of 48 HP\n", notice.outcome, player.known.turn,
+           player.known.sides[1].members[0].hp);
+    return GEN1_RESULT_OUTCOME(gen1_host_result(&host)) == notice.outcome;
+}
+
 int main(void) {
     static const uint8_t seed[10] = {1, 36, 255, 7, 31, 100, 179, 254, 127, 10};
     gen1_team team = {.members = {tauros}, .count = 1};
@@ -160,7 +189,7 @@ int main(void) {
     show_state(&battle);
     show_damage(&battle, GEN1_MOVE_BODY_SLAM);
     show_damage(&battle, GEN1_MOVE_GUILLOTINE); /* a move without the usual damage */
-    if (!show_odds(&battle, GEN1_MOVE_BLIZZARD) || !play_in_room(&team, seed))
+    if (!show_odds(&battle, GEN1_MOVE_BLIZZARD) || !play_in_room(&team, seed) || !play_at_host(&team, seed))
         return 1;
 
     if (gen1_load(&loaded, battle.bytes, sizeof battle.bytes) != 0 || memcmp(&loaded, &battle, sizeof battle) != 0)
