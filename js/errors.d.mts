@@ -79,6 +79,15 @@ export class RoomError extends RefusedError {
   /** The current pair. */
   readonly current: number;
 }
+/** A host refused a row. It says nothing about the foe's choice. */
+export class HostError extends Gen1Error {
+  /** The side that the row is of. */
+  readonly side: number;
+  /** The pair that the row names; 0 if it names none. */
+  readonly number: number;
+  /** The current pair. */
+  readonly current: number;
+}
 /** The bytes are not a log. */
 export class LogError extends Gen1Error {
   /** The offset of the event that could not be read; below 0 if the event began in bytes that a spectator was fed before. */

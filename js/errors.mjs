@@ -92,6 +92,14 @@ export class RoomError extends RefusedError {
   }
 }
 
+/** A host refused a row of a side, for the pair `number`; `current` is the number of the current pair. It does not reveal the foe's choice. */
+export class HostError extends Gen1Error {
+  constructor(message, code, {side, number, current, reason}) {
+    super(message, code, reason);
+    Object.assign(this, {side, number, current});
+  }
+}
+
 /** The bytes are not a log. `at` is the offset of the wrong event; below 0 if the event began in bytes that a spectator was fed before. */
 export class LogError extends Gen1Error {
   constructor(message, code, at, reason) {

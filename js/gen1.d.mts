@@ -4,7 +4,7 @@
 import type { MoveName, SpeciesName, TypeName } from "./names.mjs";
 export type { MoveName, SpeciesName, TypeName };
 export {
-  ArgumentError, ArgumentTypeError, DamageError, FreedError, Gen1Error, LoadError, LogError, MemoryError, ModuleError, RefusedError, RoomError,
+  ArgumentError, ArgumentTypeError, DamageError, FreedError, Gen1Error, HostError, LoadError, LogError, MemoryError, ModuleError, RefusedError, RoomError,
   StateError, TeamError, TextError,
 } from "./errors.mjs";
 
@@ -693,6 +693,124 @@ export class Room {
   toJSON(): { number: number; result: Result; log: number[] };
 }
 
+export type RowKind = "submit" | "cancel" | "expire" | "draw" | "forfeit";
+
+/**
+ * What happens at a host, as a value that can be stored. For `numbers` see `submit` of Host. Its calls throw ArgumentTypeError and ArgumentError.
+ */
+export class Row {
+  private constructor();
+  static submit(side: Side, number: number, choice: Choice, numbers?: Numbers | null): Row;
+  static cancel(side: Side, number: number): Row;
+  static expire(side: Side, number: number, numbers?: Numbers | null): Row;
+  static offerDraw(side: Side): Row;
+  static forfeit(side: Side): Row;
+  /** The row with these 18 bytes. Throws ArgumentError if `bytes` returns them for no row. */
+  static ofBytes(bytes: Uint8Array | ArrayBuffer): Row;
+  /**
+   * A copy of its 18 bytes: its kind (the index in ROW_KINDS, plus 1), its side, the byte of its choice, 1 if it has numbers, the number of the pair in
+   * four bytes, the lowest first, and the ten numbers. Those that its kind does not use are 0.
+   */
+  readonly bytes: Uint8Array;
+  readonly kind: RowKind;
+  readonly side: Side;
+  /** The number of the pair; 0 for an offer of a draw and a forfeit. */
+  readonly number: number;
+  /** The byte of the choice; 0 unless it submits one. */
+  readonly choice: number;
+  /** The ten numbers that the battle draws from then on; null to draw on. */
+  readonly numbers: Uint8Array | null;
+  toJSON(): { kind: RowKind; side: Side; number: number; choice: number; numbers: number[] | null };
+}
+
+export interface HostOptions {
+  /** Whether a side and the audience are told the exact HP of a foe. Otherwise it is told in 48ths of the maximum. */
+  exactHp?: boolean;
+  /** Whether a side may take its choice back while the other's is missing. */
+  mayCancel?: boolean;
+  /** Whether a side whose time has run out forfeits. Otherwise its first choice is made. */
+  lateForfeits?: boolean;
+}
+
+/**
+ * A battle of two players with all that each of them and an audience are to be sent (docs/MECHANICS.md, "Hosts"). `gen1.host` creates it.
+ *
+ * The sender of a row is told only what the call returned. After each pair send `message` to both sides and `notice` to the audience, and nothing
+ * else of a host. To store it, store the battle that it began with, its options and each row that it took, or `bytes`.
+ */
+export class Host {
+  private constructor();
+  /** The number of the current pair: how many have ended. */
+  readonly number: number;
+  /** Whether nothing more can happen: the battle is over, a side has forfeited, or both have agreed on a draw. */
+  readonly isClosed: boolean;
+  /** The outcome, and the request to each side. It is for the host; a side has its own in its message. */
+  readonly result: Result;
+  /** A copy of the battle. It includes both teams and the numbers to be drawn, so it must not be sent. */
+  readonly battle: Battle;
+  /** A copy of its gen1_host (include/gen1.h), which must not be sent. */
+  readonly bytes: Uint8Array;
+  clone(): Host;
+  /** Whether a side's choice for the current pair is missing. It is for the host: a side may be told it only of itself. */
+  awaits(side: Side): boolean;
+  /** All that a side is to be sent at the beginning and after each pair. */
+  message(side: Side): Message;
+  /** All that the audience is to be sent at the beginning and after each pair. */
+  notice(): Notice;
+  /**
+   * Submits a side's choice for the pair with this number. The battle draws the ten numbers from then on: fresh ones of `crypto.getRandomValues` if
+   * they are left out, since nine draws in a row give all that follow; with null it draws on.
+   *
+   * Like each call that follows, it returns true if that has ended a pair or the battle, so that messages are due, and false if not. It throws
+   * HostError, and then nothing has changed.
+   */
+  submit(side: Side, number: number, choice: Choice, numbers?: Numbers | null): boolean;
+  /** Takes a side's choice for the pair with this number back, while the other side's is missing. */
+  cancel(side: Side, number: number): boolean;
+  /** Ends a side's time for the pair with this number: it forfeits, or its first choice is made, as the options say. */
+  expire(side: Side, number: number, numbers?: Numbers | null): boolean;
+  /** Offers a draw, or accepts the other side's offer. An offer ends with the pair. It ends none, so report it to the other side by itself. */
+  offerDraw(side: Side): boolean;
+  /** Ends the battle by a forfeit of a side: the other side wins. */
+  forfeit(side: Side): boolean;
+  /** Does what a row says, by the call of its name. */
+  apply(row: Row): boolean;
+  toJSON(): { number: number; result: Result };
+}
+
+/** What a host sends a side. `Player.receive` takes it in. `host.message` and `gen1.messageOfBytes` create it. */
+export class Message {
+  private constructor();
+  /** The number of the current pair, for which the side now chooses. */
+  readonly number: number;
+  /** The log of the last pair as the side is told it; at the beginning that of the start. */
+  readonly log: Uint8Array;
+  /** What the side is shown of itself, with the outcome and what it is asked. */
+  readonly own: OwnSide;
+  /** The choices that it is offered; none once the battle is over. */
+  readonly choices: readonly ChoiceName[];
+  /** The side that offers a draw; null for none. */
+  readonly draw: Side | null;
+  /** A copy of its gen1_message (include/gen1.h), which may be sent to the side. */
+  readonly bytes: Uint8Array;
+  toJSON(): { number: number; log: number[]; own: OwnSide; choices: readonly ChoiceName[]; draw: Side | null };
+}
+
+/** What a host sends the audience. `host.notice` and `gen1.noticeOfBytes` create it. */
+export class Notice {
+  private constructor();
+  /** The number of the current pair. */
+  readonly number: number;
+  /** The log of the last pair as the audience is told it; at the beginning that of the start. */
+  readonly log: Uint8Array;
+  readonly outcome: Outcome;
+  /** The side that offers a draw; null for none. */
+  readonly draw: Side | null;
+  /** A copy of its gen1_notice (include/gen1.h), which may be sent to anyone. */
+  readonly bytes: Uint8Array;
+  toJSON(): { number: number; log: number[]; outcome: Outcome; draw: Side | null };
+}
+
 /** A spectator, which knows only both teams and the log. `gen1.spectator` creates it. */
 export class Spectator {
   private constructor();
@@ -726,6 +844,11 @@ export class Player {
    * not the player's.
    */
   show(battle: Battle): void;
+  /**
+   * Takes in what its host sent it: the log, its own side and its choices. Each message is taken in once, in order. Throws LogError, and
+   * ArgumentError for a message to another team; then the player is unchanged.
+   */
+  receive(message: Message): void;
   toJSON(): { view: PlayerView; choices: readonly ChoiceName[] };
 }
 
@@ -778,10 +901,20 @@ export class Gen1 {
   battleOfState(state: State): Battle;
   /** Creates a room with a copy of the battle, which is started at once if it has not begun. */
   room(battle: Battle): Room;
+  /** Creates a host with a copy of the battle, which is started at once if it has not begun. */
+  host(battle: Battle, options?: HostOptions): Host;
+  /** The host whose `bytes` these are, from a store of yours. Throws ArgumentError for another number of bytes; no more is tested. */
+  hostOfBytes(bytes: Uint8Array | ArrayBuffer): Host;
+  /** The message whose `bytes` these are. Throws ArgumentError for another number of bytes and a log above 512 bytes; no more is tested. */
+  messageOfBytes(bytes: Uint8Array | ArrayBuffer): Message;
+  /** The notice whose `bytes` these are. Throws as `messageOfBytes`. */
+  noticeOfBytes(bytes: Uint8Array | ArrayBuffer): Notice;
   /** Creates a spectator of a battle of two teams, before its start. Throws TeamError. */
   spectator(one: Team | Members, two: Team | Members): Spectator;
   /** Creates a player of a side, before the first update. `foes` is the number of the foe's members, if the player may know it. Throws TeamError. */
   player(terms: { side: Side; team: Team | Members; foes?: number }): Player;
+  /** The player whose `bytes` these are. Throws ArgumentError for another number of bytes; no more is tested. */
+  playerOfBytes(bytes: Uint8Array | ArrayBuffer): Player;
   /** Creates a teller of a side, before the first event. With `pixels` it reports the HP of the foe's members in 48ths. */
   teller(terms: { side: Side; pixels?: boolean }): Teller;
   /** The members in a team builder's text (docs/TEAM_TEXT.md). Throws TextError. */
@@ -848,6 +981,8 @@ export const STATS: readonly Stat[];
 export const REASONS: readonly string[];
 /** The index of each is its number. */
 export const OUTCOMES: readonly Outcome[];
+/** The kinds of rows, in the order of their numbers, from 1. */
+export const ROW_KINDS: readonly RowKind[];
 /** The index of each is its number. */
 export const REQUESTS: readonly Request[];
 /**

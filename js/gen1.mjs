@@ -13,11 +13,13 @@ import {Battle, blockOfTerms, damageError, loadError} from "./battle.mjs";
 import {ModuleError} from "./errors.mjs";
 import {CANT_REASONS, DAMAGE_SOURCES, EVENT_KINDS, eventsOf, FAULTS, linesOf, VOLATILES} from "./events.mjs";
 import {CODES} from "./header.mjs";
+import {Host, hostOf, Message, Notice, structBytes} from "./host.mjs";
 import {instanceOf, Library} from "./memory.mjs";
 import {COLUMNS} from "./observing.mjs";
 import {Outcomes} from "./outcomes.mjs";
 import {Player, playerOf, Teller, tellerOf} from "./players.mjs";
 import {Room, roomOf} from "./room.mjs";
+import {Row, ROW_KINDS} from "./row.mjs";
 import {Spectator, spectatorOf} from "./spectator.mjs";
 import {blockOfState} from "./states.mjs";
 import {MOVES, SPECIES, TYPES} from "./tables.mjs";
@@ -114,6 +116,26 @@ export class Gen1 {
     return new Room(this.#library, roomOf(this.#library, battle));
   }
 
+  /** Creates a host with a copy of a battle, which is started at once if it has not begun. */
+  host(battle, options = {}) {
+    return new Host(this.#library, hostOf(this.#library, battle, options));
+  }
+
+  /** The host whose `bytes` these are. Only their number is tested. */
+  hostOfBytes(bytes) {
+    return new Host(this.#library, structBytes(this.#library, "gen1_host", bytes));
+  }
+
+  /** The message whose `bytes` these are. Only their number and that of its log are tested. */
+  messageOfBytes(bytes) {
+    return new Message(this.#library, structBytes(this.#library, "gen1_message", bytes));
+  }
+
+  /** The notice whose `bytes` these are. Only their number and that of its log are tested. */
+  noticeOfBytes(bytes) {
+    return new Notice(this.#library, structBytes(this.#library, "gen1_notice", bytes));
+  }
+
   /** Creates a spectator of a battle of two teams, before its start. */
   spectator(one, two) {
     return new Spectator(this.#library, spectatorOf(this.#library, one, two));
@@ -122,6 +144,11 @@ export class Gen1 {
   /** Creates a player of a side with its team, before the first update; `foes` is the number of the foe's members, if the player may know it. */
   player(terms) {
     return new Player(this.#library, playerOf(this.#library, terms));
+  }
+
+  /** The player whose `bytes` these are. Only their number is tested. */
+  playerOfBytes(bytes) {
+    return new Player(this.#library, structBytes(this.#library, "gen1_player", bytes));
   }
 
   /** Creates a teller of a side, before the first event. With `pixels` it reports the foe's HP in 48ths. */
@@ -221,7 +248,7 @@ export async function load(source = new URL("./gen1.wasm", import.meta.url)) {
   return new Gen1(new Library(await instanceOf(build ? source[build] : source, what)), build);
 }
 
-export {ArgumentError, ArgumentTypeError, DamageError, FreedError, Gen1Error, LoadError, LogError, MemoryError, ModuleError, RefusedError, RoomError, StateError, TeamError, TextError,} from "./errors.mjs";
+export {ArgumentError, ArgumentTypeError, DamageError, FreedError, Gen1Error, HostError, LoadError, LogError, MemoryError, ModuleError, RefusedError, RoomError, StateError, TeamError, TextError,} from "./errors.mjs";
 export {
   Battle,
   BattleArray,
@@ -234,13 +261,18 @@ export {
   DAMAGE_SOURCES,
   EVENT_KINDS,
   FAULTS,
+  Host,
+  Message,
   MOVES,
+  Notice,
   Outcomes,
   OUTCOMES,
   Player,
   REASONS,
   REQUESTS,
   Room,
+  Row,
+  ROW_KINDS,
   SPECIES,
   Spectator,
   STATS,

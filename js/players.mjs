@@ -4,6 +4,7 @@ import {Battle} from "./battle.mjs";
 import {ArgumentError} from "./errors.mjs";
 import {logErrorAfter} from "./events.mjs";
 import {CODES} from "./header.mjs";
+import {shownIn} from "./host.mjs";
 import {inspected} from "./inspecting.mjs";
 import {fieldOf, layoutOf, offsetsOf, readStruct} from "./structs.mjs";
 import {SPECIES} from "./tables.mjs";
@@ -137,12 +138,28 @@ export class Player {
     library.begin();
     const [player, from, own] = [library.put(this.#bytes), library.put(battle.bytes), library.roomOf("gen1_own_side")];
     library.calls.gen1_get_own_side(from, side, own);
+    this.#showAt(player, own, library.calls.gen1_offered(from, side), "battle");
+  }
+
+  // Shows the player at a pointer the own side at another, and keeps it, if the team is its own.
+  #showAt(player, own, offered, what) {
+    const library = this.#library;
     const known = knownTo(this);
     const others = membersAt(library.bytes, Number(own) + OWN_SIDE.members, OWN_MEMBER);
     if (known !== others)
-      throw new ArgumentError(`battle has on side ${side} ${others}, and not the player's team, ${known}`, "battle");
-    library.calls.gen1_player_show(player, own, library.calls.gen1_offered(from, side));
+      throw new ArgumentError(`${what} has on side ${this.side} ${others}, and not the player's team, ${known}`, what);
+    library.calls.gen1_player_show(player, own, offered);
     this.#bytes = library.read(player, this.#bytes.length);
+  }
+
+  /** Takes in what its host sent it: the log, and what it is shown of itself. Each message is taken in once, in order. */
+  receive(message) {
+    const {own, offered} = shownIn(message);
+    const [next, library] = [this.clone(), this.#library];
+    library.begin();
+    next.#showAt(library.put(next.#bytes), library.put(own), offered, "message");
+    next.feed(message.log);
+    this.#bytes = next.#bytes;
   }
 
   /** Its knowledge, and its choices. */

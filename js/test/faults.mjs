@@ -2,6 +2,7 @@
 import * as library from "../gen1.mjs";
 
 import {equal, hexOf, holds, thrown} from "./holding.mjs";
+import {badHosts} from "./hosts.mjs";
 import {wrongStates} from "./state_faults.mjs";
 import {BIG, NO_NUMBERS, NO_OBJECTS, outside, SEED, TAUROS, TERMS, wrong} from "./wrong_values.mjs";
 
@@ -734,6 +735,6 @@ export async function badSources(check) {
 
 /** Runs all checks of bad input. */
 export function badInput(gen1, check) {
-  for (const part of [members, teams, terms, arrays, guesses, bytes, reasons, calls, rows, rooms, players])
+  for (const part of [members, teams, terms, arrays, guesses, bytes, reasons, calls, rows, rooms, badHosts, players])
     part(gen1, check);
 }

@@ -3,6 +3,7 @@
 import * as library from "../gen1.mjs";
 
 import {equal, holds, thrown} from "./holding.mjs";
+import {usesOfHosts} from "./host_uses.mjs";
 
 
 /** @typedef {import("../gen1.mjs").Gen1} Gen1 */
@@ -13,11 +14,15 @@ const {
   CANT_REASONS,
   CHOICES,
   CONDITIONS,
+  Host,
+  Message,
+  Notice,
   Outcomes,
   OUTCOMES,
   Player,
   REQUESTS,
   Room,
+  Row,
   Spectator,
   STATS,
   STATUSES,
@@ -46,13 +51,17 @@ const EXPORTS = {
   Gen1: true,
   Gen1Error: true,
   HAS_LONG_MEMORIES: true,
+  Host: true,
+  HostError: true,
   load: true,
   LOG_ROOM: true,
   LoadError: true,
   LogError: true,
   MemoryError: true,
+  Message: true,
   ModuleError: true,
   MOVES: true,
+  Notice: true,
   Outcomes: true,
   OUTCOMES: true,
   Player: true,
@@ -61,6 +70,8 @@ const EXPORTS = {
   REQUESTS: true,
   Room: true,
   RoomError: true,
+  Row: true,
+  ROW_KINDS: true,
   SPECIES: true,
   Spectator: true,
   StateError: true,
@@ -88,6 +99,11 @@ const OF_GEN1 = {
   testBytes: true,
   battleOfState: true,
   room: true,
+  host: true,
+  hostOfBytes: true,
+  messageOfBytes: true,
+  noticeOfBytes: true,
+  playerOfBytes: true,
   spectator: true,
   player: true,
   teller: true,
@@ -178,6 +194,7 @@ const OF_PLAYER = {
   clone: true,
   feed: true,
   show: true,
+  receive: true,
   toJSON: true
 };
 /** @type {Record<Named<import("../gen1.mjs").Team>, true>} */
@@ -728,6 +745,14 @@ const NO_CONSTRUCTORS = [
   () => new BattleArray(),
   // @ts-expect-error
   () => new Outcomes(),
+  // @ts-expect-error
+  () => new Host(),
+  // @ts-expect-error
+  () => new Row(),
+  // @ts-expect-error
+  () => new Message(),
+  // @ts-expect-error
+  () => new Notice(),
 ];
 
 /** @param {Gen1} gen1 */
@@ -768,6 +793,10 @@ function refused(gen1) {
     // @ts-expect-error
     () => gen1.room(battle.bytes),
     // @ts-expect-error
+    () => gen1.host(battle, {pixels: true}),
+    // @ts-expect-error
+    () => gen1.host(battle).apply({kind: "forfeit", side: 1}),
+    // @ts-expect-error
     () => battle.damage(1, "Strength", "yes"),
   ];
   for (const call of calls)
@@ -782,6 +811,7 @@ export function uses(gen1) {
   lists();
   battles(gen1);
   roomsAndSpectators(gen1);
+  usesOfHosts(gen1, offers);
   statesAndPlayers(gen1);
   arrays(gen1);
   refused(gen1);

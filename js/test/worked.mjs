@@ -6,6 +6,7 @@ import {layoutOf} from "../structs.mjs";
 
 import {begun, chances} from "./chances.mjs";
 import {bytesOfHex, equal, hexOf, holds, thrown} from "./holding.mjs";
+import {hosts} from "./hosts.mjs";
 
 const SEED = [1, 36, 255, 7, 31, 100, 179, 254, 127, 10];
 const STRONG = {
@@ -640,11 +641,14 @@ function searching(gen1, check) {
 // The sizes that include/gen1.h states, and the offsets of a struct with a size_t in C.
 function layouts(check) {
   check("structs", () => {
-    const sizes =
-        (isLong) => ["gen1_battle", "gen1_team", "gen1_event", "gen1_room", "gen1_spectator", "gen1_odds"].map(
-            (it) => layoutOf(it, isLong).size);
+    const sizes = (isLong) => ["gen1_battle", "gen1_team", "gen1_event", "gen1_room", "gen1_spectator", "gen1_host",
+        "gen1_row", "gen1_message", "gen1_notice", "gen1_odds"]
+                                  .map((it) => layoutOf(it, isLong).size);
     for (const isLong of [false, true])
-      equal(sizes(isLong), [384, 146, 18, CODES.ROOM_SIZE, CODES.SPECTATOR_SIZE, 176]);
+      equal(sizes(isLong), [
+        384, 146, 18, CODES.ROOM_SIZE, CODES.SPECTATOR_SIZE, CODES.HOST_SIZE, CODES.ROW_SIZE, CODES.MESSAGE_SIZE,
+        CODES.NOTICE_SIZE, 176
+      ]);
     const places = (isLong) => layoutOf("gen1_text_fault", isLong).fields.map((field) => field.at);
     equal([places(false), places(true)], [[0, 4, 8, 12, 13, 14], [0, 8, 16, 24, 25, 26]]);
   });
@@ -652,7 +656,8 @@ function layouts(check) {
 
 /** Runs all worked examples. */
 export function worked(gen1, check) {
-  for (const part of [logs, chances, states, players, guesses, rooms, spectators, texts, rows, arrays, searching])
+  for (const part
+           of [logs, chances, states, players, guesses, rooms, hosts, spectators, texts, rows, arrays, searching])
     part(gen1, check);
   layouts(check);
 }

@@ -1,0 +1,285 @@
+// A battle of two players and an audience, each of whom is sent what it may know (docs/MECHANICS.md, "Hosts").
+import {choicesIn, choiceText, octets, record, sideOf, truth, wrongType} from "./arguments.mjs";
+import {Battle} from "./battle.mjs";
+import {ArgumentError, HostError} from "./errors.mjs";
+import {CODES} from "./header.mjs";
+import {inspected} from "./inspecting.mjs";
+import {Row} from "./row.mjs";
+import {fieldOf, layoutOf} from "./structs.mjs";
+import {made} from "./update.mjs";
+import {OUTCOMES, ownSideOf, resultOf} from "./views.mjs";
+
+const OPTIONS = ["exactHp", "mayCancel", "lateForfeits"];
+
+/** The bytes of a host of a battle, which is started at once if it has not begun. */
+export function hostOf(library, battle, options) {
+  if (!(battle instanceof Battle)) throw wrongType(battle, "battle", "a Battle");
+  const given = record(options, "options", "an object with options", OPTIONS);
+  const [exactHp, mayCancel, lateForfeits] = OPTIONS.map((name) => truth(given[name] ?? false, `options.${name}`));
+  library.begin();
+  const host = library.roomOf("gen1_host");
+  library.write(host, battle.bytes);
+  library.calls.gen1_host_begin(host, exactHp ? 0 : 1, mayCancel ? 1 : 0, lateForfeits ? 1 : 0);
+  return library.read(host, layoutOf("gen1_host", library.isLong).size);
+}
+
+/** A copy of bytes that have the length of a struct. */
+export function structBytes(library, struct, bytes) {
+  const [given, {size}] = [octets(bytes, "bytes"), layoutOf(struct, library.isLong)];
+  if (given.length !== size) throw new ArgumentError(`bytes has ${given.length} bytes, not ${size}`, "bytes");
+  return given.slice();
+}
+
+// The log of a struct that is sent.
+function logIn(struct, bytes) {
+  return fieldOf(struct, "log", bytes, false).slice(0, fieldOf(struct, "log_length", bytes, false));
+}
+
+// The bytes of a struct that is sent, after a test of the length of its log.
+function sentBytes(struct, bytes) {
+  const length = fieldOf(struct, "log_length", bytes, false);
+  if (length > CODES.LOG_ROOM)
+    throw new ArgumentError(`bytes has a log of ${length} bytes, not of at most ${CODES.LOG_ROOM}`, "bytes");
+  return bytes;
+}
+
+/** The struct gen1_own_side and the mask of the choices in a message. */
+export let shownIn;
+
+/** All that a side is sent at the beginning and after each pair. */
+export class Message {
+  #bytes;
+
+  static {
+    shownIn = (message) => {
+      if (!(message instanceof Message)) throw wrongType(message, "message", "a Message");
+      const bytes = message.#bytes;
+      return {own: bytes.slice(0, layoutOf("gen1_own_side", false).size), offered: message.#field("offered")};
+    };
+  }
+
+  constructor(library, bytes) {
+    made(library, "Message", "host.message or gen1.messageOfBytes");
+    this.#bytes = sentBytes("gen1_message", bytes);
+  }
+
+  #field(name) {
+    return fieldOf("gen1_message", name, this.#bytes, false);
+  }
+
+  /** A copy of its bytes, which may be sent. */
+  get bytes() {
+    return this.#bytes.slice();
+  }
+
+  /** The number of the current pair, for which the side now chooses. */
+  get number() {
+    return this.#field("number");
+  }
+
+  /** The log bytes of the last pair as the side is told them; at the beginning those of the start. */
+  get log() {
+    return logIn("gen1_message", this.#bytes);
+  }
+
+  /** What the side is shown of itself, with the outcome and what it is asked. */
+  get own() {
+    return ownSideOf(this.#bytes, 0);
+  }
+
+  /** The choices that the side is offered; none once the battle is over. */
+  get choices() {
+    return choicesIn(this.#field("offered"));
+  }
+
+  /** The side that offers a draw, or null. */
+  get draw() {
+    return this.#field("draw") || null;
+  }
+
+  /** All of it. */
+  toJSON() {
+    const {number, log, own, choices, draw} = this;
+    return {number, log: Array.from(log), own, choices, draw};
+  }
+
+  [Symbol.for("nodejs.util.inspect.custom")](depth, options, inspect) {
+    const {number, choices, draw} = this;
+    return inspected("Message", {number, choices, draw}, options, inspect);
+  }
+}
+
+/** All that the audience is sent at the beginning and after each pair. */
+export class Notice {
+  #bytes;
+
+  constructor(library, bytes) {
+    made(library, "Notice", "host.notice or gen1.noticeOfBytes");
+    this.#bytes = sentBytes("gen1_notice", bytes);
+  }
+
+  #field(name) {
+    return fieldOf("gen1_notice", name, this.#bytes, false);
+  }
+
+  /** A copy of its bytes, which may be sent. */
+  get bytes() {
+    return this.#bytes.slice();
+  }
+
+  /** The number of the current pair. */
+  get number() {
+    return this.#field("number");
+  }
+
+  /** The log bytes of the last pair as the audience is told them; at the beginning those of the start. */
+  get log() {
+    return logIn("gen1_notice", this.#bytes);
+  }
+
+  get outcome() {
+    return OUTCOMES[this.#field("outcome")];
+  }
+
+  /** The side that offers a draw, or null. */
+  get draw() {
+    return this.#field("draw") || null;
+  }
+
+  /** All of it. */
+  toJSON() {
+    const {number, log, outcome, draw} = this;
+    return {number, log: Array.from(log), outcome, draw};
+  }
+
+  [Symbol.for("nodejs.util.inspect.custom")](depth, options, inspect) {
+    const {number, outcome, draw} = this;
+    return inspected("Notice", {number, outcome, draw}, options, inspect);
+  }
+}
+
+/** A host: a battle, the choices for the current pair, and what each side was told. Pairs are numbered from 0. */
+export class Host {
+  #library;
+  #bytes;
+
+  constructor(library, bytes) {
+    this.#library = made(library, "Host", "gen1.host");
+    this.#bytes = bytes;
+  }
+
+  // The host's pointer in the module's memory.
+  #put() {
+    this.#library.begin();
+    return this.#library.put(this.#bytes);
+  }
+
+  /** A copy of its bytes, which hold both teams and what was chosen, so they must not be sent. */
+  get bytes() {
+    return this.#bytes.slice();
+  }
+
+  /** A copy of the battle. It has both teams and the numbers to be drawn, so it must not be sent. */
+  get battle() {
+    return new Battle(this.#library, this.#library.blockOf(this.#put()));
+  }
+
+  /** The number of the current pair: how many have ended. */
+  get number() {
+    return this.#library.calls.gen1_host_number(this.#put()) >>> 0;
+  }
+
+  /** The outcome so far, and the request to each side. */
+  get result() {
+    return resultOf(this.#library.calls.gen1_host_result(this.#put()));
+  }
+
+  /** Whether nothing more can happen: the battle is over, a side has forfeited, or both have agreed on a draw. */
+  get isClosed() {
+    return this.result.outcome !== "ongoing";
+  }
+
+  /** Whether a side's choice is missing. It is for the host: a side may be told it only of itself. */
+  awaits(side) {
+    return (this.#library.calls.gen1_host_awaited(this.#put()) & sideOf(side)) !== 0;
+  }
+
+  /** An independent copy. */
+  clone() {
+    return new Host(this.#library, this.#bytes.slice());
+  }
+
+  /** All that a side is to be sent now. */
+  message(side) {
+    const [library, given, host] = [this.#library, sideOf(side), this.#put()];
+    const message = library.roomOf("gen1_message");
+    library.calls.gen1_host_message(host, given, message);
+    return new Message(library, library.read(message, layoutOf("gen1_message", library.isLong).size));
+  }
+
+  /** All that the audience is to be sent now. */
+  notice() {
+    const [library, host] = [this.#library, this.#put()];
+    const notice = library.roomOf("gen1_notice");
+    library.calls.gen1_host_notice(host, notice);
+    return new Notice(library, library.read(notice, layoutOf("gen1_notice", library.isLong).size));
+  }
+
+  /** Does what a row says. Returns true if that has ended a pair or the battle, false if the host keeps it. */
+  apply(row) {
+    if (!(row instanceof Row)) throw wrongType(row, "row", "a Row");
+    const [library, before, host] = [this.#library, this.number, this.#put()];
+    const given = library.roomOf("gen1_row");
+    library.write(given, row.bytes);
+    const code = library.calls.gen1_host_apply(host, given);
+    if (code) throw this.#refused(code, row);
+    this.#bytes = library.read(host, this.#bytes.length);
+    return this.number !== before;
+  }
+
+  /** Submits a side's choice for the pair with this number. The numbers are as those of `Row.submit`. */
+  submit(side, number, choice, numbers) {
+    return this.apply(Row.submit(side, number, choice, numbers));
+  }
+
+  /** Takes a side's choice for the pair with this number back. */
+  cancel(side, number) {
+    return this.apply(Row.cancel(side, number));
+  }
+
+  /** Ends a side's time for the pair with this number: it forfeits, or its first choice is made, as the options say. */
+  expire(side, number, numbers) {
+    return this.apply(Row.expire(side, number, numbers));
+  }
+
+  /** Offers a draw, or accepts the other side's offer. An offer ends with the pair. */
+  offerDraw(side) {
+    return this.apply(Row.offerDraw(side));
+  }
+
+  /** Ends the battle: the other side wins. */
+  forfeit(side) {
+    return this.apply(Row.forfeit(side));
+  }
+
+  #refused(code, row) {
+    const [sentence, current, {side, number, choice}] = [this.#library.sentence(code), this.number, row];
+    const {outcome} = this.result;
+    const more = {
+      [CODES.ERROR_OVER]: () => `: ${outcome}`,
+      [CODES.ERROR_STALE]: () => `: ${number}; the current pair is ${current}`,
+      [CODES.ERROR_NOT_OFFERED]: () => `: ${choiceText(choice)}`,
+    }[code];
+    return new HostError(
+        `side ${side}: ${sentence}${more ? more() : ""}`, code, {side, number, current, reason: sentence});
+  }
+
+  /** The number of the current pair and the result. */
+  toJSON() {
+    return {number: this.number, result: this.result};
+  }
+
+  [Symbol.for("nodejs.util.inspect.custom")](depth, options, inspect) {
+    return inspected("Host", {number: this.number, ...this.result}, options, inspect);
+  }
+}

@@ -1,0 +1,92 @@
+// Uses of hosts that are checked twice, as those of uses.mjs.
+import * as library from "../gen1.mjs";
+
+import {equal, holds} from "./holding.mjs";
+
+/** @template T @typedef {Exclude<keyof T, symbol>} Named the keys that are texts */
+const {Battle, Host, Message, Notice, Row} = library;
+
+/** @type {Record<Named<import("../gen1.mjs").Host>, true>} */
+const OF_HOST = {
+  number: true,
+  isClosed: true,
+  result: true,
+  battle: true,
+  bytes: true,
+  clone: true,
+  awaits: true,
+  message: true,
+  notice: true,
+  submit: true,
+  cancel: true,
+  expire: true,
+  offerDraw: true,
+  forfeit: true,
+  apply: true,
+  toJSON: true
+};
+/** @type {Record<Named<import("../gen1.mjs").Row>, true>} */
+const OF_ROW = {
+  bytes: true,
+  kind: true,
+  side: true,
+  number: true,
+  choice: true,
+  numbers: true,
+  toJSON: true
+};
+/** @type {Record<Named<import("../gen1.mjs").Message>, true>} */
+const OF_MESSAGE = {
+  number: true,
+  log: true,
+  own: true,
+  choices: true,
+  draw: true,
+  bytes: true,
+  toJSON: true
+};
+/** @type {Record<Named<import("../gen1.mjs").Notice>, true>} */
+const OF_NOTICE = {
+  number: true,
+  log: true,
+  outcome: true,
+  draw: true,
+  bytes: true,
+  toJSON: true
+};
+/** @type {Record<import("../gen1.mjs").RowKind, true>} */
+const ALL_ROW_KINDS = {
+  submit: true,
+  cancel: true,
+  expire: true,
+  draw: true,
+  forfeit: true
+};
+/**
+ * Uses of hosts, rows and messages. `offers` compares the members of an object with those of its type.
+ * @param {import("../gen1.mjs").Gen1} gen1
+ * @param {(one: object, wanted: Record<string, true>) => void} offers
+ */
+export function usesOfHosts(gen1, offers) {
+  /** @type {import("../gen1.mjs").Member[]} */
+  const team = [{species: "Tauros", moves: [["Strength", 3]]}];
+  const host = gen1.host(gen1.battle({one: team, two: team, seed: new Uint8Array(10)}),
+      {exactHp: true, mayCancel: true, lateForfeits: false});
+  const [message, notice, row] = [host.message(1), host.notice(), Row.submit(1, host.number, "move 1")];
+  for (const [one, wanted] of /** @type {[object, Record<string, true>][]} */ (
+           [[host, OF_HOST], [message, OF_MESSAGE], [notice, OF_NOTICE], [row, OF_ROW]]))
+    offers(one, wanted);
+  equal(library.ROW_KINDS, Object.keys(ALL_ROW_KINDS));
+  const player = gen1.player({side: 1, team});
+  player.receive(gen1.messageOfBytes(message.bytes));
+  /** @type {boolean[]} */
+  const ended = [
+    host.apply(Row.ofBytes(row.bytes)), host.cancel(1, 0), host.expire(2, 0, null), host.offerDraw(1),
+    host.submit(1, 0, player.choices[0], new Uint8Array(10)), host.forfeit(2)
+  ];
+  equal([ended, host.isClosed], [[false, false, false, false, true, true], true]);
+  holds(host.clone() instanceof Host && gen1.hostOfBytes(host.bytes).battle instanceof Battle &&
+          message instanceof Message && gen1.noticeOfBytes(notice.bytes) instanceof Notice &&
+          gen1.playerOfBytes(player.bytes).side === 1 && message.draw === null && notice.outcome === "ongoing",
+      "another host");
+}

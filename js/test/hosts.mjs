@@ -1,0 +1,209 @@
+// Hosts of two players and an audience: worked examples, and bad input.
+import * as library from "../gen1.mjs";
+
+import {bytesOfHex, equal, hexOf, holds, thrown} from "./holding.mjs";
+import {BIG, NO_NUMBERS, NO_OBJECTS, outside, wrong} from "./wrong_values.mjs";
+
+const {HostError, LogError, Row} = library;
+const SEED = [1, 36, 255, 7, 31, 100, 179, 254, 127, 10];
+const STRONG = {
+  species: "Tauros",
+  moves: [["Strength", 3]]
+};
+const BATTLE = {
+  one: [STRONG],
+  two: [STRONG],
+  seed: SEED
+};
+// The log of the battle in README.md, up to the bytes 23 and 59 of the first two updates (docs/MECHANICS.md, "Log bytes").
+const LOG = bytesOfHex(
+    "020180016461016101000202800164610161010001010003018046028007028005028095006101000003028046018005018007016101000001020003018046" +
+    "02800702800502800000610100001902801a01");
+
+/** The examples of docs/MECHANICS.md, "Hosts", whose logs are those of README.md. */
+export function hosts(gen1, check) {
+  const replied = (call) => {
+    try {
+      return call();
+    } catch (fault) {
+      return fault.code;
+    }
+  };
+  const begun = (options = {exactHp: true}) => gen1.host(gen1.battle(BATTLE), options);
+  check("the example of README.md at a host", () => {
+    const host = begun();
+    const seen =
+        () => [host.message(1), host.message(2), host.notice()].map((it) => [it.number, hexOf(it.log), it.draw]);
+    const told = (number, from, to) => Array(3).fill([number, hexOf(LOG.subarray(from, to)), null]);
+    equal(seen(), told(0, 0, 23));
+    equal([host.submit(1, 0, 17, null), host.awaits(1), host.awaits(2), seen()], [false, false, true, told(0, 0, 23)]);
+    equal([host.submit(2, 0, "move 1", null), host.number, seen()], [true, 1, told(1, 23, 59)]);
+    equal([host.message(1).choices, host.message(1).own], [["move 1"], host.battle.ownSide(1)]);
+    equal([[2, 1, 17, null], [1, 1, 17, null]].map((it) => host.submit(...it)), [false, true]);
+    equal([seen(), host.isClosed, host.awaits(1), host.message(2).choices], [told(2, 59, LOG.length), true, false, []]);
+    equal([host.result, host.notice().outcome, host.message(2).own.outcome],
+        [{outcome: "win one", requests: ["pass", "pass"]}, "win one", "win one"]);
+  });
+  check("what a host refuses", () => {
+    const [host, lenient] = [begun(), begun({mayCancel: true})];
+    const asked = (it) => [() => it.cancel(1, 0), () => it.submit(1, 1, 17), () => it.submit(1, 0, 20),
+        () => it.submit(1, 0, 17), () => it.submit(1, 0, 17), () => it.expire(1, 0), () => it.cancel(1, 0),
+        () => it.cancel(1, 0), () => it.forfeit(2), () => it.offerDraw(1)];
+    equal(asked(host).map(replied), [55, 52, 54, false, 53, 53, 55, 55, true, 24]);
+    equal(asked(lenient).map(replied), [56, 52, 54, false, 53, 53, false, 56, true, 24]);
+  });
+  check("the numbers of a row", () => {
+    const [host, battle] = [begun(), gen1.battle(BATTLE)];
+    const other = SEED.map((byte) => 255 - byte);
+    battle.update("pass", "pass");
+    battle.reseed(other);
+    host.submit(1, 0, 17, SEED);
+    host.submit(2, 0, 17, other);
+    equal([hexOf(host.message(1).log), hexOf(host.battle.bytes)],
+        [hexOf(battle.update(17, 17).log), hexOf(battle.bytes)]);
+    const rows = [Row.submit(1, 0, 17), Row.expire(1, 0)];
+    holds(hexOf(rows[0].numbers) !== hexOf(rows[1].numbers), "the numbers are not fresh");
+  });
+  endedHosts(check, begun);
+  storedHosts(gen1, check, begun);
+}
+
+// Draws, forfeits, and time that has run out.
+function endedHosts(check, begun) {
+  const ended = (host) => [host.number, host.result.outcome, hexOf(host.message(1).log), hexOf(host.notice().log)];
+  check("a draw", () => {
+    const host = begun();
+    equal([host.offerDraw(2), host.offerDraw(2), host.message(1).draw, host.notice().draw], [false, false, 2, 2]);
+    host.submit(1, 0, 17);
+    equal(
+        [host.submit(2, 0, 17), host.message(1).draw, host.offerDraw(1), host.offerDraw(2)], [true, null, false, true]);
+    equal([ended(host), host.message(2).own.request], [[2, "tie", "1b", "1b"], "pass"]);
+  });
+  check("a forfeit at a host", () => {
+    const host = begun();
+    host.submit(1, 0, 17);
+    equal([host.forfeit(1), ended(host)], [true, [1, "win two", "1a02", "1a02"]]);
+  });
+  check("time that has run out", () => {
+    const [first, late] = [begun(), begun({exactHp: true, lateForfeits: true})];
+    equal([first.expire(1, 0, null), first.expire(2, 0, null), hexOf(first.message(1).log)],
+        [false, true, hexOf(LOG.subarray(23, 59))]);
+    equal([late.expire(2, 0), ended(late)], [true, [1, "win one", "1a01", "1a01"]]);
+  });
+}
+
+// Rows, hosts and messages as bytes, and players that receive messages.
+function storedHosts(gen1, check, begun) {
+  check("rows as bytes", () => {
+    const rows = [
+      Row.submit(2, 259, "move 1", SEED), Row.submit(1, 0, 33, null), Row.cancel(1, 7), Row.expire(2, 1, SEED),
+      Row.offerDraw(1), Row.forfeit(2)
+    ];
+    const [numbers, none] = [hexOf(SEED), "00".repeat(10)];
+    const wanted = [
+      `0102110103010000${numbers}`, `0101210000000000${none}`, `0201000007000000${none}`, `0302000101000000${numbers}`,
+      `0401000000000000${none}`, `0502000000000000${none}`
+    ];
+    equal(rows.map((row) => hexOf(row.bytes)), wanted);
+    equal(wanted.map((hex) => Row.ofBytes(bytesOfHex(hex))), rows);
+    equal(rows[0], {kind: "submit", side: 2, number: 259, choice: 17, numbers: SEED});
+  });
+  check("a host from its rows, and from its bytes", () => {
+    const [host, again] = [begun({mayCancel: true}), begun({mayCancel: true})];
+    const rows = [Row.submit(1, 0, 17), Row.cancel(1, 0), Row.expire(2, 0), Row.submit(1, 0, 17), Row.offerDraw(1)];
+    equal(rows.map((row) => host.apply(row)), [false, false, false, true, false]);
+    for (const row of rows) again.apply(Row.ofBytes(row.bytes));
+    equal([hexOf(again.bytes), hexOf(host.clone().bytes)], Array(2).fill(hexOf(host.bytes)));
+    equal(gen1.hostOfBytes(host.bytes).message(2), host.message(2));
+  });
+  check("what players receive is what their tellers report", () => {
+    const [host, battle] = [begun({}), gen1.battle(BATTLE)];
+    const players = [1, 2].map((side) => [gen1.player({side, team: [STRONG]}), gen1.player({side, team: [STRONG]})]);
+    const tellers = [1, 2].map((side) => gen1.teller({side, pixels: true}));
+    for (const pair of [["pass", "pass"], [17, 17], [17, 17]]) {
+      const {log} = battle.update(...pair);
+      for (const [at, [received, reported]] of players.entries()) {
+        tellers[at].report(battle, log, reported);
+        received.receive(gen1.messageOfBytes(host.message(at + 1).bytes));
+        equal(hexOf(gen1.playerOfBytes(received.bytes).bytes), hexOf(reported.bytes));
+      }
+      if (!host.isClosed)
+        for (const side of [1, 2]) host.submit(side, host.number, 17, null);
+    }
+    equal(gen1.noticeOfBytes(host.notice().bytes), host.notice());
+  });
+}
+
+/** Bad input to hosts. */
+export function badHosts(gen1, check) {
+  const host = gen1.host(gen1.battle(BATTLE));
+  const before = hexOf(host.bytes);
+  check("hosts that are none", () => {
+    for (const it of [...NO_OBJECTS, host, SEED]) wrong(() => gen1.host(it), /^battle is .*, not a Battle$/);
+    for (const name of ["exactHp", "mayCancel", "lateForfeits"])
+      for (const it of [1, "yes", {}])
+        wrong(() => gen1.host(host.battle, {[name]: it}), /^options\..* is .*, not true or false$/);
+    outside(() => gen1.host(host.battle, {exactHP: true}),
+        /^options has the unknown key "exactHP"; did you mean "exactHp"\?$/);
+    const loads = [gen1.hostOfBytes, gen1.messageOfBytes, gen1.noticeOfBytes, gen1.playerOfBytes, Row.ofBytes];
+    const sizes = [928, 696, 520, 456, 18];
+    for (const [at, load] of loads.entries()) {
+      for (const it of [undefined, null, 5, "bytes", [1]])
+        wrong(() => load.call(gen1, it), /^bytes is .*, not bytes, as a Uint8Array$/);
+      for (const count of [0, sizes[at] - 1, sizes[at] + 1])
+        outside(
+            () => load.call(gen1, new Uint8Array(count)), new RegExp(`^bytes has ${count} bytes, not ${sizes[at]}$`));
+    }
+    for (const [load, at, bytes] of [
+             [gen1.messageOfBytes, 178, host.message(1).bytes], [gen1.noticeOfBytes, 4, host.notice().bytes]]) {
+      bytes.set([1, 2], at);
+      outside(() => load.call(gen1, bytes), /^bytes has a log of 513 bytes, not of at most 512$/);
+    }
+  });
+  check("rows that are none", () => {
+    const bytes = Row.submit(1, 0, 17, SEED).bytes;
+    for (const [at, byte] of [[0, 0], [0, 2], [0, 4], [0, 6], [1, 0], [1, 3], [3, 0], [3, 2]]) {
+      const other = bytes.slice();
+      other[at] = byte;
+      outside(() => Row.ofBytes(other), /^bytes is not a row: /);
+    }
+    for (const it of [...NO_OBJECTS, bytes]) wrong(() => host.apply(it), /^row is .*, not a Row$/);
+    for (const call of [(side) => Row.cancel(side, 0), (side) => host.expire(side, 0), Row.offerDraw,
+                       (side) => host.message(side)]) {
+      for (const side of [0, 3, ...BIG]) outside(() => call(side), /^side is -?\d.*, not 1 or 2$/);
+      for (const side of NO_NUMBERS) wrong(() => call(side), /^side is .*, not a whole number$/);
+    }
+    for (const number of [-1, 2 ** 32])
+      outside(() => host.submit(1, number, 17), /^number is -?\d.*, not 0 to 4294967295$/);
+    outside(() => host.submit(1, 0, 17, [1, 2]), /^seed has 2 numbers, not 10$/);
+    outside(() => host.submit(1, 0, "jump"), /^side 1's choice: "jump" is not a choice/);
+  });
+  check("what the error of a host says", () => {
+    const said = [
+      [() => host.submit(1, 0, 20), 54, /^side 1: the choice is not offered to the side: move 4$/],
+      [
+        () => host.submit(2, 7, 17), 52,
+        /^side 2: the number is not that of the current pair of choices: 7; the current pair is 0$/
+      ],
+      [() => host.cancel(1, 0), 55, /^side 1: the host does not let a side take its choice back$/],
+    ];
+    for (const [call, code, text] of said) equal(thrown(call, HostError, text).code, code);
+    const {side, number, current, reason} = thrown(said[1][0], HostError, /./);
+    equal([side, number, current, reason], [2, 7, 0, "the number is not that of the current pair of choices"]);
+  });
+  check("what a player does not receive", () => {
+    const [player, other] = [STRONG, {...STRONG, level: 50}].map((it) => gen1.player({side: 1, team: [it]}));
+    const kept = [player, other].map((it) => hexOf(it.bytes));
+    for (const it of [...NO_OBJECTS, host]) wrong(() => player.receive(it), /^message is .*, not a Message$/);
+    outside(() => other.receive(host.message(1)),
+        /^message has on side 1 Tauros at level 100, and not the player's team, Tauros at level 50$/);
+    const bytes = host.message(1).bytes;
+    bytes[184] = 255;
+    thrown(() => player.receive(gen1.messageOfBytes(bytes)), LogError, /^byte 0: a byte in a tag's place is no tag/);
+    equal([player, other, host].map((it) => hexOf(it.bytes)), [...kept, before]);
+  });
+  check("constructors of hosts", () => {
+    for (const kind of [library.Host, library.Message, library.Notice, Row])
+      wrong(() => new kind(), /is created by .*, not by new/);
+  });
+}
