@@ -27,7 +27,7 @@ def test_help(before):
     )
     assert done.stderr == "" and "Help on package gen1" in done.stdout
     told = done.stdout.splitlines()
-    assert "conjugate" not in done.stdout and done.stdout.count("'Hyper Beam'") == 0 and len(told) < 8000
+    assert "conjugate" not in done.stdout and done.stdout.count("'Hyper Beam'") == 0 and len(told) < 9000
     start = told.index("PACKAGE CONTENTS")
     assert all(len(it) <= 80 for it in told[:start])
     for name in ("Member", "Battle", "State", "Room", "Player", "BattleArray", "BattleEnv", "Error"):
