@@ -98,8 +98,8 @@ def of_comparison(_folders):
 
 
 def of_leaks(_folders):
-    """It has no input, and compares by itself what players are shown (include/gen1.h, "players"), with 100,000 hidden bits changed."""
-    counts = rb"\d+ changes of hidden bits, \d+ of shown bits, \d+ of a foe's bench, 0 wrong\n"
+    """It has no input, and compares by itself what players are shown and sent (include/gen1.h, "players", "hosts")."""
+    counts = rb"\d+ changes of hidden bits, \d+ of shown bits, \d+ of a foe's bench, \d+ of hosts, 0 wrong\n"
     yield Case("status", (), b"", re.compile(counts), b"")
 
 

@@ -1,12 +1,13 @@
 /*
  * Changes hidden bytes of battles of lawful play, and looks whether a side is shown or offered anything else (docs/MECHANICS.md, "What
  * a side is shown of itself"). Which bits are hidden is written here by docs/LAYOUT.md. A change of a foe's bench must not reach the log
- * of an update in which the foe doesn't switch.
+ * of an update in which the foe doesn't switch. A host's messages and replies must not depend on what the foe has chosen ("Hosts").
  *
  *     cc -std=c11 -I include tests/c/leaks.c crates/gen1_c/out/libgen1_c.a -o leaks
  *     ./leaks [SEED]
  *
- * Status 0 if 100,000 changes of hidden bits changed nothing that is shown, and each change of shown bits changed it.
+ * Status 0 if 100,000 changes of hidden bits, and as many of hosts, changed nothing that is shown, and each change of shown bits
+ * changed it.
  */
 #include "gen1.h"
 
@@ -120,7 +121,7 @@ static bool change(gen1_battle *battle, int at, uint8_t bits) {
     return false;
 }
 
-static long hidden_changes, shown_changes, bench_changes;
+static long hidden_changes, shown_changes, bench_changes, host_changes;
 
 static int wrong(const char *what, uint8_t side, int at) {
     printf("side %d, byte %d: %s\n", side, at, what);
@@ -209,12 +210,88 @@ static int play(void) {
     return faults;
 }
 
+/* Hosts */
+
+/* A row of a side, often for the current pair, and often with a choice that the side is offered. */
+static gen1_row any_row(const gen1_host *host, uint8_t side) {
+    gen1_row row;
+    memset(&row, 0, sizeof row);
+    row.kind = (uint8_t)(1 + draw(5));
+    row.side = side;
+    row.choice = draw(4) != 0 ? any_choice(&host->room.battle, side) : (uint8_t)draw(256);
+    row.number = host->room.number + (draw(4) == 0);
+    row.has_numbers = (uint8_t)draw(2);
+    for (int at = 0; at < 10; at++)
+        row.numbers[at] = (uint8_t)draw(256);
+    return row;
+}
+
+/* The code of a row, at a copy of the host. */
+static uint8_t reply_to(gen1_host host, const gen1_row *row) { return gen1_host_apply(&host, row); }
+
+/* Whether a side is sent the same of two hosts; with side 0, the audience. */
+static bool sent_alike(const gen1_host *host, const gen1_host *other, uint8_t side) {
+    gen1_message messages[2];
+    gen1_notice notices[2];
+    gen1_host_notice(host, &notices[0]);
+    gen1_host_notice(other, &notices[1]);
+    if (side == 0)
+        return memcmp(&notices[0], &notices[1], sizeof notices[0]) == 0;
+    if (gen1_host_message(host, side, &messages[0]) != 0 || gen1_host_message(other, side, &messages[1]) != 0)
+        abort();
+    return memcmp(&messages[0], &messages[1], sizeof messages[0]) == 0;
+}
+
+/* Takes secret rows of the foe, and changes hidden bits of the battle. What the side and the audience are sent stays the same. */
+static int look_at_host(const gen1_host *host, uint8_t side) {
+    gen1_host other = *host;
+    for (uint32_t rows = draw(3); rows > 0; rows--) {
+        gen1_row row = any_row(host, (uint8_t)(3 - side));
+        if (row.kind <= GEN1_ROW_EXPIRE)
+            gen1_host_apply(&other, &row);
+    }
+    if (gen1_host_number(&other) != gen1_host_number(host))
+        return 0; /* the side had chosen, or the foe came too late: the pair has ended */
+    gen1_row own = any_row(host, side);
+    host_changes++;
+    if (reply_to(*host, &own) != reply_to(other, &own))
+        return wrong("a reply tells of the foe's choice", side, own.kind);
+    int at = (int)draw(BYTES), to_all = (int)draw(BYTES);
+    gen1_host unlike = other;
+    change(&other.room.battle, at, hidden(side, at, other.room.battle.bytes[at]));
+    if (to_all != 16)
+        change(&unlike.room.battle, to_all, 0xff);
+    return sent_alike(host, &other, side)
+               ? (sent_alike(host, &unlike, 0) ? 0 : wrong("the audience is sent it", 0, to_all))
+               : wrong("it is sent", side, at);
+}
+
+static int play_at_host(void) {
+    gen1_host host;
+    gen1_team one = any_team(), two = any_team();
+    const uint8_t seed[10] = {(uint8_t)draw(256), (uint8_t)draw(256), (uint8_t)draw(256)};
+    int faults = 0;
+    if (gen1_new(&host.room.battle, &one, &two, seed, (uint8_t)draw(4), GEN1_LIMIT) != 0)
+        abort();
+    gen1_host_begin(&host, (uint8_t)draw(2), (uint8_t)draw(2), (uint8_t)draw(2));
+    for (int rows = 0; rows < 200 && faults == 0; rows++) {
+        for (int tries = 0; tries < 4; tries++)
+            faults += look_at_host(&host, (uint8_t)(1 + draw(2)));
+        gen1_row row = any_row(&host, (uint8_t)(1 + draw(2)));
+        if (row.kind < GEN1_ROW_OFFER_DRAW || (row.kind == GEN1_ROW_OFFER_DRAW && draw(16) == 0))
+            gen1_host_apply(&host, &row);
+    }
+    return faults;
+}
+
 int main(int argc, char **argv) {
     state = argc > 1 ? strtoull(argv[1], NULL, 0) : 1;
     int faults = 0;
     while (hidden_changes < CHANGES && faults == 0)
         faults += play();
-    printf("%ld changes of hidden bits, %ld of shown bits, %ld of a foe's bench, %d wrong\n", hidden_changes,
-           shown_changes, bench_changes, faults);
+    while (host_changes < CHANGES && faults == 0)
+        faults += play_at_host();
+    printf("%ld changes of hidden bits, %ld of shown bits, %ld of a foe's bench, %ld of hosts, %d wrong\n",
+           hidden_changes, shown_changes, bench_changes, host_changes, faults);
     return faults != 0;
 }
