@@ -15,6 +15,10 @@ _Static_assert(sizeof(gen1_battle) == 384 && _Alignof(gen1_battle) == 1, "a batt
 _Static_assert(sizeof(gen1_room) == GEN1_ROOM_SIZE && _Alignof(gen1_room) == 4, "the size of a room");
 _Static_assert(sizeof(gen1_spectator) == GEN1_SPECTATOR_SIZE && _Alignof(gen1_spectator) == 2,
                "the size of a spectator");
+_Static_assert(sizeof(gen1_host) == GEN1_HOST_SIZE && _Alignof(gen1_host) == 4, "the size of a host");
+_Static_assert(sizeof(gen1_row) == GEN1_ROW_SIZE && _Alignof(gen1_row) == 4, "the size of a row");
+_Static_assert(sizeof(gen1_message) == GEN1_MESSAGE_SIZE && _Alignof(gen1_message) == 4, "the size of a message");
+_Static_assert(sizeof(gen1_notice) == GEN1_NOTICE_SIZE && _Alignof(gen1_notice) == 4, "the size of a notice");
 
 /* "Offered choices": Pass, Move 0 to 4, Switch 1 to 6, by their bytes. */
 static const int choices[12] = {0x00, 0x10, 0x11, 0x12, 0x13, 0x14, 0x21, 0x22, 0x23, 0x24, 0x25, 0x26};
