@@ -18,8 +18,8 @@ Use help(gen1.Battle) for one class. The main names:
     base, move_data, Type        rows of the tables
     Recorder                     a battle to play again, as JSON or a page
     Room                         two players who choose independently
-    Host, Row, Message, Notice   two players and an audience, and what each of
-                                 them is sent
+    Host, Row, Message, Notice   two players and an audience, and what each
+                                 of them is sent
     Player, Teller               a player's view of a battle
     Spectator                    a spectator's view of a battle
     Error                        the base class of all errors
