@@ -366,6 +366,12 @@ uint32_t gen1_new(gen1_battle *battle, const gen1_team *one, const gen1_team *tw
  */
 uint8_t gen1_load(gen1_battle *battle, const uint8_t *bytes, size_t count);
 
+/*
+ * Writes ten numbers that a number determines, for `seed` of gen1_new: the lowest byte of each of ten draws of gen1_playout's generator
+ * whose state is `number`. Two numbers may give the same ten. A server takes bytes of the operating system's source instead.
+ */
+void gen1_seed_from_number(uint64_t number, uint8_t seed[10]);
+
 /* ---- playing ---- */
 
 /*

@@ -120,6 +120,31 @@ export function numbers(value, what, count, of) {
 const SEED_SIZE = 10;
 const isByte = (value) => Number.isInteger(value) && value >= 0 && value <= 255;
 
+/** Ten numbers of the operating system's source. */
+export function freshNumbers(what) {
+  const source = globalThis.crypto;
+  if (typeof source?.getRandomValues !== "function")
+    throw new ArgumentError(`${what} is left out, but this host of JavaScript has no crypto.getRandomValues`, what);
+  return source.getRandomValues(new Uint8Array(SEED_SIZE));
+}
+
+/** A number that is a seed, as a BigInt. */
+export function playoutSeed(value) {
+  if (typeof value !== "bigint" && !Number.isInteger(value))
+    throw wrongType(value, "seed", "a whole number or a BigInt");
+  if (value < 0 || value >= 2n ** 64n || (typeof value === "number" && !Number.isSafeInteger(value)))
+    throw new ArgumentError(`seed is ${shown(value)}, not 0 to 2 ** 53 - 1, or as a BigInt to 2n ** 64n - 1n`, "seed");
+  return BigInt(value);
+}
+
+/** The ten numbers of a seed: those of a list, those that one number determines, or fresh ones if it is left out. */
+export function seedFor(library, value) {
+  if (value === undefined) return freshNumbers("seed");
+  if (typeof value !== "number" && typeof value !== "bigint") return seedOf(value);
+  library.calls.gen1_seed_from_number(playoutSeed(value), library.seed);
+  return library.bytes.slice(library.seedAt, library.seedAt + SEED_SIZE);
+}
+
 /** The seed, after a test of its ten numbers. */
 export function seedOf(value) {
   const {length} = list(value, "seed", `a list of ${SEED_SIZE} numbers`);

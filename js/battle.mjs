@@ -1,6 +1,6 @@
 // A battle: 384 bytes in the module's memory.
 import {BATTLE_SIZE} from "./arena.mjs";
-import {byteOr255, choiceByte, choicesIn, choiceText, object, record, seedOf, shown, sideOf, truth, whole, within, wrongType} from "./arguments.mjs";
+import {byteOr255, choiceByte, choicesIn, choiceText, object, playoutSeed, record, seedFor, shown, sideOf, truth, whole, within, wrongType} from "./arguments.mjs";
 import {ArgumentError, DamageError, FreedError, LoadError, RefusedError} from "./errors.mjs";
 import {guessOf, stateGuessed} from "./guesses.mjs";
 import {CODES} from "./header.mjs";
@@ -35,7 +35,7 @@ export function blockOfTerms(library, terms) {
       record(terms, "terms", "an object with one, two and seed", TERMS_KEYS);
   const [first, second] = [teamGiven(library, one, "one"), teamGiven(library, two, "two")];
   const [given, clauses, last] =
-      [seedOf(seed), byteOr255(rules, "rules"), Math.min(Math.max(whole(limit, "limit"), 0), 65535)];
+      [seedFor(library, seed), byteOr255(rules, "rules"), Math.min(Math.max(whole(limit, "limit"), 0), 65535)];
   library.begin();
   const [teamOne, teamTwo, block] = [teamAt(library, first), teamAt(library, second), library.arena.block()];
   const answer = library.calls.gen1_new(block.pointer, teamOne, teamTwo, putSeed(library, given), clauses, last);
@@ -68,7 +68,7 @@ export class Battle {
    */
   static fromPlayer(player, guess) {
     const library = libraryOf(player);
-    const {team, ...given} = guessOf(guess);
+    const {team, ...given} = guessOf(library, guess);
     const foes = new Team(library, team, "guess.team");
     const fresh = new Battle(library, blockOfTerms(library, {one: foes, two: foes, seed: given.seed}));
     const {members} = fresh.state.two;
@@ -234,7 +234,7 @@ export class Battle {
 
   /** Replaces the numbers to draw: ten bytes, and the index, 0 to 8, of the byte that is drawn next. */
   reseed(seed, index = 0) {
-    const numbers = seedOf(seed);
+    const numbers = seedFor(this.#library, seed);
     const place = whole(index, "index");
     const code = this.#library.calls.gen1_reseed(
         this.#at, putSeed(this.#library, numbers), place >= 0 && place <= 255 ? place : 255);
@@ -318,15 +318,6 @@ if (Symbol.dispose) Object.defineProperty(Battle.prototype, Symbol.dispose, {val
 
 const shownMember = ({species, hp, maxHp, status}) =>
     `${species} ${hp}/${maxHp}${status === "none" ? "" : ` ${status}`}`;
-
-/** The seed of playouts, as a BigInt. */
-export function playoutSeed(value) {
-  if (typeof value !== "bigint" && !Number.isInteger(value))
-    throw wrongType(value, "seed", "a whole number or a BigInt");
-  if (value < 0 || value >= 2n ** 64n || (typeof value === "number" && !Number.isSafeInteger(value)))
-    throw new ArgumentError(`seed is ${shown(value)}, not 0 to 2 ** 53 - 1, or as a BigInt to 2n ** 64n - 1n`, "seed");
-  return BigInt(value);
-}
 
 /** The bytes of gen1_playout_options. */
 export function playoutOptions(library, seed, rounds, given) {

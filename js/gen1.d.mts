@@ -50,11 +50,16 @@ export interface Member {
 /** One to six members as an argument. Keys that a Member doesn't have are refused. */
 export type Members = readonly Member[];
 
+/**
+ * The numbers that a battle draws: ten numbers from 0 to 255, of which the first is drawn first; or a whole number from 0 to 2 ** 53 - 1 (as a
+ * BigInt to 2n ** 64n - 1n), which determines ten. If it is left out, they are ten of `crypto.getRandomValues`.
+ */
+export type Seed = Numbers | number | bigint;
+
 export interface Terms {
   one: Team | Members;
   two: Team | Members;
-  /** Ten numbers from 0 to 255. */
-  seed: Numbers;
+  seed?: Seed;
   /** 0 for no clause (the default), 1 for the sleep clause, 2 for the freeze clause, 3 for both. */
   rules?: number;
   /** The last turn, 1 to 9999; 1000 by default. */
@@ -65,8 +70,7 @@ export interface Terms {
 export interface Guess {
   /** The foe's team: first the members that have appeared, in the order in which they did, then the others. */
   team: Team | Members;
-  /** Ten numbers from 0 to 255, of which the first is drawn next. */
-  seed: Numbers;
+  seed?: Seed;
   /** As in Terms. */
   rules?: number;
   limit?: number;
@@ -565,8 +569,8 @@ export class Battle {
   update(one: Choice, two: Choice): Update;
   /** Like `update`, but without a log, which is faster. Throws RefusedError. */
   updateSilent(one: Choice, two: Choice): Result;
-  /** Replaces the numbers to draw: ten bytes, and the index, 0 to 8, of the next one. A search reseeds each copy that it plays out. */
-  reseed(seed: Numbers, index?: number): void;
+  /** Replaces the numbers to draw, and sets the index, 0 to 8, of the next one. A search reseeds each copy that it plays out. */
+  reseed(seed?: Seed, index?: number): void;
   /**
    * Plays copies to their end with random choices, and counts how they end. The same seed gives the same counts. Each copy gets ten
    * random numbers to draw, and does not use those of the battle. With a `depth` a copy is played for at most that many updates. If it is

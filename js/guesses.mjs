@@ -1,5 +1,5 @@
 // The state of a battle that fits a player's knowledge, with a guess of the rest, for searches that don't cheat.
-import {record, seedOf} from "./arguments.mjs";
+import {record, seedFor} from "./arguments.mjs";
 import {ArgumentError} from "./errors.mjs";
 import {moveDataOf} from "./teams.mjs";
 
@@ -30,9 +30,9 @@ const ANNOUNCED = {
 const sleepOf = (status) => (status === "sleep" ? ASLEEP : 0);
 
 /** The terms of a guess, tested except for the team. */
-export function guessOf(guess) {
+export function guessOf(library, guess) {
   const {team, seed, rules = 0, limit = 1000} = record(guess, "guess", "an object with team and seed", KEYS);
-  return {team, seed: Array.from(seedOf(seed)), rules, limit};
+  return {team, seed: Array.from(seedFor(library, seed)), rules, limit};
 }
 
 /**

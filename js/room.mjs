@@ -1,6 +1,6 @@
 // A battle of two players who choose independently (docs/MECHANICS.md, "Rooms").
 import {BATTLE_SIZE} from "./arena.mjs";
-import {choiceByte, choiceOf, seedOf, sideOf, within, wrongType} from "./arguments.mjs";
+import {choiceByte, choiceOf, seedFor, sideOf, within, wrongType} from "./arguments.mjs";
 import {Battle, notOffered, putSeed} from "./battle.mjs";
 import {RoomError} from "./errors.mjs";
 import {CODES} from "./header.mjs";
@@ -95,7 +95,7 @@ export class Room {
 
   /** Replaces the ten numbers that the battle draws, and changes nothing else: a choice that was submitted stays. */
   reseed(seed) {
-    const [numbers, room] = [seedOf(seed), this.#put()];
+    const [numbers, room] = [seedFor(this.#library, seed), this.#put()];
     this.#library.calls.gen1_reseed(room, putSeed(this.#library, numbers), 0);
     this.#bytes = this.#library.read(room, this.#bytes.length);
   }

@@ -1,5 +1,5 @@
 // What happens at a host, as values of 18 bytes that can be stored (docs/MECHANICS.md, "Hosts").
-import {choiceByte, octets, seedOf, sideOf, within} from "./arguments.mjs";
+import {choiceByte, freshNumbers, octets, seedOf, sideOf, within} from "./arguments.mjs";
 import {ArgumentError, ArgumentTypeError} from "./errors.mjs";
 import {inspected} from "./inspecting.mjs";
 
@@ -7,19 +7,9 @@ import {inspected} from "./inspecting.mjs";
 export const ROW_KINDS = Object.freeze(["submit", "cancel", "expire", "draw", "forfeit"]);
 export const ROW_SIZE = 18;
 const [CHOICE_AT, HAS_NUMBERS_AT, NUMBER_AT, NUMBERS_AT] = [2, 3, 4, 8];
-const NUMBERS = 10;
 const MOST_NUMBER = 2 ** 32 - 1;
 // The key that lets this file alone call the constructor.
 const OWN = Symbol("row");
-
-/** Ten numbers of the operating system's source. */
-function freshNumbers() {
-  const source = globalThis.crypto;
-  if (typeof source?.getRandomValues !== "function")
-    throw new ArgumentError(
-        "numbers is left out, but this host of JavaScript has no crypto.getRandomValues", "numbers");
-  return source.getRandomValues(new Uint8Array(NUMBERS));
-}
 
 /** A row: a choice, one that is taken back, time that has run out, an offer of a draw, or a forfeit. */
 export class Row {
@@ -42,7 +32,7 @@ export class Row {
    * A side's choice for the pair with this number. The battle draws the ten numbers from then on: fresh ones of `crypto.getRandomValues` if they
    * are left out, and none, so that it draws on, if they are null.
    */
-  static submit(side, number, choice, numbers = freshNumbers()) {
+  static submit(side, number, choice, numbers = freshNumbers("numbers")) {
     return Row.#of("submit", side, number, choiceByte(choice, side), numbers);
   }
 
@@ -52,7 +42,7 @@ export class Row {
   }
 
   /** A side's time for the pair with this number has run out. The numbers are as those of `submit`. */
-  static expire(side, number, numbers = freshNumbers()) {
+  static expire(side, number, numbers = freshNumbers("numbers")) {
     return Row.#of("expire", side, number, 0, numbers);
   }
 

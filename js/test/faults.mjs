@@ -188,8 +188,12 @@ function terms(gen1, check) {
       outside(() => gen1.battle({...TERMS, seed}), new RegExp(`^seed has ${seed.length} numbers, not 10$`));
     for (const it of BIG)
       outside(() => gen1.battle({...TERMS, seed: [it, ...SEED.slice(1)]}), /^seed\[0\] is -?\d.*, not 0 to 255$/);
-    for (const seed of [undefined, null, 5, "0123456789", {}])
+    for (const seed of [null, "0123456789", {}])
       wrong(() => gen1.battle({...TERMS, seed}), /^seed is .*, not a list of 10 numbers$/);
+    for (const seed of [-1, -1n, 2n ** 64n, 2 ** 53])
+      outside(() => gen1.battle({...TERMS, seed}), /^seed is -?\d.*, not 0 to 2/);
+    for (const seed of [1.5, NaN])
+      wrong(() => gen1.battle({...TERMS, seed}), /^seed is .*, not a whole number or a BigInt$/);
     for (const it of NO_NUMBERS)
       wrong(() => gen1.battle({...TERMS, seed: [it, ...SEED.slice(1)]}), /^seed\[0\] is .*, not a whole number$/);
   });

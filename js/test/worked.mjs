@@ -654,10 +654,34 @@ function layouts(check) {
   });
 }
 
+// The ten numbers that a number determines, by the generator of playouts (include/gen1.h, "many battles").
+function numbersOf(seed) {
+  let state = BigInt(seed);
+  return Array.from({length: 10}, () => {
+    state = BigInt.asUintN(64, state * 6364136223846793005n + 1442695040888963407n);
+    return Number(state >> 32n & 255n);
+  });
+}
+
+/** Battles whose seed is a number, or left out. */
+function seeds(gen1, check) {
+  check("a number as a seed, and none", () => {
+    const {seed, ...teams} = BATTLE;
+    for (const number of [0, 7, 2 ** 53 - 1, 7n, 2n ** 64n - 1n]) {
+      const [one, other] = [number, numbersOf(number)].map((it) => gen1.battle({...teams, seed: it}));
+      equal(hexOf(one.bytes), hexOf(other.bytes));
+      other.reseed(SEED);
+      other.reseed(number);
+      equal(hexOf(one.bytes), hexOf(other.bytes));
+    }
+    holds(hexOf(gen1.battle(teams).bytes) !== hexOf(gen1.battle(teams).bytes));
+  });
+}
+
 /** Runs all worked examples. */
 export function worked(gen1, check) {
-  for (const part
-           of [logs, chances, states, players, guesses, rooms, hosts, spectators, texts, rows, arrays, searching])
+  for (const part of [logs, chances, states, players, guesses, rooms, hosts, spectators, texts, rows, arrays, searching,
+           seeds])
     part(gen1, check);
   layouts(check);
 }

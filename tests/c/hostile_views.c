@@ -84,6 +84,19 @@ static void try_choice_slot(void) {
 }
 
 /* Where the code is 0, the numbers are the given ones, and nothing else has changed. */
+/* The lowest byte of each of ten draws of the generator of gen1_playout. */
+static void try_seed_from_number(void) {
+    uint64_t number = (uint64_t)draw(1u << 31) << 33 ^ draw(1u << 31), state = number;
+    uint8_t *seed = block(1, 10), due[10];
+    for (int at = 0; at < 10; at++) {
+        state = state * 6364136223846793005u + 1442695040888963407u;
+        due[at] = (uint8_t)(state >> 32);
+    }
+    note();
+    gen1_seed_from_number(number, seed);
+    tell("gen1_seed_from_number", changed_only(1, sizeof due) && memcmp(seed, due, sizeof due) == 0, seed[0], due[0]);
+}
+
 static void try_reseed(void) {
     bool is_valid;
     gen1_battle from = some_battle(&is_valid);
@@ -194,6 +207,6 @@ static void try_choice_words(void) {
 }
 
 try_call *const tries_of_views[] = {
-    try_version,       try_build,     try_species_from_name, try_move_from_name, try_view,      try_choice_kind,
-    try_choice_slot,   try_reseed,    try_species_name,      try_move_name,      try_type_name, try_error_text,
-    try_species_stats, try_move_data, try_effectiveness,     try_choice_words,   NULL};
+    try_version,     try_build,         try_species_from_name, try_move_from_name, try_view,         try_choice_kind,
+    try_choice_slot, try_reseed,        try_seed_from_number,  try_species_name,   try_move_name,    try_type_name,
+    try_error_text,  try_species_stats, try_move_data,         try_effectiveness,  try_choice_words, NULL};

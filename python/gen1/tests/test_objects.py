@@ -16,7 +16,23 @@ from functools import cached_property
 import gen1
 import pytest
 from conftest import ROOT, random_team
-from gen1 import Battle, Choice, EventKind, Member, Move, Outcome, Request, Result, Rules, Side, Species, Team, Update
+from gen1 import (
+    BadArgument,
+    BadType,
+    Battle,
+    Choice,
+    EventKind,
+    Member,
+    Move,
+    Outcome,
+    Request,
+    Result,
+    Rules,
+    Side,
+    Species,
+    Team,
+    Update,
+)
 from gen1._library import _build as build_of
 
 
@@ -233,3 +249,23 @@ def test_reseed_changes_the_numbers_and_nothing_else(battle, team):
     one, two = Battle(team, team, range(10)), Battle(team, team, bytes(10))
     two.reseed(range(10))
     assert one == two and one.place(Side.ONE) == 0
+
+
+TAUROS = Member("Tauros", ["Pound"])
+
+
+def test_seeds():
+    """A number as a seed determines ten, by the generator of playouts (include/gen1.h, "many battles"); None takes fresh ones."""
+    for number in (0, 7, (1 << 53) - 1, (1 << 64) - 1):
+        state, drawn = number, []
+        for _ in range(10):
+            state = (state * 6364136223846793005 + 1442695040888963407) % (1 << 64)
+            drawn.append(state >> 32 & 255)
+        assert Battle([TAUROS], [TAUROS], number) == Battle([TAUROS], [TAUROS], drawn)
+    assert Battle([TAUROS], [TAUROS]) != Battle([TAUROS], [TAUROS]) != Battle([TAUROS], [TAUROS], None)
+    for wrong in (-1, 1 << 64):
+        with pytest.raises(BadArgument, match="seed must be 0 to 18,446,744,073,709,551,615, not "):
+            Battle([TAUROS], [TAUROS], wrong)
+    for value in (1.5, True, "1234567890", object(), Move.POUND):
+        with pytest.raises(BadType):
+            Battle([TAUROS], [TAUROS], value)

@@ -159,6 +159,7 @@ pub use odds::{Between, Chances, DamageRefusal, HpChange, Odds, ThreeChances};
 pub use outcomes::OutcomeList;
 pub use outcomes::{NotProbability, OutcomeOptions, Way, Ways};
 pub use player::{Player, ReportFault, Teller};
+pub use playouts::seed_from_number;
 pub use room::Room;
 pub use spectator::Spectator;
 pub use state::{ActiveState, MemberState, SideState, State};

@@ -30,3 +30,21 @@ impl Battle {
         playouts::playout(&self.packed, options)
     }
 }
+
+/// The ten numbers of a seed that a number determines, the same in all languages.
+///
+/// They are what the generator of playouts draws from it. Two numbers may give the same ten. A server takes bytes of the operating system's
+/// source instead.
+///
+/// ```
+/// # fn main() -> Result<(), Box<dyn std::error::Error>> {
+/// let team = gen1::Team::new(&[gen1::member("Tauros", &["Body Slam"])?])?;
+/// let battle = gen1::Battle::new(&team, &team, gen1::seed_from_number(7));
+/// assert_eq!(gen1::seed_from_number(0)[..3], [126, 17, 34]);
+/// # Ok(())
+/// # }
+/// ```
+#[must_use]
+pub fn seed_from_number(number: u64) -> [u8; 10] {
+    playouts::ChoiceGenerator::new(number).ten_numbers()
+}

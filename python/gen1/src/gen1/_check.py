@@ -1,6 +1,7 @@
 """Checks and converts the caller's arguments before the library is called, whose numbers are bytes."""
 
 import operator
+import os
 from collections.abc import Iterable, Sequence
 from enum import Enum
 from itertools import islice
@@ -112,9 +113,15 @@ def octets(value: object, what: str) -> bytes:
 
 
 def seed_bytes(value: object) -> bytes:
-    """The ten bytes of a seed: bytes, or a list of ten numbers from 0 to 255."""
+    """The ten bytes of a seed: bytes, a list of ten numbers from 0 to 255, those that a whole number determines, or fresh ones for None."""
+    if value is None:
+        return os.urandom(10)
     if isinstance(value, (bytes, bytearray, memoryview)):
         given = list(bytes(value))
+    elif not isinstance(value, Iterable):
+        made = _library.SeedBytes()
+        _library.seed_from_number(within(value, "seed", 0, (1 << 64) - 1), made)
+        return bytes(made)
     else:
         given = [within(it, f"seed[{at}]", 0, 255) for at, it in enumerate(listed(value, "seed", 10))]
     if len(given) != 10:

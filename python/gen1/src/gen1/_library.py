@@ -188,6 +188,7 @@ outcomes = bind("gen1_outcomes", c_uint8, _BATTLE, c_uint8, c_uint8, POINTER(Out
 get_state = bind("gen1_get_state", None, _BATTLE, POINTER(StateStruct))
 set_state = bind("gen1_set_state", c_uint8, _BATTLE, POINTER(StateStruct), POINTER(StateFaultStruct))
 choice_words = bind("gen1_choice_words", c_uint8, _BATTLE, c_uint8, c_uint8, _TEXT, c_size_t, _SIZES)
+seed_from_number = bind("gen1_seed_from_number", None, c_uint64, SeedBytes)
 reseed = bind("gen1_reseed", c_uint8, _BATTLE, SeedBytes, c_uint8)
 room_begin = bind("gen1_room_begin", None, _ROOM)
 room_choices = bind("gen1_room_choices", c_uint8, _ROOM, c_uint8, c_uint8 * 9)

@@ -56,7 +56,8 @@ if TYPE_CHECKING:
 
 B = TypeVar("B", bound="Battle")
 TeamLike: TypeAlias = Team | Iterable[Member | Mapping[str, Any]]
-SeedLike: TypeAlias = bytes | Iterable[int]
+# Ten bytes, a number that determines ten, or None for ten of os.urandom.
+SeedLike: TypeAlias = bytes | Iterable[int] | int | None
 WeightsLike: TypeAlias = Mapping[Move | str | int, int]
 
 
@@ -122,12 +123,14 @@ class Battle:
 
     __slots__ = ("_held",)
 
-    def __init__(self, one: TeamLike, two: TeamLike, seed: SeedLike, rules: int = 0, limit: int = 1000) -> None:
+    def __init__(self, one: TeamLike, two: TeamLike, seed: SeedLike = None, rules: int = 0, limit: int = 1000) -> None:
         """Creates a battle before its first update, in which both sides choose
         `PASS`.
 
-        `seed` is ten bytes, `rules` 0 to 3 (`Rules`), and `limit` the last
-        turn, 1 to 9,999. Raises `BadTeam`, `BadArgument`, `BadType`.
+        `seed` is ten bytes, or a whole number from 0 to 2 ** 64 - 1, which
+        determines ten; None takes ten of `os.urandom`. `rules` are 0 to 3
+        (`Rules`), and `limit` is the last turn, 1 to 9,999. Raises
+        `BadTeam`, `BadArgument`, `BadType`.
         """
         asked_rules, asked_limit = whole(rules, "rules", Rules), whole(limit, "limit")
         terms = a_byte(asked_rules), min(max(asked_limit, 0), 65535)
@@ -140,7 +143,7 @@ class Battle:
             raise BadArgument(f"{code.label}: {digits(asked_rules if code is NewFault.RULES else asked_limit)}")
 
     @classmethod
-    def new(cls, one: TeamLike, two: TeamLike, seed: SeedLike, rules: int = 0, limit: int = 1000) -> Battle:
+    def new(cls, one: TeamLike, two: TeamLike, seed: SeedLike = None, rules: int = 0, limit: int = 1000) -> Battle:
         """Creates a battle, like `Battle(..)`."""
         return cls(one, two, seed, rules, limit)
 
