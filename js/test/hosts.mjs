@@ -64,6 +64,26 @@ export function hosts(gen1, check) {
     const rows = [Row.submit(1, 0, 17), Row.expire(1, 0)];
     holds(hexOf(rows[0].numbers) !== hexOf(rows[1].numbers), "the numbers are not fresh");
   });
+  check("what the foe has chosen is not sent", () => {
+    const team =
+        [{species: "Tauros", moves: [["Body Slam", 3], ["Blizzard", 3]]}, {species: "Starmie", moves: [["Surf", 3]]}];
+    const host = gen1.host(gen1.battle({one: team, two: team, seed: SEED}), {mayCancel: true});
+    const sent = (it) => [it.message(1), it.notice()].map(({bytes}) => hexOf(bytes));
+    for (let pair = 0; !host.isClosed && pair < 30; pair++) {
+      const replies = host.message(2).choices.map((choice) => {
+        const other = host.clone();
+        const isEnded = host.awaits(2) && other.submit(2, pair, choice);
+        return isEnded ? null :
+                         [sent(other), replied(() => other.cancel(1, pair)), replied(() => other.expire(1, pair + 1))];
+      });
+      const alone =
+          [sent(host), replied(() => host.clone().cancel(1, pair)), replied(() => host.clone().expire(1, pair + 1))];
+      for (const it of replies)
+        if (it) equal(it, alone);
+      for (const side of [1, 2])
+        if (host.number === pair && host.awaits(side)) host.expire(side, pair);
+    }
+  });
   endedHosts(check, begun);
   storedHosts(gen1, check, begun);
 }
