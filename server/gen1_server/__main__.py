@@ -1,0 +1,92 @@
+"""The command: python3 -m gen1_server --help."""
+
+import argparse
+import asyncio
+import signal
+import sys
+from pathlib import Path
+
+from gen1_server import keeping, logs, schema
+from gen1_server.config import BadConfig, Config, configured
+from gen1_server.store import InUse
+from gen1_server.web import page_of, serve
+
+COMMANDS = {
+    "serve": "serves (the default)",
+    "check": "says what is wrong with the options, and with the database",
+    "migrate": "brings the database to the newest version",
+    "backup": "copies the database to FILE, while it is used",
+    "restore": "makes the database of a backup FILE",
+    "prune": "removes battles that ended more than keep_days ago",
+    "verify": "plays each finished battle again, and compares its end",
+}
+
+
+async def _serve(config: Config) -> None:
+    stop, loop = asyncio.Event(), asyncio.get_running_loop()
+    for it in (signal.SIGINT, signal.SIGTERM):
+        loop.add_signal_handler(it, stop.set)
+    await serve(config, stop)
+
+
+def _check(config: Config) -> str:
+    version = keeping.within(config, schema.version_of) if _has_database(config) else ""
+    if version not in ("", schema.VERSION):
+        raise keeping.Failed(f"the database has version {version}; run migrate")
+    page = page_of(config) or "none; web/build builds one"
+    return f"the options are right; database: {config.database}, version {version or 'none yet'}; page: {page}"
+
+
+def _has_database(config: Config) -> bool:
+    return not config.url.startswith("sqlite") or Path(config.database).exists()
+
+
+def _run(command: str, config: Config, file: Path | None) -> str:
+    """Does a command; returns what it says in the end."""
+    if command == "serve":
+        logs.begin()
+        try:
+            import uvloop
+        except ImportError:
+            asyncio.run(_serve(config))
+        else:
+            with asyncio.Runner(loop_factory=uvloop.new_event_loop) as runner:
+                runner.run(_serve(config))
+        return ""
+    if command in ("backup", "restore"):
+        if file is None:
+            raise BadConfig(f"{command} needs FILE")
+        return keeping.backup(config, file) if command == "backup" else keeping.restore(config, file)
+    commands = {"check": _check, "migrate": keeping.migrate, "prune": keeping.prune, "verify": keeping.verify}
+    return commands[command](config)
+
+
+def main() -> int:
+    """Runs a command. Status: 0 done, 1 failed, 2 wrong options."""
+    listed = "\n".join(f"  {name:8} {it}" for name, it in COMMANDS.items())
+    parser = argparse.ArgumentParser(
+        prog="python3 -m gen1_server",
+        description="A ladder server for first-generation battles.",
+        epilog=f"commands:\n{listed}",
+        formatter_class=argparse.RawDescriptionHelpFormatter,
+    )
+    parser.add_argument("command", nargs="?", default="serve", choices=COMMANDS, metavar="COMMAND")
+    parser.add_argument("file", nargs="?", type=Path, metavar="FILE")
+    parser.add_argument("--config", type=Path, metavar="TOML", help="options; GEN1_SERVER_PORT=.. stands over port")
+    parser.add_argument("--check", action="store_true", help="as the command check")
+    asked = parser.parse_args()
+    try:
+        said = _run("check" if asked.check else asked.command, configured(asked.config), asked.file)
+    except BadConfig as fault:
+        print(f"gen1_server: {fault}", file=sys.stderr)
+        return 2
+    except (keeping.Failed, InUse, RuntimeError, OSError) as fault:
+        print(f"gen1_server: {fault}", file=sys.stderr)
+        return 1
+    if said:
+        print(said)
+    return 0
+
+
+if __name__ == "__main__":
+    sys.exit(main())

@@ -1,0 +1,95 @@
+"""The computer as an opponent: an account whose choices are those of `gen1.search`, from what its side may know."""
+
+import asyncio
+import json
+import logging
+import secrets
+from typing import Any
+
+from gen1 import Choice, Error, LibraryMissing, Message, Player, Side, Team
+from gen1_server.accounts import Account
+from gen1_server.core import View
+from gen1_server.formats import FORMATS, LIMIT
+from gen1_server.rooms import Rooms, ignored
+
+LOG = logging.getLogger("gen1_server")
+# How many searches run at once.
+SEARCHES = 2
+
+
+class Computer:
+    """A watcher of all rooms of its account."""
+
+    def __init__(self, rooms: Rooms, account: Account, level: int) -> None:
+        self._rooms, self._account, self._level = rooms, account, level
+        self._players: dict[int, Player] = {}
+        self._turn = asyncio.Semaphore(SEARCHES)
+        self._tasks: set[asyncio.Task[Any]] = set()
+
+    def joined(self, view: View) -> None:
+        """Takes a room in, from its start or from its logs."""
+        if view.ending or view.side is None:
+            self._players.pop(view.room, None)
+            return
+        player = Player(view.side, Team.from_dicts(json.loads(view.team)), view.sizes[2 - view.side])
+        for log in view.logs[:-1]:
+            player.feed(log)
+        self._players[view.room] = player
+        self._take(view)
+
+    def updated(self, view: View) -> None:
+        """Takes a pair in that has ended."""
+        if view.ending:
+            self._players.pop(view.room, None)
+        elif view.room in self._players:
+            self._take(view)
+
+    def draw_offered(self, room: int, side: Side) -> None:
+        """The computer plays on."""
+
+    def moved(self, room: int, address: str) -> None:
+        """Forgets a room."""
+        self._players.pop(room, None)
+
+    def challenged(self, name: str, format: str, code: str) -> None:
+        """The lobby has accepted the challenge."""
+
+    def searches(self, formats: list[str]) -> None:
+        """The computer does not search."""
+
+    def _take(self, view: View) -> None:
+        assert isinstance(view.sent, Message)
+        player = self._players[view.room]
+        player.receive(view.sent)
+        if view.awaited:
+            task = asyncio.get_running_loop().create_task(
+                self._choose(view.room, view.format, view.number, player.copy())
+            )
+            self._tasks.add(task)
+            task.add_done_callback(self._tasks.discard)
+
+    async def _choose(self, room: int, format: str, number: int, player: Player) -> None:
+        try:
+            async with self._turn:
+                choice = await asyncio.to_thread(best, player, self._level, FORMATS[format].rules)
+        except Error:
+            LOG.exception("room %d: the computer's search failed", room)
+            choice = player.choices[0]
+        self._rooms.choose(room, self._account.id, number, choice, ignored)
+
+
+def best(player: Player, level: int, rules: int) -> Choice:
+    """A choice by a search; without its library any one that is offered."""
+    try:
+        from gen1.search import think
+
+        found = think(player, level=level, rules=rules, limit=LIMIT, seed=secrets.randbits(63)).choices
+    except LibraryMissing:
+        return secrets.choice(player.choices)
+    # As often as the search says, since a side that always makes its best choice can be foreseen.
+    left = secrets.SystemRandom().random()
+    for it in found:
+        left -= it.probability
+        if left < 0:
+            return it.choice
+    return found[0].choice

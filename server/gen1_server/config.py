@@ -1,0 +1,164 @@
+"""Options: the fields of `Config`, from a TOML file and the environment."""
+
+import os
+import tomllib
+from collections.abc import Mapping
+from dataclasses import dataclass, fields
+from pathlib import Path
+from typing import Any
+
+PREFIX = "GEN1_SERVER_"
+
+
+class BadConfig(Exception):
+    """An option that is unknown, of a wrong type or out of its range."""
+
+
+@dataclass(frozen=True)
+class Config:
+    """All options. A comment gives the unit and the effect."""
+
+    host: str = "127.0.0.1"
+    port: int = 8000
+    # A file for SQLite, or a URL that begins with postgresql://.
+    database: str = "gen1-server.db"
+    # The name of this process among those on one database.
+    name: str = "one"
+    # The address at which clients reach this process, such as wss://a.example. Others name it to a client that they send here.
+    address: str = ""
+    # The page that is served at /. Empty: the one of the package gen1, if it has one.
+    page: str = ""
+    # SQLite waits for the disk at each commit. Otherwise a power failure may lose the last commits; a killed process loses none.
+    durable: bool = True
+    # After so many seconds without a sign of life, other processes take the rooms of this one.
+    lease_seconds: float = 15.0
+    # The seconds that a side has for a choice, and for all its choices together.
+    choice_seconds: float = 90.0
+    total_seconds: float = 1200.0
+    # How often a side's first choice is made for it when its time has run out. The next time it forfeits.
+    lapses: int = 2
+    # The least time that a side has for its choice after a restart.
+    grace_seconds: float = 30.0
+    exact_hp: bool = False
+    may_cancel: bool = False
+    # The audience is told of a pair when so many more have ended.
+    audience_delay: int = 0
+    # Ratings and their history are kept apart for each season.
+    season: str = "1"
+    # Days after which a finished battle is removed by `prune`; 0: never.
+    keep_days: int = 0
+    # Whether a name without a password may be used.
+    guests: bool = True
+    # The account of the computer, which accepts each challenge. Empty: none.
+    bot: str = "bot"
+    bot_level: int = 1
+    # Origins that a browser's page may have, besides the server's own.
+    origins: tuple[str, ...] = ()
+    # Whether the last address of X-Forwarded-For is the client's. Only behind a proxy that sets it.
+    proxied: bool = False
+    # Signs the login of Showdown's protocol. Empty: a new one at each start.
+    secret: str = ""
+    most_connections: int = 12000
+    most_connections_of_address: int = 5000
+    most_rooms: int = 5000
+    most_rooms_of_account: int = 20
+    message_bytes: int = 16384
+    messages_per_second: float = 40.0
+    messages_at_once: int = 120
+    # Names and passwords that an address may try in a minute.
+    logins_per_minute: float = 1000.0
+    # A connection is closed when more than this waits to be read by its client.
+    waiting_bytes: int = 262144
+    # Seconds in which a connection has to ask something, and a socket to log in.
+    first_seconds: float = 10.0
+    login_seconds: float = 60.0
+    heartbeat_seconds: float = 25.0
+
+    @property
+    def url(self) -> str:
+        """The database as SQLAlchemy names it."""
+        if "://" not in self.database:
+            return f"sqlite:///{self.database}"
+        scheme, _, rest = self.database.partition("://")
+        return f"{'postgresql+psycopg2' if scheme in ('postgres', 'postgresql') else scheme}://{rest}"
+
+
+# The lowest values of numbers; those that are not here may be 0.
+LEAST: Mapping[str, float] = {
+    "lease_seconds": 1,
+    "choice_seconds": 1,
+    "total_seconds": 1,
+    "bot_level": 1,
+    "most_connections": 1,
+    "most_connections_of_address": 1,
+    "most_rooms": 1,
+    "most_rooms_of_account": 1,
+    "message_bytes": 1024,
+    "messages_per_second": 1,
+    "messages_at_once": 1,
+    "logins_per_minute": 1,
+    "waiting_bytes": 16384,
+    "first_seconds": 0.1,
+    "login_seconds": 0.1,
+    "heartbeat_seconds": 1,
+}
+
+
+def configured(file: Path | None, environment: Mapping[str, str] | None = None) -> Config:
+    """The options of a file, over which those of the environment stand.
+
+    A variable is named GEN1_SERVER_ and the option in upper case. Raises
+    `BadConfig`.
+    """
+    given: dict[str, Any] = {}
+    if file is not None:
+        try:
+            given = tomllib.loads(file.read_text())
+        except (OSError, UnicodeDecodeError, tomllib.TOMLDecodeError) as fault:
+            raise BadConfig(f"{file}: {fault}") from None
+    for name, text in (os.environ if environment is None else environment).items():
+        if name.startswith(PREFIX):
+            given[name.removeprefix(PREFIX).lower()] = text
+    kinds = {it.name: type(it.default) for it in fields(Config)}
+    for name in given:
+        if name not in kinds:
+            raise BadConfig(f"there is no option {name}")
+    made = Config(**{name: _value(name, kinds[name], it) for name, it in given.items()})
+    _check(made)
+    return made
+
+
+def _value(name: str, kind: type, given: Any) -> Any:
+    """A value of the file or of the environment as one of an option's type."""
+    try:
+        if kind is bool:
+            return given if isinstance(given, bool) else {"true": True, "false": False}[given]
+        if kind is tuple:
+            listed = given.split() if isinstance(given, str) else given
+            if all(isinstance(it, str) for it in listed):
+                return tuple(listed)
+        elif kind is str and isinstance(given, str):
+            return given
+        elif kind in (int, float) and not isinstance(given, bool):
+            if kind is float or isinstance(given, (int, str)):
+                return kind(given)
+    except (KeyError, TypeError, ValueError):
+        pass
+    raise BadConfig(f"{name} must be a {'list of texts' if kind is tuple else kind.__name__}, not {given!r}")
+
+
+def _check(config: Config) -> None:
+    """Raises `BadConfig` for the first option that is out of its range."""
+    for it in fields(Config):
+        value = getattr(config, it.name)
+        least = LEAST.get(it.name, 0)
+        if isinstance(value, (int, float)) and not least <= value < float("inf"):
+            raise BadConfig(f"{it.name} must be at least {least}, not {value}")
+    if not 0 < config.port < 1 << 16:
+        raise BadConfig(f"port must be 1 to 65535, not {config.port}")
+    if config.bot_level > 5:
+        raise BadConfig(f"bot_level must be 1 to 5, not {config.bot_level}")
+    if not config.name or not config.season:
+        raise BadConfig("name and season must not be empty")
+    if config.page and not Path(config.page).is_file():
+        raise BadConfig(f"page: there is no file {config.page}")

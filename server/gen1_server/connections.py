@@ -1,0 +1,187 @@
+"""A socket of a client: what it may send, and what waits for it to read."""
+
+import asyncio
+import logging
+from collections.abc import Callable
+from struct import Struct
+from typing import TYPE_CHECKING, ClassVar
+
+from aiohttp import WSMsgType, web
+from gen1 import Side
+from gen1_server import metrics
+from gen1_server.accounts import Account
+from gen1_server.core import Refused, View
+from gen1_server.limits import Bucket
+
+if TYPE_CHECKING:
+    from gen1_server.services import Services
+
+LOG = logging.getLogger("gen1_server")
+# A client that has been slowed down for so many seconds without a pause is closed.
+PATIENCE = 10.0
+# What a message costs that has a finished battle played again.
+REPLAY = 20.0
+_MIDDLE, _LONG = Struct(">BBH").pack, Struct(">BBQ").pack
+
+
+def frame(payload: bytes) -> bytes:
+    """A text frame of a server's websocket (RFC 6455), without extensions."""
+    size = len(payload)
+    if size < 126:
+        return bytes((0x81, size)) + payload
+    return (_MIDDLE(0x81, 126, size) if size < 1 << 16 else _LONG(0x81, 127, size)) + payload
+
+
+class Connection:
+    """A protocol is a subclass with the methods that raise NotImplementedError
+    here, of which those from `joined` on are those of `rooms.Watcher`.
+    """
+
+    protocol: ClassVar[str]
+
+    def __init__(
+        self, services: "Services", socket: web.WebSocketResponse, transport: asyncio.Transport, address: str
+    ) -> None:
+        self.services, self.address = services, address
+        self.account: Account | None = None
+        self._socket, self._transport, self._closed = socket, transport, False
+        config = services.config
+        self._bucket = Bucket(config.messages_per_second, config.messages_at_once)
+
+    def greet(self) -> None:
+        """Says what comes first."""
+        raise NotImplementedError
+
+    async def asked(self, text: str) -> None:
+        """Answers a message. Raises `Refused`."""
+        raise NotImplementedError
+
+    def refused(self, fault: Refused) -> None:
+        """Says that a request is refused."""
+        raise NotImplementedError
+
+    def closing(self) -> None:
+        """Says that the server is about to stop."""
+        raise NotImplementedError
+
+    def joined(self, view: View) -> None:
+        """Shows a whole room."""
+        raise NotImplementedError
+
+    def updated(self, view: View) -> None:
+        """Shows the pair that has just ended."""
+        raise NotImplementedError
+
+    def draw_offered(self, room: int, side: Side) -> None:
+        """Says that a side offers a draw."""
+        raise NotImplementedError
+
+    def moved(self, room: int, address: str) -> None:
+        """Says that another process has the room."""
+        raise NotImplementedError
+
+    def challenged(self, name: str, format: str, code: str) -> None:
+        """Says that somebody challenges the account."""
+        raise NotImplementedError
+
+    def searches(self, formats: list[str]) -> None:
+        """Says in which formats the account waits for a foe."""
+        raise NotImplementedError
+
+    def send(self, text: str) -> None:
+        """Sends a message. A client that does not read is closed; it may come
+        back, and is shown its rooms.
+        """
+        if self._closed or self._transport.is_closing():
+            return
+        self._transport.write(frame(text.encode()))
+        if self._transport.get_write_buffer_size() > self.services.config.waiting_bytes:
+            self.drop("slow")
+
+    def drop(self, reason: str) -> None:
+        """Closes the connection at once; what waits to be read is lost."""
+        metrics.DROPPED.labels(reason).inc()
+        self._closed = True
+        # Not close(), which would wait until the client has read what waits.
+        self._transport.abort()
+
+    def enter(self, account: Account) -> None:
+        """From now on the connection is an account's."""
+        self.exit()
+        self.account = account
+        self._bucket = self.services.limits.of_account(account.id)
+        self.services.rooms.online[account.id].add(self)
+
+    def exit(self) -> None:
+        """From now on the connection is nobody's."""
+        if self.account:
+            self.services.lobby.depart(self)
+            self.services.rooms.depart(self.account.id, self)
+            self.account = None
+
+    def may_login(self) -> None:
+        """Counts a name that the address tries. Raises `Refused`."""
+        if not self.services.limits.login(self.address):
+            raise Refused("logins", "too many names from this address; wait a minute")
+
+    def charge(self, cost: float) -> None:
+        """Counts a request that costs more than others. Raises `Refused`."""
+        if not self._bucket.takes(cost):
+            raise Refused("too fast", "wait a few seconds")
+
+    async def serve(self) -> None:
+        """Answers messages until the socket closes."""
+        late = asyncio.get_running_loop().call_later(self.services.config.login_seconds, self._expect_login)
+        with metrics.CONNECTIONS.labels(self.protocol).track_inprogress():
+            try:
+                self.greet()
+                await self._receive()
+            finally:
+                late.cancel()
+                self._closed = True
+                self.exit()
+
+    def _expect_login(self) -> None:
+        if self.account is None:
+            self.drop("no login")
+
+    async def _receive(self) -> None:
+        count, late = metrics.MESSAGES.labels(self.protocol), 0.0
+        async for message in self._socket:
+            if self._closed or message.type is not WSMsgType.TEXT:
+                break
+            count.inc()
+            wait = self._bucket.take()
+            late = late + wait if wait else 0.0
+            if late > PATIENCE:
+                self.drop("flood")
+                break
+            if wait:
+                # What is not read fills the client's buffers, and so slows it down.
+                await asyncio.sleep(wait)
+            await self._answer(message.data)
+
+    async def _answer(self, text: str) -> None:
+        try:
+            await self.asked(text)
+        except Refused as fault:
+            self.turn_down(fault)
+        except Exception:
+            LOG.exception("a message failed")
+            self.turn_down(Refused("internal", "the server failed"))
+
+    def turn_down(self, fault: Refused) -> None:
+        """Counts a refusal, and sends it."""
+        metrics.REFUSED.labels(fault.code).inc()
+        self.refused(fault)
+
+    def reply(self, committed: Callable[[], None]) -> Callable[[Refused | None], None]:
+        """A reply for `Rooms`: `committed` is called, or the refusal is sent."""
+
+        def replied(fault: Refused | None) -> None:
+            if fault is None:
+                committed()
+            else:
+                self.turn_down(fault)
+
+        return replied

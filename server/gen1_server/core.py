@@ -1,0 +1,220 @@
+"""A battle of two accounts: its start and its rows, and the view of each side.
+
+There is no socket, no statement and no clock of a machine here. The same
+start and entries make the same match, in the process that committed them and
+in one that reads them back. What happens in a battle, and what each side may
+know, is decided by `gen1.Host`.
+"""
+
+import json
+from dataclasses import dataclass
+
+from gen1 import Battle, Host, Message, Notice, Outcome, Row, RowKind, Side
+from gen1_server.clock import Clock
+
+# Who made a row: its player, or the server since the player's time had run out.
+PLAYER, CLOCK = "player", "clock"
+
+
+class Refused(Exception):
+    """A request that is refused; nothing has changed. `code` is for programs."""
+
+    def __init__(self, code: str, said: str) -> None:
+        super().__init__(said)
+        self.code = code
+
+
+@dataclass(frozen=True, slots=True)
+class Options:
+    """The options of a room. Times are milliseconds."""
+
+    exact_hp: bool = False
+    may_cancel: bool = False
+    choice: int = 90_000
+    total: int = 1_200_000
+    lapses: int = 2
+    audience_delay: int = 0
+
+
+@dataclass(frozen=True, slots=True)
+class Start:
+    """The beginning of a room. `teams` are JSON; they and `battle` are secret."""
+
+    id: int
+    format: str
+    rated: bool
+    accounts: tuple[int, int]
+    names: tuple[str, str]
+    teams: tuple[str, str]
+    battle: bytes
+    options: Options
+    season: str
+    created: int
+
+
+@dataclass(frozen=True, slots=True)
+class Entry:
+    """A row, when it was made (milliseconds), and its cause."""
+
+    row: Row
+    at: int
+    cause: str = PLAYER
+
+
+@dataclass(frozen=True, slots=True)
+class Ending:
+    """How a battle ended. `reason` is "battle", "forfeit", "time" or "draw".
+    `ratings` are those of side 1 before and after, then those of side 2; none
+    if the battle was not rated.
+    """
+
+    outcome: int
+    reason: str
+    ratings: tuple[float, ...] = ()
+
+
+@dataclass(frozen=True, slots=True)
+class View:
+    """All that a side, or the audience, may know of a room. Protocols are made
+    of it and of nothing else.
+
+    `side` is None for the audience. `sent` is what the host sends it, and
+    `logs` are the log bytes that it was told for the start and each pair, of
+    which the last is that of `sent`; do not keep the list, as it grows.
+    `sizes` are how many members the teams have. `team` is the own team as
+    JSON, and `due` when the own time runs out; both are empty for the
+    audience. `awaited` says whether the own choice is missing.
+    """
+
+    room: int
+    format: str
+    rated: bool
+    names: tuple[str, str]
+    sizes: tuple[int, int]
+    side: Side | None
+    team: str
+    number: int
+    logs: list[bytes]
+    sent: Message | Notice
+    awaited: bool
+    due: int
+    ending: Ending | None
+
+
+class Match:
+    """A room's host, the logs that were told, and the clock."""
+
+    __slots__ = ("start", "host", "clock", "count", "lapses", "ending", "audience_moved", "_sizes", "_logs", "_notices")
+
+    def __init__(self, start: Start) -> None:
+        options = start.options
+        self.start, self.count, self.lapses = start, 0, [0, 0]
+        self.host = Host(Battle.load(start.battle), exact_hp=options.exact_hp, may_cancel=options.may_cancel)
+        self.clock = Clock(start.created, options.choice, options.total)
+        self.ending: Ending | None = None
+        self._sizes = len(json.loads(start.teams[0])), len(json.loads(start.teams[1]))
+        self._logs: tuple[list[bytes], list[bytes], list[bytes]] = ([], [], [])
+        # The notices from the one that the audience is shown, which is late if the options say so.
+        self._notices: list[Notice] = []
+        self.audience_moved = True
+        self._tell()
+
+    def reason_after(self, entry: Entry) -> tuple[int, str] | None:
+        """The outcome and its reason if an entry would end the battle, else None.
+        Raises `HostRefused` if the host would refuse it.
+        """
+        tried = self.host.copy()
+        if not tried.apply(entry.row) or not tried.is_closed:
+            return None
+        if entry.row.kind is RowKind.FORFEIT:
+            return tried.result.outcome, "time" if entry.cause == CLOCK else "forfeit"
+        return tried.result.outcome, "draw" if entry.row.kind is RowKind.OFFER_DRAW else "battle"
+
+    def take(self, entry: Entry) -> bool:
+        """Applies an entry that is committed. Returns whether it ended the pair.
+        Raises `HostRefused` for one that the host refuses; nothing has changed.
+        """
+        row = entry.row
+        ended = self.host.apply(row)
+        self.count += 1
+        if row.kind is RowKind.CANCEL:
+            self.clock.cancelled(row.side)
+        elif row.kind in (RowKind.SUBMIT, RowKind.EXPIRE):
+            self.clock.chose(row.side, entry.at)
+            self.lapses[row.side - 1] += row.kind is RowKind.EXPIRE
+        if ended:
+            self.clock.ended(entry.at)
+            self._tell()
+        return ended
+
+    def view(self, side: Side | None) -> View:
+        """What a side, or the audience, may know now."""
+        start, host = self.start, self.host
+        logs = self._logs[side or 0]
+        sent: Message | Notice = host.message(side) if side else self._notices[0]
+        if side is None and len(self._notices) > 1:
+            logs = logs[: 1 - len(self._notices)]
+        return View(
+            room=start.id,
+            format=start.format,
+            rated=start.rated,
+            names=start.names,
+            sizes=self._sizes,
+            side=side,
+            team=start.teams[side - 1] if side else "",
+            number=sent.number,
+            logs=logs,
+            sent=sent,
+            awaited=side is not None and host.awaits(side),
+            due=self.clock.due(side) if side and not self.ending else 0,
+            ending=self.ending if side or len(self._notices) == 1 else None,
+        )
+
+    def end(self, ending: Ending) -> None:
+        """Sets how the battle ended, as it was committed."""
+        self.ending = ending
+
+    def catch_up(self) -> bool:
+        """Lets the audience of a battle that is over see one more pair. Returns
+        whether there was one.
+        """
+        if len(self._notices) < 2:
+            return False
+        del self._notices[0]
+        return True
+
+    def _tell(self) -> None:
+        audience, one, two = self._logs
+        one.append(self.host.message(Side.ONE).log)
+        two.append(self.host.message(Side.TWO).log)
+        notice = self.host.notice()
+        audience.append(notice.log)
+        self._notices.append(notice)
+        self.audience_moved = len(self._notices) > self.start.options.audience_delay + 1
+        if self.audience_moved:
+            del self._notices[0]
+
+
+def replayed(start: Start, entries: list[Entry]) -> Match:
+    """The match that these entries make."""
+    match = Match(start)
+    for entry in entries:
+        match.take(entry)
+    return match
+
+
+__all__ = [
+    "CLOCK",
+    "PLAYER",
+    "Clock",
+    "Ending",
+    "Entry",
+    "Match",
+    "Options",
+    "Outcome",
+    "Refused",
+    "Row",
+    "Start",
+    "View",
+    "replayed",
+]

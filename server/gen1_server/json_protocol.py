@@ -1,0 +1,228 @@
+"""Protocol 1: JSON messages over a websocket (messages.schema.json). Bytes are base64."""
+
+import json
+from base64 import b64encode
+from collections.abc import Awaitable, Callable
+from functools import partial
+from typing import Any
+
+import gen1
+from gen1 import Side
+from gen1_server.accounts import Account
+from gen1_server.connections import REPLAY, Connection
+from gen1_server.core import Refused, View
+from gen1_server.formats import FORMATS, format_named, team_for
+from gen1_server.lobby import Seeker
+
+PROTOCOL = 1
+MOST = 1 << 53
+
+
+class JsonConnection(Connection):
+    """A client of protocol 1."""
+
+    protocol = "json"
+
+    def greet(self) -> None:
+        formats = {it.id: {"title": it.title, "team": it.brings_teams} for it in FORMATS.values()}
+        self._say("hello", protocol=PROTOCOL, build=gen1.library_build, formats=formats)
+
+    async def asked(self, text: str) -> None:
+        try:
+            given = json.loads(text)
+        except (ValueError, RecursionError):
+            given = None
+        if not isinstance(given, dict):
+            raise Refused("json", "a message is a JSON object")
+        kind = given.get("type")
+        found = ASKED.get(kind) if isinstance(kind, str) else None
+        if found is None:
+            raise Refused("type", f"there is no such type; there are {', '.join(ASKED)}")
+        if self.account is None and kind not in LOGINS:
+            raise Refused("login", "log in first")
+        await found(self, given)
+
+    def refused(self, fault: Refused) -> None:
+        self._say("refused", code=fault.code, said=str(fault))
+
+    def closing(self) -> None:
+        self._say("closing")
+
+    def joined(self, view: View) -> None:
+        whole: dict[str, Any] = {
+            "format": view.format,
+            "rated": view.rated,
+            "names": view.names,
+            "sizes": view.sizes,
+            "side": view.side or 0,
+            "history": [_text(it) for it in view.logs[:-1]],
+        }
+        if view.side:
+            whole["team"] = json.loads(view.team)
+        self._say("room", **whole, **_standing(view))
+
+    def updated(self, view: View) -> None:
+        self._say("update", **_standing(view))
+
+    def draw_offered(self, room: int, side: Side) -> None:
+        self._say("draw_offered", room=room, side=int(side))
+
+    def moved(self, room: int, address: str) -> None:
+        self._say("moved", room=room, address=address)
+
+    def challenged(self, name: str, format: str, code: str) -> None:
+        self._say("challenged", **{"from": name, "format": format, "code": code})
+
+    def searches(self, formats: list[str]) -> None:
+        self._say("searching", formats=formats)
+
+    # ---- logins ----
+
+    async def token(self, given: dict[str, Any]) -> None:
+        self.may_login()
+        self._welcome(await self.services.accounts.of_token(_field(given, "token", str)), None)
+
+    async def login(self, given: dict[str, Any]) -> None:
+        self.may_login()
+        name, password = _field(given, "name", str), _field(given, "password", str)
+        account = await self.services.accounts.login(name, password)
+        self._welcome(account, await self.services.accounts.new_token(account))
+
+    async def register(self, given: dict[str, Any]) -> None:
+        self.may_login()
+        name, password = _field(given, "name", str), _field(given, "password", str)
+        account = await self.services.accounts.register(name, password)
+        self._welcome(account, await self.services.accounts.new_token(account))
+
+    async def guest(self, given: dict[str, Any]) -> None:
+        self.may_login()
+        account = await self.services.accounts.guest(_field(given, "name", str), self.address)
+        self._welcome(account, await self.services.accounts.new_token(account))
+
+    async def logout(self, given: dict[str, Any]) -> None:
+        token = given.get("token")
+        await self.services.accounts.revoke(self._account, _field(given, "token", str) if token is not None else None)
+        self.exit()
+        self._say("goodbye")
+
+    # ---- the lobby ----
+
+    async def search(self, given: dict[str, Any]) -> None:
+        await self.services.lobby.search(self._seeker(_field(given, "format", str), given.get("team")))
+
+    async def cancel_search(self, given: dict[str, Any]) -> None:
+        self.services.lobby.cancel(self._account)
+
+    async def challenge(self, given: dict[str, Any]) -> None:
+        to = _field(given, "to", str) if "to" in given else ""
+        seeker = self._seeker(_field(given, "format", str), given.get("team"))
+        code = await self.services.lobby.challenge(to, seeker)
+        self._say("challenging", code=code, to=to, format=seeker.format.id)
+
+    async def accept(self, given: dict[str, Any]) -> None:
+        found = self.services.lobby.challenge_of(_field(given, "code", str), self._account)
+        await self.services.lobby.accept(found, self._seeker(found.seeker.format.id, given.get("team")))
+
+    async def withdraw(self, given: dict[str, Any]) -> None:
+        self.services.lobby.withdraw(_field(given, "code", str), self._account)
+
+    async def rematch(self, given: dict[str, Any]) -> None:
+        self.charge(REPLAY)
+        start, team = await self.services.rooms.over(_field(given, "room", int), self._account.id)
+        given_team = given["team"] if "team" in given else json.loads(team)
+        await self.services.lobby.rematch(start, self._seeker(start.format, given_team))
+
+    # ---- rooms ----
+
+    async def join(self, given: dict[str, Any]) -> None:
+        room = _field(given, "room", int)
+        if not self.services.rooms.is_open(room):
+            self.charge(REPLAY)
+        await self.services.rooms.watch(room, self._account.id, self)
+
+    async def leave(self, given: dict[str, Any]) -> None:
+        self.services.rooms.leave(_field(given, "room", int), self)
+
+    async def choose(self, given: dict[str, Any]) -> None:
+        room, number, choice = (_field(given, it, int) for it in ("room", "number", "choice"))
+        committed = partial(self._say, "taken", room=room, number=number)
+        self.services.rooms.choose(room, self._account.id, number, choice, self.reply(committed))
+
+    async def cancel_choice(self, given: dict[str, Any]) -> None:
+        room, number = (_field(given, it, int) for it in ("room", "number"))
+        committed = partial(self._say, "cancelled", room=room, number=number)
+        self.services.rooms.cancel(room, self._account.id, number, self.reply(committed))
+
+    async def offer_draw(self, given: dict[str, Any]) -> None:
+        room = _field(given, "room", int)
+        self.services.rooms.offer_draw(room, self._account.id, self.reply(_nothing))
+
+    async def forfeit(self, given: dict[str, Any]) -> None:
+        room = _field(given, "room", int)
+        self.services.rooms.forfeit(room, self._account.id, self.reply(_nothing))
+
+    @property
+    def _account(self) -> Account:
+        assert self.account is not None
+        return self.account
+
+    def _seeker(self, format: str, team: Any) -> Seeker:
+        known = format_named(format)
+        return Seeker(self._account, known, team_for(known, team), self)
+
+    def _welcome(self, account: Account, token: str | None) -> None:
+        self.enter(account)
+        self._say("welcome", name=account.name, token=token, rooms=self.services.rooms.rooms_of(account.id))
+        self.services.rooms.arrive(account.id, self)
+
+    def _say(self, kind: str, **fields: Any) -> None:
+        self.send(json.dumps({"type": kind} | fields, separators=(",", ":")))
+
+
+def _nothing() -> None:
+    """Nothing is said: what was asked for is seen by what follows."""
+
+
+LOGINS = ("token", "login", "register", "guest")
+ASKED: dict[str, Callable[[JsonConnection, dict[str, Any]], Awaitable[None]]] = {
+    "token": JsonConnection.token,
+    "login": JsonConnection.login,
+    "register": JsonConnection.register,
+    "guest": JsonConnection.guest,
+    "logout": JsonConnection.logout,
+    "search": JsonConnection.search,
+    "cancel_search": JsonConnection.cancel_search,
+    "challenge": JsonConnection.challenge,
+    "accept": JsonConnection.accept,
+    "withdraw": JsonConnection.withdraw,
+    "rematch": JsonConnection.rematch,
+    "join": JsonConnection.join,
+    "leave": JsonConnection.leave,
+    "choose": JsonConnection.choose,
+    "cancel_choice": JsonConnection.cancel_choice,
+    "offer_draw": JsonConnection.offer_draw,
+    "forfeit": JsonConnection.forfeit,
+}
+
+
+def _field(given: dict[str, Any], name: str, kind: type) -> Any:
+    found: Any = given.get(name)
+    if not isinstance(found, kind) or isinstance(found, bool) or isinstance(found, int) and not 0 <= found < MOST:
+        raise Refused("field", f"{name} must be {'a text' if kind is str else 'a number, 0 or more'}")
+    return found
+
+
+def _text(data: bytes) -> str:
+    return b64encode(data).decode()
+
+
+def _standing(view: View) -> dict[str, Any]:
+    """Where a room stands for a side or the audience."""
+    found: dict[str, Any] = {"room": view.room, "number": view.number, "sent": _text(bytes(view.sent))}
+    if view.side:
+        assert isinstance(view.sent, gen1.Message)
+        found |= {"choices": view.sent.choices, "awaited": view.awaited, "due": view.due}
+    if view.ending:
+        end = view.ending
+        found["ending"] = {"outcome": end.outcome, "reason": end.reason, "ratings": end.ratings}
+    return found

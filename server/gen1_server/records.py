@@ -1,0 +1,195 @@
+"""Statements about rooms and processes: functions of a connection, which the store commits."""
+
+import json
+from collections import defaultdict
+from dataclasses import asdict
+from typing import Any, NamedTuple
+
+from gen1 import Row
+from gen1_server import schema
+from gen1_server.core import Ending, Entry, Options, Start
+from gen1_server.ratings import Rating, rated
+from gen1_server.schema import process, rating, rating_change, room, room_row
+from sqlalchemy import delete, func, insert, select, update
+
+OPEN = room.c.outcome == 0
+START = [room.c[it] for it in ("id", "format", "rated", "account_one", "account_two", "name_one", "name_two")]
+START += [room.c[it] for it in ("team_one", "team_two", "battle", "options", "season", "created")]
+
+
+class StoredRoom(NamedTuple):
+    """A room as the database has it."""
+
+    start: Start
+    entries: list[Entry]
+    process: int
+    ending: Ending | None
+
+
+def add_room(start: Start, build: str, owner: int, connection: Any) -> int:
+    """Adds an open room of a process; returns its number."""
+    values = {
+        "format": start.format,
+        "rated": int(start.rated),
+        "account_one": start.accounts[0],
+        "account_two": start.accounts[1],
+        "name_one": start.names[0],
+        "name_two": start.names[1],
+        "team_one": start.teams[0],
+        "team_two": start.teams[1],
+        "battle": start.battle,
+        "options": json.dumps(asdict(start.options)),
+        "season": start.season,
+        "build": build,
+        "created": start.created,
+        "process": owner,
+    }
+    return schema.added(connection, room, values)
+
+
+def end_room(start: Start, outcome: int, reason: str, owner: int, now: int, connection: Any) -> tuple[float, ...]:
+    """Ends a room that the process has, with both ratings: those of side 1
+    before and after, then those of side 2; none if it isn't rated.
+
+    The transaction has the row that ended the battle, so it is done once.
+    """
+    ended = update(room).where(room.c.id == start.id, room.c.process == owner, OPEN)
+    if connection.execute(ended.values(outcome=outcome, reason=reason, ended=now)).rowcount != 1:
+        raise RuntimeError(f"room {start.id} was not open")
+    if not start.rated:
+        return ()
+    score = {1: 1.0, 2: 0.0}.get(outcome, 0.5)
+    _lock_ratings(start, connection)
+    before = [rating_of(it, start.format, start.season, connection) for it in start.accounts]
+    after = rated(before[0], [(before[1], score)]), rated(before[1], [(before[0], 1 - score)])
+    for owner_, was, new, points in zip(start.accounts, before, after, (score, 1 - score)):
+        _rate(start, owner_, was, new, points, now, connection)
+    return before[0].rating, after[0].rating, before[1].rating, after[1].rating
+
+
+def _lock_ratings(start: Start, connection: Any) -> None:
+    """Keeps other processes from rating these accounts before the commit."""
+    if connection.dialect.name != "sqlite":
+        of = select(schema.account.c.id).where(schema.account.c.id.in_(start.accounts)).order_by(schema.account.c.id)
+        connection.execute(of.with_for_update())
+
+
+def rating_of(account: int, format: str, season: str, connection: Any) -> Rating:
+    """The rating of an account; that of a new player if it has none."""
+    columns = rating.c.rating, rating.c.deviation, rating.c.volatility
+    of = select(*columns).where(rating.c.account == account, rating.c.format == format, rating.c.season == season)
+    found = connection.execute(of).first()
+    return Rating(*found) if found else Rating()
+
+
+def _rate(start: Start, account: int, was: Rating, new: Rating, score: float, now: int, connection: Any) -> None:
+    key = {"account": account, "format": start.format, "season": start.season}
+    where = [rating.c[name] == value for name, value in key.items()]
+    counted = {1.0: "wins", 0.0: "losses"}.get(score, "ties")
+    values = {"rating": new.rating, "deviation": new.deviation, "volatility": new.volatility}
+    changed = update(rating).where(*where).values({**values, counted: rating.c[counted] + 1})
+    if connection.execute(changed).rowcount == 0:
+        none = {"wins": 0, "losses": 0, "ties": 0, counted: 1}
+        connection.execute(insert(rating).values({**key, **values, **none}))
+    change = {"room": start.id, "before": was.rating, "after": new.rating, "deviation": new.deviation}
+    connection.execute(insert(rating_change).values({**key, **change, "score": score, "at": now}))
+
+
+def begin_process(name: str, address: str, now: int, until: int, connection: Any) -> int:
+    """Adds a process, and gives it the rooms of earlier ones of its name. Their
+    rows are refused from now on.
+    """
+    made = schema.added(connection, process, {"name": name, "address": address, "until": until})
+    earlier = select(process.c.id).where(process.c.name == name, process.c.id != made).scalar_subquery()
+    connection.execute(update(room).where(OPEN, room.c.process.in_(earlier)).values(process=made))
+    connection.execute(update(process).where(process.c.name == name, process.c.id != made).values(until=0))
+    return made
+
+
+def renew(owner: int, now: int, until: int, connection: Any) -> list[int]:
+    """Renews the lease of a process, and gives it the rooms of those whose lease
+    has run out. Returns all open rooms that it has.
+    """
+    connection.execute(update(process).where(process.c.id == owner).values(until=until))
+    gone = select(process.c.id).where(process.c.until < now, process.c.id != owner).scalar_subquery()
+    connection.execute(update(room).where(OPEN, room.c.process.in_(gone)).values(process=owner))
+    of = select(room.c.id).where(OPEN, room.c.process == owner).order_by(room.c.id)
+    return [int(it[0]) for it in connection.execute(of)]
+
+
+def release(owner: int, connection: Any) -> None:
+    """Ends the lease of a process that stops."""
+    connection.execute(update(process).where(process.c.id == owner).values(until=0))
+
+
+def address_of(number: int, connection: Any) -> tuple[str, int] | None:
+    """The address of the process that has a room, and the room's outcome."""
+    of = select(process.c.address, room.c.outcome).join_from(room, process, process.c.id == room.c.process)
+    found = connection.execute(of.where(room.c.id == number)).first()
+    return (str(found[0]), int(found[1])) if found else None
+
+
+def stored(numbers: list[int], connection: Any) -> list[StoredRoom]:
+    """Rooms with their rows."""
+    columns = *START, room.c.process, room.c.outcome, room.c.reason, room.c.ended
+    found = connection.execute(select(*columns).where(room.c.id.in_(numbers)).order_by(room.c.id)).fetchall()
+    of = select(room_row.c.room, room_row.c.bytes, room_row.c.at, room_row.c.cause)
+    rows: dict[int, list[Entry]] = defaultdict(list)
+    ordered = of.where(room_row.c.room.in_(numbers)).order_by(room_row.c.room, room_row.c.sequence)
+    for number, row, at, cause in connection.execute(ordered):
+        rows[number].append(Entry(Row.from_bytes(bytes(row)), at, cause))
+    changes = _changes([it[0] for it in found if it.outcome], connection)
+    return [_stored(it, rows[it[0]], changes.get(it[0], ())) for it in found]
+
+
+def _stored(found: Any, entries: list[Entry], ratings: tuple[float, ...]) -> StoredRoom:
+    number, format, rated_, one, two, name_one, name_two, team_one, team_two, battle, options, season, created = found[
+        :13
+    ]
+    start = Start(
+        id=number,
+        format=format,
+        rated=bool(rated_),
+        accounts=(one, two),
+        names=(name_one, name_two),
+        teams=(team_one, team_two),
+        battle=bytes(battle),
+        options=Options(**json.loads(options)),
+        season=season,
+        created=created,
+    )
+    ending = Ending(found.outcome, found.reason, ratings) if found.outcome else None
+    return StoredRoom(start, entries, found.process, ending)
+
+
+def _changes(numbers: list[int], connection: Any) -> dict[int, tuple[float, ...]]:
+    """The ratings before and after of both sides, for rated rooms that are over."""
+    of = select(room.c.id, rating_change.c.before, rating_change.c.after).join_from(
+        room, rating_change, rating_change.c.room == room.c.id
+    )
+    of = of.where(room.c.id.in_(numbers)).order_by(room.c.id, rating_change.c.account != room.c.account_one)
+    found: dict[int, tuple[float, ...]] = defaultdict(tuple)
+    for number, before, after in connection.execute(of) if numbers else ():
+        found[number] += before, after
+    return found
+
+
+def finished(after: int, count: int, connection: Any) -> list[int]:
+    """The numbers of finished rooms above `after`, in order, at most `count`."""
+    of = select(room.c.id).where(room.c.id > after, room.c.outcome != 0).order_by(room.c.id).limit(count)
+    return [int(it[0]) for it in connection.execute(of)]
+
+
+def prune(before: int, connection: Any) -> int:
+    """Removes rooms that ended before a time; their ratings stay. Returns how
+    many there were.
+    """
+    old = room.c.ended < before, room.c.outcome != 0
+    connection.execute(delete(room_row).where(room_row.c.room.in_(select(room.c.id).where(*old).scalar_subquery())))
+    return int(connection.execute(delete(room).where(*old)).rowcount)
+
+
+def count_rooms(connection: Any) -> dict[int, int]:
+    """How many rooms there are of each outcome; 0 for open ones."""
+    of = select(room.c.outcome, func.count()).group_by(room.c.outcome)
+    return {int(outcome): int(count) for outcome, count in connection.execute(of)}

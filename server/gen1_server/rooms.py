@@ -1,0 +1,463 @@
+"""The open rooms of a process. Each row is checked by the host, committed, applied, and only then is anything sent."""
+
+import asyncio
+import logging
+from collections import defaultdict, deque
+from collections.abc import Callable
+from dataclasses import dataclass, field, replace
+from functools import partial
+from time import perf_counter, time
+from typing import Any, Protocol
+
+import gen1
+from gen1 import Choice, HostRefused, Row, Side
+from gen1_server import metrics, records
+from gen1_server.config import Config
+from gen1_server.core import CLOCK, PLAYER, Ending, Entry, Match, Refused, Start, View, replayed
+from gen1_server.store import Store, StoredRow, Work
+
+LOG = logging.getLogger("gen1_server")
+# How many requests may wait for a room, and how many finished rooms are kept for visitors.
+WAITING, KEPT = 8, 200
+# Called once with None when a request is committed, before anything is sent; or with what was refused.
+Reply = Callable[[Refused | None], None]
+
+
+class Watcher(Protocol):
+    """A connection, or the computer, as rooms see it."""
+
+    def joined(self, view: View) -> None:
+        """Shows a whole room."""
+
+    def updated(self, view: View) -> None:
+        """Shows the pair that has just ended."""
+
+    def draw_offered(self, room: int, side: Side) -> None:
+        """Says that a side offers a draw."""
+
+    def challenged(self, name: str, format: str, code: str) -> None:
+        """Says that somebody challenges the account."""
+
+    def searches(self, formats: list[str]) -> None:
+        """Says in which formats the account waits for a foe, after a change."""
+
+    def moved(self, room: int, address: str) -> None:
+        """Says that another process has the room."""
+
+
+def now() -> int:
+    """Milliseconds since 1970."""
+    return int(time() * 1000)
+
+
+def ignored(fault: Refused | None) -> None:
+    """The reply to a request that nobody waits for."""
+
+
+@dataclass(slots=True)
+class Request:
+    """A row that somebody asks for, as a function of the match it is for."""
+
+    row: Callable[[Match], Row]
+    cause: str
+    reply: Reply
+    since: float = field(default_factory=perf_counter)
+
+
+class OpenRoom:
+    """A match, who sees it, and what waits. One row at a time is committed."""
+
+    __slots__ = ("match", "watchers", "waiting", "is_busy")
+
+    def __init__(self, match: Match) -> None:
+        self.match, self.watchers = match, dict[Watcher, Side | None]()
+        self.waiting, self.is_busy = deque[Request](), False
+
+    @property
+    def id(self) -> int:
+        return self.match.start.id
+
+    def side_of(self, account: int) -> Side | None:
+        """The side that an account plays; None for the audience."""
+        accounts = self.match.start.accounts
+        return Side(accounts.index(account) + 1) if account in accounts else None
+
+
+class Rooms:
+    """All open rooms, and the requests to them."""
+
+    def __init__(self, config: Config, store: Store) -> None:
+        self._config, self._store = config, store
+        self.open: dict[int, OpenRoom] = {}
+        self.online: dict[int, set[Watcher]] = defaultdict(set)
+        # This process in the database, from `own` on.
+        self.process = 0
+        self._rooms_of: dict[int, set[int]] = defaultdict(set)
+        self._watched: dict[Watcher, set[int]] = defaultdict(set)
+        self._kept: dict[int, Match] = {}
+        self._begun: dict[int, int] = defaultdict(int)
+        self._tasks: set[asyncio.Task[Any]] = set()
+        self.stops = False
+
+    # ---- the process ----
+
+    async def own(self) -> int:
+        """Enters this process in the database, and opens the rooms that it has.
+        Returns how many.
+        """
+        config, moment = self._config, now()
+        until = moment + int(config.lease_seconds * 1000)
+        work = partial(records.begin_process, config.name, config.address, moment, until)
+        self.process = await self._store.run(work)
+        await self.renew()
+        return len(self.open)
+
+    async def renew(self) -> None:
+        """Renews the lease. Closes rooms that another process has taken, and opens
+        those of processes that are gone.
+        """
+        moment = now()
+        until = moment + int(self._config.lease_seconds * 1000)
+        mine = set(await self._store.run(partial(records.renew, self.process, moment, until)))
+        for number in self.open.keys() - mine:
+            # A row that is being committed is refused, and its room is read again.
+            if not self.open[number].is_busy:
+                await self._lose(self.open[number])
+        await self._restore(sorted(mine - self.open.keys()))
+
+    async def _restore(self, numbers: list[int]) -> None:
+        """Opens rooms from their rows."""
+        for at in range(0, len(numbers), 100):
+            for found in await self._store.run(partial(records.stored, numbers[at : at + 100])):
+                if found.start.id not in self.open and not found.ending and found.process == self.process:
+                    match = replayed(found.start, found.entries)
+                    match.clock.not_before(now() + int(self._config.grace_seconds * 1000))
+                    room = self._seat(match)
+                    self._show_whole(room)
+            # Requests of clients go on in between.
+            await asyncio.sleep(0)
+
+    async def stop(self) -> None:
+        """Takes no more requests, and waits until those that are being committed
+        are done.
+        """
+        self.stops = True
+        for _ in range(200):
+            if not any(it.is_busy for it in self.open.values()):
+                break
+            await asyncio.sleep(0.01)
+        await self._store.run(partial(records.release, self.process))
+
+    # ---- rooms begin and end ----
+
+    def room_for(self, account: int) -> None:
+        """Raises `Refused` if an account may have no further room."""
+        if self.stops:
+            raise Refused("closing", "the server is about to stop")
+        if len(self.open) + len(self._begun) >= self._config.most_rooms:
+            raise Refused("full", "the server has no room left")
+        if len(self._rooms_of[account]) + self._begun[account] >= self._config.most_rooms_of_account:
+            raise Refused("rooms", f"an account has at most {self._config.most_rooms_of_account} open rooms")
+
+    async def begin(self, start: Start) -> int:
+        """Begins a room, whose number is not yet in `start`. Returns the number.
+        Raises `Refused`.
+        """
+        for account in start.accounts:
+            self.room_for(account)
+        for account in start.accounts:
+            self._begun[account] += 1
+        try:
+            number = await self._store.run(partial(records.add_room, start, gen1.library_build, self.process))
+        finally:
+            for account in start.accounts:
+                self._begun[account] -= 1
+                if not self._begun[account]:
+                    del self._begun[account]
+        if number not in self.open:
+            self._show_whole(self._seat(Match(replace(start, id=number))))
+        return number
+
+    def _seat(self, match: Match) -> OpenRoom:
+        """Opens a match, with the connections of its players."""
+        room = self.open[match.start.id] = OpenRoom(match)
+        metrics.ROOMS.set(len(self.open))
+        for account in match.start.accounts:
+            self._rooms_of[account].add(room.id)
+            for watcher in self.online.get(account, ()):
+                self._watch(room, watcher, room.side_of(account))
+        return room
+
+    def _close(self, room: OpenRoom) -> None:
+        """Forgets a room that is over, or that another process has."""
+        self.open.pop(room.id, None)
+        metrics.ROOMS.set(len(self.open))
+        for account in room.match.start.accounts:
+            self._rooms_of[account].discard(room.id)
+            if not self._rooms_of[account]:
+                del self._rooms_of[account]
+        for watcher in room.watchers:
+            if watcher in self._watched:
+                self._watched[watcher].discard(room.id)
+        for request in room.waiting:
+            request.reply(Refused("over", "the battle is over, or is elsewhere"))
+        room.waiting.clear()
+
+    async def _lose(self, room: OpenRoom) -> None:
+        """Closes a room that another process has; its clients are led there."""
+        metrics.LOST.inc()
+        self._close(room)
+        found = await self._store.run(partial(records.address_of, room.id))
+        for watcher in room.watchers:
+            watcher.moved(room.id, found[0] if found else "")
+
+    # ---- requests ----
+
+    def choose(self, room: int, account: int, number: int | None, choice: Choice | int, reply: Reply) -> None:
+        """Submits a player's choice for the pair with this number; None: the
+        current one.
+        """
+
+        def row(side: Side, match: Match) -> Row:
+            return Row.submit(side, match.host.number if number is None else number, choice)
+
+        self._ask(room, account, row, reply)
+
+    def cancel(self, room: int, account: int, number: int | None, reply: Reply) -> None:
+        """Takes a player's choice back, where the room's options allow it."""
+
+        def row(side: Side, match: Match) -> Row:
+            return Row.cancel(side, match.host.number if number is None else number)
+
+        self._ask(room, account, row, reply)
+
+    def offer_draw(self, room: int, account: int, reply: Reply) -> None:
+        """Offers a draw, or accepts one."""
+        self._ask(room, account, lambda side, match: Row.offer_draw(side), reply)
+
+    def forfeit(self, room: int, account: int, reply: Reply) -> None:
+        """Ends the battle: the other side wins."""
+        self._ask(room, account, lambda side, match: Row.forfeit(side), reply)
+
+    def _ask(self, number: int, account: int, row: Callable[[Side, Match], Row], reply: Reply) -> None:
+        room = self.open.get(number)
+        if room is None:
+            reply(Refused("no room", "there is no such open room here; join it to learn where it is"))
+            return
+        side = room.side_of(account)
+        if side is None:
+            reply(Refused("not yours", "you do not play in this room"))
+        elif self.stops or len(room.waiting) >= WAITING:
+            reply(Refused("busy", "the room takes no further request now"))
+        else:
+            self._put(room, Request(partial(row, side), PLAYER, reply))
+
+    def expire(self) -> None:
+        """Makes the rows of sides whose time has run out: their first choices, or
+        after too many of these a forfeit.
+        """
+        moment = now()
+        for room in list(self.open.values()):
+            for side in Side:
+                if room.match.clock.due(side) <= moment and not room.is_busy and room.match.host.awaits(side):
+                    self._put(room, Request(partial(_overdue, side, room.match.host.number), CLOCK, ignored))
+
+    def _put(self, room: OpenRoom, request: Request) -> None:
+        room.waiting.append(request)
+        self._next(room)
+
+    def _next(self, room: OpenRoom) -> None:
+        """Has the next row of a room committed."""
+        while room.waiting and not room.is_busy:
+            request, match = room.waiting.popleft(), room.match
+            try:
+                entry = Entry(request.row(match), now(), request.cause)
+                end = match.reason_after(entry)
+            except HostRefused as fault:
+                request.reply(Refused(fault.code.name.lower().replace("_", " "), str(fault)))
+                continue
+            except (gen1.BadArgument, gen1.BadType) as fault:
+                request.reply(Refused("field", str(fault)))
+                continue
+            except Refused as fault:
+                request.reply(fault)
+                continue
+            room.is_busy = True
+            row = StoredRow(room.id, match.count, bytes(entry.row), entry.at, entry.cause, self.process)
+            ends = partial(records.end_room, match.start, *end, self.process, entry.at) if end else None
+            self._store.add(Work((row,), ends, partial(self._committed, room, request, entry, end)))
+
+    def _committed(
+        self,
+        room: OpenRoom,
+        request: Request,
+        entry: Entry,
+        end: tuple[int, str] | None,
+        ratings: tuple[float, ...] | None,
+        fault: Exception | None,
+    ) -> None:
+        """Applies a row that is committed, and sends what it changed."""
+        if fault is not None:
+            # The database may have the row or not; or another process has the room.
+            LOG.warning("room %d: a row was not committed: %s", room.id, type(fault).__name__)
+            metrics.FAILED.inc()
+            request.reply(Refused("again", "the request may not have been stored; look at the room again"))
+            self._later(self._reread(room))
+            return
+        room.is_busy = False
+        metrics.ROWS.labels(entry.row.kind.name.lower()).inc()
+        ended = room.match.take(entry)
+        request.reply(None)
+        if end:
+            room.match.end(Ending(*end, ratings or ()))
+            metrics.ENDED.labels(end[1]).inc()
+            self._close(room)
+        if ended:
+            self._show(room)
+            metrics.PAIRS.inc()
+            metrics.LATENCY.observe(perf_counter() - request.since)
+        elif entry.row.kind is gen1.RowKind.OFFER_DRAW:
+            for watcher, side in list(room.watchers.items()):
+                if side is not None:
+                    watcher.draw_offered(room.id, entry.row.side)
+        self._next(room)
+
+    async def _reread(self, room: OpenRoom) -> None:
+        """Reads a room again whose last row may have been committed or not."""
+        metrics.REREAD.inc()
+        while True:
+            try:
+                (found,) = await self._store.run(partial(records.stored, [room.id]))
+                break
+            except Exception as fault:
+                LOG.error("room %d cannot be read: %s", room.id, type(fault).__name__)
+                await asyncio.sleep(1)
+        if found.process != self.process:
+            await self._lose(room)
+            return
+        room.match = replayed(found.start, found.entries)
+        room.match.clock.not_before(now() + int(self._config.grace_seconds * 1000))
+        room.is_busy = False
+        if found.ending:
+            room.match.end(found.ending)
+            self._close(room)
+        self._show_whole(room)
+        self._next(room)
+
+    def _later(self, work: Any) -> None:
+        """Runs a coroutine on its own."""
+        task = asyncio.get_running_loop().create_task(work)
+        self._tasks.add(task)
+        task.add_done_callback(self._tasks.discard)
+
+    # ---- who sees them ----
+
+    def arrive(self, account: int, watcher: Watcher) -> None:
+        """Shows a connection the open rooms of its account, and from now on those
+        that begin.
+        """
+        self.online[account].add(watcher)
+        rooms = [self.open[it] for it in self.rooms_of(account)]
+        if rooms:
+            metrics.RECONNECTS.inc()
+        for room in rooms:
+            self._watch(room, watcher, room.side_of(account))
+            watcher.joined(room.match.view(room.side_of(account)))
+
+    def depart(self, account: int, watcher: Watcher) -> None:
+        """Forgets a connection that is gone."""
+        if account in self.online:
+            self.online[account].discard(watcher)
+            if not self.online[account]:
+                del self.online[account]
+        for number in self._watched.pop(watcher, ()):
+            if number in self.open:
+                self.open[number].watchers.pop(watcher, None)
+
+    def rooms_of(self, account: int) -> list[int]:
+        """The numbers of the open rooms that an account plays in here."""
+        return sorted(self._rooms_of.get(account, ()))
+
+    async def watch(self, number: int, account: int, watcher: Watcher) -> None:
+        """Shows a room to a connection: as its player, or else as one of the
+        audience. One that is over is read back. Raises `Refused`.
+        """
+        room = self.open.get(number)
+        if room is None:
+            match = await self._recalled(number)
+            accounts = match.start.accounts
+            watcher.joined(match.view(Side(accounts.index(account) + 1) if account in accounts else None))
+        else:
+            self._watch(room, watcher, room.side_of(account))
+            watcher.joined(room.match.view(room.side_of(account)))
+
+    def is_open(self, number: int) -> bool:
+        """Whether a room is open here, so that showing it costs little."""
+        return number in self.open or number in self._kept
+
+    def leave(self, number: int, watcher: Watcher) -> None:
+        """Shows a connection no more of a room."""
+        self._watched[watcher].discard(number)
+        if number in self.open:
+            self.open[number].watchers.pop(watcher, None)
+
+    async def over(self, number: int, account: int) -> tuple[Start, str]:
+        """The start of a room that is over and that an account played in, and the
+        account's team. Raises `Refused`.
+        """
+        if number in self.open:
+            raise Refused("not over", "the battle is not over")
+        start = (await self._recalled(number)).start
+        if account not in start.accounts:
+            raise Refused("not yours", "you did not play in this room")
+        return start, start.teams[start.accounts.index(account)]
+
+    async def _recalled(self, number: int) -> Match:
+        """A match that is over, from its rows. The last ones are kept, since to
+        play one again takes milliseconds.
+        """
+        if number in self._kept:
+            return self._kept[number]
+        found = await self._store.run(partial(records.stored, [number]))
+        if not found:
+            raise Refused("no room", "there is no such room")
+        if not found[0].ending:
+            where = await self._store.run(partial(records.address_of, number))
+            raise Refused("elsewhere", where[0] if where else "")
+        match = replayed(found[0].start, found[0].entries)
+        match.end(found[0].ending)
+        while match.catch_up():
+            pass
+        if len(self._kept) >= KEPT:
+            self._kept.pop(next(iter(self._kept)))
+        self._kept[number] = match
+        return match
+
+    def _watch(self, room: OpenRoom, watcher: Watcher, side: Side | None) -> None:
+        room.watchers[watcher] = side
+        self._watched[watcher].add(room.id)
+
+    def _show(self, room: OpenRoom) -> None:
+        """Shows everybody the pair that has just ended."""
+        views: dict[Side | None, View] = {}
+        for watcher, side in list(room.watchers.items()):
+            if side is None and not room.match.audience_moved:
+                continue
+            if side not in views:
+                views[side] = room.match.view(side)
+            watcher.updated(views[side])
+        audience = [watcher for watcher, side in room.watchers.items() if side is None]
+        while room.match.ending and room.match.catch_up():
+            for watcher in audience:
+                watcher.updated(room.match.view(None))
+
+    def _show_whole(self, room: OpenRoom) -> None:
+        for watcher, side in list(room.watchers.items()):
+            watcher.joined(room.match.view(side))
+
+
+def _overdue(side: Side, number: int, match: Match) -> Row:
+    """The row of a side whose time for a pair has run out."""
+    if match.host.number != number or not match.host.awaits(side):
+        raise Refused("stale", "the choice has come")
+    return Row.forfeit(side) if match.lapses[side - 1] >= match.start.options.lapses else Row.expire(side, number)

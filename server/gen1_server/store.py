@@ -1,0 +1,238 @@
+"""The database: one thread that commits together all work that waits.
+
+Work is statements in a function of a SQLAlchemy connection, and rows of
+rooms. It may be done again if other work of its transaction fails, so it
+does nothing but statements.
+"""
+
+import fcntl
+import logging
+from asyncio import AbstractEventLoop, Future
+from collections.abc import Callable, Sequence
+from dataclasses import dataclass
+from pathlib import Path
+from queue import SimpleQueue
+from threading import Thread
+from time import perf_counter
+from typing import IO, Any, TypeVar
+
+from sqlalchemy import create_engine, event
+from sqlalchemy.exc import DBAPIError, IntegrityError
+
+T = TypeVar("T")
+Statements = Callable[[Any], T]
+# How many works a transaction has at most.
+MOST = 500
+LOG = logging.getLogger("gen1_server")
+
+
+class Conflict(Exception):
+    """A row with this key exists, or another process has the room."""
+
+
+class InUse(Exception):
+    """Another process has this SQLite file."""
+
+
+@dataclass(frozen=True, slots=True)
+class StoredRow:
+    """A row of a room as the table `room_row` has it, and the process that is
+    to have the room.
+    """
+
+    room: int
+    sequence: int
+    bytes: bytes
+    at: int
+    cause: str
+    process: int
+
+
+@dataclass(frozen=True, slots=True)
+class Work:
+    """Rows, then statements, which are committed together. `done` gets the
+    result of the statements and None, or None and the error.
+    """
+
+    rows: Sequence[StoredRow]
+    statements: Statements[Any] | None
+    done: Callable[[Any, Exception | None], None]
+
+
+def engine_of(url: str, durable: bool = True) -> Any:
+    """The SQLAlchemy engine of a database."""
+    if not url.startswith("sqlite"):
+        return create_engine(url, executemany_mode="values_plus_batch")
+    engine = create_engine(url, connect_args={"check_same_thread": False, "timeout": 30})
+
+    def connected(connection: Any, _: Any) -> None:
+        # The driver would begin a transaction at its first writing statement; `begin` does it earlier.
+        connection.isolation_level = None
+        for line in ("journal_mode=WAL", f"synchronous={'FULL' if durable else 'NORMAL'}", "foreign_keys=ON"):
+            connection.execute(f"PRAGMA {line}")
+
+    def begin(connection: Any) -> None:
+        connection.exec_driver_sql("BEGIN IMMEDIATE")
+
+    event.listen(engine, "connect", connected)
+    event.listen(engine, "begin", begin)
+    return engine
+
+
+def lock_of(url: str) -> IO[str] | None:
+    """The lock of a SQLite file, which one process may have. Raises `InUse`.
+
+    Of two servers on one file, one that is stopped inside a transaction would
+    stop the other.
+    """
+    if not url.startswith("sqlite"):
+        return None
+    path = Path(url.removeprefix("sqlite:///") + ".lock")
+    held = path.open("w")
+    try:
+        fcntl.flock(held, fcntl.LOCK_EX | fcntl.LOCK_NB)
+    except OSError:
+        held.close()
+        raise InUse(f"another process uses the database: {path} is locked. Several need PostgreSQL") from None
+    return held
+
+
+# A row is added only while its process has the room, in one statement: a process that slept through its lease would otherwise write
+# a row that the new owner doesn't know. PostgreSQL holds the room until the end of the transaction; SQLite has one writer anyway.
+_INTO = "INSERT INTO room_row (room, sequence, bytes, at, cause) SELECT"
+_SQLITE = f"{_INTO} id, ?, ?, ?, ? FROM room WHERE id = ? AND process = ? AND outcome = 0"
+_POSTGRES = (
+    f"{_INTO} v.room, v.sequence, v.bytes, v.at, v.cause FROM (VALUES %s) AS v (room, sequence, bytes, at, cause, process)"
+    " JOIN room ON room.id = v.room AND room.process = v.process AND room.outcome = 0 FOR SHARE OF room RETURNING 1"
+)
+
+
+def add_rows(connection: Any, rows: Sequence[StoredRow]) -> None:
+    """Adds rows of different rooms. Raises `Conflict` if one is not added."""
+    if not rows:
+        return
+    if connection.dialect.name == "sqlite":
+        values = [(it.sequence, it.bytes, it.at, it.cause, it.room, it.process) for it in rows]
+        added = connection.exec_driver_sql(_SQLITE, values).rowcount
+    else:
+        from psycopg2.extras import execute_values
+
+        listed = [(it.room, it.sequence, it.bytes, it.at, it.cause, it.process) for it in rows]
+        with connection.connection.cursor() as cursor:
+            form = "(%s::bigint, %s, %s::bytea, %s::bigint, %s, %s::bigint)"
+            added = len(execute_values(cursor, _POSTGRES, listed, template=form, page_size=MOST, fetch=True))
+    if added != len(rows):
+        raise Conflict("another process has the room")
+
+
+class Store:
+    """The thread with the connection, for an event loop."""
+
+    def __init__(
+        self, url: str, durable: bool, loop: AbstractEventLoop, observed: Callable[[int, float, bool], None]
+    ) -> None:
+        """Connects. `observed` is told of each transaction: its works, its
+        seconds, and whether it was committed. Raises `InUse`.
+        """
+        self._lock, self._loop, self._observed = lock_of(url), loop, observed
+        self.engine = engine_of(url, durable)
+        self._connection: Any = self.engine.connect()
+        self._queue: SimpleQueue[Work | None] = SimpleQueue()
+        self._thread = Thread(target=self._serve, name="store", daemon=True)
+        self._thread.start()
+
+    def add(self, work: Work) -> None:
+        """Has work done; `Work.done` is called in the event loop."""
+        self._queue.put(work)
+
+    def run(self, statements: Statements[T]) -> "Future[T]":
+        """Runs statements in a transaction. The result is there once it is
+        committed.
+        """
+        answer: Future[T] = self._loop.create_future()
+
+        def done(found: Any, fault: Exception | None) -> None:
+            if answer.cancelled():
+                return
+            if fault is None:
+                answer.set_result(found)
+            else:
+                answer.set_exception(fault)
+
+        self._queue.put(Work((), statements, done))
+        return answer
+
+    def close(self) -> None:
+        """Does what waits, and disconnects."""
+        self._queue.put(None)
+        self._thread.join()
+        self._disconnect()
+        self.engine.dispose()
+        if self._lock:
+            self._lock.close()
+
+    def _serve(self) -> None:
+        goes_on = True
+        while goes_on:
+            taken = [self._queue.get()]
+            while len(taken) < MOST and not self._queue.empty():
+                taken.append(self._queue.get())
+            goes_on = None not in taken
+            works = [it for it in taken if it is not None]
+            if works:
+                found = self._done(works)
+                self._loop.call_soon_threadsafe(_deliver, works, found)
+
+    def _done(self, works: list[Work]) -> list[Any]:
+        """The result of each work, or its error: of one transaction, or if that
+        fails of one for each.
+        """
+        before, committed = perf_counter(), False
+        try:
+            connection = self._connected()
+            with connection.begin():
+                add_rows(connection, [row for work in works for row in work.rows])
+                found = [it.statements(connection) if it.statements else None for it in works]
+            committed = True
+            return found
+        except Exception as fault:
+            if self._connection is None or getattr(fault, "connection_invalidated", False):
+                LOG.error("the database is gone: %s", _first_line(fault))
+                self._disconnect()
+                return [fault for _ in works]
+            if len(works) == 1:
+                return [Conflict(_first_line(fault)) if isinstance(fault, IntegrityError) else fault]
+        finally:
+            self._observed(len(works), perf_counter() - before, committed)
+        return [answer for work in works for answer in self._done([work])]
+
+    def _connected(self) -> Any:
+        if self._connection is None:
+            self._connection = self.engine.connect()
+        return self._connection
+
+    def _disconnect(self) -> None:
+        connection, self._connection = self._connection, None
+        try:
+            if connection is not None:
+                connection.invalidate()
+                connection.close()
+        except DBAPIError:
+            pass
+
+
+def _first_line(fault: Exception) -> str:
+    """An error without its statement and values, which may be secret."""
+    of = getattr(fault, "orig", fault)
+    return (str(of).splitlines() or [type(of).__name__])[0]
+
+
+def _deliver(works: list[Work], found: list[Any]) -> None:
+    for work, it in zip(works, found):
+        try:
+            if isinstance(it, Exception):
+                work.done(None, it)
+            else:
+                work.done(it, None)
+        except Exception:
+            LOG.exception("what follows a commit failed")

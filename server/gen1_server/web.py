@@ -1,0 +1,310 @@
+"""The web application of a process: its parts, its routes, its start and its stop."""
+
+import asyncio
+import gc
+import logging
+from collections.abc import Awaitable, Callable
+from functools import partial
+from html import escape
+from importlib.resources import files
+from pathlib import Path
+from typing import Any
+from urllib.parse import urlsplit
+
+from aiohttp import web
+from gen1_server import metrics, people, schema
+from gen1_server.accounts import Accounts, folded
+from gen1_server.computer import Computer
+from gen1_server.config import Config
+from gen1_server.connections import Connection
+from gen1_server.core import Refused
+from gen1_server.formats import FORMATS
+from gen1_server.json_protocol import JsonConnection
+from gen1_server.limits import Limits
+from gen1_server.lobby import Lobby
+from gen1_server.rooms import Rooms
+from gen1_server.services import Services
+from gen1_server.store import Store
+from prometheus_client import generate_latest
+
+LOG = logging.getLogger("gen1_server")
+# How many rows a table on a page has.
+MOST_ROWS = 100
+HEADERS = {
+    "X-Content-Type-Options": "nosniff",
+    "Referrer-Policy": "no-referrer",
+    "X-Frame-Options": "DENY",
+}
+
+
+class Server:
+    """A process of the server."""
+
+    services: Services
+
+    def __init__(self, config: Config) -> None:
+        self.config = config
+        self._connections: set[Connection] = set()
+        self._tasks: list[asyncio.Task[None]] = []
+        self._ready = False
+        # The protocols of aiohttp that have asked for something.
+        self._asked: set[Any] = set()
+
+    def application(self) -> web.Application:
+        """The application, with its routes."""
+        app = web.Application(client_max_size=self.config.message_bytes, middlewares=[self._headers])
+        app.router.add_get("/", self._page)
+        app.router.add_get("/socket", partial(self._socket, JsonConnection))
+        self._add_showdown(app)
+        app.router.add_get("/ladder/{format}", self._ladder)
+        app.router.add_get("/player/{name}", self._player)
+        app.router.add_get("/metrics", self._metrics)
+        app.router.add_get("/health", self._health)
+        app.router.add_get("/ready", self._is_ready)
+        app.on_startup.append(self._start)
+        app.on_shutdown.append(self._stop)
+        app.on_cleanup.append(self._clean)
+        return app
+
+    def _add_showdown(self, app: web.Application) -> None:
+        """Adds the second protocol, where its library is there."""
+        try:
+            from gen1_server.showdown import ShowdownConnection, login
+        except ImportError:
+            return
+        app.router.add_get("/showdown/websocket", partial(self._socket, ShowdownConnection))
+        app.router.add_post("/action.php", partial(self._login, login))
+
+    # ---- start and stop ----
+
+    async def _start(self, _: web.Application) -> None:
+        config, loop = self.config, asyncio.get_running_loop()
+        store = Store(config.url, config.durable, loop, partial(self._observed, loop))
+        await store.run(schema.prepare)
+        rooms = Rooms(config, store)
+        accounts = Accounts(store, rooms, config.secret, config.guests, config.bot)
+        limits = Limits(config.messages_per_second, config.messages_at_once, config.logins_per_minute)
+        lobby = Lobby(config, store, rooms, accounts)
+        self.services = Services(config, store, limits, rooms, accounts, lobby)
+        if config.bot:
+            await self._seat_computer(rooms, accounts, lobby)
+        LOG.info("open rooms: %d", await rooms.own())
+        # A full collection of the garbage over a thousand rooms would stop everything for a tenth of a second.
+        gc.collect()
+        gc.freeze()
+        gc.set_threshold(100_000, 50, 100)
+        self._tasks = [
+            asyncio.create_task(self._every(0.5, rooms.expire)),
+            asyncio.create_task(self._every(1.0, lobby.pair_all)),
+            asyncio.create_task(self._every(config.lease_seconds / 3, rooms.renew)),
+        ]
+        self._ready = True
+
+    async def _seat_computer(self, rooms: Rooms, accounts: Accounts, lobby: Lobby) -> None:
+        lobby.computer = account = await accounts.known(self.config.bot)
+        rooms.online[account.id].add(Computer(rooms, account, self.config.bot_level))
+
+    async def _stop(self, _: web.Application) -> None:
+        """Tells the clients, and waits for what is being committed."""
+        self._ready = False
+        for task in self._tasks:
+            task.cancel()
+        for connection in list(self._connections):
+            connection.closing()
+        await self.services.rooms.stop()
+        # Time for what waits to be read; a client that does not read it gets no more.
+        await asyncio.sleep(0.2)
+        for connection in list(self._connections):
+            connection.drop("closing")
+
+    async def _clean(self, _: web.Application) -> None:
+        self.services.store.close()
+
+    def _observed(self, loop: asyncio.AbstractEventLoop, works: int, took: float, committed: bool) -> None:
+        """Counts a transaction; called in the store's thread."""
+        loop.call_soon_threadsafe(metrics.committed, works, took)
+
+    async def _every(self, seconds: float, act: Callable[[], Any]) -> None:
+        while True:
+            await asyncio.sleep(seconds)
+            try:
+                done = act()
+                if isinstance(done, Awaitable):
+                    await done
+            except Refused:
+                pass
+            except Exception:
+                LOG.exception("a task failed")
+
+    # ---- connections ----
+
+    def protocol(self, server: web.Server) -> asyncio.Protocol:
+        """A protocol of aiohttp for a new connection, which is closed if it asks
+        for nothing: aiohttp has no limit for that.
+        """
+        made = server()
+
+        def expect() -> None:
+            if made not in self._asked and made.transport is not None:
+                metrics.DROPPED.labels("silent").inc()
+                made.transport.abort()
+            self._asked.discard(made)
+
+        asyncio.get_running_loop().call_later(self.config.first_seconds, expect)
+        return made
+
+    def _address(self, request: web.Request) -> str:
+        """The address of a client; behind a proxy the one that it names."""
+        named = request.headers.get("X-Forwarded-For", "") if self.config.proxied else ""
+        return named.rpartition(",")[2].strip() or request.remote or ""
+
+    def _expect_origin(self, request: web.Request) -> None:
+        """Refuses a browser's page of another site."""
+        origin = request.headers.get("Origin")
+        if origin is None or origin in self.config.origins:
+            return
+        if urlsplit(origin).netloc != request.host:
+            metrics.REFUSED.labels("origin").inc()
+            raise web.HTTPForbidden(text="this origin is not allowed")
+
+    async def _socket(self, kind: type[Connection], request: web.Request) -> web.StreamResponse:
+        self._expect_origin(request)
+        config, address = self.config, self._address(request)
+        limits = self.services.limits
+        if not self._ready or len(self._connections) >= config.most_connections:
+            raise web.HTTPServiceUnavailable
+        if not limits.connect(address, config.most_connections_of_address):
+            raise web.HTTPTooManyRequests
+        try:
+            # With compression each socket would keep buffers of zlib.
+            socket = web.WebSocketResponse(
+                max_msg_size=config.message_bytes, heartbeat=config.heartbeat_seconds, compress=False
+            )
+            await socket.prepare(request)
+            if request.transport is None:
+                return socket
+            connection = kind(self.services, socket, request.transport, address)
+            self._connections.add(connection)
+            try:
+                await connection.serve()
+            finally:
+                self._connections.discard(connection)
+            return socket
+        finally:
+            limits.disconnect(address)
+
+    async def _login(self, login: Any, request: web.Request) -> web.Response:
+        """The login of Showdown's protocol."""
+        self._expect_origin(request)
+        if not self.services.limits.login(self._address(request)):
+            raise web.HTTPTooManyRequests
+        return web.Response(text=await login(self.services, await request.post(), self._address(request)))
+
+    # ---- pages ----
+
+    @web.middleware
+    async def _headers(self, request: web.Request, handler: Any) -> web.StreamResponse:
+        self._asked.add(request.protocol)
+        found: web.StreamResponse = await handler(request)
+        if not found.prepared:
+            found.headers.update(HEADERS)
+        return found
+
+    async def _page(self, _: web.Request) -> web.StreamResponse:
+        path = page_of(self.config)
+        if path is None:
+            links = "".join(f'<li><a href="ladder/{it.id}">{escape(it.title)}</a>' for it in FORMATS.values())
+            return _html("gen1", f"<p>The page was not built (web/build).<ul>{links}</ul>")
+        return web.FileResponse(path, headers=HEADERS)
+
+    async def _ladder(self, request: web.Request) -> web.Response:
+        format = request.match_info["format"]
+        if format not in FORMATS:
+            raise web.HTTPNotFound
+        season = request.query.get("season", self.config.season)
+        rows = await self.services.store.run(partial(people.ladder, format, season, MOST_ROWS))
+        if _wants_json(request):
+            return web.json_response({"format": format, "season": season, "players": rows})
+        return _html(f"{FORMATS[format].title}, season {season}", _table(rows, "player"))
+
+    async def _player(self, request: web.Request) -> web.Response:
+        found = await self.services.store.run(partial(people.player, folded(request.match_info["name"]), MOST_ROWS))
+        if found is None:
+            raise web.HTTPNotFound
+        if _wants_json(request):
+            return web.json_response(found)
+        return _html(found["name"], f"{_table(found['ratings'])}<h2>Battles</h2>{_table(found['battles'])}")
+
+    async def _metrics(self, _: web.Request) -> web.Response:
+        return web.Response(body=generate_latest(), content_type="text/plain")
+
+    async def _health(self, _: web.Request) -> web.Response:
+        rooms = len(self.services.rooms.open) if self._ready else 0
+        found = {"name": self.config.name, "rooms": rooms, "connections": len(self._connections)}
+        return web.json_response(found)
+
+    async def _is_ready(self, _: web.Request) -> web.Response:
+        """Whether the process takes requests, and its database answers."""
+        try:
+            if self._ready:
+                await asyncio.wait_for(self.services.store.run(schema.version_of), 5)
+                return web.Response(text="ready\n")
+        except Exception as fault:
+            LOG.warning("not ready: %s", type(fault).__name__)
+        raise web.HTTPServiceUnavailable(text="not ready\n")
+
+
+def page_of(config: Config) -> Path | None:
+    """The page that is served at /, if there is one."""
+    beside = Path(__file__).resolve().parents[2] / "web" / "dist" / "gen1.html"
+    found = [Path(config.page)] if config.page else [Path(str(files("gen1") / "page.html")), beside]
+    return next((it for it in found if it.is_file()), None)
+
+
+def _wants_json(request: web.Request) -> bool:
+    return "text/html" not in request.headers.get("Accept", "")
+
+
+def _html(title: str, body: str) -> web.Response:
+    text = (
+        f"<!doctype html><html lang=en><meta charset=utf-8><title>{escape(title)}</title><h1>{escape(title)}</h1>{body}"
+    )
+    response = web.Response(text=text, content_type="text/html")
+    response.headers["Content-Security-Policy"] = "default-src 'none'; style-src 'unsafe-inline'"
+    return response
+
+
+def _table(rows: list[dict[str, Any]], link: str = "") -> str:
+    """Rows as a table, with the names as links to players."""
+
+    def cell(name: str, value: Any) -> str:
+        text = escape(f"{value:.0f}" if isinstance(value, float) and value >= 10 else str(value))
+        return f'<td><a href="/player/{escape(folded(value))}">{text}</a>' if link and name == "name" else f"<td>{text}"
+
+    if not rows:
+        return "<p>None yet."
+    head = "".join(f"<th>{escape(it)}" for it in rows[0])
+    return (
+        f"<table><tr>{head}" + "".join("<tr>" + "".join(cell(*it) for it in row.items()) for row in rows) + "</table>"
+    )
+
+
+async def serve(config: Config, stop: asyncio.Event) -> None:
+    """Serves until the event is set."""
+    server = Server(config)
+    runner = web.AppRunner(server.application(), access_log=None)
+    await runner.setup()
+    assert runner.server is not None
+    listening = await asyncio.get_running_loop().create_server(
+        partial(server.protocol, runner.server), config.host, config.port, backlog=4096, reuse_address=True
+    )
+    LOG.info("listening at http://%s:%d", config.host, config.port)
+    try:
+        await stop.wait()
+    finally:
+        LOG.info("stopping")
+        listening.close()
+        await runner.shutdown()
+        await runner.server.shutdown(1)
+        await runner.cleanup()
+        LOG.info("stopped")
