@@ -45,6 +45,7 @@ def _run(command: str, config: Config, file: Path | None) -> str:
     """Does a command; returns what it says in the end."""
     if command == "serve":
         logs.begin()
+        keeping.prepare(config)
         try:
             import uvloop
         except ImportError:

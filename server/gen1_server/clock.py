@@ -12,12 +12,14 @@ class Clock:
     side has chosen.
     """
 
-    __slots__ = ("_choice", "_left", "_began", "_chosen", "_floor")
+    __slots__ = ("first", "_choice", "_left", "_began", "_chosen", "_floor")
 
     def __init__(self, begun: int, choice: int, total: int) -> None:
         """`choice` is the time for each choice, `total` that for all."""
         self._choice, self._left = choice, [total, total]
         self._began, self._chosen, self._floor = begun, [0, 0], 0
+        # The earlier time at which one side's time runs out.
+        self.first = self._first()
 
     def chose(self, side: int, at: int) -> None:
         """A side has made its choice for the current pair."""
@@ -34,6 +36,7 @@ class Clock:
                 used = min(max(chosen - self._began, 0), self._choice)
                 self._left[place] = max(self._left[place] - used, 0)
         self._began, self._chosen, self._floor = at, [0, 0], 0
+        self.first = self._first()
 
     def due(self, side: int) -> int:
         """The time at which a side's time for the current pair runs out."""
@@ -44,3 +47,7 @@ class Clock:
         not open for a while.
         """
         self._floor = at
+        self.first = self._first()
+
+    def _first(self) -> int:
+        return min(self.due(1), self.due(2))

@@ -24,12 +24,16 @@ REPLAY = 20.0
 _MIDDLE, _LONG = Struct(">BBH").pack, Struct(">BBQ").pack
 
 
-def frame(payload: bytes) -> bytes:
-    """A text frame of a server's websocket (RFC 6455), without extensions."""
+# The first byte of a whole frame (RFC 6455): text, a ping, and the answer to one.
+TEXT, PING, PONG = 0x81, 0x89, 0x8A
+
+
+def frame(kind: int, payload: bytes) -> bytes:
+    """A frame of a server's websocket, without extensions."""
     size = len(payload)
     if size < 126:
-        return bytes((0x81, size)) + payload
-    return (_MIDDLE(0x81, 126, size) if size < 1 << 16 else _LONG(0x81, 127, size)) + payload
+        return bytes((kind, size)) + payload
+    return (_MIDDLE(kind, 126, size) if size < 1 << 16 else _LONG(kind, 127, size)) + payload
 
 
 class Connection:
@@ -45,6 +49,8 @@ class Connection:
         self.services, self.address = services, address
         self.account: Account | None = None
         self._socket, self._transport, self._closed = socket, transport, False
+        # Whether something came since the last check, and whether the client was asked to say something.
+        self._heard, self._pinged = True, False
         config = services.config
         self._bucket = Bucket(config.messages_per_second, config.messages_at_once)
 
@@ -94,7 +100,7 @@ class Connection:
         """
         if self._closed or self._transport.is_closing():
             return
-        self._transport.write(frame(text.encode()))
+        self._transport.write(frame(TEXT, text.encode()))
         if self._transport.get_write_buffer_size() > self.services.config.waiting_bytes:
             self.drop("slow")
 
@@ -104,6 +110,18 @@ class Connection:
         self._closed = True
         # Not close(), which would wait until the client has read what waits.
         self._transport.abort()
+
+    def check_alive(self) -> None:
+        """Called at intervals: asks a client that was silent to say something, and
+        closes it if it was silent again.
+        """
+        if self._heard or self._closed or self._transport.is_closing():
+            self._heard = False
+        elif self._pinged:
+            self.drop("dead")
+        else:
+            self._pinged = True
+            self._transport.write(frame(PING, b""))
 
     def enter(self, account: Account) -> None:
         """From now on the connection is an account's."""
@@ -148,7 +166,12 @@ class Connection:
     async def _receive(self) -> None:
         count, late = metrics.MESSAGES.labels(self.protocol), 0.0
         async for message in self._socket:
-            if self._closed or message.type is not WSMsgType.TEXT:
+            self._heard, self._pinged = True, False
+            if message.type is WSMsgType.PONG:
+                continue
+            if message.type is WSMsgType.PING:
+                self._transport.write(frame(PONG, message.data))
+            elif self._closed or message.type is not WSMsgType.TEXT:
                 break
             count.inc()
             wait = self._bucket.take()
@@ -159,7 +182,8 @@ class Connection:
             if wait:
                 # What is not read fills the client's buffers, and so slows it down.
                 await asyncio.sleep(wait)
-            await self._answer(message.data)
+            if message.type is WSMsgType.TEXT:
+                await self._answer(message.data)
 
     async def _answer(self, text: str) -> None:
         try:

@@ -4,6 +4,7 @@ import os
 import sqlite3
 import subprocess
 from functools import partial
+from multiprocessing import get_context
 from pathlib import Path
 from time import time
 from typing import Any
@@ -40,6 +41,17 @@ def migrate(config: Config) -> str:
         if held:
             held.close()
     return f"the database has version {schema.VERSION}; it had {before or 'none'}"
+
+
+def prepare(config: Config) -> None:
+    """Makes the tables of an empty database."""
+    if not within(config, schema.version_of):
+        # In a process of its own, which gives the 10 MB back that Alembic takes.
+        child = get_context("fork").Process(target=migrate, args=(config,))
+        child.start()
+        child.join()
+        if child.exitcode:
+            raise Failed("the tables could not be made")
 
 
 def backup(config: Config, path: Path) -> str:

@@ -257,7 +257,7 @@ class Rooms:
         after too many of these a forfeit.
         """
         moment = now()
-        for room in list(self.open.values()):
+        for room in [it for it in self.open.values() if it.match.clock.first <= moment]:
             for side in Side:
                 if room.match.clock.due(side) <= moment and not room.is_busy and room.match.host.awaits(side):
                     self._put(room, Request(partial(_overdue, side, room.match.host.number), CLOCK, ignored))

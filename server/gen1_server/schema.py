@@ -51,7 +51,6 @@ def version_of(connection: Any) -> str:
 
 def migrate(connection: Any) -> None:
     """Brings a database to the newest version."""
-    # Only here, as it takes 10 MB.
     from alembic import command
     from alembic.config import Config
 
@@ -61,14 +60,10 @@ def migrate(connection: Any) -> None:
     command.upgrade(config, "head")
 
 
-def prepare(connection: Any) -> None:
-    """Makes the tables of an empty database. Raises `RuntimeError` for one of
-    another version.
-    """
+def expect_newest(connection: Any) -> None:
+    """Raises `RuntimeError` for a database of another version."""
     found = version_of(connection)
-    if not found:
-        migrate(connection)
-    elif found != VERSION:
+    if found != VERSION:
         raise RuntimeError(
             f"the database has version {found}, this program needs {VERSION}: stop the servers, back it up, "
             "and run `python3 -m gen1_server migrate`"

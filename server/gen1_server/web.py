@@ -78,9 +78,9 @@ class Server:
     # ---- start and stop ----
 
     async def _start(self, _: web.Application) -> None:
-        config, loop = self.config, asyncio.get_running_loop()
-        store = Store(config.url, config.durable, loop, partial(self._observed, loop))
-        await store.run(schema.prepare)
+        config = self.config
+        store = Store(config.url, config.durable, asyncio.get_running_loop(), metrics.committed)
+        await store.run(schema.expect_newest)
         rooms = Rooms(config, store)
         accounts = Accounts(store, rooms, config.secret, config.guests, config.bot)
         limits = Limits(config.messages_per_second, config.messages_at_once, config.logins_per_minute)
@@ -92,9 +92,10 @@ class Server:
         # A full collection of the garbage over a thousand rooms would stop everything for a tenth of a second.
         gc.collect()
         gc.freeze()
-        gc.set_threshold(100_000, 50, 100)
+        gc.set_threshold(10_000, 20, 1000)
         self._tasks = [
             asyncio.create_task(self._every(0.5, rooms.expire)),
+            asyncio.create_task(self._every(config.heartbeat_seconds / 2, self._check_alive)),
             asyncio.create_task(self._every(1.0, lobby.pair_all)),
             asyncio.create_task(self._every(config.lease_seconds / 3, rooms.renew)),
         ]
@@ -120,9 +121,9 @@ class Server:
     async def _clean(self, _: web.Application) -> None:
         self.services.store.close()
 
-    def _observed(self, loop: asyncio.AbstractEventLoop, works: int, took: float, committed: bool) -> None:
-        """Counts a transaction; called in the store's thread."""
-        loop.call_soon_threadsafe(metrics.committed, works, took)
+    def _check_alive(self) -> None:
+        for connection in list(self._connections):
+            connection.check_alive()
 
     async def _every(self, seconds: float, act: Callable[[], Any]) -> None:
         while True:
@@ -177,9 +178,7 @@ class Server:
             raise web.HTTPTooManyRequests
         try:
             # With compression each socket would keep buffers of zlib.
-            socket = web.WebSocketResponse(
-                max_msg_size=config.message_bytes, heartbeat=config.heartbeat_seconds, compress=False
-            )
+            socket = web.WebSocketResponse(max_msg_size=config.message_bytes, compress=False, autoping=False)
             await socket.prepare(request)
             if request.transport is None:
                 return socket

@@ -1,0 +1,158 @@
+"""A client of protocol 1, and a server process, for the tests."""
+
+import asyncio
+import base64
+import json
+import os
+import random
+import signal
+import socket
+import subprocess
+import sys
+import time
+import urllib.error
+import urllib.request
+from pathlib import Path
+
+import aiohttp
+
+PACKAGE = Path(__file__).resolve().parents[1]
+
+
+def free_port():
+    with socket.socket() as made:
+        made.bind(("127.0.0.1", 0))
+        return made.getsockname()[1]
+
+
+class Process:
+    """A server process with its options; it listens at `url`."""
+
+    def __init__(self, folder, **options):
+        self.folder, self.port = folder, free_port()
+        name = options.setdefault("name", "one")
+        self.options = {"port": self.port, "database": str(folder / "server.db"), "bot": ""} | options
+        self.config = folder / f"{name}.toml"
+        self.config.write_text("".join(f"{key} = {json.dumps(value)}\n" for key, value in self.options.items()))
+        self.log = (folder / f"{name}.log").open("a+")
+        self.url, self.web = f"ws://127.0.0.1:{self.port}/socket", f"http://127.0.0.1:{self.port}"
+        self.child = None
+
+    def start(self):
+        self.child = subprocess.Popen([sys.executable, "-m", "gen1_server", "--config", self.config], stderr=self.log)
+        for _ in range(400):
+            if self.child.poll() is not None:
+                raise RuntimeError(f"the server ended: {Path(self.log.name).read_text()[-2000:]}")
+            try:
+                if self.get("/ready") == "ready\n":
+                    return self
+            except OSError:
+                time.sleep(0.05)
+        raise RuntimeError("the server does not get ready")
+
+    def get(self, path, accept="application/json"):
+        asked = urllib.request.Request(self.web + path, headers={"Accept": accept})
+        with urllib.request.urlopen(asked, timeout=10) as found:
+            return found.read().decode()
+
+    def metric(self, name):
+        lines = [it for it in self.get("/metrics").splitlines() if it.startswith(name)]
+        return sum(float(it.rpartition(" ")[2]) for it in lines)
+
+    def command(self, *words):
+        ran = subprocess.run(
+            [sys.executable, "-m", "gen1_server", "--config", self.config, *words], capture_output=True, text=True
+        )
+        return ran.returncode, ran.stdout + ran.stderr
+
+    def signal(self, number):
+        os.kill(self.child.pid, number)
+
+    def kill(self):
+        if self.child and self.child.poll() is None:
+            self.signal(signal.SIGKILL)
+            self.child.wait()
+
+    def stop(self):
+        self.signal(signal.SIGTERM)
+        return self.child.wait(20)
+
+    def said(self):
+        return Path(self.log.name).read_text()
+
+
+class Client:
+    """A connection of protocol 1. `heard` has all messages."""
+
+    def __init__(self, session, url):
+        self.session, self.url, self.socket, self.heard = session, url, None, []
+
+    async def connect(self, **login):
+        self.socket = await self.session.ws_connect(self.url, max_msg_size=0)
+        await self.until("hello")
+        if login:
+            await self.say(**login)
+            self.welcome = await self.until("welcome", "refused")
+        return self
+
+    async def say(self, **given):
+        await self.socket.send_str(json.dumps(given))
+
+    async def hear(self, seconds=10):
+        message = await asyncio.wait_for(self.socket.receive(), seconds)
+        if message.type is not aiohttp.WSMsgType.TEXT:
+            raise ConnectionError(f"closed: {message}")
+        self.heard.append(json.loads(message.data))
+        return self.heard[-1]
+
+    async def until(self, *kinds, seconds=10):
+        """The next message of one of these types."""
+        async with asyncio.timeout(seconds):
+            while True:
+                found = await self.hear(seconds)
+                if found["type"] in kinds:
+                    return found
+
+    async def ask(self, *kinds, **given):
+        await self.say(**given)
+        return await self.until(*kinds)
+
+
+def guest(session, server, name):
+    return Client(session, server.url).connect(type="guest", name=name)
+
+
+async def paired(one, two, format="gen1randombattle", **team):
+    """Begins a battle of two clients; returns what each is shown."""
+    made = await one.ask("challenging", type="challenge", format=format, **team)
+    await two.say(type="accept", code=made["code"], **team)
+    return await one.until("room"), await two.until("room")
+
+
+async def play(client, shown, pairs=None, chance=None):
+    """Makes random choices in a room until it ends, or for some pairs."""
+    chance, first = chance or random.Random(1), shown["number"]
+    while "ending" not in shown and (pairs is None or shown["number"] < first + pairs):
+        if shown["awaited"]:
+            choice = chance.choice(shown["choices"])
+            await client.say(type="choose", room=shown["room"], number=shown["number"], choice=choice)
+        shown = await client.until("update")
+    return shown
+
+
+def run(test):
+    """Runs a test that is a coroutine function of a session."""
+
+    async def whole():
+        async with aiohttp.ClientSession(connector=aiohttp.TCPConnector(limit=0)) as session:
+            return await test(session)
+
+    return asyncio.run(whole())
+
+
+def unpacked(text):
+    return base64.b64decode(text)
+
+
+def packed(data):
+    return base64.b64encode(data).decode()

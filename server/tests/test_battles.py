@@ -1,0 +1,237 @@
+"""Battles through a server process: play, watch, reconnect, end, ratings, restarts."""
+
+import asyncio
+import json
+import random
+from functools import partial
+
+import pytest
+from client import Client, guest, packed, paired, play, run, unpacked
+from gen1 import Message, Notice, Player, Side, Team, sample_teams
+from gen1_server import keeping, records
+from gen1_server.config import Config
+from gen1_server.core import replayed
+
+TEAMS = [it.to_dicts() for it in sample_teams().values()]
+
+
+def test_two_play_a_third_watches_a_fourth_plays_the_computer(server, database):
+    it = server(database=database, bot="bot")
+
+    async def test(session):
+        one, two, three, four = [await guest(session, it, name) for name in ("One", "Two", "Three", "Four")]
+        await one.ask("searching", type="search", format="gen1ou", team=TEAMS[0])
+        await two.say(type="search", format="gen1ou", team=TEAMS[1])
+        first, second = await one.until("room"), await two.until("room")
+        assert {first["side"], second["side"]} == {1, 2} and first["rated"]
+        seen = await three.ask("room", type="join", room=first["room"])
+        assert seen["side"] == 0 and "team" not in seen and "choices" not in seen
+        await four.say(type="challenge", to="bot", format="gen1randombattle")
+        shown = await four.until("room")
+        ends = await asyncio.gather(play(one, first), play(two, second), play(four, shown))
+        seen = await three.until("update")
+        while "ending" not in seen:
+            Notice.from_bytes(unpacked(seen["sent"]))
+            seen = await three.until("update")
+        assert seen["ending"] == ends[0]["ending"] == ends[1]["ending"]
+        ratings = ends[0]["ending"]["ratings"]
+        players = json.loads(it.get("/ladder/gen1ou"))["players"]
+        assert sorted(row["rating"] for row in players) == sorted(ratings[1::2]) and ratings[::2] == [1500, 1500]
+        assert len(json.loads(it.get("/player/one"))["battles"]) == 1
+        assert "One" in it.get("/ladder/gen1ou", "text/html")
+        return ends[0]
+
+    run(test)
+    assert it.stop() == 0
+    assert it.command("verify") == (0, "2 finished battles end as they were stored\n")
+
+
+def test_draw_forfeit_rematch_and_cancelled_choices(server):
+    it = server(may_cancel=True)
+
+    async def test(session):
+        one, two = await guest(session, it, "One"), await guest(session, it, "Two")
+        first, second = await paired(one, two)
+        await play_pairs(one, two, first, second, 1)
+        given = {"room": first["room"], "number": 1}
+        await one.ask("taken", type="choose", choice=16 + 1, **given)
+        await one.ask("cancelled", type="cancel_choice", **given)
+        assert (await one.ask("refused", type="cancel_choice", **given))["code"] == "nothing chosen"
+        await one.say(type="offer_draw", room=first["room"])
+        assert (await two.until("draw_offered"))["side"] == first["side"]
+        await two.say(type="offer_draw", room=first["room"])
+        end = (await one.until("update"))["ending"]
+        assert end == {"outcome": 3, "reason": "draw", "ratings": []}
+        assert (await one.ask("refused", type="offer_draw", room=first["room"]))["code"] == "no room"
+        await one.say(type="rematch", room=first["room"])
+        assert (await two.until("challenged"))["from"] == "One"
+        await two.say(type="rematch", room=first["room"])
+        again = await one.until("room")
+        await two.until("room")
+        await one.say(type="forfeit", room=again["room"])
+        end = (await two.until("update"))["ending"]
+        assert (end["outcome"], end["reason"]) == (3 - again["side"], "forfeit")
+
+    run(test)
+
+
+async def play_pairs(one, two, first, second, pairs):
+    return await asyncio.gather(play(one, first, pairs), play(two, second, pairs, random.Random(2)))
+
+
+def test_a_side_whose_time_has_run_out(server):
+    it = server(choice_seconds=1, lapses=1, grace_seconds=1)
+
+    async def test(session):
+        one, two = await guest(session, it, "One"), await guest(session, it, "Two")
+        first, second = await paired(one, two)
+        await two.say(type="choose", room=second["room"], number=0, choice=second["choices"][0])
+        shown = await one.until("update")
+        assert shown["number"] == 1 and "ending" not in shown
+        await two.until("update")
+        await two.say(type="choose", room=second["room"], number=1, choice=17)
+        end = (await one.until("update"))["ending"]
+        assert (end["outcome"], end["reason"]) == (second["side"], "time")
+
+    run(test)
+
+
+@pytest.mark.parametrize("delay", [0, 2])
+def test_the_audience_is_told_late(server, delay):
+    it = server(audience_delay=delay)
+
+    async def test(session):
+        one, two, three = [await guest(session, it, name) for name in ("One", "Two", "Three")]
+        first, second = await paired(one, two)
+        await three.ask("room", type="join", room=first["room"])
+        await play_pairs(one, two, first, second, 4)
+        seen = [(await three.until("update"))["number"] for _ in range(4 - delay)]
+        assert seen == list(range(1, 5 - delay))
+        await one.say(type="forfeit", room=first["room"])
+        rest = [await three.until("update") for _ in range(delay + 1)]
+        assert [update["number"] for update in rest] == list(range(5 - delay, 6))
+        assert ["ending" in update for update in rest] == [False] * delay + [True]
+
+    run(test)
+
+
+def test_a_player_that_reconnects_knows_the_same(server):
+    """Reconnects after each pair and compares the player with the one that heard everything."""
+    it = server()
+
+    async def test(session):
+        one, two = await guest(session, it, "One"), await guest(session, it, "Two")
+        first, second = await paired(one, two)
+        team, foes = Team.from_dicts(first["team"]), first["sizes"][2 - first["side"]]
+        whole = Player(first["side"], team, foes)
+        whole.receive(Message.from_bytes(unpacked(first["sent"])))
+        for _ in range(12):
+            if "ending" in first:
+                break
+            first, second = await play_pairs(one, two, first, second, 1)
+            whole.receive(Message.from_bytes(unpacked(first["sent"])))
+            again = await Client(session, it.url).connect(type="token", token=one.welcome["token"])
+            shown = await again.until("room")
+            player = Player(shown["side"], Team.from_dicts(shown["team"]), foes)
+            for log in shown["history"]:
+                player.feed(unpacked(log))
+            player.receive(Message.from_bytes(unpacked(shown["sent"])))
+            assert player == whole and shown["choices"] == first["choices"]
+            await again.socket.close()
+
+    run(test)
+
+
+class Duel:
+    """Two bots that play rooms of one another, and come back when their server is killed."""
+
+    def __init__(self, session, server, number, seconds):
+        self.session, self.server, self.seconds = session, server, seconds
+        self.names = [f"D{number}{it}" for it in "ab"]
+        self.taken, self.logs, self.tokens, self.sides = set(), {}, {}, {}
+        self.chance = random.Random(number)
+
+    async def bot(self, at):
+        end = asyncio.get_running_loop().time() + self.seconds
+        while asyncio.get_running_loop().time() < end:
+            try:
+                await self.visit(at, end)
+            except (OSError, asyncio.TimeoutError, ConnectionError):
+                await asyncio.sleep(0.05)
+            except Exception as fault:
+                if "aiohttp" not in type(fault).__module__:
+                    raise
+                await asyncio.sleep(0.05)
+
+    async def visit(self, at, end):
+        login = (
+            {"type": "token", "token": self.tokens[at]}
+            if at in self.tokens
+            else {"type": "guest", "name": self.names[at]}
+        )
+        me = await Client(self.session, self.server.url).connect(**login)
+        if me.welcome["token"]:
+            self.tokens[at] = me.welcome["token"]
+        if at == 0 and not me.welcome["rooms"]:
+            await me.say(type="challenge", to=self.names[1], format="gen1randombattle")
+        while asyncio.get_running_loop().time() < end:
+            await self.answer(me, at, await me.hear(2))
+
+    async def answer(self, me, at, given):
+        kind = given["type"]
+        if kind == "challenged":
+            await me.say(type="accept", code=given["code"])
+        elif kind == "taken":
+            self.taken.add((given["room"], at, given["number"]))
+        elif kind == "refused" and given["code"] == "no player":
+            await asyncio.sleep(0.05)
+            await me.say(type="challenge", to=self.names[1], format="gen1randombattle")
+        elif kind in ("room", "update"):
+            if kind == "room":
+                self.sides[at, given["room"]] = given["side"]
+            self.hear(given, self.logs.setdefault((given["room"], self.sides[at, given["room"]]), []))
+            if "ending" in given:
+                if at == 0:
+                    await me.say(type="challenge", to=self.names[1], format="gen1randombattle")
+            elif given["awaited"]:
+                choice = self.chance.choice(given["choices"])
+                await me.say(type="choose", room=given["room"], number=given["number"], choice=choice)
+
+    def hear(self, given, logs):
+        """Keeps the logs that a side was told, as base64. Those that it is told again are the same."""
+        if given["type"] == "room":
+            assert logs == given["history"][: len(logs)] or logs[:-1] == given["history"]
+            logs[:] = given["history"]
+        logs.append(packed(Message.from_bytes(unpacked(given["sent"])).log))
+
+
+def test_killed_three_times(server, database):
+    """Nothing that was taken is lost, no pair is played twice, and what was told is what the rows say."""
+    it = server(database=database, grace_seconds=30, messages_per_second=1000.0)
+
+    async def test(session):
+        duels = [Duel(session, it, number, 14) for number in range(12)]
+        bots = [asyncio.create_task(duel.bot(at)) for duel in duels for at in (0, 1)]
+        for _ in range(3):
+            await asyncio.sleep(2.5)
+            it.kill()
+            await asyncio.to_thread(it.start)
+        await asyncio.gather(*bots)
+        return duels
+
+    duels = run(test)
+    assert it.stop() == 0
+    assert it.command("verify")[0] == 0
+    config = Config(database=database)
+    last = max(room for duel in duels for room, _ in duel.logs)
+    rooms = keeping.within(config, partial(records.stored, list(range(1, last + 1))))
+    assert len(rooms) == last and sum(room.ending is not None for room in rooms) >= 12
+    stored = {room.start.id: room for room in rooms}
+    for duel in duels:
+        for room, at, number in duel.taken:
+            side = duel.sides[at, room]
+            assert [e.row.number for e in stored[room].entries if e.row.side == side].count(number) == 1
+        for (room, side), logs in duel.logs.items():
+            told = [packed(log) for log in replayed(stored[room].start, stored[room].entries).view(Side(side)).logs]
+            assert logs == told[: len(logs)] and len(told) - len(logs) <= 1
+    assert sum(len(duel.taken) for duel in duels) > 500
