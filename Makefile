@@ -1,5 +1,5 @@
 # The verbs of this repository. Each is one line over a tool with its own `--help`; CONTRIBUTING.md says when to use which.
-.PHONY: help setup run test check gate fmt gen docs release pictures python
+.PHONY: help setup run serve test check gate fmt gen docs release pictures python
 SUDO := $(shell [ "$$(id -u)" = 0 ] || echo sudo)
 
 help: ## prints these lines
@@ -11,6 +11,9 @@ setup: python ## installs every Debian package that is missing, and offers the h
 
 run: python ## plays examples/tauros.json with the program gen1
 	tools/setup plain && cargo run -p gen1-cli -- run examples/tauros.json
+
+serve: python ## starts the ladder server at http://127.0.0.1:8000, with the page
+	server/run
 
 test: python ## runs the tests of the Rust workspace
 	tools/setup plain && cargo test --workspace --features gen1/serde

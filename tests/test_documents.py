@@ -7,7 +7,7 @@ docs/LAYOUT.md, "Loading". Blocks of code in documents and links to the web are 
 Names are those between backquotes. A path from the top, or from the document's folder, such as `tools/rules` or
 `crates/*/specs`, has to exist, and so have the options of a tool. A file of code that is named without its folder, such as
 `Words.antt`, has to be a file of the repository. A name that begins with gen1_ has to be a crate, or a word of include/gen1.h,
-of rust/ or of a file's name. Names that represent any name (CRATE, NAME), what is built (out/), and files that the document
+of rust/, of a package of Python or of a file's name. Names that represent any name (CRATE, NAME), what is built (out/), and files that the document
 tells its reader to write (a comment `file: NAME`) are passed over.
 
 The line right above a block of commands is one of
@@ -127,9 +127,10 @@ def names_of_files():
 
 @cache
 def names_of_the_engine():
-    """Crates, words of the header and of rust/, and names of files without their extensions."""
-    manifests = [*ROOT.glob("rust/*/Cargo.toml"), *ROOT.glob("python/gen1/src/gen1/*.py"), ROOT / "include" / "gen1.h"]
-    words = {word for file in manifests for word in NAME.findall(file.read_text())}
+    """Crates, words of the header, of rust/ and of the packages of Python, and names of files without their extensions."""
+    python = [*ROOT.glob("python/gen1/src/gen1/*.py"), *ROOT.glob("server/gen1_server/*.py")]
+    sources = [*ROOT.glob("rust/*/Cargo.toml"), *python, ROOT / "include" / "gen1.h"]
+    words = {word for file in sources for word in NAME.findall(file.read_text())}
     crates = {path.name for path in (ROOT / "crates").iterdir()}
     return words | crates | {name.partition(".")[0] for name in names_of_files()}
 

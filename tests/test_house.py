@@ -13,7 +13,7 @@ from repository import ROOT
 SUBJECT = 72
 # A file of tests: in a folder of tests or of the page's checks. An example's own tests are part of the example.
 OF_TESTS = re.compile(r"(?!examples/)(\w+)/(?:(?:.*/)?(?:tests?|checks)/|(?:.*/)?test_\w+\.py$)")
-PACKAGES = ("js", "python", "rust", "web")
+PACKAGES = ("js", "python", "rust", "server", "web")
 
 
 def git(*words):

@@ -28,6 +28,8 @@ class Config:
     address: str = ""
     # The page that is served at /. Empty: the one of the package gen1, if it has one.
     page: str = ""
+    # The formats and what they ban, in the form of rust/gen1-showdown/formats.json. Empty: those of that file.
+    formats: str = ""
     # SQLite waits for the disk at each commit. Otherwise a power failure may lose the last commits; a killed process loses none.
     durable: bool = True
     # After so many seconds without a sign of life, other processes take the rooms of this one.
@@ -83,25 +85,9 @@ class Config:
         return f"{'postgresql+psycopg2' if scheme in ('postgres', 'postgresql') else scheme}://{rest}"
 
 
-# The lowest values of numbers; those that are not here may be 0.
-LEAST: Mapping[str, float] = {
-    "lease_seconds": 1,
-    "choice_seconds": 1,
-    "total_seconds": 1,
-    "bot_level": 1,
-    "most_connections": 1,
-    "most_connections_of_address": 1,
-    "most_rooms": 1,
-    "most_rooms_of_account": 1,
-    "message_bytes": 1024,
-    "messages_per_second": 1,
-    "messages_at_once": 1,
-    "logins_per_minute": 1,
-    "waiting_bytes": 16384,
-    "first_seconds": 0.1,
-    "login_seconds": 0.1,
-    "heartbeat_seconds": 1,
-}
+# The numbers that may be 0, and the lowest values that are not above 0.
+MAY_BE_ZERO = {"lapses", "audience_delay", "keep_days", "grace_seconds"}
+LEAST = {"lease_seconds": 1, "message_bytes": 1024, "waiting_bytes": 16384, "heartbeat_seconds": 1}
 
 
 def configured(file: Path | None, environment: Mapping[str, str] | None = None) -> Config:
@@ -151,14 +137,16 @@ def _check(config: Config) -> None:
     """Raises `BadConfig` for the first option that is out of its range."""
     for it in fields(Config):
         value = getattr(config, it.name)
-        least = LEAST.get(it.name, 0)
-        if isinstance(value, (int, float)) and not least <= value < float("inf"):
-            raise BadConfig(f"{it.name} must be at least {least}, not {value}")
-    if not 0 < config.port < 1 << 16:
-        raise BadConfig(f"port must be 1 to 65535, not {config.port}")
-    if config.bot_level > 5:
-        raise BadConfig(f"bot_level must be 1 to 5, not {config.bot_level}")
+        if isinstance(value, (int, float)) and not isinstance(value, bool):
+            least = LEAST.get(it.name, 0)
+            if not least <= value < float("inf") or value == 0 and it.name not in MAY_BE_ZERO:
+                raise BadConfig(f"{it.name} must be {'at least' if least else 'above'} {least}, not {value}")
+    for name, most in (("port", 65535), ("bot_level", 5)):
+        if getattr(config, name) > most:
+            raise BadConfig(f"{name} must be 1 to {most}, not {getattr(config, name)}")
     if not config.name or not config.season:
         raise BadConfig("name and season must not be empty")
-    if config.page and not Path(config.page).is_file():
-        raise BadConfig(f"page: there is no file {config.page}")
+    for name in ("page", "formats"):
+        file = getattr(config, name)
+        if file and not Path(file).is_file():
+            raise BadConfig(f"{name}: there is no file {file}")

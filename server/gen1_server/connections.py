@@ -7,11 +7,11 @@ from struct import Struct
 from typing import TYPE_CHECKING, ClassVar
 
 from aiohttp import WSMsgType, web
-from gen1 import Side
 from gen1_server import metrics
 from gen1_server.accounts import Account
-from gen1_server.core import Refused, View
+from gen1_server.core import Refused
 from gen1_server.limits import Bucket
+from gen1_server.rooms import Watcher
 
 if TYPE_CHECKING:
     from gen1_server.services import Services
@@ -36,9 +36,9 @@ def frame(kind: int, payload: bytes) -> bytes:
     return (_MIDDLE(kind, 126, size) if size < 1 << 16 else _LONG(kind, 127, size)) + payload
 
 
-class Connection:
+class Connection(Watcher):
     """A protocol is a subclass with the methods that raise NotImplementedError
-    here, of which those from `joined` on are those of `rooms.Watcher`.
+    here, and those of `Watcher`.
     """
 
     protocol: ClassVar[str]
@@ -68,30 +68,6 @@ class Connection:
 
     def closing(self) -> None:
         """Says that the server is about to stop."""
-        raise NotImplementedError
-
-    def joined(self, view: View) -> None:
-        """Shows a whole room."""
-        raise NotImplementedError
-
-    def updated(self, view: View) -> None:
-        """Shows the pair that has just ended."""
-        raise NotImplementedError
-
-    def draw_offered(self, room: int, side: Side) -> None:
-        """Says that a side offers a draw."""
-        raise NotImplementedError
-
-    def moved(self, room: int, address: str) -> None:
-        """Says that another process has the room."""
-        raise NotImplementedError
-
-    def challenged(self, name: str, format: str, code: str) -> None:
-        """Says that somebody challenges the account."""
-        raise NotImplementedError
-
-    def searches(self, formats: list[str]) -> None:
-        """Says in which formats the account waits for a foe."""
         raise NotImplementedError
 
     def send(self, text: str) -> None:

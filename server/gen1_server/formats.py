@@ -1,40 +1,54 @@
 """The formats in which battles are played, and the teams that they allow."""
 
-from collections.abc import Mapping
+import json
 from dataclasses import dataclass
+from pathlib import Path
 from random import SystemRandom
 from typing import Any
 
 from gen1 import Error, Rules, Team, random_team, sample_teams
+from gen1.showdown import Formats, Members
 from gen1_server.core import Refused
 
 # The updates after which a battle is a tie.
 LIMIT = 1000
-MOST_TEAM_BYTES = 8192
+MOST_TEAM_CHARACTERS = 8192
 
 
 @dataclass(frozen=True, slots=True)
 class Format:
-    """`brings_teams` says whether players bring their teams; otherwise each gets
-    a random one. `species_once` is the Species Clause.
+    """`brings_teams` says whether players bring their teams, which `checker`
+    then allows; otherwise each gets a random one.
     """
 
     id: str
     title: str
     rules: int
-    brings_teams: bool
-    species_once: bool = True
+    checker: Formats | None
+
+    @property
+    def brings_teams(self) -> bool:
+        """Whether players bring their teams."""
+        return self.checker is not None
 
 
-CLAUSES = int(Rules.SLEEP_CLAUSE | Rules.FREEZE_CLAUSE)
-FORMATS: Mapping[str, Format] = {
-    it.id: it
-    for it in (
-        Format("gen1ou", "[Gen 1] OU", CLAUSES, True),
-        Format("gen1randombattle", "[Gen 1] Random Battle", CLAUSES, False),
-        Format("gen1customgame", "[Gen 1] Custom Game", 0, True, False),
-    )
-}
+FORMATS: dict[str, Format] = {}
+
+
+def load(file: str) -> None:
+    """Makes `FORMATS` those of a file in the form of rust/gen1-showdown's
+    formats.json; of that file itself if `file` is empty. Raises
+    `gen1.BadArgument`, `OSError`.
+    """
+    checker = Formats(Path(file).read_text() if file else None)
+    clauses = int(Rules.SLEEP_CLAUSE | Rules.FREEZE_CLAUSE)
+    found = [Format(it, checker.tier(it), int(checker.rules(it)), checker) for it in checker.ids]
+    found.append(Format("gen1randombattle", "[Gen 1] Random Battle", clauses, None))
+    FORMATS.clear()
+    FORMATS.update({it.id: it for it in found})
+
+
+load("")
 
 
 def format_named(name: str) -> Format:
@@ -48,23 +62,25 @@ def team_for(format: Format, given: Any) -> Team:
     """The team of a player for a format: a packed line, an export text, a list
     of members, or a random one where the format says so. Raises `Refused`.
     """
-    if not format.brings_teams:
+    if format.checker is None:
         return random_team(SystemRandom())
-    if isinstance(given, str) and len(given) > MOST_TEAM_BYTES:
-        raise Refused("team", f"a team has at most {MOST_TEAM_BYTES} characters")
+    text = given if isinstance(given, str) else json.dumps(given)
+    if len(text) > MOST_TEAM_CHARACTERS:
+        raise Refused("team", f"a team has at most {MOST_TEAM_CHARACTERS} characters")
     try:
-        if isinstance(given, str):
-            team = Team.from_packed(given) if "|" in given else Team.from_text(given)
-        else:
-            team = Team.from_dicts(given)
+        members = Members(text)
+        broken = format.checker.complaints(members, format.id)
     except Error as fault:
         raise Refused("team", str(fault)) from None
-    if format.species_once and len({it.species for it in team}) < len(team):
-        raise Refused("team", "Species Clause: a team has each species at most once")
-    return team
+    if broken:
+        raise Refused("team", "; ".join(map(str, broken)))
+    return members.team
 
 
 def computers_team(format: Format) -> Team:
     """A team of the computer for a format."""
-    chance = SystemRandom()
-    return chance.choice(list(sample_teams().values())) if format.brings_teams else random_team(chance)
+    chance, samples = SystemRandom(), list(sample_teams().values())
+    if format.checker is None:
+        return random_team(chance)
+    allowed = [it for it in samples if not format.checker.complaints(Members(it), format.id)]
+    return chance.choice(allowed or samples)

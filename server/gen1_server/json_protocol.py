@@ -2,7 +2,6 @@
 
 import json
 from base64 import b64encode
-from collections.abc import Awaitable, Callable
 from functools import partial
 from typing import Any
 
@@ -35,12 +34,11 @@ class JsonConnection(Connection):
         if not isinstance(given, dict):
             raise Refused("json", "a message is a JSON object")
         kind = given.get("type")
-        found = ASKED.get(kind) if isinstance(kind, str) else None
-        if found is None:
-            raise Refused("type", f"there is no such type; there are {', '.join(ASKED)}")
+        if kind not in TYPES:
+            raise Refused("type", f"there is no such type; there are {', '.join(TYPES)}")
         if self.account is None and kind not in LOGINS:
             raise Refused("login", "log in first")
-        await found(self, given)
+        await getattr(self, f"on_{kind}")(given)
 
     def refused(self, fault: Refused) -> None:
         self._say("refused", code=fault.code, said=str(fault))
@@ -78,28 +76,28 @@ class JsonConnection(Connection):
 
     # ---- logins ----
 
-    async def token(self, given: dict[str, Any]) -> None:
+    async def on_token(self, given: dict[str, Any]) -> None:
         self.may_login()
         self._welcome(await self.services.accounts.of_token(_field(given, "token", str)), None)
 
-    async def login(self, given: dict[str, Any]) -> None:
+    async def on_login(self, given: dict[str, Any]) -> None:
         self.may_login()
         name, password = _field(given, "name", str), _field(given, "password", str)
         account = await self.services.accounts.login(name, password)
         self._welcome(account, await self.services.accounts.new_token(account))
 
-    async def register(self, given: dict[str, Any]) -> None:
+    async def on_register(self, given: dict[str, Any]) -> None:
         self.may_login()
         name, password = _field(given, "name", str), _field(given, "password", str)
         account = await self.services.accounts.register(name, password)
         self._welcome(account, await self.services.accounts.new_token(account))
 
-    async def guest(self, given: dict[str, Any]) -> None:
+    async def on_guest(self, given: dict[str, Any]) -> None:
         self.may_login()
         account = await self.services.accounts.guest(_field(given, "name", str), self.address)
         self._welcome(account, await self.services.accounts.new_token(account))
 
-    async def logout(self, given: dict[str, Any]) -> None:
+    async def on_logout(self, given: dict[str, Any]) -> None:
         token = given.get("token")
         await self.services.accounts.revoke(self._account, _field(given, "token", str) if token is not None else None)
         self.exit()
@@ -107,26 +105,26 @@ class JsonConnection(Connection):
 
     # ---- the lobby ----
 
-    async def search(self, given: dict[str, Any]) -> None:
+    async def on_search(self, given: dict[str, Any]) -> None:
         await self.services.lobby.search(self._seeker(_field(given, "format", str), given.get("team")))
 
-    async def cancel_search(self, given: dict[str, Any]) -> None:
+    async def on_cancel_search(self, given: dict[str, Any]) -> None:
         self.services.lobby.cancel(self._account)
 
-    async def challenge(self, given: dict[str, Any]) -> None:
+    async def on_challenge(self, given: dict[str, Any]) -> None:
         to = _field(given, "to", str) if "to" in given else ""
         seeker = self._seeker(_field(given, "format", str), given.get("team"))
         code = await self.services.lobby.challenge(to, seeker)
         self._say("challenging", code=code, to=to, format=seeker.format.id)
 
-    async def accept(self, given: dict[str, Any]) -> None:
+    async def on_accept(self, given: dict[str, Any]) -> None:
         found = self.services.lobby.challenge_of(_field(given, "code", str), self._account)
         await self.services.lobby.accept(found, self._seeker(found.seeker.format.id, given.get("team")))
 
-    async def withdraw(self, given: dict[str, Any]) -> None:
+    async def on_withdraw(self, given: dict[str, Any]) -> None:
         self.services.lobby.withdraw(_field(given, "code", str), self._account)
 
-    async def rematch(self, given: dict[str, Any]) -> None:
+    async def on_rematch(self, given: dict[str, Any]) -> None:
         self.charge(REPLAY)
         start, team = await self.services.rooms.over(_field(given, "room", int), self._account.id)
         given_team = given["team"] if "team" in given else json.loads(team)
@@ -134,30 +132,30 @@ class JsonConnection(Connection):
 
     # ---- rooms ----
 
-    async def join(self, given: dict[str, Any]) -> None:
+    async def on_join(self, given: dict[str, Any]) -> None:
         room = _field(given, "room", int)
         if not self.services.rooms.is_open(room):
             self.charge(REPLAY)
         await self.services.rooms.watch(room, self._account.id, self)
 
-    async def leave(self, given: dict[str, Any]) -> None:
+    async def on_leave(self, given: dict[str, Any]) -> None:
         self.services.rooms.leave(_field(given, "room", int), self)
 
-    async def choose(self, given: dict[str, Any]) -> None:
+    async def on_choose(self, given: dict[str, Any]) -> None:
         room, number, choice = (_field(given, it, int) for it in ("room", "number", "choice"))
         committed = partial(self._say, "taken", room=room, number=number)
         self.services.rooms.choose(room, self._account.id, number, choice, self.reply(committed))
 
-    async def cancel_choice(self, given: dict[str, Any]) -> None:
+    async def on_cancel_choice(self, given: dict[str, Any]) -> None:
         room, number = (_field(given, it, int) for it in ("room", "number"))
         committed = partial(self._say, "cancelled", room=room, number=number)
         self.services.rooms.cancel(room, self._account.id, number, self.reply(committed))
 
-    async def offer_draw(self, given: dict[str, Any]) -> None:
+    async def on_offer_draw(self, given: dict[str, Any]) -> None:
         room = _field(given, "room", int)
         self.services.rooms.offer_draw(room, self._account.id, self.reply(_nothing))
 
-    async def forfeit(self, given: dict[str, Any]) -> None:
+    async def on_forfeit(self, given: dict[str, Any]) -> None:
         room = _field(given, "room", int)
         self.services.rooms.forfeit(room, self._account.id, self.reply(_nothing))
 
@@ -184,25 +182,8 @@ def _nothing() -> None:
 
 
 LOGINS = ("token", "login", "register", "guest")
-ASKED: dict[str, Callable[[JsonConnection, dict[str, Any]], Awaitable[None]]] = {
-    "token": JsonConnection.token,
-    "login": JsonConnection.login,
-    "register": JsonConnection.register,
-    "guest": JsonConnection.guest,
-    "logout": JsonConnection.logout,
-    "search": JsonConnection.search,
-    "cancel_search": JsonConnection.cancel_search,
-    "challenge": JsonConnection.challenge,
-    "accept": JsonConnection.accept,
-    "withdraw": JsonConnection.withdraw,
-    "rematch": JsonConnection.rematch,
-    "join": JsonConnection.join,
-    "leave": JsonConnection.leave,
-    "choose": JsonConnection.choose,
-    "cancel_choice": JsonConnection.cancel_choice,
-    "offer_draw": JsonConnection.offer_draw,
-    "forfeit": JsonConnection.forfeit,
-}
+# The types of messages from clients: the methods whose names begin with on_.
+TYPES = [name.removeprefix("on_") for name in vars(JsonConnection) if name.startswith("on_")]
 
 
 def _field(given: dict[str, Any], name: str, kind: type) -> Any:

@@ -5,7 +5,6 @@ import gc
 import logging
 from collections.abc import Awaitable, Callable
 from functools import partial
-from html import escape
 from importlib.resources import files
 from pathlib import Path
 from typing import Any
@@ -18,7 +17,7 @@ from gen1_server.computer import Computer
 from gen1_server.config import Config
 from gen1_server.connections import Connection
 from gen1_server.core import Refused
-from gen1_server.formats import FORMATS
+from gen1_server.formats import load
 from gen1_server.json_protocol import JsonConnection
 from gen1_server.limits import Limits
 from gen1_server.lobby import Lobby
@@ -28,7 +27,7 @@ from gen1_server.store import Store
 from prometheus_client import generate_latest
 
 LOG = logging.getLogger("gen1_server")
-# How many rows a table on a page has.
+# How many rows a table has.
 MOST_ROWS = 100
 HEADERS = {
     "X-Content-Type-Options": "nosniff",
@@ -56,6 +55,7 @@ class Server:
         app.router.add_get("/", self._page)
         app.router.add_get("/socket", partial(self._socket, JsonConnection))
         self._add_showdown(app)
+        app.router.add_get("/rooms", self._rooms)
         app.router.add_get("/ladder/{format}", self._ladder)
         app.router.add_get("/player/{name}", self._player)
         app.router.add_get("/metrics", self._metrics)
@@ -79,6 +79,7 @@ class Server:
 
     async def _start(self, _: web.Application) -> None:
         config = self.config
+        load(config.formats)
         store = Store(config.url, config.durable, asyncio.get_running_loop(), metrics.committed)
         await store.run(schema.expect_newest)
         rooms = Rooms(config, store)
@@ -212,27 +213,29 @@ class Server:
     async def _page(self, _: web.Request) -> web.StreamResponse:
         path = page_of(self.config)
         if path is None:
-            links = "".join(f'<li><a href="ladder/{it.id}">{escape(it.title)}</a>' for it in FORMATS.values())
-            return _html("gen1", f"<p>The page was not built (web/build).<ul>{links}</ul>")
+            raise web.HTTPNotFound(text="The page was not built: run web/build, or name one by the option page.\n")
         return web.FileResponse(path, headers=HEADERS)
 
+    async def _rooms(self, _: web.Request) -> web.Response:
+        """The open rooms of this process, the newest first."""
+        starts = [it.match.start for it in list(self.services.rooms.open.values())[-MOST_ROWS:]]
+        found = [{"room": it.id, "format": it.format, "rated": it.rated, "names": it.names} for it in starts]
+        return web.json_response({"rooms": found[::-1]})
+
     async def _ladder(self, request: web.Request) -> web.Response:
+        """The players of a format and a season, the best first."""
         format = request.match_info["format"]
-        if format not in FORMATS:
-            raise web.HTTPNotFound
         season = request.query.get("season", self.config.season)
         rows = await self.services.store.run(partial(people.ladder, format, season, MOST_ROWS))
-        if _wants_json(request):
-            return web.json_response({"format": format, "season": season, "players": rows})
-        return _html(f"{FORMATS[format].title}, season {season}", _table(rows, "player"))
+        return web.json_response({"format": format, "season": season, "players": rows})
 
     async def _player(self, request: web.Request) -> web.Response:
-        found = await self.services.store.run(partial(people.player, folded(request.match_info["name"]), MOST_ROWS))
+        """The ratings of a player, and its last battles."""
+        name = folded(request.match_info["name"])
+        found = await self.services.store.run(partial(people.player, name, MOST_ROWS))
         if found is None:
             raise web.HTTPNotFound
-        if _wants_json(request):
-            return web.json_response(found)
-        return _html(found["name"], f"{_table(found['ratings'])}<h2>Battles</h2>{_table(found['battles'])}")
+        return web.json_response(found)
 
     async def _metrics(self, _: web.Request) -> web.Response:
         return web.Response(body=generate_latest(), content_type="text/plain")
@@ -258,34 +261,6 @@ def page_of(config: Config) -> Path | None:
     beside = Path(__file__).resolve().parents[2] / "web" / "dist" / "gen1.html"
     found = [Path(config.page)] if config.page else [Path(str(files("gen1") / "page.html")), beside]
     return next((it for it in found if it.is_file()), None)
-
-
-def _wants_json(request: web.Request) -> bool:
-    return "text/html" not in request.headers.get("Accept", "")
-
-
-def _html(title: str, body: str) -> web.Response:
-    text = (
-        f"<!doctype html><html lang=en><meta charset=utf-8><title>{escape(title)}</title><h1>{escape(title)}</h1>{body}"
-    )
-    response = web.Response(text=text, content_type="text/html")
-    response.headers["Content-Security-Policy"] = "default-src 'none'; style-src 'unsafe-inline'"
-    return response
-
-
-def _table(rows: list[dict[str, Any]], link: str = "") -> str:
-    """Rows as a table, with the names as links to players."""
-
-    def cell(name: str, value: Any) -> str:
-        text = escape(f"{value:.0f}" if isinstance(value, float) and value >= 10 else str(value))
-        return f'<td><a href="/player/{escape(folded(value))}">{text}</a>' if link and name == "name" else f"<td>{text}"
-
-    if not rows:
-        return "<p>None yet."
-    head = "".join(f"<th>{escape(it)}" for it in rows[0])
-    return (
-        f"<table><tr>{head}" + "".join("<tr>" + "".join(cell(*it) for it in row.items()) for row in rows) + "</table>"
-    )
 
 
 async def serve(config: Config, stop: asyncio.Event) -> None:

@@ -50,9 +50,8 @@ class Process:
                 time.sleep(0.05)
         raise RuntimeError("the server does not get ready")
 
-    def get(self, path, accept="application/json"):
-        asked = urllib.request.Request(self.web + path, headers={"Accept": accept})
-        with urllib.request.urlopen(asked, timeout=10) as found:
+    def get(self, path):
+        with urllib.request.urlopen(self.web + path, timeout=10) as found:
             return found.read().decode()
 
     def metric(self, name):
@@ -82,10 +81,10 @@ class Process:
 
 
 class Client:
-    """A connection of protocol 1. `heard` has all messages."""
+    """A connection of protocol 1. `heard` and `said` have all messages."""
 
     def __init__(self, session, url):
-        self.session, self.url, self.socket, self.heard = session, url, None, []
+        self.session, self.url, self.socket, self.heard, self.said = session, url, None, [], []
 
     async def connect(self, **login):
         self.socket = await self.session.ws_connect(self.url, max_msg_size=0)
@@ -96,6 +95,7 @@ class Client:
         return self
 
     async def say(self, **given):
+        self.said.append(given)
         await self.socket.send_str(json.dumps(given))
 
     async def hear(self, seconds=10):

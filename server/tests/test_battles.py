@@ -6,7 +6,7 @@ import random
 from functools import partial
 
 import pytest
-from client import Client, guest, packed, paired, play, run, unpacked
+from client import PACKAGE, Client, guest, packed, paired, play, run, unpacked
 from gen1 import Message, Notice, Player, Side, Team, sample_teams
 from gen1_server import keeping, records
 from gen1_server.config import Config
@@ -38,12 +38,25 @@ def test_two_play_a_third_watches_a_fourth_plays_the_computer(server, database):
         players = json.loads(it.get("/ladder/gen1ou"))["players"]
         assert sorted(row["rating"] for row in players) == sorted(ratings[1::2]) and ratings[::2] == [1500, 1500]
         assert len(json.loads(it.get("/player/one"))["battles"]) == 1
-        assert "One" in it.get("/ladder/gen1ou", "text/html")
-        return ends[0]
+        assert json.loads(it.get("/rooms")) == {"rooms": []}
+        return [one, two, three, four]
 
-    run(test)
+    clients = run(test)
+    expect_schema(clients)
     assert it.stop() == 0
     assert it.command("verify") == (0, "2 finished battles end as they were stored\n")
+
+
+def expect_schema(clients):
+    """Each message is as messages.schema.json says."""
+    jsonschema = pytest.importorskip("jsonschema")
+    schema = json.loads((PACKAGE / "gen1_server" / "messages.schema.json").read_text())
+    for definition, messages in (("client", [it.said for it in clients]), ("server", [it.heard for it in clients])):
+        checker = jsonschema.Draft7Validator(
+            {"$ref": f"#/definitions/{definition}", "definitions": schema["definitions"]}
+        )
+        for message in sum(messages, [])[:300]:
+            checker.validate(message)
 
 
 def test_draw_forfeit_rematch_and_cancelled_choices(server):
@@ -52,9 +65,10 @@ def test_draw_forfeit_rematch_and_cancelled_choices(server):
     async def test(session):
         one, two = await guest(session, it, "One"), await guest(session, it, "Two")
         first, second = await paired(one, two)
-        await play_pairs(one, two, first, second, 1)
-        given = {"room": first["room"], "number": 1}
-        await one.ask("taken", type="choose", choice=16 + 1, **given)
+        while not (first["number"] and first["awaited"] and second["awaited"]):
+            first, second = await play_pairs(one, two, first, second, 1)
+        given = {"room": first["room"], "number": first["number"]}
+        await one.ask("taken", type="choose", choice=first["choices"][0], **given)
         await one.ask("cancelled", type="cancel_choice", **given)
         assert (await one.ask("refused", type="cancel_choice", **given))["code"] == "nothing chosen"
         await one.say(type="offer_draw", room=first["room"])
@@ -71,8 +85,9 @@ def test_draw_forfeit_rematch_and_cancelled_choices(server):
         await one.say(type="forfeit", room=again["room"])
         end = (await two.until("update"))["ending"]
         assert (end["outcome"], end["reason"]) == (3 - again["side"], "forfeit")
+        return [one, two]
 
-    run(test)
+    expect_schema(run(test))
 
 
 async def play_pairs(one, two, first, second, pairs):

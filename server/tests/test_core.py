@@ -57,7 +57,7 @@ def test_clock():
     "text, said",
     [
         ("ports = 1", "there is no option ports"),
-        ("port = 0", "port must be 1 to 65535"),
+        ("port = 65536", "port must be 1 to 65535"),
         ("port = true", "port must be a int"),
         ("durable = 1", "durable must be a bool"),
         ("lease_seconds = 0.5", "lease_seconds must be at least 1"),

@@ -2,19 +2,21 @@
 
 import asyncio
 import gc
-import itertools
 import json
+import re
+import shutil
 import signal
 import socket
+import subprocess
 import time
 from functools import partial
 from types import SimpleNamespace
 
+import aiohttp
 import pytest
-from client import Client, free_port, guest, paired, play, run
+from client import PACKAGE, Client, free_port, guest, paired, play, run
 from gen1_server import connections, keeping, records, schema, store, web
 from gen1_server.config import Config
-from gen1_server.core import Refused
 from gen1_server.store import Conflict, InUse, Store, StoredRow, lock_of
 
 
@@ -467,3 +469,40 @@ def test_metrics_and_headers(server):
     assert all(name in found for name in names)
     assert json.loads(it.get("/health")) == {"name": "one", "rooms": 0, "connections": 0}
     assert [json.loads(line)["level"] for line in it.said().splitlines()] == ["info"] * 2
+
+
+def test_behind_nginx(server, tmp_path):
+    """nginx.conf, with other ports and without TLS: a battle, the client's address, and what is not for strangers."""
+    if not shutil.which("nginx"):
+        pytest.skip("there is no nginx; tools/setup server installs it")
+    it, port = server(proxied=True, most_connections_of_address=3), free_port()
+    text = (PACKAGE / "nginx.conf").read_text().replace("listen 443 ssl", f"listen 127.0.0.1:{port}")
+    text = re.sub(r"(?m)^ *ssl_.*\n", "", text).replace("127.0.0.1:8000", f"127.0.0.1:{it.port}")
+    head = f"daemon off; pid {tmp_path}/pid; error_log {tmp_path}/error; events {{}}\n"
+    paths = "".join(
+        f"{name}_temp_path {tmp_path}/{name};" for name in ("client_body", "proxy", "fastcgi", "uwsgi", "scgi")
+    )
+    (tmp_path / "nginx.conf").write_text(f"{head}http {{ access_log off; {paths}\n{text}\n}}\n")
+    nginx = subprocess.Popen([shutil.which("nginx"), "-c", tmp_path / "nginx.conf"])
+
+    async def test(session):
+        await asyncio.sleep(0.5)
+        proxy = SimpleNamespace(url=f"ws://127.0.0.1:{port}/socket")
+        one, two = await guest(session, proxy, "One"), await guest(session, proxy, "Two")
+        await asyncio.gather(*(play(client, shown, 5) for client, shown in zip((one, two), await paired(one, two))))
+        for path, status in (("/metrics", 404), ("/ready", 404), ("/health", 200), ("/socket", 403)):
+            headers = {"Origin": "https://evil.example"} if path == "/socket" else {}
+            async with session.get(f"http://127.0.0.1:{port}{path}", headers=headers) as found:
+                assert found.status == status
+        # What a client says of its address does not count.
+        headers = [{"X-Forwarded-For": f"10.0.0.{last}"} for last in (1, 2)]
+        third = await session.ws_connect(proxy.url, headers=headers[0])
+        with pytest.raises(aiohttp.WSServerHandshakeError):
+            await session.ws_connect(proxy.url, headers=headers[1])
+        await third.close()
+
+    try:
+        run(test)
+    finally:
+        nginx.terminate()
+        nginx.wait()
