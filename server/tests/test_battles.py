@@ -65,6 +65,7 @@ def test_draw_forfeit_rematch_and_cancelled_choices(server):
     async def test(session):
         one, two = await guest(session, it, "One"), await guest(session, it, "Two")
         first, second = await paired(one, two)
+        side = first["side"]
         while not (first["number"] and first["awaited"] and second["awaited"]):
             first, second = await play_pairs(one, two, first, second, 1)
         given = {"room": first["room"], "number": first["number"]}
@@ -72,7 +73,7 @@ def test_draw_forfeit_rematch_and_cancelled_choices(server):
         await one.ask("cancelled", type="cancel_choice", **given)
         assert (await one.ask("refused", type="cancel_choice", **given))["code"] == "nothing chosen"
         await one.say(type="offer_draw", room=first["room"])
-        assert (await two.until("draw_offered"))["side"] == first["side"]
+        assert (await two.until("draw_offered"))["side"] == side
         await two.say(type="offer_draw", room=first["room"])
         end = (await one.until("update"))["ending"]
         assert end == {"outcome": 3, "reason": "draw", "ratings": []}
@@ -248,5 +249,5 @@ def test_killed_three_times(server, database):
             assert [e.row.number for e in stored[room].entries if e.row.side == side].count(number) == 1
         for (room, side), logs in duel.logs.items():
             told = [packed(log) for log in replayed(stored[room].start, stored[room].entries).view(Side(side)).logs]
-            assert logs == told[: len(logs)] and len(told) - len(logs) <= 1
+            assert logs == told[: len(logs)]
     assert sum(len(duel.taken) for duel in duels) > 500
