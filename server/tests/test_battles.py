@@ -123,6 +123,8 @@ def test_the_audience_is_told_late(server, delay):
         await play_pairs(one, two, first, second, 4)
         seen = [(await three.until("update"))["number"] for _ in range(4 - delay)]
         assert seen == list(range(1, 5 - delay))
+        shown = await three.ask("room", type="join", room=first["room"])
+        assert shown["number"] == 4 - delay and len(shown["history"]) == 4 - delay
         await one.say(type="forfeit", room=first["room"])
         rest = [await three.until("update") for _ in range(delay + 1)]
         assert [update["number"] for update in rest] == list(range(5 - delay, 6))

@@ -143,20 +143,38 @@ def watching(services, account):
     return made
 
 
-async def leak_game(seed, variant, monkeypatch):
-    """What side 1 and the audience receive. The variants differ in what side 2 hides: unused moves, members that do not come out,
-    their order, and the numbers that would be drawn.
+def teams_of(chance, hidden, variant):
+    """The teams of a leak game, and the places of the two members of side 2 that come out.
+
+    The variants differ in what side 2 hides: its other members, the place of the second one, and moves that it does not use.
     """
+    mine, theirs = random_team(chance), random_team(chance).to_dicts()
+    known, others = theirs[:2], random_team(hidden).to_dicts()[:4]
+    if variant:
+        for member in known:
+            unused = [[it, 0] for it in ("Rest", "Toxic", "Substitute", "Agility") if it != member["moves"][0][0]]
+            member["moves"][1:] = unused[: len(member["moves"]) - 1]
+    others.insert(3 * variant, known[1])
+    return mine, gen1.Team.from_dicts([known[0], *others]), (1, 2 + 3 * variant)
+
+
+def chosen_by_two(host, places, switches):
+    """Side 2's choice: its first move, or one of its two members; None where it would have to show more."""
+    message = host.message(Side.TWO)
+    offered = message.choices
+    others = [0x20 + it for it in places if 0x20 + it in offered]
+    if others and (switches or min(offered) > 0x20):
+        return others[0]
+    return min(offered) if min(offered) <= 17 else None
+
+
+async def leak_game(seed, variant, monkeypatch):
+    """What side 1 and the audience are sent in a game of this variant, and how many pairs it has."""
     chance, numbers, clock = random.Random(seed), random.Random(seed), itertools.count(1000)
+    hidden = random.Random(f"{seed} {variant}")
     monkeypatch.setattr(gen1.hosts.os, "urandom", numbers.randbytes)
     monkeypatch.setattr(rooms, "now", lambda: next(clock))
-    mine, lead = random_team(chance), random_team(chance).to_dicts()[0]
-    hidden = random.Random(f"{seed} {variant}")
-    others = random_team(hidden).to_dicts()[1:]
-    if variant:
-        unused = [[it, 0] for it in ("Rest", "Toxic", "Substitute", "Agility") if it != lead["moves"][0][0]]
-        lead["moves"][1:] = unused[: len(lead["moves"]) - 1]
-    theirs = gen1.Team.from_dicts([lead, *others])
+    mine, theirs, places = teams_of(chance, hidden, variant)
     services = SimpleNamespace(config=Config(), limits=Limits(1, 1, 1), rooms=Rooms(Config(), FakeStore()))
     one, audience = watching(services, 11), watching(services, 0)
     battle = Battle(mine, theirs, hidden.randbytes(10), 3, 1000)
@@ -166,19 +184,19 @@ async def leak_game(seed, variant, monkeypatch):
     await services.rooms.watch(room.id, 99, audience)
     pairs, host = 0, room.match.host
     while room.id in services.rooms.open and pairs < 40:
-        offered = host.message(Side.TWO).choices
-        if host.awaits(Side.TWO) and min(offered) > 17:
-            # Its member has fainted, or is out of PP: what it hides would come out.
-            break
         asked = [side for side in Side if host.awaits(side)]
         if chance.random() < 0.5:
             asked.reverse()
+        choices = {Side.TWO: chosen_by_two(host, places, chance.random() < 0.2)}
+        if choices[Side.TWO] is None:
+            break
+        choices[Side.ONE] = chance.choice(host.message(Side.ONE).choices)
         for side in asked:
-            offered = host.message(side).choices
-            choice = chance.choice(offered) if side is Side.ONE else min(offered)
-            services.rooms.choose(room.id, start.accounts[side - 1], None, choice, rooms.ignored)
+            services.rooms.choose(room.id, start.accounts[side - 1], None, choices[side], rooms.ignored)
         pairs += 1
     if room.id in services.rooms.open:
+        await services.rooms.watch(room.id, 11, one)
+        await services.rooms.watch(room.id, 99, audience)
         services.rooms.forfeit(room.id, 12, rooms.ignored)
     return pairs, one._transport.written, audience._transport.written
 
@@ -191,7 +209,7 @@ def test_what_the_foe_hides_changes_nothing(monkeypatch):
         assert one == two, f"game {seed}"
         assert len(one[1]) > one[0]
         pairs += one[0]
-    assert pairs > 60
+    assert pairs > 200
 
 
 def test_the_hidden_facts_differ(monkeypatch):
