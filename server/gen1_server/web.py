@@ -279,6 +279,5 @@ async def serve(config: Config, stop: asyncio.Event) -> None:
         LOG.info("stopping")
         listening.close()
         await runner.shutdown()
-        await runner.server.shutdown(1)
         await runner.cleanup()
         LOG.info("stopped")
