@@ -110,6 +110,10 @@ class Bot:
             assert fields[1] in WORDS, line
             self.believe(state, fields)
 
+    def has_left(self):
+        """Whether it has left all of its rooms."""
+        return all(state["lines"][-1] == "|deinit" for state in self.rooms.values())
+
     def believe(self, state, fields):
         """Own HP of the lines are those of the request."""
         if fields[1] == "player" and fields[3] == self.name:
@@ -176,7 +180,7 @@ def test_ten_battles(address):
                 await one.say(f"/challenge {two.name}, gen1ou")
                 await two.say(f"/accept {await two.challenges.get()}")
             await until(lambda: len(one.ended) == len(two.ended) == number)
-        await until(lambda: all(state["lines"][-1] == "|deinit" for it in (one, two) for state in it.rooms.values()))
+        await until(lambda: all(map(Bot.has_left, (one, two))))
         return one, two
 
     one, two = played(address, act, bot("Alice", with_rqid=False), bot("Eve 2", TEAMS[1]))
@@ -217,7 +221,7 @@ def test_a_challenge_a_spectator_and_a_player_that_comes_back(address):
         await one.say("/choose move 1|1", room)
         await one.say("/undo", room)
         await one.say("/forfeit", room)
-        await until(lambda: two.ended and three.ended and again.ended)
+        await until(lambda: all(map(Bot.has_left, (one, two, three, again))))
         back.cancel()
         return room, one, two, three, again
 
