@@ -38,15 +38,16 @@ TOPICS = {
     "teams": ("Teams and tables", "teams samples team_text tables"),
     "states": ("States, odds and outcomes", "states _odds _outcomes"),
     "events": ("Events and logs", "events"),
-    "players": ("Players, rooms and spectators", "players own_sides guesses rooms spectators"),
+    "players": ("Players, hosts and spectators", "players own_sides guesses rooms hosts messages spectators"),
     "arrays": ("Arrays", "arrays player_arrays outcome_arrays encodings observations layout"),
     "environments": ("Environments", "environments vectors opponents"),
     "draws": ("Draws", "draws"),
+    "search": ("Searches, and Showdown's protocol", "search showdown"),
     "names": ("Names and codes", "names"),
     "errors": ("Errors", "errors"),
 }
 # Modules with public names that gen1 itself does not have, and such names of another module.
-WHOLE = ("draws", "layout", "observations", "opponents", "team_text")
+WHOLE = ("draws", "layout", "observations", "opponents", "search", "showdown", "team_text")
 MORE = {"encodings": ["encodings.Column", "encodings.described"]}
 INDEX = """Python reference
 ================
