@@ -23,7 +23,8 @@ from gen1_server.lobby import Seeker
 from gen1_server.rooms import Reply
 from gen1_server.services import Services
 
-KNOWN = Formats()
+# The clauses of a format without a checker: those of the engine.
+CLAUSES = Formats().clauses("gen1ou")[:2]
 MOST_LINES = 8
 PASSED_OVER = "avatar autojoin away back blockchallenges cmd crq ip noreply query status unblockchallenges".split()
 # What a refusal is in Showdown's words, in a room.
@@ -34,10 +35,6 @@ SAID = {
     "no cancel": "There's nothing to cancel",
     "over": "Can't do anything: The game is over",
 }
-# For each format whether it is searched for, with a team (e) or a random one (f).
-LISTED = "|formats|,1|First generation" + "".join(
-    f"|{it.title},{'e' if it.brings_teams else 'f'}" for it in FORMATS.values()
-)
 
 
 @dataclass(slots=True)
@@ -67,7 +64,9 @@ class ShowdownConnection(Connection):
 
     def greet(self) -> None:
         self._say("", f"|updateuser| Guest {secrets.randbelow(10**7)}|0|1|{{}}")
-        self._say("", LISTED)
+        # With a team (e), or a random one (f).
+        formats = (f"|{it.title},{'e' if it.brings_teams else 'f'}" for it in FORMATS.values())
+        self._say("", f"|formats|,1|First generation{''.join(formats)}")
         self._say("", f"|challstr|{self._challenge}")
 
     async def asked(self, text: str) -> None:
@@ -144,8 +143,7 @@ class ShowdownConnection(Connection):
 
     def _opened(self, view: View) -> Shown:
         names, format = self._names(view), format_named(view.format)
-        # A format that the library lacks has the clauses of the engine alone.
-        clauses = KNOWN.clauses(view.format) if view.format in KNOWN.ids else KNOWN.clauses("gen1ou")[:2]
+        clauses = format.checker.clauses(format.id) if format.checker else CLAUSES
         members: list[Members | int] = list(view.sizes)
         seat, viewer = None, Viewer.SPECTATOR
         if view.side:

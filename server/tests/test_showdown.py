@@ -2,13 +2,8 @@
 
 import asyncio
 import json
-import os
 import random
-import socket
-import subprocess
-import sys
-import time
-from urllib.request import urlopen
+from pathlib import Path
 
 import pytest
 
@@ -31,24 +26,12 @@ WORDS = set(
 )
 
 
-@pytest.fixture(scope="module")
-def address(tmp_path_factory):
+@pytest.fixture
+def address(server):
     """The address of a server that runs."""
-    with socket.socket() as taken:
-        taken.bind(("127.0.0.1", 0))
-        port = taken.getsockname()[1]
-    database = tmp_path_factory.mktemp("showdown") / "server.db"
-    env = {**os.environ, "GEN1_SERVER_PORT": str(port), "GEN1_SERVER_DATABASE": str(database)}
-    with subprocess.Popen([sys.executable, "-m", "gen1_server"], env=env, stderr=subprocess.PIPE, text=True) as server:
-        for _ in range(200):
-            try:
-                with urlopen(f"http://127.0.0.1:{port}/ready"):
-                    break
-            except OSError:
-                time.sleep(0.05)
-        yield f"127.0.0.1:{port}"
-        server.terminate()
-        assert "Traceback" not in server.communicate()[1]
+    process = server()
+    yield f"127.0.0.1:{process.port}"
+    assert "Traceback" not in Path(process.log.name).read_text()
 
 
 class Bot:
