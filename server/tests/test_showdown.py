@@ -4,11 +4,15 @@ import asyncio
 import json
 import random
 from pathlib import Path
+from types import SimpleNamespace
 
 import pytest
+import test_core
+from gen1 import Side
+from gen1_server.accounts import Account
+from gen1_server.showdown import ShowdownConnection
 
 aiohttp = pytest.importorskip("aiohttp")
-pytest.importorskip("gen1.showdown").Formats()
 
 TEAMS = [
     "Bo|Tauros|||bodyslam,hyperbeam,earthquake,blizzard|||||||]Chansey||||softboiled,thunderwave,icebeam,sing|||||||"
@@ -288,3 +292,33 @@ def test_what_is_refused_is_said(address):
         assert one.errors[-1] == "|error|[Invalid choice] You are in no battle of this name"
 
     played(address, act, bot("Solo"))
+
+
+def watching(services, account):
+    """A connection of this protocol, for the games of test_core."""
+    services.lobby = SimpleNamespace(searching=lambda account: [])
+    made = ShowdownConnection(services, None, test_core.FakeTransport(), "")
+    made.account, made._name = Account(account, "a"), "a"
+    if account:
+        services.rooms.arrive(account, made)
+    return made
+
+
+@pytest.mark.parametrize("viewer", [None, Side.TWO], ids=["its own", "side 2"])
+def test_what_the_foe_hides_changes_nothing(monkeypatch, viewer):
+    """Twenty games twice: side 1 and the audience are sent the same, unless they are given the view of side 2."""
+    monkeypatch.setattr(test_core, "watching", watching)
+    monkeypatch.setattr("gen1_server.showdown.time", lambda: 7)
+    differ = 0
+    for seed in range(20):
+        seen = []
+        for variant in (0, 1):
+            with monkeypatch.context() as patched:
+                if viewer:
+                    patched.setattr(
+                        test_core.Match, "view", lambda self, _, view=test_core.Match.view: view(self, viewer)
+                    )
+                seen.append(asyncio.run(test_core.leak_game(seed, variant, patched)))
+        assert len(seen[0][1]) > 2 * seen[0][0] or viewer
+        differ += seen[0] != seen[1]
+    assert differ == (20 if viewer else 0)
