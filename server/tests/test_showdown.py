@@ -87,6 +87,8 @@ class Bot:
         elif fields[1] == "turn":
             state["turn"] += 1
             assert int(fields[2]) == state["turn"]
+            if state["request"]:
+                self.compare(state)
             await self.choose(room, state)
         elif fields[1] in ("win", "tie"):
             self.ended.append((room, line))
@@ -102,14 +104,29 @@ class Bot:
         return all(state["lines"][-1] == "|deinit" for state in self.rooms.values())
 
     def believe(self, state, fields):
-        """Own HP of the lines are those of the request."""
+        """Follows the own active member, and looks at the form of the foe's HP."""
         if fields[1] == "player" and fields[3] == self.name:
             state["side"] = fields[2]
+        if len(fields) < 4 or not fields[2].startswith(("p1a", "p2a")):
+            return
+        is_own = fields[2].startswith(state.get("side", "p0"))
         if fields[1] in ("switch", "-damage", "-heal"):
             health = fields[4 if fields[1] == "switch" else 3]
-            hp, _, most = health.split(" ")[0].partition("/")
-            if not fields[2].startswith(state.get("side", "p0")):
+            if is_own:
+                state["own"] = [fields[2][5:], health]
+            else:
+                hp, _, most = health.split(" ")[0].partition("/")
                 assert most in ("100", "") and int(hp) <= 100, fields
+        elif is_own and fields[1] == "-status":
+            state["own"][1] = f"{state['own'][1].split(' ')[0]} {fields[3]}"
+        elif is_own and fields[1] == "-curestatus":
+            state["own"][1] = state["own"][1].split(" ")[0]
+
+    def compare(self, state):
+        """The request says the same of the own active member as the lines."""
+        listed = state["request"]["side"]["pokemon"]
+        assert [it["active"] for it in listed] == [True] + [False] * (len(listed) - 1)
+        assert state["own"] == [listed[0]["ident"][4:], listed[0]["condition"]], state["lines"][-20:]
 
     async def choose(self, room, state):
         request = state["request"]
