@@ -259,3 +259,129 @@ impl Seat {
         own.members.iter().filter(|member| member.hp > 0).count()
     }
 }
+
+#[cfg(test)]
+mod tests {
+    use super::*;
+    use crate::{Heading, LineWriter, Viewer, index, request};
+    use gen1::{Host, HostOptions};
+
+    const TEAMS: [&str; 2] = [
+        "Arbok||||wrap,glare,rest|||||||]Nidoking||||thrash,disable,toxic|||||||]Charizard||||fly,rage,leer|||||||",
+        "Gengar||||substitute,confuseray,hypnosis|||||||]Golbat||||mist,haze,toxic|||||||]Cloyster||||clamp,surf,growl|||||||",
+    ];
+
+    fn lines(members: [Vec<String>; 2]) -> LineWriter {
+        LineWriter::new(Heading {
+            players: ["Alice", "Eve"].map(String::from),
+            members,
+            tier: "[Gen 1] Link battle".into(),
+            rules: Vec::new(),
+            hp: Hp::Percent,
+        })
+    }
+
+    /// A battle, and a host of the same one, with the lines and the seats of both.
+    struct Twice {
+        battle: Battle,
+        host: Host,
+        run: LineWriter,
+        sent: LineWriter,
+        /// The lines of each side from what it alone is told; it doesn't know the names of the foe's members.
+        told: [LineWriter; 2],
+        of_battle: [Seat; 2],
+        of_host: [Seat; 2],
+    }
+
+    impl Twice {
+        fn new(seed: u8) -> Twice {
+            let members = TEAMS.map(|text| Members::in_text(text).expect("members"));
+            let teams = members.each_ref().map(|it| Team::new(&it.specs));
+            let teams = teams.map(|it| it.expect("a team"));
+            let names = || members.each_ref().map(names_of);
+            let seat = |side| {
+                let at = index(side);
+                Seat::new(side, "A".into(), &members[at], &teams[at], Hp::Percent)
+            };
+            let battle = Battle::new(&teams[0], &teams[1], [seed; 10]);
+            let mut options = HostOptions::default();
+            options.exact_hp = true;
+            Twice {
+                host: Host::with_options(battle.clone(), options),
+                battle,
+                run: lines(names()),
+                sent: lines(names()),
+                told: Side::BOTH.map(|side| {
+                    let mut known = names();
+                    known[index(side.other())].fill(String::new());
+                    lines(known)
+                }),
+                of_battle: Side::BOTH.map(seat),
+                of_host: Side::BOTH.map(seat),
+            }
+        }
+
+        /// Updates the battle, and takes in what the host, which has played the pair, sends.
+        fn update(&mut self, [one, two]: [Choice; 2]) {
+            let (before, mut log) = (self.battle.clone(), LogBuf::new());
+            let updated = self.battle.update_with(one, two, &mut log);
+            updated.expect("offered choices");
+            let events = events_of(&log).collect::<Result<Vec<_>, _>>();
+            let events = events.expect("a log");
+            self.run.update(&before, &events, &self.battle, None);
+            let messages = Side::BOTH.map(|side| self.host.message(side));
+            let reported = self
+                .sent
+                .report(messages.each_ref(), &self.host.notice(), None);
+            reported.expect("logs");
+            for (side, message) in Side::BOTH.into_iter().zip(&messages) {
+                let at = index(side);
+                let own = Some((side, message.own()));
+                let heard = self.told[at].hear(message.log(), own, None);
+                heard.expect("a log");
+                let told = self.of_battle[at].tell(&self.battle, &log);
+                told.expect("a log");
+                self.of_host[at].receive(message).expect("a log");
+            }
+        }
+
+        fn compare(&self) {
+            assert_eq!(
+                self.run.text(Viewer::Stream),
+                self.sent.text(Viewer::Stream)
+            );
+            for side in Side::BOTH {
+                let (at, viewer) = (index(side), Viewer::Player(side));
+                assert_eq!(self.run.text(viewer), self.told[at].text(viewer));
+                let [one, two] = [&self.of_battle[at], &self.of_host[at]];
+                assert_eq!(request(one, 1), request(two, 1));
+            }
+        }
+    }
+
+    /// What a host sends gives the lines and the requests that the battle itself gives, to each side from its own messages.
+    #[test]
+    fn what_is_sent_is_enough() {
+        for seed in 0..40 {
+            let mut twice = Twice::new(seed);
+            let mut chosen = [Choice::Pass; 2];
+            for pair in 0..60 {
+                twice.update(chosen);
+                twice.compare();
+                if twice.host.is_closed() {
+                    break;
+                }
+                chosen = Side::BOTH.map(|side| {
+                    let choices = twice.battle.choices(side);
+                    choices[(usize::from(seed) * 7 + pair as usize * 13) % choices.len()]
+                });
+                for (side, choice) in Side::BOTH.into_iter().zip(chosen) {
+                    if choice != Choice::Pass {
+                        let replied = twice.host.submit(side, pair, choice, None);
+                        replied.expect("an offered choice");
+                    }
+                }
+            }
+        }
+    }
+}
