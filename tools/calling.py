@@ -5,7 +5,7 @@ The documents are README.md, docs/PROVED.md and crates/*/CALLING.md. A document 
     <!-- calling: NAME -->      an example: a part of crates/uses/src or of crates/gen1_c/src/the_theorem.rt, as a fenced block;
                                 after `NAME:` may be the names of the functions and types that are shown of it
     <!-- laws: CRATE .. -->     the laws of crates, each with the first paragraph of its `///` comment, up to a line `<!-- end -->`
-    <!-- contracts: CRATE -->   the public functions of a crate with the names of their clauses, up to a line `<!-- end -->`
+    <!-- contracts: CRATE -->   the public functions of a crate by file, up to a line `<!-- end -->`
 
 An example is between two lines of the source, which don't belong to it:
 

@@ -1,4 +1,4 @@
-"""The public functions of crates/, with their `///` comments and the names of their clauses; and the purpose of each crate."""
+"""The public functions of crates/, with their `///` comments and whether they have clauses; and the purpose of each crate."""
 
 import os
 import re
@@ -103,8 +103,8 @@ def exported(crate):
 
 
 def contracts(crates, folder):
-    """A row of Markdown for each file of these crates: its exported functions, each with the names of its clauses."""
-    yield "| Source | Functions, each with the clauses of its contract |\n|---|---|\n"
+    """A row of Markdown for each file of these crates, with its exported functions."""
+    yield "| Source | Functions |\n|---|---|\n"
     for crate in crates:
         names = exported(crate)
         for file in sources(crate):
@@ -115,11 +115,8 @@ def contracts(crates, folder):
 
 
 def call(it):
-    """A function with the names of its clauses. One clause may have no name."""
-    requires, ensures = (", ".join(f"`{name}`" for name in names if name) for names in (it.requires, it.ensures))
-    clauses = "; ".join(filter(None, (f"requires {requires}" if requires else "", ensures)))
-    name = f"{it.owner}::{it.name}" if it.owner else it.name
-    return f"`{name}`" + (f" ({clauses})" if clauses else "")
+    """The name of a function."""
+    return f"`{it.owner}::{it.name}`" if it.owner else f"`{it.name}`"
 
 
 def purpose(crate):
