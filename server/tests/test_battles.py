@@ -2,9 +2,11 @@
 
 import asyncio
 import json
+import os
 import random
 from functools import partial
 
+import gen1
 import pytest
 from client import PACKAGE, Client, guest, packed, paired, play, run, unpacked
 from gen1 import Message, Notice, Player, Side, Team, sample_teams
@@ -12,6 +14,8 @@ from gen1_server import keeping, records
 from gen1_server.config import Config
 from gen1_server.core import replayed
 
+# How often a server is killed, and how many duels go on meanwhile.
+KILLS, DUELS = int(os.environ.get("KILLS", "3")), int(os.environ.get("DUELS", "12"))
 TEAMS = [it.to_dicts() for it in sample_teams().values()]
 
 
@@ -211,6 +215,8 @@ class Duel:
             if "ending" in given:
                 if at == 0:
                     await me.say(type="challenge", to=self.names[1], format="gen1randombattle")
+            elif given["number"] >= 25:
+                await me.say(type="forfeit", room=given["room"])
             elif given["awaited"]:
                 choice = self.chance.choice(given["choices"])
                 await me.say(type="choose", room=given["room"], number=given["number"], choice=choice)
@@ -226,12 +232,14 @@ class Duel:
 def test_killed_three_times(server, database):
     """Nothing that was taken is lost, no pair is played twice, and what was told is what the rows say."""
     it = server(database=database, grace_seconds=30, messages_per_second=1000.0)
+    # Each start takes a second, and more where other tests run.
+    kills = KILLS if database.endswith(".db") else 1
 
     async def test(session):
-        duels = [Duel(session, it, number, 14) for number in range(12)]
+        duels = [Duel(session, it, number, 4 * kills + 1) for number in range(DUELS)]
         bots = [asyncio.create_task(duel.bot(at)) for duel in duels for at in (0, 1)]
-        for _ in range(3):
-            await asyncio.sleep(2.5)
+        for _ in range(kills):
+            await asyncio.sleep(2)
             it.kill()
             await asyncio.to_thread(it.start)
         await asyncio.gather(*bots)
@@ -243,13 +251,13 @@ def test_killed_three_times(server, database):
     config = Config(database=database)
     last = max(room for duel in duels for room, _ in duel.logs)
     rooms = keeping.within(config, partial(records.stored, list(range(1, last + 1))))
-    assert len(rooms) == last and sum(room.ending is not None for room in rooms) >= 12
+    assert len(rooms) == last and sum(room.ending is not None for room in rooms) > DUELS
     stored = {room.start.id: room for room in rooms}
     for duel in duels:
         for room, at, number in duel.taken:
-            side = duel.sides[at, room]
-            assert [e.row.number for e in stored[room].entries if e.row.side == side].count(number) == 1
+            rows = [it.row for it in stored[room].entries if it.row.kind == gen1.RowKind.SUBMIT]
+            assert [it.number for it in rows if it.side == duel.sides[at, room]].count(number) == 1
         for (room, side), logs in duel.logs.items():
             told = [packed(log) for log in replayed(stored[room].start, stored[room].entries).view(Side(side)).logs]
             assert logs == told[: len(logs)]
-    assert sum(len(duel.taken) for duel in duels) > 500
+    assert sum(len(duel.taken) for duel in duels) > 20 * DUELS

@@ -421,31 +421,38 @@ def test_names_passwords_and_tokens(server):
 # ---- what an operator does ----
 
 
-def test_backup_restore_prune_and_check(server, database, tmp_path):
-    it = server(database=database, keep_days=1)
+def test_backup_restore_and_prune(server, database, tmp_path):
+    it = server(database=database)
 
     async def test(session):
         one, two = await guest(session, it, "One"), await guest(session, it, "Two")
-        first, _ = await paired(one, two)
-        await one.say(type="forfeit", room=1)
-        await one.until("update")
+        await paired(one, two)
+        await one.ask("update", type="forfeit", room=1)
 
     run(test)
-    copy = tmp_path / "copy"
-    assert it.command("backup", str(copy))[0] == 0 and copy.stat().st_mode & 0o077 == 0
-    assert it.command("backup", str(copy))[0] == 1
-    assert it.command("check")[0] == 0 and it.command("--check")[0] == 0
-    assert it.command("restore", str(copy))[0] == 1
+    copy, config = tmp_path / "copy", Config(database=database, keep_days=1)
+    keeping.backup(config, copy)
+    assert copy.stat().st_mode & 0o077 == 0
+    for done in (keeping.backup, keeping.restore):
+        with pytest.raises(keeping.Failed):
+            done(config, copy)
     it.stop()
     if "://" not in database:
-        it.options["database"] = str(tmp_path / "restored.db")
-        it.config.write_text(it.config.read_text().replace(database, it.options["database"]))
-        assert it.command("restore", str(copy))[0] == 0
-        assert it.command("verify") == (0, "1 finished battles end as they were stored\n")
-    assert it.command("prune")[1] == "removed 0 battles\n"
-    config = Config(database=it.options["database"])
+        config = Config(database=str(tmp_path / "restored.db"), keep_days=1)
+        keeping.restore(config, copy)
+        assert keeping.verify(config) == "1 finished battles end as they were stored"
+    assert keeping.prune(config) == "removed 0 battles"
     assert keeping.within(config, partial(records.prune, 1 << 50)) == 1
-    assert it.command("backup")[0] == 2 and it.command("restore", "nothing")[0] == 1
+
+
+def test_commands(server):
+    it = server()
+    assert it.command("check")[0] == it.command("--check")[0] == it.command("verify")[0] == 0
+    assert it.command("backup") == (2, "gen1_server: backup needs FILE\n")
+    assert it.command("restore", "nothing") == (1, "gen1_server: there is no file nothing\n")
+    assert it.command("migrate")[0] == 1
+    it.stop()
+    assert it.command("migrate") == (0, "the database has version 0001; it had 0001\n")
 
 
 def test_the_lock_of_a_file(tmp_path):
