@@ -304,8 +304,10 @@ mod tests {
                 Seat::new(side, "A".into(), &members[at], &teams[at], Hp::Percent)
             };
             let battle = Battle::new(&teams[0], &teams[1], [seed; 10]);
-            let mut options = HostOptions::default();
-            options.exact_hp = true;
+            let options = HostOptions {
+                exact_hp: true,
+                ..HostOptions::default()
+            };
             Twice {
                 host: Host::with_options(battle.clone(), options),
                 battle,
