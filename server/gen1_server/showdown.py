@@ -71,6 +71,7 @@ class ShowdownConnection(Connection):
 
     async def asked(self, text: str) -> None:
         where, bar, said = text.partition("|")
+        self._where = ""
         if not bar:
             raise Refused("message", "a message is ROOM|TEXT")
         # A refusal is said there.
@@ -94,7 +95,8 @@ class ShowdownConnection(Connection):
     def refused(self, fault: Refused) -> None:
         if self._where:
             said = SAID.get(fault.code, _line(str(fault)))
-            self._say(self._where, f"|error|[Invalid choice] {said}")
+            of_choice = "[Invalid choice] " if fault.code in (*SAID, "choice", "no room", "not yours") else ""
+            self._say(self._where, f"|error|{of_choice}{said}")
         else:
             self._say("", f"|popup|{_line(str(fault))}")
 

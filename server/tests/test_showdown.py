@@ -311,6 +311,46 @@ def test_what_is_refused_is_said(address):
     played(address, act, bot("Solo"))
 
 
+def test_messages_that_no_client_sends(address):
+    """They are refused, none of them makes the server fail, and it plays on."""
+    words = (
+        "trn utm search challenge accept reject logout join leave choose undo forfeit offertie timer __init__".split()
+    )
+    rests = [
+        "",
+        ",,,",
+        "a|b,0,",
+        "☆,0,",
+        "Solo,0,4|ff;00",
+        "gen9ou",
+        "gen1ou",
+        "move 1|" + "9" * 30,
+        "battle--",
+        "battle-gen1ou-²",
+    ]
+    rooms = ["", "lobby", "battle-gen1ou-1", "battle-gen1ou-" + "9" * 15, "x" * 999]
+
+    async def act(one):
+        await one.named.wait()
+        dice = random.Random(9)
+        for _ in range(400):
+            await one.say(f"/{dice.choice(words)} {dice.choice(rests)}", dice.choice(rooms))
+            await one.socket.send_str("".join(chr(dice.randrange(1, 999)) for _ in range(dice.randrange(9))))
+        one.named.clear()
+        await one.say("/trn Solo,0,")
+        await asyncio.wait_for(one.named.wait(), 60)
+        assert len(one.popups) > 200 and "the server failed" not in one.popups
+
+    played(address, act, bot("Solo", kind=Listener))
+
+
+class Listener(Bot):
+    """It looks at no room, and is refused names."""
+
+    async def of_room(self, room, line):
+        pass
+
+
 def watching(services, account):
     """A connection of this protocol, for the games of test_core."""
     services.lobby = SimpleNamespace(searching=lambda account: [])
