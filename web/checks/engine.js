@@ -7,7 +7,7 @@ import {chancesOf} from "../src/chances.js";
 import {choose, scores} from "../src/computer.js";
 import {Engine} from "../src/engine.js";
 import {guessed, playerOf} from "../src/guesses.js";
-import {Match} from "../src/match.js";
+import {LocalMatch} from "../src/match.js";
 import {usualMoves} from "../src/sets.js";
 import {conditionWords, whole} from "../src/sides.js";
 
@@ -49,7 +49,7 @@ const tauros = (...moves) => ({
 });
 const terms = (one, two) => ({one, two, seed: SEED, rules: 0, limit: 1000});
 const asked = (moves, player) => {
-  const match = new Match(engine, terms([tauros(...moves)], [tauros(...moves)]), [player, "random"]);
+  const match = new LocalMatch(engine, terms([tauros(...moves)], [tauros(...moves)]), [player, "random"]);
   match.update([0, 0]);
   return match.question(1, 1);
 };
@@ -210,7 +210,7 @@ check("guesses fit what a player knows", () => {
   let [state, count] = [12345, 0];
   const draw = (bound) => ((state = (Math.imul(state, 1103515245) + 12345) >>> 0) >>> 8) % bound;
   for (let round = 0; round < 12; round++) {
-    const match = new Match(engine,
+    const match = new LocalMatch(engine,
         {...terms(six(round), six(round + 5)), seed: Array.from({length: 10}, () => draw(256))}, ["random", "random"]);
     match.update([0, 0]);
     for (; !match.isOver; match.update([1, 2].map((side) => {

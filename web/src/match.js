@@ -1,4 +1,4 @@
-// A battle that is played: its updates, and each of them as it is reported and shown to each side.
+// A battle that is shown while it is played: its updates, and what each side knows of them. The page plays it itself, or a server does (remote.js).
 import {byteOf, REASONS} from "gen1";
 
 import {joined} from "./bytes.js";
@@ -9,10 +9,10 @@ import {guessed} from "./guesses.js";
  * @typedef {import("./engine.js").GameEvent} GameEvent
  * @typedef {1 | 2} Side
  * @typedef {Side | 0 | "all"} Viewer a side, what both sides know, or everything
- * @typedef {{ pair: number[], battle: Uint8Array, log: Uint8Array, told: Uint8Array[], tellers: import("gen1").Teller[],
- *   players: import("gen1").Player[], marks: number[][], views: import("gen1").PlayerView[], usual: import("gen1").Battle[] }} Step the situation
- *   after a pair of choices; each list has an item for each side, and the last two are filled on demand. Marks are the places of the foe's members
- *   that the side has put to sleep.
+ * @typedef {{ told: Uint8Array[], players: import("gen1").Player[], marks: number[][], views: import("gen1").PlayerView[],
+ *   usual: import("gen1").Battle[] }} Known the knowledge after a pair of choices; each list has an item for each side, and the last two are filled on
+ *   demand. Marks are the places of the foe's members that the side has put to sleep.
+ * @typedef {Known & { pair: number[], battle: Uint8Array, log: Uint8Array, tellers: import("gen1").Teller[] }} Step the whole situation
  */
 
 /** @type {Side[]} */
@@ -27,7 +27,7 @@ const SEEN_REASONS = REASONS.slice(REASONS.indexOf("the foe is awake"));
  * @param {GameEvent[]} events
  * @param {Side} side
  */
-function marksAfter(before, events, side) {
+export function marksAfter(before, events, side) {
   let {foe, mover, places} = before;
   for (const event of events) {
     if (event.kind === "move") mover = event.side;
@@ -41,65 +41,41 @@ function marksAfter(before, events, side) {
   return places;
 }
 
-/** A battle with its updates. */
+/**
+ * What each side knows of a battle, update by update. This is all that the page shows of a battle in covered hands.
+ * @template {Known} S
+ */
 export class Match {
-  /** @param {import("./engine.js").Engine} engine @param {import("./engine.js").Terms} terms @param {string[]} who plays the sides */
+  /**
+   * @param {import("./engine.js").Engine} engine
+   * @param {import("./engine.js").Terms} terms of a battle at a server without the foe's team and the seed
+   * @param {string[]} who plays the sides
+   */
   constructor(engine, terms, who) {
     this.engine = engine;
     this.terms = terms;
     this.who = who;
-    /** @type {Step[]} */
+    /** @type {S[]} */
     this.steps = [];
-    const [one, two] = [terms.one, terms.two];
-    /** @type {Step} before the first update */
-    this.before = {
-      pair: [],
-      battle: engine.begin(terms),
-      log: new Uint8Array(),
-      told: [],
-      marks: [[], []],
-      views: [],
-      usual: [],
-      tellers: SIDES.map((side) => engine.gen1.teller({side, pixels: true})),
-      players: SIDES.map(
-          (side) => engine.gen1.player({side, team: side === 1 ? one : two, foes: (side === 1 ? two : one).length})),
-    };
+    /** The part of the page that shows it. */
+    this.tab = "play";
+    /** @type {string[] | null} the names of the sides, if they have any */
+    this.names = null;
+    /** @type {import("./address.js").Values} at a server, its values in an address */
+    this.address = {};
+    /** At a server, how it ended. */
+    this.ended = "";
+    /** @type {(what: "choose" | "rematch", choice?: number) => void} at a server, asks it for something */
+    this.act = () => {};
   }
 
   get last() {
-    return this.steps[this.steps.length - 1] ?? this.before;
+    return this.steps[this.steps.length - 1];
   }
 
   /** The sides that persons play. */
   get persons() {
     return SIDES.filter((side) => this.who[side - 1] === "person");
-  }
-
-  /**
-   * Updates the battle with a pair of choices.
-   * @param {number[]} pair
-   */
-  update(pair) {
-    const {last, engine} = this;
-    const {refused, battle, log} = engine.update(last.battle, pair[0], pair[1]);
-    if (refused) throw new Problem(`The choices ${pair.join(" and ")} are refused: the battle cannot continue.`);
-    const [tellers, players] = [last.tellers.map((it) => it.clone()), last.players.map((it) => it.clone())];
-    const told = tellers.map((teller) => teller.tell(log));
-    const loaded = engine.gen1.load(battle);
-    players.forEach((player, at) => {
-      player.feed(told[at]);
-      player.show(loaded);
-    });
-    const marks = SIDES.map((side) => {
-      const before = {foe: this.view(side).foe.active?.place ?? 0, mover: 0, places: last.marks[side - 1]};
-      return marksAfter(before, engine.events(told[side - 1]), side);
-    });
-    this.steps.push({pair, battle, log, told, tellers, players, marks, views: [], usual: []});
-  }
-
-  /** Everything about the battle after a step. */
-  state(step = this.last) {
-    return this.engine.state(step.battle);
   }
 
   /**
@@ -109,6 +85,15 @@ export class Match {
   view(side, step = this.last) {
     const {players, views} = step;
     return (views[side - 1] ??= players[side - 1].view);
+  }
+
+  /**
+   * What the other side sees of a side.
+   * @param {Side} side
+   */
+  seen(side, step = this.last) {
+    const view = this.view(side === 1 ? 2 : 1, step);
+    return view.side === side ? view.ownPublic : view.foe;
   }
 
   /**
@@ -134,6 +119,131 @@ export class Match {
   isAsked(side) {
     const [first] = this.offered(side);
     return this.who[side - 1] === "person" && first !== undefined && first !== 0;
+  }
+
+  /**
+   * A battle that fits a side's knowledge: the foe's members have the highest stats, and those that have not appeared are arbitrary.
+   * @param {Side} side
+   */
+  usual(side, step = this.last) {
+    const {rules, limit} = this.terms;
+    let drawn = 0;
+    const draw = (/** @type {number} */ bound) => drawn++ % bound;
+    const frame = {seed: Array(10).fill(0), rules, limit, marks: step.marks[side - 1]};
+    return (step.usual[side - 1] ??= guessed(this.engine, step.players[side - 1], draw, frame));
+  }
+
+  /**
+   * A side's marks after the events of another update.
+   * @param {Side} side @param {Uint8Array} told @param {S} [before] the step before it
+   */
+  marksAfter(side, told, before = this.last) {
+    const [foe, places] = before ? [this.view(side, before).foe.active?.place ?? 0, before.marks[side - 1]] : [0, []];
+    return marksAfter({foe, mover: 0, places}, this.engine.events(told), side);
+  }
+
+  /**
+   * The events of an update with the reasons why moves failed, as a viewer can know them: those of the library for the position before the update,
+   * or after it for the side that acted second.
+   * @param {S} step @param {Viewer} viewer @param {GameEvent[]} events
+   */
+  explained(step, viewer, events) {
+    let [acts, move] = [0, ""];
+    for (const event of events) {
+      if (event.kind === "move" || event.kind === "switch") acts++;
+      if (event.kind === "move") move = event.line.split("|")[3];
+      if (event.kind !== "-fail" || !viewer) continue;
+      const at = acts > 1 ? step : this.steps[this.steps.indexOf(step) - 1];
+      event.reason = this.reason(at, viewer, event.side === 1 ? 1 : 2, move);
+    }
+    return events;
+  }
+
+  /** @param {S | undefined} step @param {Viewer} viewer @param {Side} side that fails @param {string} move */
+  reason(step, viewer, side, move) {
+    if (!step || this.view(1, step).outcome !== "ongoing") return undefined;
+    const reason = this.basis(viewer, step)?.odds(side, move).reason;
+    return reason && SEEN_REASONS.includes(reason) ? reason : undefined;
+  }
+
+  /**
+   * The position after a step by which a viewer explains why a move fails; null if there is none.
+   * @param {Viewer} viewer @param {S} step @returns {import("gen1").Battle | null}
+   */
+  basis(viewer, step) {
+    return viewer === 1 || viewer === 2 ? this.usual(viewer, step) : null;
+  }
+
+  /**
+   * The events of an update, as they are reported to a viewer.
+   * @param {S} step
+   * @param {Viewer} viewer
+   * @returns {GameEvent[]}
+   */
+  events(step, viewer) {
+    return this.explained(step, viewer, this.engine.events(step.told[viewer === 2 ? 1 : 0]));
+  }
+
+  /**
+   * The log of all updates, as it is reported to a viewer.
+   * @param {Viewer} viewer
+   */
+  log(viewer) {
+    return joined(...this.steps.map((step) => step.told[viewer === 2 ? 1 : 0]));
+  }
+}
+
+/**
+ * A battle that the page plays itself.
+ * @extends {Match<Step>}
+ */
+export class LocalMatch extends Match {
+  /** @param {import("./engine.js").Engine} engine @param {import("./engine.js").Terms} terms @param {string[]} who plays the sides */
+  constructor(engine, terms, who) {
+    super(engine, terms, who);
+    const [one, two] = [terms.one, terms.two];
+    /** @type {Step} before the first update */
+    this.before = {
+      pair: [],
+      battle: engine.begin(terms),
+      log: new Uint8Array(),
+      told: [],
+      marks: [[], []],
+      views: [],
+      usual: [],
+      tellers: SIDES.map((side) => engine.gen1.teller({side, pixels: true})),
+      players: SIDES.map(
+          (side) => engine.gen1.player({side, team: side === 1 ? one : two, foes: (side === 1 ? two : one).length})),
+    };
+  }
+
+  /** @returns {Step} */
+  get last() {
+    return super.last ?? this.before;
+  }
+
+  /**
+   * Updates the battle with a pair of choices.
+   * @param {number[]} pair
+   */
+  update(pair) {
+    const {last, engine} = this;
+    const {refused, battle, log} = engine.update(last.battle, pair[0], pair[1]);
+    if (refused) throw new Problem(`The choices ${pair.join(" and ")} are refused: the battle cannot continue.`);
+    const [tellers, players] = [last.tellers.map((it) => it.clone()), last.players.map((it) => it.clone())];
+    const told = tellers.map((teller) => teller.tell(log));
+    const loaded = engine.gen1.load(battle);
+    players.forEach((player, at) => {
+      player.feed(told[at]);
+      player.show(loaded);
+    });
+    const marks = SIDES.map((side) => this.marksAfter(side, told[side - 1]));
+    this.steps.push({pair, battle, log, told, tellers, players, marks, views: [], usual: []});
+  }
+
+  /** Everything about the battle after a step. */
+  state(step = this.last) {
+    return this.engine.state(step.battle);
   }
 
   /**
@@ -175,65 +285,24 @@ export class Match {
     };
   }
 
-  /**
-   * A battle that fits a side's knowledge: the foe's members have the highest stats, and those that have not appeared are arbitrary.
-   * @param {Side} side
-   */
-  usual(side, step = this.last) {
-    const {rules, limit} = this.terms;
-    let drawn = 0;
-    const draw = (/** @type {number} */ bound) => drawn++ % bound;
-    const frame = {seed: Array(10).fill(0), rules, limit, marks: step.marks[side - 1]};
-    return (step.usual[side - 1] ??= guessed(this.engine, step.players[side - 1], draw, frame));
+  /** @param {Viewer} viewer @param {Step} step */
+  basis(viewer, step) {
+    return viewer === "all" ? this.engine.gen1.load(step.battle) : super.basis(viewer, step);
   }
 
-  /**
-   * The events of an update with the reasons why moves failed, as a viewer can know them: those of the library for the position before the update,
-   * or after it for the side that acted second.
-   * @param {Step} step @param {Viewer} viewer @param {GameEvent[]} events
-   */
-  explained(step, viewer, events) {
-    let [acts, move] = [0, ""];
-    for (const event of events) {
-      if (event.kind === "move" || event.kind === "switch") acts++;
-      if (event.kind === "move") move = event.line.split("|")[3];
-      if (event.kind !== "-fail" || !viewer) continue;
-      const at = acts > 1 ? step : this.steps[this.steps.indexOf(step) - 1];
-      event.reason = this.reason(at, viewer, event.side === 1 ? 1 : 2, move);
-    }
-    return events;
-  }
-
-  /** @param {Step | undefined} step @param {Viewer} viewer @param {Side} side that fails @param {string} move */
-  reason(step, viewer, side, move) {
-    if (!step || !viewer || this.view(1, step).outcome !== "ongoing") return undefined;
-    const battle = viewer === "all" ? this.engine.gen1.load(step.battle) : this.usual(viewer, step);
-    const {reason} = battle.odds(side, move);
-    return reason && SEEN_REASONS.includes(reason) ? reason : undefined;
-  }
-
-  /**
-   * The events of an update, as they are reported to a viewer.
-   * @param {Step} step
-   * @param {Viewer} viewer
-   * @returns {GameEvent[]}
-   */
+  /** @param {Step} step @param {Viewer} viewer @returns {GameEvent[]} */
   events(step, viewer) {
-    if (viewer)
-      return this.explained(step, viewer, this.engine.events(viewer === "all" ? step.log : step.told[viewer - 1]));
+    if (viewer === "all") return this.explained(step, viewer, this.engine.events(step.log));
+    if (viewer) return super.events(step, viewer);
     // Both sides know what is reported about a side to the other side.
     const [one, two] = step.told.map((told) => this.engine.events(told));
     return one.map((event, at) => (event.side === 1 ? two[at] : event));
   }
 
-  /**
-   * The log of all updates, as it is reported to a viewer.
-   * @param {Viewer} viewer
-   */
+  /** @param {Viewer} viewer */
   log(viewer) {
     if (viewer === "all") return joined(...this.steps.map((step) => step.log));
-    if (viewer) return joined(...this.steps.map((step) => step.told[viewer - 1]));
-    return joined(...this.steps.flatMap((step) => this.pieces(step)));
+    return viewer ? super.log(viewer) : joined(...this.steps.flatMap((step) => this.pieces(step)));
   }
 
   /**

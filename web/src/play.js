@@ -1,4 +1,4 @@
-// Play: two persons at one screen, or against the computer. The page shows only what the person who plays may know.
+// Play: two persons at one screen, against the computer, or at a server. The page shows only what the person who plays may know.
 import {link, setAddress} from "./address.js";
 import {Card} from "./card.js";
 import {areOut, sceneOf, standingIn} from "./carried.js";
@@ -7,7 +7,7 @@ import {find, guarded, keepForTab, keepingFocus, kept, make, Problem} from "./do
 import {Field} from "./field.js";
 import {ofAddress, toAddress} from "./inputs.js";
 import {Log} from "./log.js";
-import {Match, SIDES} from "./match.js";
+import {LocalMatch, SIDES} from "./match.js";
 import {Motion} from "./motion.js";
 import {randomSeed} from "./random.js";
 import {Setup} from "./setup.js";
@@ -25,6 +25,11 @@ const GOING = ["bide", "thrash", "trapping", "charging", "recharge", "rage"];
 const KEYS = ["123456789", "qwertyuio"];
 const PLAYERS = ["person", "random", "greedy", "playouts", "cheating"];
 const SAVED = "battle";
+/** @type {Record<string, string>} the headings of the forms that start battles, by the part of the page */
+const HEADS = {
+  play: "play-teams",
+  online: "online-head"
+};
 const GUESSED = "The foe has its highest possible stats, and moves of a usual set where it has not shown them.";
 
 /** The part of the page that plays. */
@@ -49,9 +54,13 @@ export class Play {
     this.log = new Log(
         find("play-lines", HTMLElement), find("play-search", HTMLInputElement), find("play-found", HTMLElement));
     this.motion = new Motion(this.field, find("speed", HTMLSelectElement), find("sounds", HTMLInputElement));
-    /** @type {Match | null} */
+    /** @type {import("./match.js").Match<any> | null} */
     this.match = null;
     this.isOpen = false;
+    /** How many updates of a battle at a server were shown. */
+    this.shown = 0;
+    /** Called when the battle is drawn. */
+    this.drawn = () => {};
     /** The side whose choices are shown, if two persons play and hands are covered; 0 while they are. */
     this.revealed = 0;
     this.isMoving = false;
@@ -65,7 +74,7 @@ export class Play {
     this.thinking = [null, null];
     this.asked = 0;
     this.code = "";
-    /** @type {Match | null} the battle that was left last */
+    /** @type {{ match: LocalMatch, isOpen: boolean } | null} the battle that was left last */
     this.left = null;
     this.listen();
   }
@@ -100,15 +109,30 @@ export class Play {
     return this.match;
   }
 
+  /** The battle, where the page plays it itself. */
+  get local() {
+    if (!(this.match instanceof LocalMatch)) throw new Problem("There is no battle yet.");
+    return this.match;
+  }
+
+  get isLocal() {
+    return this.match instanceof LocalMatch;
+  }
+
+  /** The part of the page that shows the battle. */
+  get tab() {
+    return this.match?.tab ?? "play";
+  }
+
   /** Whether everything may be shown: in open hands, if only the computer plays, and after the battle. */
   get isBare() {
-    return this.isOpen || !this.game.persons.length || this.game.isOver;
+    return this.isLocal && (this.isOpen || !this.game.persons.length || this.game.isOver);
   }
 
   /** Who tells the lines, which stays the same for a whole battle. @returns {import("./match.js").Viewer} */
   get teller() {
     const {persons} = this.game;
-    if (this.isOpen || !persons.length) return "all";
+    if (this.isOpen || (this.isLocal && !persons.length)) return "all";
     return persons.length === 1 ? persons[0] : 0;
   }
 
@@ -119,10 +143,11 @@ export class Play {
 
   /** @returns {import("./inputs.js").Recorded} */
   recorded() {
-    return this.isBare ? {input: this.game.input()} : {log: this.game.log(this.teller)};
+    return this.isBare ? {input: this.local.input()} : {log: this.game.log(this.teller)};
   }
 
   link() {
+    if (!this.isLocal && !this.game.isOver) return link(this.tab, this.game.address);
     return this.isBare ? link("play", this.values()) : link("replay", {b: toAddress(this.recorded())});
   }
 
@@ -135,25 +160,45 @@ export class Play {
 
   /** Begins a battle of the same teams, with another seed. */
   rematch() {
-    const {terms, who} = this.game;
+    if (!this.isLocal) return this.game.act("rematch");
+    const {terms, who} = this.local;
     this.begin({...terms, seed: randomSeed()}, [[0, 0]], who, this.isOpen);
     find("play-now", HTMLElement).focus();
   }
 
   /** @param {import("./engine.js").Terms} terms @param {number[][]} pairs @param {string[]} who plays the sides @param {boolean} isOpen */
   begin(terms, pairs, who, isOpen) {
-    const match = new Match(this.engine, terms, who);
+    const match = new LocalMatch(this.engine, terms, who);
     for (const pair of pairs) match.update(pair);
     this.open(match, isOpen);
   }
 
-  /** @param {Match} match @param {boolean} isOpen */
+  /** @param {import("./match.js").Match<any>} match @param {boolean} isOpen */
   open(match, isOpen) {
+    if (this.tab !== match.tab) this.leave();
     this.drop();
-    [this.match, this.isOpen] = [match, isOpen];
-    find("play-setup", HTMLElement).hidden = true;
-    find("play-game", HTMLElement).hidden = false;
+    [this.match, this.isOpen, this.shown] = [match, isOpen, match.steps.length];
+    const game = find("play-game", HTMLElement);
+    find(`panel-${match.tab}`, HTMLElement).append(game);
+    find(`${match.tab}-setup`, HTMLElement).hidden = true;
+    game.hidden = false;
     this.retell();
+    this.next(true);
+  }
+
+  /** Shows the updates of a battle at a server that were not shown yet. */
+  async follow() {
+    const asked = this.asked;
+    if (this.isMoving) return;
+    this.isMoving = true;
+    this.wait("");
+    this.drawChoices();
+    while (this.shown < this.game.steps.length) {
+      const step = this.game.steps[this.shown++];
+      const isWhole = await this.motion.play(this.game.events(step, this.teller), (event) => this.log.add([event]));
+      if (!isWhole || asked !== this.asked) return;
+    }
+    this.isMoving = false;
     this.next(true);
   }
 
@@ -181,6 +226,7 @@ export class Play {
    * @param {URLSearchParams} values
    */
   route(values) {
+    if (!values.get("b") && this.match && !this.isLocal) return;
     const [code, at] = [values.get("b") ?? "", Number(values.get("u") ?? 0)];
     if (!code) return this.returnTo(at);
     if (code === this.code) return;
@@ -226,19 +272,22 @@ export class Play {
     this.looked = null;
     this.chosen = [null, null];
     const {game} = this;
-    const isWatched = !game.persons.length;
+    const isWatched = this.isLocal && !game.persons.length;
     keepingFocus(find("play-now", HTMLElement), () => {
       this.draw();
       find("play-on", HTMLElement).hidden = game.isOver || !isWatched;
     });
-    this.think();
-    if (!game.isOver && !isWatched && !game.persons.some((side) => game.isAsked(side))) void guarded(() => this.goOn());
+    if (this.isLocal) {
+      this.think();
+      if (!game.isOver && !isWatched && !game.persons.some((side) => game.isAsked(side)))
+        void guarded(() => this.goOn());
+    }
     this.toAddress(isNew);
   }
 
   /** Has the computer begin to think, while the person does. */
   think() {
-    const {game} = this;
+    const game = this.local;
     this.thinking = SIDES.map((side) => {
       if (game.who[side - 1] === "person" || game.offered(side).length < 2) return null;
       const choice = this.players.choice(
@@ -253,6 +302,7 @@ export class Play {
   choose(side, choice) {
     const {game} = this;
     if (this.isMoving || !game.offered(side).includes(choice)) return;
+    if (!this.isLocal && this.chosen[side - 1] !== null) return;
     this.chosen[side - 1] = choice;
     if (!this.isOpen && game.persons.length === 2) {
       this.revealed = 0;
@@ -260,7 +310,10 @@ export class Play {
     }
     for (const button of document.querySelectorAll(`#play-choices-${side} [data-choice]`))
       button.setAttribute("aria-pressed", String(button.getAttribute("data-choice") === String(choice)));
-    if (SIDES.every((it) => !game.isAsked(it) || this.chosen[it - 1] !== null))
+    if (!this.isLocal) {
+      this.drawChoices();
+      game.act("choose", choice);
+    } else if (SIDES.every((it) => !game.isAsked(it) || this.chosen[it - 1] !== null))
       void guarded(() => this.goOn());
     else if (!this.isOpen)
       find("play-reveal", HTMLElement).focus();
@@ -269,7 +322,7 @@ export class Play {
   /** Has the computer choose where a person does not, updates the battle, and shows what happens. */
   async goOn() {
     const asked = ++this.asked;
-    const {game} = this;
+    const game = this.local;
     const pair = await Promise.all(SIDES.map((side) => this.choiceOf(side)));
     // A choice is dropped if the battle was left, an update undone, or the choice changed meanwhile.
     if (asked !== this.asked) return;
@@ -301,8 +354,8 @@ export class Play {
 
   /** Undoes the updates since a person last had a choice. */
   undo() {
-    const {game} = this;
     if (!this.isOpen) return;
+    const game = this.local;
     this.drop();
     do {
       if (game.steps.length < 2) break;
@@ -314,21 +367,25 @@ export class Play {
 
   /** Returns to the teams. The battle is kept until another one is left. */
   leave() {
-    if (!this.match) return;
+    const {match, tab, isOpen} = this;
+    if (!match) return;
     this.drop();
-    [this.left, this.match, this.code] = [this.match, null, ""];
-    keepingFocus(find("play-teams", HTMLElement), () => {
-      find("play-setup", HTMLElement).hidden = false;
+    [this.match, this.code] = [null, ""];
+    keepingFocus(find(HEADS[tab], HTMLElement), () => {
+      find(`${tab}-setup`, HTMLElement).hidden = false;
       find("play-game", HTMLElement).hidden = true;
+      if (!(match instanceof LocalMatch)) return;
+      this.left = {match, isOpen};
       find("play-return", HTMLElement).hidden = false;
     });
-    setAddress("play", {});
+    setAddress(tab, {});
+    this.drawn();
   }
 
   /** Returns to the battle that was left, or that the tab showed before it was reloaded. */
   goBack() {
     if (this.left)
-      this.open(this.left, this.isOpen);
+      this.open(this.left.match, this.left.isOpen);
     else {
       /** @type {Saved} */
       const {terms, pairs, who, isOpen} = JSON.parse(kept(SAVED, true) ?? "null");
@@ -348,7 +405,7 @@ export class Play {
    */
   shownOf(side) {
     const {game, step, engine: {tables}} = this;
-    if (this.isBare) return whole(tables, game.state(step).sides[side - 1]);
+    if (this.isBare) return whole(tables, this.local.state(step).sides[side - 1]);
     const isOwn = side === (this.revealed || this.teller);
     const self = game.view(side, step).own;
     if (isOwn && self) return own(tables, self);
@@ -364,16 +421,20 @@ export class Play {
   hiddenOf(side) {
     const {game, step} = this;
     // The view says that it is out of reach, and not where.
-    if (!game.view(side === 1 ? 2 : 1, step).foe.active?.announced.includes("invulnerable")) return "";
-    const prepared =
-        game.events(step, "all").find((event) => event.kind === "-prepare" && event.side === side)?.line.split("|")[3];
+    if (!game.seen(side, step).active?.announced.includes("invulnerable")) return "";
+    const prepared = game.events(step, this.teller)
+                         .find((event) => event.kind === "-prepare" && event.side === side)
+                         ?.line.split("|")[3];
     return prepared === "Fly" ? "above" : prepared === "Dig" ? "under" : "";
   }
 
   /** The names of the sides. */
   get titles() {
-    const isAlone = this.game.persons.length === 1 && !this.isOpen;
-    return SIDES.map((side) => (isAlone ? (side === this.near ? "You" : "The foe") : `Side ${side}`));
+    const {names, persons} = this.game;
+    const isAlone = persons.length === 1 && !this.isOpen;
+    return SIDES.map(
+        (side) =>
+            (isAlone && side === this.near ? "You" : names?.[side - 1] ?? (isAlone ? "The foe" : `Side ${side}`)));
   }
 
   /**
@@ -386,8 +447,11 @@ export class Play {
     const shown = this.field.shown[own - 1];
     const member = shown?.members[at - 1];
     if (!member?.isKnown) return null;
-    const title = {"You": "Your member", "The foe": "The foe's member"}[this.titles[own - 1]] ?? `Of side ${own}`;
-    const guess = member.hasPixels ? this.game.usual(other).state[own === 1 ? "one" : "two"].members[at - 1] : null;
+    const title = {"You": "Your member", "The foe": "The foe's member"}[this.titles[own - 1]] ??
+        `Of ${this.game.names?.[own - 1] ?? `side ${own}`}`;
+    const guess = member.hasPixels && this.game.view(other).own ?
+        this.game.usual(other).state[own === 1 ? "one" : "two"].members[at - 1] :
+        null;
     const isAsked = this.showing.includes(own) && shown.active === at && member.hp > 0;
     const offer = isAsked ? this.offer(own) : null;
     const forecasts = Object.fromEntries((offer?.odds ?? [
@@ -403,10 +467,11 @@ export class Play {
     find("play-now", HTMLElement).textContent = `Turn ${turn}${OUTCOMES[outcome] ? `. ${this.ending()}` : ""}`;
     find("play-undo", HTMLButtonElement).hidden = !this.isOpen;
     find("play-undo", HTMLButtonElement).disabled = game.steps.length < 2;
-    find("play-rematch", HTMLElement).hidden = !game.isOver;
+    find("play-rematch", HTMLElement).hidden = !game.isOver || !(this.isLocal || game.persons.length);
     find("play-game", HTMLElement).dataset.updates = String(game.steps.length);
     this.drawCurious();
     this.drawChoices();
+    this.drawn();
   }
 
   /** The seed and the draws, for the curious. */
@@ -419,7 +484,7 @@ export class Play {
     find("play-rules", HTMLElement).textContent =
         `A battle${clauses}, which ends at the latest after turn ${terms.limit}.`;
     if (!this.isBare) return find("play-terms", HTMLElement).replaceChildren();
-    const {numbers, index} = this.game.state();
+    const {numbers, index} = this.local.state();
     const texts = [
       `Seed ${terms.seed.join(" ")}.`,
       `The next link number is ${numbers[index]}, number ${index + 1} of ${numbers.slice(0, 9).join(" ")}.`
@@ -435,7 +500,7 @@ export class Play {
   /** What the calculator takes from the position, as the side that chooses knows it. */
   get scene() {
     const {game, isOpen, near, titles, field} = this;
-    const {state} = isOpen ? this.engine.gen1.load(game.last.battle) : game.usual(near === 1 ? 1 : 2);
+    const {state} = isOpen ? this.engine.gen1.load(this.local.last.battle) : game.usual(near === 1 ? 1 : 2);
     const order = near === 1 ? [0, 1] : [1, 0];
     const standing = (/** @type {number} */ at, /** @type {number} */ place) => {
       const [side, team] = order[at] ? [state.two, game.terms.two] : [state.one, game.terms.one];
@@ -443,7 +508,7 @@ export class Play {
     };
     const guess = isOpen ? "" : ` ${GUESSED}`;
     return sceneOf(order.map((at) => field.shown[at]), order.map((at) => titles[at]), standing,
-        {tab: "play", text: `Turn ${game.view(1).turn} of the battle.${guess}`});
+        {tab: this.tab, text: `Turn ${game.view(1).turn} of the battle.${guess}`});
   }
 
   /** Shows the buttons again, with or without their keys. */
@@ -466,7 +531,8 @@ export class Play {
       const place = find(`play-choices-${side}`, HTMLElement);
       const hadFocus = place.contains(document.activeElement);
       // While an update is shown, the buttons stay in their places, without effect.
-      const isBusy = this.isMoving && place.childElementCount > 0 && game.persons.length === 1;
+      const isBusy = (this.isMoving || (!this.isLocal && this.chosen[side - 1] !== null)) &&
+          place.childElementCount > 0 && game.persons.length === 1;
       place.toggleAttribute("data-busy", isBusy);
       for (const it of isBusy ? place.querySelectorAll("button") : []) it.setAttribute("aria-disabled", "true");
       if (isBusy) continue;
@@ -534,7 +600,7 @@ export class Play {
       make("button", {type: "button", id: "play-end-other", click: () => void guarded(() => this.start())},
           "Another foe"),
     ];
-    const isAlone = this.game.persons.length === 1 && !this.setup.field(2).value.trim();
+    const isAlone = this.isLocal && this.game.persons.length === 1 && !this.setup.field(2).value.trim();
     place.replaceChildren(
         make("p", {class: "end"}, this.ending()), make("div", {class: "row"}, ...buttons.slice(0, isAlone ? 2 : 1)));
   }
@@ -551,7 +617,8 @@ export class Play {
   }
 
   ending() {
-    const {persons, outcome} = this.game;
+    const {persons, outcome, ended} = this.game;
+    if (ended) return ended;
     const won = {"win one": 1, "win two": 2}[/** @type {string} */ (outcome)];
     if (persons.length !== 1 || !won) return `${OUTCOMES[outcome]}.`;
     return won === persons[0] ? "You have won." : "The foe has won.";
@@ -587,7 +654,7 @@ export class Play {
   offer(side) {
     const {game, engine} = this;
     const view = game.view(side);
-    const battle = this.isOpen ? engine.gen1.load(game.last.battle) : game.usual(side);
+    const battle = this.isOpen ? engine.gen1.load(this.local.last.battle) : game.usual(side);
     const foe = battle.state[side === 1 ? "two" : "one"];
     const odds = engine.oddsOf(battle, side).map((it) => ({...it, knockOut: battle.knockOut(side, it.move)}));
     const {members, active} = view.own ?? {members: [], active: null};
@@ -639,7 +706,7 @@ export class Play {
   /** The battle in the form of an address. */
   values() {
     const {who} = this.game;
-    return {b: toAddress({input: this.game.input()}), p1: who[0], p2: who[1], hands: this.isOpen ? "open" : ""};
+    return {b: toAddress({input: this.local.input()}), p1: who[0], p2: who[1], hands: this.isOpen ? "open" : ""};
   }
 
   /**
@@ -649,6 +716,7 @@ export class Play {
   toAddress(isNew) {
     const {match} = this;
     if (!match) return;
+    if (!(match instanceof LocalMatch)) return setAddress(match.tab, match.address, isNew);
     const {terms, who} = match;
     keepForTab(SAVED, JSON.stringify({terms, who, pairs: match.steps.map((step) => step.pair), isOpen: this.isOpen}));
     const values = this.isBare ? this.values() : null;
