@@ -11,7 +11,22 @@ import {Replay} from "./replay.js";
 import {heldBattle} from "./share.js";
 import {Teams} from "./teams.js";
 
-const TABS = ["home", "replay", "play", "teams", "calculator"];
+const TABS = [...document.querySelectorAll("[role='tab']")].map(({id}) => id.replace("tab-", ""));
+
+/**
+ * @typedef {{ engine: Engine, play: Play, open: (tab: string) => void }} Parts
+ * @typedef {{ route: (values: URLSearchParams) => void | Promise<void> }} Part
+ */
+/** @type {((parts: Parts) => Part) | null} */
+let makeOnline = null;
+
+/**
+ * Adds the part Online, before the page begins.
+ * @param {(parts: Parts) => Part} make
+ */
+export function extend(make) {
+  makeOnline = make;
+}
 
 /** @param {string} name */
 function showTab(name) {
@@ -149,7 +164,7 @@ async function begin() {
   const calculator = new Calculator(engine, (from) => {
     open(from);
     // Without a battle there, the button is hidden, and the tab keeps the focus.
-    for (const id of [`tab-${from}`, `${from}-calculate`]) find(id, HTMLElement).focus();
+    for (const id of [`tab-${from}`, `${from === "replay" ? from : "play"}-calculate`]) find(id, HTMLElement).focus();
   });
   let tab = "";
   const turnTo = (/** @type {string} */ name) => {
@@ -176,6 +191,7 @@ async function begin() {
     open("play");
     done(`Side ${side} has the team.`);
   });
+  const online = makeOnline?.({engine, play, open});
   const route = () => guarded(() => {
     const {tab: name, values} = address();
     turnTo(TABS.includes(name) ? name : heldBattle() ? "replay" : "home");
@@ -183,6 +199,8 @@ async function begin() {
       return replay.route(values, heldBattle());
     else if (tab === "play")
       play.route(values);
+    else if (tab === "online")
+      return online?.route(values);
     else if (tab === "teams")
       teams.route(values);
     else if (tab === "calculator")
@@ -212,7 +230,7 @@ async function begin() {
   listenKeys((event) => {
     if (tab === "replay")
       replay.key(event);
-    else if (tab === "play")
+    else if (tab === play.tab)
       play.key(event);
   }, () => play.drawAgain());
   window.addEventListener("hashchange", () => void route());
