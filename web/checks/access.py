@@ -104,7 +104,7 @@ RULES = {
 }
 BROKEN = """
 const FOCUSED = 'button:not(:disabled), input, select, textarea, summary, a[href], [tabindex="0"]';
-const ROLES = ['alert', 'button', 'combobox', 'dialog', 'group', 'img', 'listbox', 'log', 'meter', 'option', 'status', 'tab', 'tablist', 'tabpanel'];
+const ROLES = ['alert', 'button', 'combobox', 'dialog', 'group', 'img', 'listbox', 'log', 'meter', 'option', 'status', 'tab', 'tablist', 'tabpanel', 'timer'];
 const all = (selector) => [...document.querySelectorAll(selector)].filter((it) => it.checkVisibility());
 return (%s).map((it) => it.outerHTML.slice(0, 160));
 """

@@ -16,7 +16,8 @@ class Browser:
     """The page in a browser, as a person uses it."""
 
     def __init__(self, page, folder, program=None):
-        self.page, self.folder, self.program = Path(page).resolve().as_uri(), folder, program
+        is_served = str(page).startswith("http")
+        self.page, self.folder, self.program = page if is_served else Path(page).resolve().as_uri(), folder, program
         options = webdriver.ChromeOptions()
         for word in (
             "--headless=new",
