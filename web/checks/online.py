@@ -46,7 +46,9 @@ class Person(Browser):
     def choose(self, draw):
         """Presses one of the offered choices; returns whether there was one."""
         count = self.run(f"return document.querySelectorAll('{CHOICES}').length")
-        return count and self.run(f"document.querySelectorAll('{CHOICES}')[{draw.randrange(count)}].click(); return true")
+        return count and self.run(
+            f"document.querySelectorAll('{CHOICES}')[{draw.randrange(count)}].click(); return true"
+        )
 
     @property
     def updates(self):
@@ -113,7 +115,11 @@ def two_persons_play_to_the_end_and_a_third_watches(club):
         person.wait(OVER)
     assert len({person.updates for person in club.persons}) == 1
     assert len({len(person.lines("#play-lines")) for person in club.persons}) == 1
-    assert {re.search("Ann|Ben|You|tie", it.text("#play-now"))[0] for it in (ann, ben)} in ({"You", "Ann"}, {"You", "Ben"}, {"tie"})
+    assert {re.search("Ann|Ben|You|tie", it.text("#play-now"))[0] for it in (ann, ben)} in (
+        {"You", "Ann"},
+        {"You", "Ben"},
+        {"tie"},
+    )
     assert re.search(r"Ratings: .*1500 → \d+", ann.run(STRIP)), ann.run(STRIP)
     ben.click("#play-end-watch")
     assert "turn" in ben.text("#replay-now").lower(), ben.text("#replay-now")
@@ -132,7 +138,9 @@ def a_battle_goes_on_after_a_lost_connection(club):
     number = ann.updates
     club.server.kill()
     for person in (ann, ben):
-        person.wait("return /connection to the server is lost/.test(document.getElementById('online-strip').textContent)")
+        person.wait(
+            "return /connection to the server is lost/.test(document.getElementById('online-strip').textContent)"
+        )
     if ben.choose(draw):
         assert "lost" in ben.notice()
     club.server.start()
@@ -206,7 +214,9 @@ def only_what_a_side_may_know_is_in_the_page(club):
     for person, hidden in ((ann, ["Lickitung"]), (ben, ["Mr. Mime"]), (cid, ["Lickitung", "Mr. Mime"])):
         text = person.run("return document.getElementById('play-game').outerHTML")
         assert "Tauros" in text and not [it for it in hidden if it in text], hidden
-        assert not person.run("return [...document.querySelectorAll('#play-menu details')].some((it) => it.checkVisibility())")
+        assert not person.run(
+            "return [...document.querySelectorAll('#play-menu details')].some((it) => it.checkVisibility())"
+        )
 
 
 def refusals_are_said_where_they_belong(club):

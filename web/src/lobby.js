@@ -94,8 +94,9 @@ export class Lobby {
   /** @param {string} name of the account */
   enter(name) {
     this.name = name;
-    const ended = [...Object.keys(this.formats), ...[...this.foes].flatMap(([code, {isOwn}]) => (isOwn ? [code] : []))]
-                      .filter((key) => this.calls.has(key));
+    const ended =
+        [...Object.keys(this.formats), ...[...this.foes].flatMap(([code, {isOwn}]) => (isOwn ? [code] : []))].filter(
+            (key) => this.calls.has(key));
     for (const key of ended) this.note(key);
     if (ended.length) done("Your searches and challenges have ended with the connection.");
     void this.look();
@@ -121,7 +122,8 @@ export class Lobby {
   /** The chosen team as text. */
   team() {
     const [kind, at] = find("online-team", HTMLSelectElement).value.split(" ");
-    if (kind === "saved") return textOf(savedTeams(this.engine).filter(({members}) => members.length)[Number(at)].members);
+    if (kind === "saved")
+      return textOf(savedTeams(this.engine).filter(({members}) => members.length)[Number(at)].members);
     if (kind === "sample") return sampleTeams()[Number(at)].text;
     const field = find("online-text", HTMLTextAreaElement);
     const members = inField(field, () => this.engine.team(field.value, "The team", 0));
@@ -198,8 +200,10 @@ export class Lobby {
     const field = make("input", {readonly: true, value: address, "aria-label": "Link of the challenge"});
     const copied = button("Copy the link", () => copy(address, "The link is copied."), {class: "small main"});
     const title = this.title(format);
-    if (to) this.note(code, `You challenge ${to}: ${title}.`, withdraw);
-    else this.note(code, `Whoever opens this link may play you: ${title}.`, field, copied, withdraw);
+    if (to)
+      this.note(code, `You challenge ${to}: ${title}.`, withdraw);
+    else
+      this.note(code, `Whoever opens this link may play you: ${title}.`, field, copied, withdraw);
     this.foes.set(code, {who: to, format, isOwn: true});
   }
 
@@ -229,9 +233,9 @@ export class Lobby {
   /** @param {Map<number, import("./remote.js").RemoteMatch>} matches */
   drawMine(matches) {
     this.mine = [...matches.values()].flatMap(
-        (it) => (it.side && !it.isOver ?
-                [{room: it.room, format: it.format, rated: it.isRated, names: it.names ?? []}] :
-                []));
+        (it) =>
+            (it.side && !it.isOver ? [{room: it.room, format: it.format, rated: it.isRated, names: it.names ?? []}] :
+                                     []));
     this.drawBattles();
   }
 
@@ -244,20 +248,22 @@ export class Lobby {
         make("button", {type: "button", class: verb === "Watch" ? "small" : "small main", "data-room": it.room}, verb,
             make("span", {class: "unseen"}, ` ${it.names.join(" against ")}`)));
     const items = [...this.mine.map((it) => item(it, "Go on")), ...rest.map((it) => item(it, "Watch"))];
-    find("online-battles", HTMLElement)
-        .replaceChildren(...(items.length ? items : [make("li", {class: "quiet"}, "No battle is going on.")]));
+    find("online-battles", HTMLElement).replaceChildren(...(items.length ? items : [make("li", {class: "quiet"},
+                                                                                       "No battle is going on.")]));
   }
 
   /** @param {{ season: string, players: Record<string, any>[] } | null} ladder */
   drawLadder(ladder) {
     const players = ladder?.players ?? [];
     const heads = ["Name", "Rating", "Won", "Lost", "Tied"].map((text) => make("th", {scope: "col"}, text));
-    const rows = players.map(({name, rating, deviation, wins, losses, ties}) => make("tr", {},
-        make("th", {scope: "row"}, name),
-        ...[`${Math.round(rating)} ± ${Math.round(deviation)}`, wins, losses, ties].map((it) => make("td", {}, it))));
+    const rows =
+        players.map(({name, rating, deviation, wins, losses, ties}) => make("tr", {}, make("th", {scope: "row"}, name),
+                        ...[`${Math.round(rating)} ± ${Math.round(deviation)}`, wins, losses, ties].map(
+                            (it) => make("td", {}, it))));
     const caption = make("caption", {}, `${this.title(this.format)}${ladder ? `, season ${ladder.season}` : ""}`);
     find("online-ladder", HTMLElement)
-        .replaceChildren(rows.length ? make("table", {}, caption, make("tr", {}, ...heads), ...rows) :
-                                       make("p", {class: "quiet"}, `Nobody has a rating in ${this.title(this.format)} yet.`));
+        .replaceChildren(rows.length ?
+                make("table", {}, caption, make("tr", {}, ...heads), ...rows) :
+                make("p", {class: "quiet"}, `Nobody has a rating in ${this.title(this.format)} yet.`));
   }
 }

@@ -178,17 +178,28 @@ class Online {
   /** @param {Message} message */
   said(message) {
     const {type} = message;
-    if (type === "welcome") this.welcome(message);
-    else if (type === "goodbye") this.exit();
-    else if (type === "hello") this.lobby.greet(/** @type {any} */ (message));
-    else if (type === "room") this.begin(/** @type {any} */ (message));
-    else if (type === "refused") this.refused(message);
-    else if (type === "moved") this.moved(message);
-    else if (type === "closing") this.say("The server is about to stop.");
-    else if (type === "searching") this.lobby.searches(message.formats);
-    else if (type === "challenged") this.called(message);
-    else if (type === "challenging") this.lobby.challenging(message, (values) => link("online", values));
-    else this.tell(message);
+    if (type === "welcome")
+      this.welcome(message);
+    else if (type === "goodbye")
+      this.exit();
+    else if (type === "hello")
+      this.lobby.greet(/** @type {any} */ (message));
+    else if (type === "room")
+      this.begin(/** @type {any} */ (message));
+    else if (type === "refused")
+      this.refused(message);
+    else if (type === "moved")
+      this.moved(message);
+    else if (type === "closing")
+      this.say("The server is about to stop.");
+    else if (type === "searching")
+      this.lobby.searches(message.formats);
+    else if (type === "challenged")
+      this.called(message);
+    else if (type === "challenging")
+      this.lobby.challenging(message, (values) => link("online", values));
+    else
+      this.tell(message);
   }
 
   /** @param {Message} message */
@@ -310,7 +321,8 @@ class Online {
 
   /** @param {number} seconds */
   lost(seconds) {
-    this.say(`The connection to the server is lost. It is tried again in ${seconds} ${seconds === 1 ? "second" : "seconds"}.`);
+    this.say(`The connection to the server is lost. It is tried again in ${seconds} ${
+        seconds === 1 ? "second" : "seconds"}.`);
     this.again();
   }
 

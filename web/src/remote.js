@@ -34,7 +34,8 @@ export class RemoteMatch extends Match {
   /** @param {import("./engine.js").Engine} engine @param {Room} room @param {Rules} rules */
   constructor(engine, room, rules) {
     const team = room.team ?? UNKNOWN;
-    super(engine, {...rules, one: team, two: team, seed: []}, SIDES.map((side) => (side === room.side ? "person" : "remote")));
+    super(engine, {...rules, one: team, two: team, seed: []},
+        SIDES.map((side) => (side === room.side ? "person" : "remote")));
     this.tab = "online";
     this.names = room.names;
     this.address = {r: room.room};
@@ -42,9 +43,9 @@ export class RemoteMatch extends Match {
     this.side = room.side;
     this.format = room.format;
     this.isRated = room.rated;
-    this.players = (room.side ? [room.side] : SIDES)
-                       .map((side) => engine.gen1.player(
-                                {side, team: /** @type {any} */ (team), foes: room.sizes[2 - side]}));
+    this.players =
+        (room.side ? [room.side] : SIDES)
+            .map((side) => engine.gen1.player({side, team: /** @type {any} */ (team), foes: room.sizes[2 - side]}));
     /** The number of the current pair. */
     this.number = 0;
     /** Whether the own choice is missing. */

@@ -102,8 +102,8 @@ export class Table {
     const key = lines.map(([text]) => text).join("\n");
     if (this.strip.dataset.key === key) return;
     this.strip.dataset.key = key;
-    this.strip.replaceChildren(
-        ...lines.map(([text, ...buttons]) => make("p", {class: "row"}, text ? make("span", {}, text) : null, ...buttons)));
+    this.strip.replaceChildren(...lines.map(
+        ([text, ...buttons]) => make("p", {class: "row"}, text ? make("span", {}, text) : null, ...buttons)));
   }
 
   /** @param {RemoteMatch} match @returns {[string, ...HTMLElement[]][]} */
@@ -120,9 +120,10 @@ export class Table {
     else if (!isOver && draw && side)
       found.push(["You offer a draw. The offer ends with the turn."]);
     if (this.isAsking && !isOver)
-      found.push(
-          ["Do you forfeit the battle?", button("Forfeit", () => this.forfeit(), "small main"),
-            button("Go on", () => this.question(false))]);
+      found.push([
+        "Do you forfeit the battle?", button("Forfeit", () => this.forfeit(), "small main"),
+        button("Go on", () => this.question(false))
+      ]);
     if (isOver && side && this.wanted.has(room))
       found.push([`You have asked ${foe} for a rematch.`]);
     else if (isOver && side && this.wanting.has(room))
