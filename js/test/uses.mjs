@@ -775,8 +775,6 @@ function refused(gen1) {
     // @ts-expect-error
     () => gen1.battle({...TERMS, seed: "0123456789"}),
     // @ts-expect-error
-    () => gen1.battle({one: [TAUROS], two: [TAUROS]}),
-    // @ts-expect-error
     () => gen1.battleArray({battle, n: 3}),
     // @ts-expect-error
     () => gen1.team([{species: "Tauros", lvl: 50, moves: [["Strength", 3]]}]),
