@@ -131,8 +131,13 @@ def a_battle_goes_on_after_a_lost_connection(club):
     """The server is killed and started again; a choice that it had taken is kept, and the page says what happens."""
     ann, ben = club.battle("Ann2", "Ben2")
     draw = random.Random(6)
-    play((ann, ben), draw, lambda: ann.updates > 4 and ann.run(ASKED))
-    ben.wait(f"{UPDATED} === {ann.updates}")
+    play((ann, ben), draw, lambda: ann.updates > 4)
+    # Both are asked for the same pair, and neither has chosen.
+    while not (ann.run(ASKED) and ben.run(ASKED) and ann.updates == ben.updates):
+        for person in (ann, ben):
+            if person.run(ASKED) and not (ben if person is ann else ann).run(ASKED):
+                person.choose(draw)
+        time.sleep(0.1)
     ann.choose(draw)
     ann.wait("return document.getElementById('play-wait').textContent === 'Waiting for Ben2.'")
     number = ann.updates

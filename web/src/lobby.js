@@ -7,11 +7,8 @@ import {textOf} from "./team_text.js";
  * @typedef {{ title: string, team: boolean, rules?: number, limit?: number }} Format its title, and whether players bring their teams
  * @typedef {{ code: string, from: string, format: string }} Call a challenge to the account
  * @typedef {{ formats: Record<string, Format>, limit?: number, computer?: string }} Greeting
- * @typedef {{ room: number, format: string, rated: boolean, names: string[] }} Open a battle that is going on
+ * @typedef {{ room: number, format: string, rated: boolean, names: string[] | null }} Open a battle that is going on
  */
-
-/** The value of the list of teams for a team that is pasted. */
-const PASTED = "text";
 
 /** @param {string} text @param {() => void} click @param {Record<string, string>} [more] */
 function button(text, click, more = {}) {
@@ -22,11 +19,13 @@ function button(text, click, more = {}) {
 export class Lobby {
   /**
    * @param {import("./engine.js").Engine} engine @param {import("./table.js").Ask} ask @param {import("./server.js").Server} server
+   * @param {(room: number) => void} show a battle
    */
-  constructor(engine, ask, server) {
+  constructor(engine, ask, server, show) {
     this.engine = engine;
     this.ask = ask;
     this.server = server;
+    this.show = show;
     this.name = "";
     /** The account of the computer; empty if there is none. */
     this.computer = "";
@@ -94,15 +93,18 @@ export class Lobby {
   /** @param {string} name of the account */
   enter(name) {
     this.name = name;
-    const ended =
-        [...Object.keys(this.formats), ...[...this.foes].flatMap(([code, {isOwn}]) => (isOwn ? [code] : []))].filter(
-            (key) => this.calls.has(key));
+    const ended = [...this.calls.keys()].filter((key) => this.foes.get(key)?.isOwn ?? true);
     for (const key of ended) this.note(key);
     if (ended.length) done("Your searches and challenges have ended with the connection.");
     void this.look();
   }
 
   // ---- teams ----
+
+  /** The person's teams that have members. */
+  get saved() {
+    return savedTeams(this.engine).filter(({members}) => members.length);
+  }
 
   /** The list of teams: the person's, and the sample teams. */
   drawTeams() {
@@ -112,18 +114,17 @@ export class Lobby {
     const {value} = select;
     const group = (/** @type {string} */ label, /** @type {string} */ kind, /** @type {{ name: string }[]} */ teams) =>
         make("optgroup", {label}, ...teams.map(({name}, at) => make("option", {value: `${kind} ${at}`}, name)));
-    const saved = savedTeams(this.engine).filter(({members}) => members.length);
+    const {saved} = this;
     select.replaceChildren(...(saved.length ? [group("Your teams", "saved", saved)] : []),
-        group("Sample teams", "sample", sampleTeams()), make("option", {value: PASTED}, "A team as text"));
+        group("Sample teams", "sample", sampleTeams()), make("option", {value: "text"}, "A team as text"));
     if ([...select.options].some((option) => option.value === value)) select.value = value;
-    text.hidden = !isBrought || select.value !== PASTED;
+    text.hidden = !isBrought || select.value !== "text";
   }
 
   /** The chosen team as text. */
   team() {
     const [kind, at] = find("online-team", HTMLSelectElement).value.split(" ");
-    if (kind === "saved")
-      return textOf(savedTeams(this.engine).filter(({members}) => members.length)[Number(at)].members);
+    if (kind === "saved") return textOf(this.saved[Number(at)].members);
     if (kind === "sample") return sampleTeams()[Number(at)].text;
     const field = find("online-text", HTMLTextAreaElement);
     const members = inField(field, () => this.engine.team(field.value, "The team", 0));
@@ -232,38 +233,35 @@ export class Lobby {
 
   /** @param {Map<number, import("./remote.js").RemoteMatch>} matches */
   drawMine(matches) {
-    this.mine = [...matches.values()].flatMap(
-        (it) =>
-            (it.side && !it.isOver ? [{room: it.room, format: it.format, rated: it.isRated, names: it.names ?? []}] :
-                                     []));
+    this.mine = [...matches.values()].filter((it) => it.side && !it.isOver);
     this.drawBattles();
   }
 
   drawBattles() {
     const own = this.mine.map(({room}) => room);
-    const rest = this.open.filter(({room}) => !own.includes(room));
-    const item = (/** @type {Open} */ it, /** @type {string} */ verb) => make("li", {},
-        make("span", {}, `${it.names.join(" against ")} `,
-            make("span", {class: "quiet"}, `${this.title(it.format)}${it.rated ? ", rated" : ""}`)),
-        make("button", {type: "button", class: verb === "Watch" ? "small" : "small main", "data-room": it.room}, verb,
-            make("span", {class: "unseen"}, ` ${it.names.join(" against ")}`)));
-    const items = [...this.mine.map((it) => item(it, "Go on")), ...rest.map((it) => item(it, "Watch"))];
-    find("online-battles", HTMLElement).replaceChildren(...(items.length ? items : [make("li", {class: "quiet"},
-                                                                                       "No battle is going on.")]));
+    const item = (/** @type {Open} */ {room, format, rated, names}, /** @type {string} */ verb) => {
+      const [title, who] = [`${this.title(format)}${rated ? ", rated" : ""}`, names?.join(" against ") ?? ""];
+      const press = button(verb, () => this.show(room), {class: verb === "Watch" ? "small" : "small main"});
+      press.append(make("span", {class: "unseen"}, ` ${who}`));
+      return make("li", {}, make("span", {}, who, make("span", {class: "quiet"}, title)), press);
+    };
+    const rest = this.open.filter(({room}) => !own.includes(room)).map((it) => item(it, "Watch"));
+    const items = [...this.mine.map((it) => item(it, "Go on")), ...rest];
+    const none = make("li", {class: "quiet"}, "No battle is going on.");
+    find("online-battles", HTMLElement).replaceChildren(...(items.length ? items : [none]));
   }
 
   /** @param {{ season: string, players: Record<string, any>[] } | null} ladder */
   drawLadder(ladder) {
-    const players = ladder?.players ?? [];
     const heads = ["Name", "Rating", "Won", "Lost", "Tied"].map((text) => make("th", {scope: "col"}, text));
-    const rows =
-        players.map(({name, rating, deviation, wins, losses, ties}) => make("tr", {}, make("th", {scope: "row"}, name),
-                        ...[`${Math.round(rating)} ± ${Math.round(deviation)}`, wins, losses, ties].map(
-                            (it) => make("td", {}, it))));
-    const caption = make("caption", {}, `${this.title(this.format)}${ladder ? `, season ${ladder.season}` : ""}`);
-    find("online-ladder", HTMLElement)
-        .replaceChildren(rows.length ?
-                make("table", {}, caption, make("tr", {}, ...heads), ...rows) :
-                make("p", {class: "quiet"}, `Nobody has a rating in ${this.title(this.format)} yet.`));
+    const rows = (ladder?.players ?? []).map(({name, rating, deviation, wins, losses, ties}) => {
+      const cells = [`${Math.round(rating)} ± ${Math.round(deviation)}`, wins, losses, ties];
+      return make("tr", {}, make("th", {scope: "row"}, name), ...cells.map((it) => make("td", {}, it)));
+    });
+    const title = this.title(this.format);
+    const table =
+        make("table", {}, make("caption", {}, `${title}, season ${ladder?.season}`), make("tr", {}, ...heads), ...rows);
+    const none = make("p", {class: "quiet"}, `Nobody has a rating in ${title} yet.`);
+    find("online-ladder", HTMLElement).replaceChildren(rows.length ? table : none);
   }
 }

@@ -21,27 +21,6 @@ export const SIDES = [1, 2];
 const SEEN_REASONS = REASONS.slice(REASONS.indexOf("the foe is awake"));
 
 /**
- * The places of the foe's members that a side has put to sleep, after more events as they are reported to that side. A sleep that begins after the
- * foe's own move is that of Rest.
- * @param {{ foe: number, mover: number, places: number[] }} before the foe's place, the side that moved last, and the places
- * @param {GameEvent[]} events
- * @param {Side} side
- */
-export function marksAfter(before, events, side) {
-  let {foe, mover, places} = before;
-  for (const event of events) {
-    if (event.kind === "move") mover = event.side;
-    if (event.side !== 3 - side) continue;
-    const isOfSleep = event.line.endsWith("|slp");
-    if (event.kind === "switch") foe = event.place;
-    if (event.kind === "-status" && isOfSleep && mover === side) places = [...places, foe];
-    if (event.kind === "faint" || (event.kind === "-curestatus" && isOfSleep))
-      places = places.filter((it) => it !== foe);
-  }
-  return places;
-}
-
-/**
  * What each side knows of a battle, update by update. This is all that the page shows of a battle in covered hands.
  * @template {Known} S
  */
@@ -134,12 +113,22 @@ export class Match {
   }
 
   /**
-   * A side's marks after the events of another update.
+   * A side's marks after the events of another update, as they are reported to it. A sleep that begins after the foe's own move is that of Rest.
    * @param {Side} side @param {Uint8Array} told @param {S} [before] the step before it
    */
   marksAfter(side, told, before = this.last) {
-    const [foe, places] = before ? [this.view(side, before).foe.active?.place ?? 0, before.marks[side - 1]] : [0, []];
-    return marksAfter({foe, mover: 0, places}, this.engine.events(told), side);
+    let [foe, places] = before ? [this.view(side, before).foe.active?.place ?? 0, before.marks[side - 1]] : [0, []];
+    let mover = 0;
+    for (const event of this.engine.events(told)) {
+      if (event.kind === "move") mover = event.side;
+      if (event.side !== 3 - side) continue;
+      const isOfSleep = event.line.endsWith("|slp");
+      if (event.kind === "switch") foe = event.place;
+      if (event.kind === "-status" && isOfSleep && mover === side) places = [...places, foe];
+      if (event.kind === "faint" || (event.kind === "-curestatus" && isOfSleep))
+        places = places.filter((it) => it !== foe);
+    }
+    return places;
   }
 
   /**

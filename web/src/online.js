@@ -48,7 +48,7 @@ class Online {
       lost: (seconds) => this.lost(seconds),
       back: () => this.say(""),
     });
-    this.lobby = new Lobby(engine, (type, fields) => this.ask(type, fields), this.server);
+    this.lobby = new Lobby(engine, (type, fields) => this.ask(type, fields), this.server, (room) => this.show(room));
     this.table = new Table((type, fields) => void guarded(() => this.ask(type, fields)), () => this.play.leave());
     /** @type {RemoteMatch | null} the battle that was shown when the field was last drawn */
     this.before = null;
@@ -68,18 +68,13 @@ class Online {
     click("online-logout", () => this.ask("logout", {token: this.server.token}));
     const button = make("button", {type: "button", click: () => this.open("online")}, "Play online");
     find("home-teams", HTMLElement).after(button);
-    for (const place of [find("online-battles", HTMLElement), find("online-calls", HTMLElement)])
-      place.addEventListener("click", ({target}) => this.press(target));
   }
 
   get password() {
     return find("online-password", HTMLInputElement).value;
   }
 
-  /**
-   * The battle at the server that is shown.
-   * @returns {RemoteMatch | null}
-   */
+  /** @returns {RemoteMatch | null} the battle at the server that is shown */
   get shown() {
     return this.play.match instanceof RemoteMatch ? this.play.match : null;
   }
@@ -99,15 +94,6 @@ class Online {
     if (how === "register" && !this.password)
       throw new Problem("Enter the password that the name is to have.", {field: find("online-password", HTMLElement)});
     this.ask(how, how === "guest" ? {name} : {name, password: this.password});
-  }
-
-  /**
-   * A press of a button in a list that shows a battle, or answers a challenge.
-   * @param {EventTarget | null} target
-   */
-  press(target) {
-    const button = target instanceof Element ? target.closest("button") : null;
-    if (button?.dataset.room) void guarded(() => this.show(Number(button.dataset.room)));
   }
 
   /**
@@ -145,7 +131,7 @@ class Online {
     if (shown && !this.play.isMoving) this.play.wait(this.waiting(shown));
     if (!before || before.room === shown?.room) return;
     if (!before.side || before.isOver) this.matches.delete(before.room);
-    if (!before.side && !before.isOver && this.name) this.ask("leave", {room: before.room});
+    if (!before.side && !before.isOver && this.server.isReady) this.ask("leave", {room: before.room});
     void this.lobby.look();
   }
 
@@ -162,15 +148,9 @@ class Online {
       this.server.open();
     }
     if (!room && this.shown) this.play.leave();
-    if (this.name)
-      this.lobby.look();
-    else
-      this.why(room ? "Enter a name to watch the battle." : code ? "Enter a name to answer the challenge." : "");
-  }
-
-  /** @param {string} text why a name is needed */
-  why(text) {
-    if (text) find("online-why", HTMLElement).textContent = `${text} A guest needs no password.`;
+    if (this.name) return void this.lobby.look();
+    const why = room ? "watch the battle" : code ? "answer the challenge" : "";
+    if (why) find("online-why", HTMLElement).textContent = `Enter a name to ${why}. A guest needs no password.`;
   }
 
   // ---- what the server says ----
@@ -259,9 +239,11 @@ class Online {
     });
     this.matches.set(room.room, match);
     this.lobby.begun(room, this.matches);
-    if (this.shown?.room === room.room)
+    const {shown} = this;
+    const isFree = !shown?.side || shown.isOver;
+    if (shown?.room === room.room)
       this.play.open(match, false);
-    else if (room.room === this.wanted || (match.side && this.isSeeking && !match.isOver && !this.isBusy))
+    else if (room.room === this.wanted || (match.side && this.isSeeking && !match.isOver && isFree))
       this.put(match);
   }
 
@@ -270,11 +252,6 @@ class Online {
     this.ask("rematch", {room: match.room});
     this.table.wanted.add(match.room);
     this.table.draw(match);
-  }
-
-  /** Whether a battle of the account is going on before the person. */
-  get isBusy() {
-    return Boolean(this.shown?.side && !this.shown.isOver);
   }
 
   /** @param {Message} message */

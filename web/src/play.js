@@ -25,11 +25,6 @@ const GOING = ["bide", "thrash", "trapping", "charging", "recharge", "rage"];
 const KEYS = ["123456789", "qwertyuio"];
 const PLAYERS = ["person", "random", "greedy", "playouts", "cheating"];
 const SAVED = "battle";
-/** @type {Record<string, string>} the headings of the forms that start battles, by the part of the page */
-const HEADS = {
-  play: "play-teams",
-  online: "online-head"
-};
 const GUESSED = "The foe has its highest possible stats, and moves of a usual set where it has not shown them.";
 
 /** The part of the page that plays. */
@@ -371,7 +366,7 @@ export class Play {
     if (!match) return;
     this.drop();
     [this.match, this.code] = [null, ""];
-    keepingFocus(find(HEADS[tab], HTMLElement), () => {
+    keepingFocus(find(tab === "play" ? "play-teams" : "online-head", HTMLElement), () => {
       find(`${tab}-setup`, HTMLElement).hidden = false;
       find("play-game", HTMLElement).hidden = true;
       if (!(match instanceof LocalMatch)) return;
@@ -422,9 +417,8 @@ export class Play {
     const {game, step} = this;
     // The view says that it is out of reach, and not where.
     if (!game.seen(side, step).active?.announced.includes("invulnerable")) return "";
-    const prepared = game.events(step, this.teller)
-                         .find((event) => event.kind === "-prepare" && event.side === side)
-                         ?.line.split("|")[3];
+    const events = game.events(step, this.teller);
+    const prepared = events.find((event) => event.kind === "-prepare" && event.side === side)?.line.split("|")[3];
     return prepared === "Fly" ? "above" : prepared === "Dig" ? "under" : "";
   }
 
@@ -432,9 +426,8 @@ export class Play {
   get titles() {
     const {names, persons} = this.game;
     const isAlone = persons.length === 1 && !this.isOpen;
-    return SIDES.map(
-        (side) =>
-            (isAlone && side === this.near ? "You" : names?.[side - 1] ?? (isAlone ? "The foe" : `Side ${side}`)));
+    const other = (/** @type {Side} */ side) => names?.[side - 1] ?? (isAlone ? "The foe" : `Side ${side}`);
+    return SIDES.map((side) => (isAlone && side === this.near ? "You" : other(side)));
   }
 
   /**
@@ -449,9 +442,8 @@ export class Play {
     if (!member?.isKnown) return null;
     const title = {"You": "Your member", "The foe": "The foe's member"}[this.titles[own - 1]] ??
         `Of ${this.game.names?.[own - 1] ?? `side ${own}`}`;
-    const guess = member.hasPixels && this.game.view(other).own ?
-        this.game.usual(other).state[own === 1 ? "one" : "two"].members[at - 1] :
-        null;
+    const hasGuess = member.hasPixels && this.game.view(other).own;
+    const guess = hasGuess ? this.game.usual(other).state[own === 1 ? "one" : "two"].members[at - 1] : null;
     const isAsked = this.showing.includes(own) && shown.active === at && member.hp > 0;
     const offer = isAsked ? this.offer(own) : null;
     const forecasts = Object.fromEntries((offer?.odds ?? [

@@ -42,7 +42,7 @@ export class RemoteMatch extends Match {
     this.room = room.room;
     this.side = room.side;
     this.format = room.format;
-    this.isRated = room.rated;
+    this.rated = room.rated;
     this.players =
         (room.side ? [room.side] : SIDES)
             .map((side) => engine.gen1.player({side, team: /** @type {any} */ (team), foes: room.sizes[2 - side]}));

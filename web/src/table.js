@@ -6,9 +6,6 @@ import {find, make} from "./dom.js";
  * @typedef {(type: string, fields?: Record<string, unknown>) => void} Ask
  */
 
-/** The seconds from which the clock warns. */
-const LATE = 15;
-
 /** @param {string} text @param {() => void} click @param {string} [kind] */
 function button(text, click, kind = "small") {
   return make("button", {type: "button", class: kind, click}, text);
@@ -33,7 +30,7 @@ export class Table {
     this.clock = make("span", {id: "online-clock", role: "timer", hidden: true},
         make("span", {class: "unseen"}, "Your time: "), this.left);
     this.strip = make("div", {id: "online-strip", role: "status"});
-    this.draws = button("Offer a draw", () => this.offer(), "");
+    this.draws = button("Offer a draw", () => this.tell("offer_draw"), "");
     this.forfeits = button("Forfeit", () => this.question(true), "");
     find("play-wait", HTMLElement).after(this.clock);
     find("play-cover", HTMLElement).before(this.strip);
@@ -57,16 +54,15 @@ export class Table {
     this.tick();
   }
 
-  /**
-   * Whether the foe offers a draw.
-   * @param {RemoteMatch} match
-   */
+  /** @param {RemoteMatch} match @returns {boolean} whether the foe offers a draw */
   isOffered({side, draw}) {
     return Boolean(side && draw === 3 - side);
   }
 
-  offer() {
-    if (this.match) this.ask("offer_draw", {room: this.match.room});
+  /** @param {"offer_draw" | "forfeit"} type */
+  tell(type) {
+    if (this.match) this.ask(type, {room: this.match.room});
+    if (this.isAsking) this.question(false);
   }
 
   /** @param {boolean} isAsking */
@@ -76,15 +72,7 @@ export class Table {
     (isAsking ? this.strip.querySelector("button") : find("play-now", HTMLElement))?.focus();
   }
 
-  forfeit() {
-    if (this.match) this.ask("forfeit", {room: this.match.room});
-    this.question(false);
-  }
-
-  /**
-   * Says who wants a rematch of the battle that is shown.
-   * @param {number} room
-   */
+  /** @param {number} room in which the foe wants a rematch */
   rematch(room) {
     this.wanting.add(room);
     this.drawStrip();
@@ -116,12 +104,12 @@ export class Table {
     if (this.text) found.push([this.text]);
     if (!side && !isOver) found.push([`You watch ${one}, who is side 1, against ${two}.`]);
     if (!isOver && this.isOffered(match))
-      found.push([`${foe} offers a draw.`, button("Accept the draw", () => this.offer())]);
+      found.push([`${foe} offers a draw.`, button("Accept the draw", () => this.tell("offer_draw"))]);
     else if (!isOver && draw && side)
       found.push(["You offer a draw. The offer ends with the turn."]);
     if (this.isAsking && !isOver)
       found.push([
-        "Do you forfeit the battle?", button("Forfeit", () => this.forfeit(), "small main"),
+        "Do you forfeit the battle?", button("Forfeit", () => this.tell("forfeit"), "small main"),
         button("Go on", () => this.question(false))
       ]);
     if (isOver && side && this.wanted.has(room))
@@ -135,12 +123,11 @@ export class Table {
   /** Shows the time that is left for the own choice. */
   tick() {
     const {match, clock, left} = this;
-    const isRunning = Boolean(match?.due && match.isAwaited && !match.isOver);
-    clock.hidden = !isRunning;
-    if (!match || !isRunning) return;
+    clock.hidden = !match?.due || !match.isAwaited || match.isOver;
+    if (!match || clock.hidden) return;
     const seconds = Math.max(0, Math.ceil((match.due - Date.now()) / 1000));
     const text = `${Math.floor(seconds / 60)}:${String(seconds % 60).padStart(2, "0")}`;
     if (left.textContent !== text) left.textContent = text;
-    clock.classList.toggle("late", seconds < LATE);
+    clock.classList.toggle("late", seconds < 15);
   }
 }
