@@ -58,9 +58,10 @@ class Person(Browser):
 class Club:
     """A server, and three persons."""
 
-    def __init__(self, page, folder):
+    def __init__(self, page, file, folder):
         from client import Process
 
+        self.file = file
         self.server = Process(folder, page=str(page), bot="bot", bot_level=1)
         self.server.start()
         self.persons = [Person(f"{self.server.web}/", folder) for _ in range(3)]
@@ -121,6 +122,11 @@ def two_persons_play_to_the_end_and_a_third_watches(club):
         {"tie"},
     )
     assert re.search(r"Ratings: .*1500 → \d+", ann.run(STRIP)), ann.run(STRIP)
+    # A battle that is over is shown again at its address.
+    for person in (ann, cid):
+        person.open(address)
+        person.wait(SHOWN + " && " + OVER.removeprefix("return "))
+        assert person.updates == ben.updates
     ben.click("#play-end-watch")
     assert "turn" in ben.text("#replay-now").lower(), ben.text("#replay-now")
     ann.press_text("#online-strip", "Back to the lobby")
@@ -319,6 +325,13 @@ def all_can_use_it(club):
     ann.look(*SIZES["wide"], "light")
 
 
+def the_file_stays_without_a_network(club):
+    """Only the page that a server serves may connect, and has the part for it."""
+    parts = ("connect-src 'self'", 'id="panel-online"', "new WebSocket")
+    served, file = club.server.get("/"), club.file.read_text()
+    assert [it in served for it in parts] == [True] * 3 and [it in file for it in parts] == [False] * 3
+
+
 def only_the_server_is_asked_and_nothing_is_wrong(club):
     for person in club.persons:
         person.gather()
@@ -339,5 +352,6 @@ CHECKS = [
     the_name_is_kept_until_it_is_left,
     a_battle_of_the_page_is_kept_beside,
     all_can_use_it,
+    the_file_stays_without_a_network,
     only_the_server_is_asked_and_nothing_is_wrong,
 ]
