@@ -164,7 +164,10 @@ class ShowdownConnection(Connection):
         room.lines.receive(view.sent, int(time()) if is_new else None)
         if room.seat and isinstance(view.sent, Message):
             room.seat.receive(view.sent)
-        asked = f"|request|{room.seat.request(room.pair + 1)}" if room.seat and not view.ending else ""
+        asked = ""
+        # A client that comes back is not asked again for what it has chosen.
+        if room.seat and not view.ending and (view.awaited or room.seat.waits):
+            asked = f"|request|{room.seat.request(room.pair + 1)}"
         if asked and is_new:
             self._say(room.id, asked)
         self._write(room, view)

@@ -258,6 +258,49 @@ class Named(Bot):
         return json.loads(text[1:])["assertion"]
 
 
+class Waiting(Bot):
+    """A client that chooses as soon as a request comes, also in a room that it is shown again."""
+
+    async def of_room(self, room, line):
+        if line.startswith("|turn|"):
+            self.rooms[room]["lines"].append(line)
+            self.rooms[room]["turn"] += 1
+            return
+        await super().of_room(room, line)
+        if line.startswith("|request|") and not self.rooms[room]["request"].get("forceSwitch"):
+            await self.choose(room, self.rooms[room])
+
+
+def test_a_battle_goes_on_after_the_server_was_killed(server):
+    """The clients come back by their names, are shown the battle from its beginning, and play it to its end."""
+    process = server()
+    address = f"127.0.0.1:{process.port}"
+
+    async def before(one, two):
+        await asyncio.gather(one.named.wait(), two.named.wait())
+        await one.say("/challenge Eve, gen1ou")
+        await two.say(f"/accept {await two.challenges.get()}")
+        await until(lambda: one.rooms and min(next(iter(one.rooms.values()))["turn"], 4) == 4 or one.ended)
+        process.kill()
+        return one
+
+    async def after(one, two):
+        await until(lambda: one.ended and two.ended)
+        await until(lambda: all(map(Bot.has_left, (one, two))))
+        return one, two
+
+    pair = bot("Alice", kind=Waiting), bot("Eve", TEAMS[1], kind=Waiting)
+    first = played(address, before, *pair)
+    process.start()
+    one, two = played(address, after, *pair)
+    (room,) = first.rooms
+    assert [*one.rooms] == [*two.rooms] == [room] and one.errors == two.errors == []
+    told, again = (
+        [it for it in of.rooms[room]["lines"] if not it.startswith(("|t:|", "|request|"))] for of in (first, one)
+    )
+    assert again[: len(told)] == told and len(again) > len(told)
+
+
 def test_a_name_with_a_password(address):
     async def act(one, two):
         await two.named.wait()
