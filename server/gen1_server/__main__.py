@@ -33,7 +33,7 @@ def _check(config: Config) -> str:
     version = keeping.within(config, schema.version_of) if _has_database(config) else ""
     if version not in ("", schema.VERSION):
         raise keeping.Failed(f"the database has version {version}; run migrate")
-    page = page_of(config) or "none; web/build builds one"
+    page = page_of(config) or "none; web/build --online builds one"
     return f"the options are right; database: {config.database}, version {version or 'none yet'}; page: {page}"
 
 

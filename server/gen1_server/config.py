@@ -26,7 +26,7 @@ class Config:
     name: str = "one"
     # The address at which clients reach this process, such as wss://a.example. Others name it to a client that they send here.
     address: str = ""
-    # The page that is served at /. Empty: the one of the package gen1, if it has one.
+    # The page that is served at /. Empty: that of web/build --online in a clone, or the package gen1's, which cannot play online.
     page: str = ""
     # The formats and what they ban, in the form of rust/gen1-showdown/formats.json. Empty: those of that file.
     formats: str = ""
@@ -67,7 +67,7 @@ class Config:
     message_bytes: int = 16384
     messages_per_second: float = 40.0
     messages_at_once: int = 120
-    # Names and passwords that an address may try in a minute.
+    # Logins of an address in a minute; a wrong password or token counts as fifty.
     logins_per_minute: float = 1000.0
     # A connection is closed when more than this waits to be read by its client.
     waiting_bytes: int = 262144

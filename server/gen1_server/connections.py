@@ -114,9 +114,9 @@ class Connection(Watcher):
             self.account = None
 
     def may_login(self) -> None:
-        """Counts a name that the address tries. Raises `Refused`."""
+        """Counts a login of the address. Raises `Refused`."""
         if not self.services.limits.login(self.address):
-            raise Refused("logins", "too many names from this address; wait a minute")
+            raise Refused("logins", "too many logins from this address; wait a minute")
 
     def charge(self, cost: float) -> None:
         """Counts a request that costs more than others. Raises `Refused`."""
@@ -173,6 +173,8 @@ class Connection(Watcher):
     def turn_down(self, fault: Refused) -> None:
         """Counts a refusal, and sends it."""
         metrics.REFUSED.labels(fault.code).inc()
+        if fault.code in ("login", "token"):
+            self.services.limits.failed(self.address)
         self.refused(fault)
 
     def reply(self, committed: Callable[[], None]) -> Callable[[Refused | None], None]:

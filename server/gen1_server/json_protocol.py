@@ -37,7 +37,7 @@ class JsonConnection(Connection):
         if kind not in TYPES:
             raise Refused("type", f"there is no such type; there are {', '.join(TYPES)}")
         if self.account is None and kind not in LOGINS:
-            raise Refused("login", "log in first")
+            raise Refused("account", "log in first")
         await getattr(self, f"on_{kind}")(given)
 
     def refused(self, fault: Refused) -> None:

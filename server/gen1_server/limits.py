@@ -6,6 +6,8 @@ from weakref import WeakValueDictionary
 
 # Full buckets of addresses are forgotten when there are more.
 MOST_ADDRESSES = 10_000
+# A wrong password or token counts as so many logins.
+FAILED = 50.0
 
 
 class Bucket:
@@ -54,13 +56,20 @@ class Limits:
         return found
 
     def login(self, address: str) -> bool:
-        """Whether an address may try a name now."""
+        """Counts a login of an address. Returns whether it is allowed now."""
+        return self._of_address(address).takes()
+
+    def failed(self, address: str) -> None:
+        """Counts a wrong password or token of an address."""
+        self._of_address(address).take(FAILED)
+
+    def _of_address(self, address: str) -> Bucket:
         if len(self._addresses) > MOST_ADDRESSES:
             self._addresses = {it: bucket for it, bucket in self._addresses.items() if not bucket.is_full()}
         found = self._addresses.get(address)
         if found is None:
             found = self._addresses[address] = Bucket(self._logins / 60, self._logins)
-        return found.takes()
+        return found
 
     def connect(self, address: str, most: int) -> bool:
         """Counts a connection of an address. Returns False if it has too many."""

@@ -146,7 +146,10 @@ class Rooms:
             if not any(it.is_busy for it in self.open.values()):
                 break
             await asyncio.sleep(0.01)
-        await self._store.run(partial(records.release, self.process))
+        try:
+            await self._store.run(partial(records.release, self.process))
+        except Exception as fault:
+            LOG.warning("the lease was not released: %s", type(fault).__name__)
 
     # ---- rooms begin and end ----
 

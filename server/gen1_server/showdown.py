@@ -89,7 +89,7 @@ class ShowdownConnection(Connection):
         if act is None:
             raise Refused("command", f'The command "/{word[:40]}" does not exist.')
         if self.account is None and word != "trn":
-            raise Refused("login", "Choose a name first.")
+            raise Refused("account", "Choose a name first.")
         await act(rest.strip())
 
     def refused(self, fault: Refused) -> None:
@@ -350,6 +350,7 @@ async def login(services: Services, form: Mapping[str, Any], address: str) -> st
     try:
         account = await services.accounts.login(name, str(form.get("pass", "")))
     except Refused as fault:
+        services.limits.failed(address)
         return "]" + json.dumps({"actionsuccess": False, "assertion": f";;{fault}"})
     user = {"loggedin": True, "username": account.name, "userid": folded(account.name)}
     assertion = services.accounts.assertion(account.name, challenge)

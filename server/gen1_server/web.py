@@ -213,7 +213,7 @@ class Server:
     async def _page(self, _: web.Request) -> web.StreamResponse:
         path = page_of(self.config)
         if path is None:
-            raise web.HTTPNotFound(text="The page was not built: run web/build, or name one by the option page.\n")
+            raise web.HTTPNotFound(text="The page was not built: run web/build --online, or name one by the option page.\n")
         return web.FileResponse(path, headers=HEADERS)
 
     async def _rooms(self, _: web.Request) -> web.Response:
@@ -258,8 +258,8 @@ class Server:
 
 def page_of(config: Config) -> Path | None:
     """The page that is served at /, if there is one."""
-    beside = Path(__file__).resolve().parents[2] / "web" / "dist" / "gen1.html"
-    found = [Path(config.page)] if config.page else [Path(str(files("gen1") / "page.html")), beside]
+    beside = Path(__file__).resolve().parents[2] / "web" / "dist" / "online.html"
+    found = [Path(config.page)] if config.page else [beside, Path(str(files("gen1") / "page.html"))]
     return next((it for it in found if it.is_file()), None)
 
 

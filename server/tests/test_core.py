@@ -100,6 +100,8 @@ def test_buckets(monkeypatch):
     assert bucket.takes(2) and not bucket.takes(1) and not bucket.is_full()
     limits = Limits(1, 1, 2)
     assert [limits.login("a") for _ in range(3)] == [True, True, False] and limits.login("b")
+    limits.failed("b")
+    assert not limits.login("b")
     assert limits.connect("a", 1) and not limits.connect("a", 1)
     limits.disconnect("a")
     assert limits.connect("a", 1)
