@@ -6,7 +6,7 @@ import {textOf} from "./team_text.js";
 /**
  * @typedef {{ title: string, team: boolean, rules?: number, limit?: number }} Format its title, and whether players bring their teams
  * @typedef {{ code: string, from: string, format: string }} Call a challenge to the account
- * @typedef {{ formats: Record<string, Format>, limit?: number, computer?: string }} Greeting
+ * @typedef {{ formats: Record<string, Format>, limit?: number, computer?: string, now?: number }} Greeting
  * @typedef {{ room: number, format: string, rated: boolean, names: string[] | null }} Open a battle that is going on
  */
 
@@ -29,6 +29,7 @@ export class Lobby {
     this.name = "";
     /** The account of the computer; empty if there is none. */
     this.computer = "";
+    this.ahead = 0;
     /** @type {Record<string, Format>} */
     this.formats = {};
     /** @type {Map<string, HTMLElement>} what is said about searches and challenges, by the format of a search or the code of a challenge */
@@ -72,15 +73,16 @@ export class Lobby {
    */
   rules(format) {
     const {rules = 3, limit = 1000} = this.formats[format] ?? {};
-    return {rules, limit};
+    return {rules, limit, ahead: this.ahead};
   }
 
   /**
    * The server's greeting.
    * @param {Greeting} message
    */
-  greet({formats, limit, computer = "bot"}) {
+  greet({formats, limit, computer = "bot", now = Date.now()}) {
     const {format} = this;
+    this.ahead = Date.now() - now;
     this.formats = Object.fromEntries(Object.entries(formats).map(([id, it]) => [id, {limit, ...it}]));
     this.computer = computer;
     find("online-computer", HTMLElement).hidden = !computer;

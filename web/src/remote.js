@@ -6,11 +6,12 @@ import {Match, SIDES} from "./match.js";
  * @typedef {import("./match.js").Side} Side
  * @typedef {import("./match.js").Viewer} Viewer
  * @typedef {{ outcome: number, reason: string, ratings: number[] }} Ending the ratings are those of side 1 before and after, then those of side 2
- * @typedef {{ room: number, number: number, sent: string, awaited?: boolean, due?: number, now?: number, ending?: Ending }} Standing what the server
+ * @typedef {{ room: number, number: number, sent: string, awaited?: boolean, due?: number, ending?: Ending }} Standing what the server
  *   sends after each pair: a gen1_message, or a gen1_notice for the audience, and when the own time runs out
  * @typedef {Standing & { format: string, rated: boolean, names: string[], sizes: number[], side: Side | 0, history: string[],
  *   team?: import("./engine.js").Member[] }} Room a whole battle; `history` has the logs of all pairs but the last
- * @typedef {{ rules: number, limit: number }} Rules
+ * @typedef {{ rules: number, limit: number, ahead: number }} Rules those of the battle, and by how many milliseconds this computer's clock is ahead
+ *   of the server's
  */
 
 /**
@@ -43,6 +44,7 @@ export class RemoteMatch extends Match {
     this.side = room.side;
     this.format = room.format;
     this.rated = room.rated;
+    this.ahead = rules.ahead;
     this.players =
         (room.side ? [room.side] : SIDES)
             .map((side) => engine.gen1.player({side, team: /** @type {any} */ (team), foes: room.sizes[2 - side]}));
@@ -76,12 +78,12 @@ export class RemoteMatch extends Match {
    * Takes in what the server has sent after a pair.
    * @param {Standing} standing
    */
-  take({number, sent, awaited = false, due = 0, now = Date.now(), ending}) {
+  take({number, sent, awaited = false, due = 0, ending}) {
     const {gen1} = this.engine;
     const message = this.side ? gen1.messageOfBytes(decoded(sent)) : gen1.noticeOfBytes(decoded(sent));
     this.add(message.log, (player) => ("own" in message ? player.receive(message) : player.feed(message.log)));
     [this.number, this.isAwaited, this.draw] = [number, awaited, message.draw];
-    this.due = due && due - now + Date.now();
+    this.due = due && due + this.ahead;
     if (ending) this.end(ending);
   }
 
