@@ -213,7 +213,9 @@ class Server:
     async def _page(self, _: web.Request) -> web.StreamResponse:
         path = page_of(self.config)
         if path is None:
-            raise web.HTTPNotFound(text="The page was not built: run web/build --online, or name one by the option page.\n")
+            raise web.HTTPNotFound(
+                text="The page was not built: run web/build --online, or name one by the option page.\n"
+            )
         return web.FileResponse(path, headers=HEADERS)
 
     async def _rooms(self, _: web.Request) -> web.Response:
