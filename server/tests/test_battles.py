@@ -251,7 +251,7 @@ def test_killed_three_times(server, database):
     config = Config(database=database)
     last = max(room for duel in duels for room, _ in duel.logs)
     rooms = keeping.within(config, partial(records.stored, list(range(1, last + 1))))
-    assert sum(room.ending is not None for room in rooms) > DUELS
+    assert sum(room.ending is not None for room in rooms) >= DUELS
     stored = {room.start.id: room for room in rooms}
     for duel in duels:
         for room, at, number in duel.taken:

@@ -158,7 +158,7 @@ def test_wrong_arguments(player):
     calls += [
         (lambda it=it: Battle.from_player(player, [ALAKAZAM], it), BadArgument) for it in (b"", bytes(9), [256] * 10)
     ]
-    calls += [(lambda it=it: Battle.from_player(player, [ALAKAZAM], it), BadType) for it in (None, 5, "0123456789")]
+    calls += [(lambda it=it: Battle.from_player(player, [ALAKAZAM], it), BadType) for it in (1.5, "0123456789")]
     calls += [(lambda it=it: Battle.from_player(player, [ALAKAZAM], SEED, it), BadState) for it in (4, *BIG)]
     calls += [
         (lambda it=it: Battle.from_player(player, [ALAKAZAM], SEED, 0, it), BadState) for it in (0, 1, 10_000, *BIG[4:])

@@ -113,15 +113,20 @@ def octets(value: object, what: str) -> bytes:
 
 
 def seed_bytes(value: object) -> bytes:
-    """The ten bytes of a seed: bytes, a list of ten numbers from 0 to 255, those that a whole number determines, or fresh ones for None."""
+    """The ten bytes of a seed: those of `ten_bytes`, those that a whole number determines, or fresh ones for None."""
     if value is None:
         return os.urandom(10)
+    if isinstance(value, Iterable):
+        return ten_bytes(value)
+    made = _library.SeedBytes()
+    _library.seed_from_number(within(value, "seed", 0, (1 << 64) - 1), made)
+    return bytes(made)
+
+
+def ten_bytes(value: object) -> bytes:
+    """The ten bytes of a seed: bytes, or a list of ten numbers from 0 to 255."""
     if isinstance(value, (bytes, bytearray, memoryview)):
         given = list(bytes(value))
-    elif not isinstance(value, Iterable):
-        made = _library.SeedBytes()
-        _library.seed_from_number(within(value, "seed", 0, (1 << 64) - 1), made)
-        return bytes(made)
     else:
         given = [within(it, f"seed[{at}]", 0, 255) for at, it in enumerate(listed(value, "seed", 10))]
     if len(given) != 10:

@@ -66,7 +66,7 @@ class ProtocolFault(Error):
 
 class ChoiceRefused(Error):
     """A text is no choice now. The message is what Showdown sends after
-    `|error|[Invalid choice] `.
+    `|error|[Invalid choice]` and a space.
     """
 
 

@@ -5,7 +5,7 @@ import sys
 from pathlib import Path
 from typing import Any
 
-from gen1._check import cut, digits, listed, shown, whole
+from gen1._check import cut, digits, listed, shown, ten_bytes, whole
 from gen1.battle import Battle, sides_of
 from gen1.errors import Error
 from gen1.names import Move, Species
@@ -65,7 +65,7 @@ def a_battle(asked: dict[str, Any]) -> Battle:
 def terms(asked: dict[str, Any]) -> tuple[Any, Any, Any, Any, Any]:
     """Teams, seed, rules and limit in an object of `run`."""
     one, two = (_members(asked[key], f"side {side}") for side, key in enumerate(("one", "two"), 1))
-    return one, two, asked["seed"], asked.get("rules", 0), asked.get("limit", 1000)
+    return one, two, ten_bytes(asked["seed"]), asked.get("rules", 0), asked.get("limit", 1000)
 
 
 def teams(asked: dict[str, Any]) -> tuple[Team, Team]:
