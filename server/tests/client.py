@@ -42,7 +42,9 @@ class Process:
         self.child = subprocess.Popen([sys.executable, "-m", "gen1_server", "--config", self.config], stderr=self.log)
         for _ in range(400):
             if self.child.poll() is not None:
-                raise RuntimeError(f"the server ended: {Path(self.log.name).read_text()[-2000:]}")
+                raise RuntimeError(
+                    f"the server ended, status {self.child.returncode}: {Path(self.log.name).read_text()[-2000:]}"
+                )
             try:
                 if self.get("/ready") == "ready\n":
                     return self
@@ -144,7 +146,7 @@ def run(test):
     """Runs a test that is a coroutine function of a session."""
 
     async def whole():
-        async with aiohttp.ClientSession(connector=aiohttp.TCPConnector(limit=0)) as session:
+        async with asyncio.timeout(200), aiohttp.ClientSession(connector=aiohttp.TCPConnector(limit=0)) as session:
             return await test(session)
 
     return asyncio.run(whole())

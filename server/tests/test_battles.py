@@ -6,6 +6,7 @@ import os
 import random
 from functools import partial
 
+import aiohttp
 import gen1
 import pytest
 from client import PACKAGE, Client, guest, packed, paired, play, run, unpacked
@@ -167,37 +168,28 @@ def test_a_player_that_reconnects_knows_the_same(server):
 class Duel:
     """Two bots that play rooms of one another, and come back when their server is killed."""
 
-    def __init__(self, session, server, number, seconds):
-        self.session, self.server, self.seconds = session, server, seconds
+    def __init__(self, session, server, number):
+        self.session, self.server, self.ended = session, server, 0
         self.names = [f"D{number}{it}" for it in "ab"]
         self.taken, self.logs, self.tokens, self.sides = set(), {}, {}, {}
         self.chance = random.Random(number)
 
     async def bot(self, at):
-        end = asyncio.get_running_loop().time() + self.seconds
-        while asyncio.get_running_loop().time() < end:
+        while True:
             try:
-                await self.visit(at, end)
-            except (OSError, asyncio.TimeoutError, ConnectionError):
-                await asyncio.sleep(0.05)
-            except Exception as fault:
-                if "aiohttp" not in type(fault).__module__:
-                    raise
+                await self.visit(at)
+            except (OSError, asyncio.TimeoutError, aiohttp.ClientError):
                 await asyncio.sleep(0.05)
 
-    async def visit(self, at, end):
-        login = (
-            {"type": "token", "token": self.tokens[at]}
-            if at in self.tokens
-            else {"type": "guest", "name": self.names[at]}
-        )
+    async def visit(self, at):
+        token, name = self.tokens.get(at), self.names[at]
+        login = {"type": "token", "token": token} if token else {"type": "guest", "name": name}
         me = await Client(self.session, self.server.url).connect(**login)
-        if me.welcome["token"]:
-            self.tokens[at] = me.welcome["token"]
+        self.tokens[at] = me.welcome["token"] or token
         if at == 0 and not me.welcome["rooms"]:
             await me.say(type="challenge", to=self.names[1], format="gen1randombattle")
-        while asyncio.get_running_loop().time() < end:
-            await self.answer(me, at, await me.hear(2))
+        while True:
+            await self.answer(me, at, await me.hear(5))
 
     async def answer(self, me, at, given):
         kind = given["type"]
@@ -213,6 +205,7 @@ class Duel:
                 self.sides[at, given["room"]] = given["side"]
             self.hear(given, self.logs.setdefault((given["room"], self.sides[at, given["room"]]), []))
             if "ending" in given:
+                self.ended += 1
                 if at == 0:
                     await me.say(type="challenge", to=self.names[1], format="gen1randombattle")
             elif given["number"] >= 25:
@@ -232,17 +225,26 @@ class Duel:
 def test_killed_three_times(server, database):
     """Nothing that was taken is lost, no pair is played twice, and what was told is what the rows say."""
     it = server(database=database, grace_seconds=30, messages_per_second=1000.0)
-    # Each start takes a second, and more where other tests run.
     kills = KILLS if database.endswith(".db") else 1
 
     async def test(session):
-        duels = [Duel(session, it, number, 4 * kills + 1) for number in range(DUELS)]
+        duels = [Duel(session, it, number) for number in range(DUELS)]
         bots = [asyncio.create_task(duel.bot(at)) for duel in duels for at in (0, 1)]
+
+        async def until(condition):
+            while not condition():
+                await asyncio.sleep(0.05)
+                assert not [bot.result() for bot in bots if bot.done()]
+
         for _ in range(kills):
-            await asyncio.sleep(2)
+            most = sum(len(duel.taken) for duel in duels) + 20 * DUELS
+            await until(lambda: sum(len(duel.taken) for duel in duels) > most)
             it.kill()
             await asyncio.to_thread(it.start)
-        await asyncio.gather(*bots)
+        await until(lambda: min(duel.ended for duel in duels) > 1)
+        for bot in bots:
+            bot.cancel()
+        await asyncio.gather(*bots, return_exceptions=True)
         return duels
 
     duels = run(test)
