@@ -20,8 +20,8 @@ from gen1_server.store import Conflict, Store
 # How long a token is valid, in milliseconds.
 MONTH = 30 * 24 * 3600 * 1000
 SALT = 16
-# An scrypt of 16 MB, which takes some 50 ms.
-COST = {"n": 1 << 14, "r": 8, "p": 1}
+# The cost of scrypt: 16 MB, and some 50 ms.
+COST = 1 << 14
 LONGEST_NAME, LONGEST_PASSWORD, SHORTEST_PASSWORD = 18, 1024, 8
 # Characters that mean something in Showdown's protocol or in HTML.
 NOT_IN_NAMES = frozenset("|,;\"'<>&")
@@ -149,7 +149,7 @@ class Accounts:
 
     async def _hash(self, password: str, salt: bytes) -> bytes:
         async with self._turn:
-            work = partial(hashlib.scrypt, password.encode(), salt=salt, n=COST["n"], r=COST["r"], p=COST["p"])
+            work = partial(hashlib.scrypt, password.encode(), salt=salt, n=COST, r=8, p=1)
             return salt + await get_running_loop().run_in_executor(None, work)
 
 

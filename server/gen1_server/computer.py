@@ -6,19 +6,21 @@ import logging
 import secrets
 from typing import Any
 
-from gen1 import Choice, Error, LibraryMissing, Message, Player, Side, Team
+from gen1 import Choice, Error, LibraryMissing, Message, Player, Team
 from gen1_server.accounts import Account
 from gen1_server.core import View
 from gen1_server.formats import FORMATS, LIMIT
-from gen1_server.rooms import Rooms, ignored
+from gen1_server.rooms import Rooms, Watcher, ignored
 
 LOG = logging.getLogger("gen1_server")
 # How many searches run at once.
 SEARCHES = 2
 
 
-class Computer:
-    """A watcher of all rooms of its account."""
+class Computer(Watcher):
+    """A watcher of all rooms of its account. It plays on when it is offered a
+    draw, and the lobby accepts challenges for it.
+    """
 
     def __init__(self, rooms: Rooms, account: Account, level: int) -> None:
         self._rooms, self._account, self._level = rooms, account, level
@@ -44,18 +46,9 @@ class Computer:
         elif view.room in self._players:
             self._take(view)
 
-    def draw_offered(self, room: int, side: Side) -> None:
-        """The computer plays on."""
-
     def moved(self, room: int, address: str) -> None:
         """Forgets a room."""
         self._players.pop(room, None)
-
-    def challenged(self, name: str, format: str, code: str) -> None:
-        """The lobby has accepted the challenge."""
-
-    def searches(self, formats: list[str]) -> None:
-        """The computer does not search."""
 
     def _take(self, view: View) -> None:
         assert isinstance(view.sent, Message)

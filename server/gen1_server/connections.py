@@ -37,8 +37,8 @@ def frame(kind: int, payload: bytes) -> bytes:
 
 
 class Connection(Watcher):
-    """A protocol is a subclass with the methods that raise NotImplementedError
-    here, and those of `Watcher`.
+    """A protocol is a subclass that defines the first four methods here, and
+    those of `Watcher`.
     """
 
     protocol: ClassVar[str]
@@ -56,19 +56,15 @@ class Connection(Watcher):
 
     def greet(self) -> None:
         """Says what comes first."""
-        raise NotImplementedError
 
     async def asked(self, text: str) -> None:
         """Answers a message. Raises `Refused`."""
-        raise NotImplementedError
 
     def refused(self, fault: Refused) -> None:
         """Says that a request is refused."""
-        raise NotImplementedError
 
     def closing(self) -> None:
         """Says that the server is about to stop."""
-        raise NotImplementedError
 
     def send(self, text: str) -> None:
         """Sends a message. A client that does not read is closed; it may come

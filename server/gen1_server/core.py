@@ -9,7 +9,7 @@ know, is decided by `gen1.Host`.
 import json
 from dataclasses import dataclass
 
-from gen1 import Battle, Host, Message, Notice, Outcome, Row, RowKind, Side
+from gen1 import Battle, Host, Message, Notice, Row, RowKind, Side
 from gen1_server.clock import Clock
 
 # Who made a row: its player, or the server since the player's time had run out.
@@ -201,20 +201,3 @@ def replayed(start: Start, entries: list[Entry]) -> Match:
     for entry in entries:
         match.take(entry)
     return match
-
-
-__all__ = [
-    "CLOCK",
-    "PLAYER",
-    "Clock",
-    "Ending",
-    "Entry",
-    "Match",
-    "Options",
-    "Outcome",
-    "Refused",
-    "Row",
-    "Start",
-    "View",
-    "replayed",
-]

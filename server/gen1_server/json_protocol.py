@@ -38,6 +38,8 @@ class JsonConnection(Connection):
             raise Refused("type", f"there is no such type; there are {', '.join(TYPES)}")
         if self.account is None and kind not in LOGINS:
             raise Refused("account", "log in first")
+        if kind in LOGINS:
+            self.may_login()
         await getattr(self, f"on_{kind}")(given)
 
     def refused(self, fault: Refused) -> None:
@@ -77,25 +79,18 @@ class JsonConnection(Connection):
     # ---- logins ----
 
     async def on_token(self, given: dict[str, Any]) -> None:
-        self.may_login()
         self._welcome(await self.services.accounts.of_token(_field(given, "token", str)), None)
 
     async def on_login(self, given: dict[str, Any]) -> None:
-        self.may_login()
         name, password = _field(given, "name", str), _field(given, "password", str)
-        account = await self.services.accounts.login(name, password)
-        self._welcome(account, await self.services.accounts.new_token(account))
+        await self._enter(await self.services.accounts.login(name, password))
 
     async def on_register(self, given: dict[str, Any]) -> None:
-        self.may_login()
         name, password = _field(given, "name", str), _field(given, "password", str)
-        account = await self.services.accounts.register(name, password)
-        self._welcome(account, await self.services.accounts.new_token(account))
+        await self._enter(await self.services.accounts.register(name, password))
 
     async def on_guest(self, given: dict[str, Any]) -> None:
-        self.may_login()
-        account = await self.services.accounts.guest(_field(given, "name", str), self.address)
-        self._welcome(account, await self.services.accounts.new_token(account))
+        await self._enter(await self.services.accounts.guest(_field(given, "name", str), self.address))
 
     async def on_logout(self, given: dict[str, Any]) -> None:
         token = given.get("token")
@@ -167,6 +162,9 @@ class JsonConnection(Connection):
     def _seeker(self, format: str, team: Any) -> Seeker:
         known = format_named(format)
         return Seeker(self._account, known, team_for(known, team), self)
+
+    async def _enter(self, account: Account) -> None:
+        self._welcome(account, await self.services.accounts.new_token(account))
 
     def _welcome(self, account: Account, token: str | None) -> None:
         self.enter(account)

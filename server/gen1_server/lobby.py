@@ -56,6 +56,7 @@ class Lobby:
         self._searches: dict[str, dict[int, Seeker]] = {}
         self._challenges: dict[str, Challenge] = {}
         self._rematches: dict[int, Seeker] = {}
+        metrics.SEARCHES.set_function(lambda: sum(map(len, self._searches.values())))
         # The computer accepts each challenge with a team of its own.
         self.computer: Account | None = None
 
@@ -180,7 +181,6 @@ class Lobby:
 
     def _told(self, account: Account) -> None:
         """Tells the connections of an account where it searches."""
-        metrics.SEARCHES.set(sum(map(len, self._searches.values())))
         for watcher in list(self._rooms.online.get(account.id, ())):
             watcher.searches(self.searching(account.id))
 
@@ -190,25 +190,14 @@ class Lobby:
             one, two = two, one
         config, format = self._config, one.format
         battle = Battle(one.team, two.team, secrets.token_bytes(10), format.rules, LIMIT)
-        options = Options(
-            exact_hp=config.exact_hp,
-            may_cancel=config.may_cancel,
-            choice=int(config.choice_seconds * 1000),
-            total=int(config.total_seconds * 1000),
-            lapses=config.lapses,
-            audience_delay=config.audience_delay,
-        )
-        team_one, team_two = (json.dumps(it.team.to_dicts(), separators=(",", ":")) for it in (one, two))
-        start = Start(
-            id=0,
-            format=format.id,
-            rated=rated,
-            accounts=(one.account.id, two.account.id),
-            names=(one.account.name, two.account.name),
-            teams=(team_one, team_two),
-            battle=battle.bytes,
-            options=options,
-            season=config.season,
-            created=now(),
-        )
+        choice, total = (int(it * 1000) for it in (config.choice_seconds, config.total_seconds))
+        options = Options(config.exact_hp, config.may_cancel, choice, total, config.lapses, config.audience_delay)
+        accounts, names = (one.account.id, two.account.id), (one.account.name, two.account.name)
+        teams = _text(one.team), _text(two.team)
+        start = Start(0, format.id, rated, accounts, names, teams, battle.bytes, options, config.season, now())
         await self._rooms.begin(start)
+
+
+def _text(team: Team) -> str:
+    """A team as the JSON of its members."""
+    return json.dumps(team.to_dicts(), separators=(",", ":"))

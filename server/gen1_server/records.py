@@ -13,8 +13,8 @@ from gen1_server.schema import process, rating, rating_change, room, room_row
 from sqlalchemy import delete, func, insert, select, update
 
 OPEN = room.c.outcome == 0
-START = [room.c[it] for it in ("id", "format", "rated", "account_one", "account_two", "name_one", "name_two")]
-START += [room.c[it] for it in ("team_one", "team_two", "battle", "options", "season", "created")]
+# The columns of a start, besides its number.
+BEGUN = "format rated account_one account_two name_one name_two team_one team_two battle options season created".split()
 
 
 class StoredRoom(NamedTuple):
@@ -28,22 +28,7 @@ class StoredRoom(NamedTuple):
 
 def add_room(start: Start, build: str, owner: int, connection: Any) -> int:
     """Adds an open room of a process; returns its number."""
-    values = {
-        "format": start.format,
-        "rated": int(start.rated),
-        "account_one": start.accounts[0],
-        "account_two": start.accounts[1],
-        "name_one": start.names[0],
-        "name_two": start.names[1],
-        "team_one": start.teams[0],
-        "team_two": start.teams[1],
-        "battle": start.battle,
-        "options": json.dumps(asdict(start.options)),
-        "season": start.season,
-        "build": build,
-        "created": start.created,
-        "process": owner,
-    }
+    values = dict(zip(BEGUN, _columns(start)), build=build, process=owner)
     return schema.added(connection, room, values)
 
 
@@ -131,7 +116,7 @@ def address_of(number: int, connection: Any) -> tuple[str, int] | None:
 
 def stored(numbers: list[int], connection: Any) -> list[StoredRoom]:
     """Rooms with their rows."""
-    columns = *START, room.c.process, room.c.outcome, room.c.reason, room.c.ended
+    columns = [room.c[it] for it in ("id", *BEGUN, "process", "outcome", "reason")]
     found = connection.execute(select(*columns).where(room.c.id.in_(numbers)).order_by(room.c.id)).fetchall()
     of = select(room_row.c.room, room_row.c.bytes, room_row.c.at, room_row.c.cause)
     rows: dict[int, list[Entry]] = defaultdict(list)
@@ -142,24 +127,19 @@ def stored(numbers: list[int], connection: Any) -> list[StoredRoom]:
     return [_stored(it, rows[it[0]], changes.get(it[0], ())) for it in found]
 
 
+def _columns(start: Start) -> tuple[Any, ...]:
+    """The values of `BEGUN`."""
+    options = json.dumps(asdict(start.options))
+    sides = *start.accounts, *start.names, *start.teams
+    return start.format, int(start.rated), *sides, start.battle, options, start.season, start.created
+
+
 def _stored(found: Any, entries: list[Entry], ratings: tuple[float, ...]) -> StoredRoom:
-    number, format, rated_, one, two, name_one, name_two, team_one, team_two, battle, options, season, created = found[
-        :13
-    ]
-    start = Start(
-        id=number,
-        format=format,
-        rated=bool(rated_),
-        accounts=(one, two),
-        names=(name_one, name_two),
-        teams=(team_one, team_two),
-        battle=bytes(battle),
-        options=Options(**json.loads(options)),
-        season=season,
-        created=created,
-    )
-    ending = Ending(found.outcome, found.reason, ratings) if found.outcome else None
-    return StoredRoom(start, entries, found.process, ending)
+    number, format, is_rated, *sides, battle, options, season, created, owner, outcome, reason = found
+    accounts, names, teams = zip(sides[::2], sides[1::2])
+    known = Options(**json.loads(options))
+    start = Start(number, format, bool(is_rated), accounts, names, teams, bytes(battle), known, season, created)
+    return StoredRoom(start, entries, owner, Ending(outcome, reason, ratings) if outcome else None)
 
 
 def _changes(numbers: list[int], connection: Any) -> dict[int, tuple[float, ...]]:

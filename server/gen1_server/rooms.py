@@ -7,7 +7,7 @@ from collections.abc import Callable
 from dataclasses import dataclass, field, replace
 from functools import partial
 from time import perf_counter, time
-from typing import Any, Protocol
+from typing import Any
 
 import gen1
 from gen1 import Choice, HostRefused, Row, Side
@@ -23,8 +23,10 @@ WAITING, KEPT = 8, 200
 Reply = Callable[[Refused | None], None]
 
 
-class Watcher(Protocol):
-    """A connection, or the computer, as rooms see it."""
+class Watcher:
+    """A connection, or the computer, as rooms see it. What a subclass does not
+    define does nothing.
+    """
 
     def joined(self, view: View) -> None:
         """Shows a whole room."""
@@ -90,8 +92,8 @@ class Rooms:
         self._config, self._store = config, store
         self.open: dict[int, OpenRoom] = {}
         self.online: dict[int, set[Watcher]] = defaultdict(set)
-        # This process in the database, from `own` on.
-        self.process = 0
+        # This process in the database, from `own` on; and the account whose rooms are not counted.
+        self.process, self.computer = 0, 0
         self._rooms_of: dict[int, set[int]] = defaultdict(set)
         self._watched: dict[Watcher, set[int]] = defaultdict(set)
         self._kept: dict[int, Match] = {}
@@ -159,7 +161,8 @@ class Rooms:
             raise Refused("closing", "the server is about to stop")
         if len(self.open) + len(self._begun) >= self._config.most_rooms:
             raise Refused("full", "the server has no room left")
-        if len(self._rooms_of[account]) + self._begun[account] >= self._config.most_rooms_of_account:
+        count = len(self._rooms_of.get(account, ())) + self._begun.get(account, 0)
+        if count >= self._config.most_rooms_of_account and account != self.computer:
             raise Refused("rooms", f"an account has at most {self._config.most_rooms_of_account} open rooms")
 
     async def begin(self, start: Start) -> int:

@@ -46,8 +46,8 @@ class Server:
         self._connections: set[Connection] = set()
         self._tasks: list[asyncio.Task[None]] = []
         self._ready = False
-        # The protocols of aiohttp that have asked for something.
-        self._asked: set[Any] = set()
+        # The protocols of aiohttp, one for each connection, that have asked for nothing yet.
+        self._silent: set[Any] = set()
 
     def application(self) -> web.Application:
         """The application, with its routes."""
@@ -104,6 +104,7 @@ class Server:
 
     async def _seat_computer(self, rooms: Rooms, accounts: Accounts, lobby: Lobby) -> None:
         lobby.computer = account = await accounts.known(self.config.bot)
+        rooms.computer = account.id
         rooms.online[account.id].add(Computer(rooms, account, self.config.bot_level))
 
     async def _stop(self, _: web.Application) -> None:
@@ -147,11 +148,12 @@ class Server:
         made = server()
 
         def expect() -> None:
-            if made not in self._asked and made.transport is not None:
+            if made in self._silent and made.transport is not None:
                 metrics.DROPPED.labels("silent").inc()
                 made.transport.abort()
-            self._asked.discard(made)
+            self._silent.discard(made)
 
+        self._silent.add(made)
         asyncio.get_running_loop().call_later(self.config.first_seconds, expect)
         return made
 
@@ -204,7 +206,7 @@ class Server:
 
     @web.middleware
     async def _headers(self, request: web.Request, handler: Any) -> web.StreamResponse:
-        self._asked.add(request.protocol)
+        self._silent.discard(request.protocol)
         found: web.StreamResponse = await handler(request)
         if not found.prepared:
             found.headers.update(HEADERS)
@@ -228,16 +230,22 @@ class Server:
         """The players of a format and a season, the best first."""
         format = request.match_info["format"]
         season = request.query.get("season", self.config.season)
-        rows = await self.services.store.run(partial(people.ladder, format, season, MOST_ROWS))
+        rows = await self._read(request, partial(people.ladder, format, season, MOST_ROWS))
         return web.json_response({"format": format, "season": season, "players": rows})
 
     async def _player(self, request: web.Request) -> web.Response:
         """The ratings of a player, and its last battles."""
         name = folded(request.match_info["name"])
-        found = await self.services.store.run(partial(people.player, name, MOST_ROWS))
+        found = await self._read(request, partial(people.player, name, MOST_ROWS))
         if found is None:
             raise web.HTTPNotFound
         return web.json_response(found)
+
+    async def _read(self, request: web.Request, statements: Callable[[Any], Any]) -> Any:
+        """Reads the database for a stranger; counts as a login of the address."""
+        if not self.services.limits.login(self._address(request)):
+            raise web.HTTPTooManyRequests
+        return await self.services.store.run(statements)
 
     async def _metrics(self, _: web.Request) -> web.Response:
         return web.Response(body=generate_latest(), content_type="text/plain")
