@@ -258,7 +258,8 @@ export class Lobby {
     const heads = ["Name", "Rating", "Won", "Lost", "Tied"].map((text) => make("th", {scope: "col"}, text));
     const rows = (ladder?.players ?? []).map(({name, rating, deviation, wins, losses, ties}) => {
       const cells = [`${Math.round(rating)} ± ${Math.round(deviation)}`, wins, losses, ties];
-      return make("tr", {}, make("th", {scope: "row"}, name), ...cells.map((it) => make("td", {}, it)));
+      return make("tr", {class: name === this.name && "own"}, make("th", {scope: "row"}, name),
+          ...cells.map((it) => make("td", {}, it)));
     });
     const title = this.title(this.format);
     const table =

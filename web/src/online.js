@@ -9,15 +9,11 @@ import {Table} from "./table.js";
 
 /** @typedef {import("./server.js").Message} Message */
 
-/** The field that a refusal is about, by its code. */
-const FIELDS = new Map(Object.entries({
-  login: "online-password",
-  password: "online-password",
-  name: "online-name",
-  taken: "online-name",
-  "no player": "online-to",
-  team: "online-team",
-}));
+/** The fields that refusals are about, by their codes. */
+const FIELDS = new Map([
+  ["login", "password"], ["password", "password"], ["name", "name"], ["taken", "name"], ["no player", "to"],
+  ["team", "team"]
+]);
 
 /**
  * A sentence of the server, which begins in lower case and has no full stop.
@@ -263,9 +259,8 @@ class Online {
     if (asked === "choose") this.again();
     if (asked === "join") this.wanted = 0;
     if (asked === "rematch") this.table.wanted.clear();
-    const field = FIELDS.get(code);
-    const isShown = field && document.getElementById(field)?.getClientRects().length;
-    throw new Problem(sentence(said), isShown ? {field: find(field, HTMLElement)} : {});
+    const field = document.getElementById(`online-${FIELDS.get(code)}`) ?? undefined;
+    throw new Problem(sentence(said), field?.getClientRects().length ? {field} : {});
   }
 
   /** Offers the choices again after one was refused. */

@@ -7,7 +7,6 @@ import {keep, kept, Problem} from "./dom.js";
  *   the seconds until it is tried again, and one that is back
  */
 
-const TOKEN = "token";
 /** The seconds until a lost connection is tried again, at first and at most. */
 const [FIRST, LONGEST] = [1, 20];
 
@@ -30,11 +29,11 @@ export class Server {
 
   /** The token of the account that the browser keeps; empty if there is none. */
   get token() {
-    return kept(TOKEN) ?? "";
+    return kept("token") ?? "";
   }
 
   set token(value) {
-    keep(TOKEN, value);
+    keep("token", value);
   }
 
   /** Opens the connection, unless it is open. */

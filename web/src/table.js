@@ -26,6 +26,7 @@ export class Table {
     this.wanted = new Set();
     /** What is said about the connection. */
     this.text = "";
+    this.title = document.title;
     this.left = make("span");
     this.clock = make("span", {id: "online-clock", role: "timer", hidden: true},
         make("span", {class: "unseen"}, "Your time: "), this.left);
@@ -50,6 +51,7 @@ export class Table {
     this.draws.textContent = match && this.isOffered(match) ? "Accept the draw" : "Offer a draw";
     find("play-rematch", HTMLElement).textContent = match ? "Ask for a rematch" : "Play again";
     if (match && this.wanted.has(match.room)) find("play-rematch", HTMLElement).hidden = true;
+    document.title = `${match?.isAwaited ? "Your turn: " : ""}${this.title}`;
     this.drawStrip();
     this.tick();
   }
