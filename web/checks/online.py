@@ -198,6 +198,9 @@ def the_computer_plays_online(club):
     ann.enter("Ann4")
     ann.click("#online-computer")
     ann.wait(ASKED)
+    begun = ann.updates
+    ann.press("1")
+    ann.wait(f"{UPDATED} > {begun}")
     play((ann,), random.Random(7), lambda: ann.updates > 6 or ann.run(OVER))
     assert "bot" in ann.text("#play-field")
     if ann.run(OVER):
