@@ -100,8 +100,7 @@ export function detail(odds) {
 /** @param {Offer} offer @param {number} choice @param {import("./engine.js").Tables} tables */
 function moveWords(offer, choice, tables) {
   const {moves, pp} = offer.members[offer.place - 1];
-  if (choice === ONLY)
-    return [make("strong", {}, offer.going ? `Continue ${offer.going}` : "The only possible action")];
+  if (choice === ONLY) return [make("strong", {}, offer.going || "The only possible action")];
   const [name, found] = [moves[choice - MOVE], offer.odds.find(({slot}) => slot === choice - MOVE + 1)];
   return [
     make("strong", {}, name),

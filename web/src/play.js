@@ -21,7 +21,7 @@ import {OUTCOMES} from "./words.js";
  */
 
 /** The conditions during which a member is in the middle of its current move (docs/LAYOUT.md, "Condition bits"). */
-const GOING = ["bide", "thrash", "trapping", "charging", "recharge", "rage"];
+const GOING = ["bide", "thrash", "trapping", "charging", "rage"];
 const KEYS = ["123456789", "qwertyuio"];
 const PLAYERS = ["person", "random", "greedy", "playouts", "cheating"];
 const SAVED = "battle";
@@ -672,19 +672,21 @@ export class Play {
   }
 
   /**
-   * The move that a side's active member continues; empty if there is none.
+   * What a side's active member does if it has no choice, in words; empty if no move goes on.
    * @param {Side} side
    */
   going(side) {
     const {game} = this;
     const conditions = game.view(side).own?.active?.conditions ?? [];
+    if (conditions.includes("recharge")) return "Recharge";
     if (!conditions.some((it) => GOING.includes(it))) return "";
-    if (!conditions.includes("charging")) return game.view(side).ownPublic.active?.lastMove ?? "";
     // A move that is charged is not the last one that was used.
     const prepared = game.steps.flatMap((step) => game.events(step, side))
                          .filter((event) => event.kind === "-prepare" && event.side === side)
                          .pop();
-    return prepared?.line.split("|")[3] ?? "";
+    const move =
+        conditions.includes("charging") ? prepared?.line.split("|")[3] : game.view(side).ownPublic.active?.lastMove;
+    return move ? `Continue ${move}` : "";
   }
 
   /**
