@@ -10,8 +10,9 @@ from gen1 import Side
 from gen1_server.accounts import Account
 from gen1_server.connections import REPLAY, Connection
 from gen1_server.core import Refused, View
-from gen1_server.formats import FORMATS, format_named, team_for
+from gen1_server.formats import FORMATS, LIMIT, format_named, team_for
 from gen1_server.lobby import Seeker
+from gen1_server.rooms import now
 
 PROTOCOL = 1
 MOST = 1 << 53
@@ -23,8 +24,10 @@ class JsonConnection(Connection):
     protocol = "json"
 
     def greet(self) -> None:
-        formats = {it.id: {"title": it.title, "team": it.brings_teams} for it in FORMATS.values()}
-        self._say("hello", protocol=PROTOCOL, build=gen1.library_build, formats=formats)
+        formats = {it.id: {"title": it.title, "team": it.brings_teams, "rules": it.rules} for it in FORMATS.values()}
+        computer = self.services.lobby.computer
+        more = {"limit": LIMIT, "computer": computer.name if computer else "", "now": now()}
+        self._say("hello", protocol=PROTOCOL, build=gen1.library_build, formats=formats, **more)
 
     async def asked(self, text: str) -> None:
         try:
