@@ -293,6 +293,23 @@ def test_a_stop_tells_the_clients_and_loses_nothing(server):
     assert '"fault"' not in it.said()
 
 
+def test_a_stop_closes_the_sockets(tmp_path):
+    config = Config(database=str(tmp_path / "a.db"), port=free_port(), bot="")
+    keeping.prepare(config)
+
+    async def test(session):
+        stop = asyncio.Event()
+        task = asyncio.create_task(web.serve(config, stop))
+        await asyncio.sleep(0.5)
+        one = await guest(session, SimpleNamespace(url=f"ws://127.0.0.1:{config.port}/socket"), "One")
+        stop.set()
+        await task
+        with pytest.raises(ConnectionError):
+            await one.until("nothing", seconds=3)
+
+    run(test)
+
+
 # ---- 8, 9: replays, and connections that ask for nothing ----
 
 
