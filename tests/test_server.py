@@ -32,7 +32,7 @@ def served(environment):  # noqa: F811
 
 def test_own_tests(served, compared, left_out):
     """The tests of the server."""
-    words = ["-m", "pytest", "-q", "-rs", "-p", "no:cacheprovider", "tests"]
+    words = ["-m", "pytest", "-rs", "-p", "no:cacheprovider", "tests"]
     said = good(python(*MODULES), *words, env=served, cwd=SERVER)
     for number, reason in re.findall(r"(?m)^SKIPPED \[(\d+)\] (.*)", said):
         for _ in range(int(number)):

@@ -101,7 +101,9 @@ class Client:
         await self.socket.send_str(json.dumps(given))
 
     async def hear(self, seconds=10):
-        message = await asyncio.wait_for(self.socket.receive(), seconds)
+        # Not wait_for, which goes on where it is cancelled while its message comes.
+        async with asyncio.timeout(seconds):
+            message = await self.socket.receive()
         if message.type is not aiohttp.WSMsgType.TEXT:
             raise ConnectionError(f"closed: {message}")
         self.heard.append(json.loads(message.data))

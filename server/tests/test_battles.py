@@ -242,9 +242,10 @@ def test_killed_three_times(server, database):
             it.kill()
             await asyncio.to_thread(it.start)
         await until(lambda: min(duel.ended for duel in duels) > 1)
-        for bot in bots:
-            bot.cancel()
-        await asyncio.gather(*bots, return_exceptions=True)
+        while pending := [bot for bot in bots if not bot.done()]:
+            for bot in pending:
+                bot.cancel()
+            await asyncio.wait(pending, timeout=0.2)
         return duels
 
     duels = run(test)
