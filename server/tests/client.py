@@ -40,7 +40,7 @@ class Process:
 
     def start(self):
         self.child = subprocess.Popen([sys.executable, "-m", "gen1_server", "--config", self.config], stderr=self.log)
-        for _ in range(400):
+        for _ in range(1200):
             if self.child.poll() is not None:
                 raise RuntimeError(
                     f"the server ended, status {self.child.returncode}: {Path(self.log.name).read_text()[-2000:]}"
@@ -100,7 +100,7 @@ class Client:
         self.said.append(given)
         await self.socket.send_str(json.dumps(given))
 
-    async def hear(self, seconds=10):
+    async def hear(self, seconds=30):
         # Not wait_for, which goes on where it is cancelled while its message comes.
         async with asyncio.timeout(seconds):
             message = await self.socket.receive()
@@ -109,7 +109,7 @@ class Client:
         self.heard.append(json.loads(message.data))
         return self.heard[-1]
 
-    async def until(self, *kinds, seconds=10):
+    async def until(self, *kinds, seconds=30):
         """The next message of one of these types."""
         async with asyncio.timeout(seconds):
             while True:
@@ -148,7 +148,7 @@ def run(test):
     """Runs a test that is a coroutine function of a session."""
 
     async def whole():
-        async with asyncio.timeout(200), aiohttp.ClientSession(connector=aiohttp.TCPConnector(limit=0)) as session:
+        async with asyncio.timeout(400), aiohttp.ClientSession(connector=aiohttp.TCPConnector(limit=0)) as session:
             return await test(session)
 
     return asyncio.run(whole())
