@@ -1492,7 +1492,7 @@ uint8_t gen1_tell(gen1_teller *teller, const uint8_t *log, size_t count, uint8_t
 
 /*
  * A battle of two players and an audience, each of whom is sent what it may know (docs/MECHANICS.md, "Hosts"). A host is a room, the
- * tellers of both sides, offers of a draw, and the rules of its house. It is what a server keeps of a battle.
+ * tellers of both sides, offers of a draw, and its options. It is what a server keeps of a battle.
  *
  * The caller owns a host, and may copy and store it. To make one, set `room.battle` by gen1_new or gen1_load and call
  * gen1_host_begin, which writes all other fields. From then on change it only by gen1_host_apply.
