@@ -15,9 +15,9 @@ declare global {
   }
 }
 
-/** A species as an argument: its exact name (docs/TABLES.md), or its number from 1 to 151. The call refuses other texts. */
+/** A species as an argument: its name, or its number from 1 to 151. Of a name only letters and digits count, in either case. */
 export type SpeciesLike = SpeciesName | number | (string & {});
-/** A move as an argument: its exact name (docs/TABLES.md), or its number from 1 to 165. The call refuses other texts. */
+/** A move as an argument: its name, or its number from 1 to 165. Of a name only letters and digits count, in either case. */
 export type MoveLike = MoveName | number | (string & {});
 /** A choice as `choices` returns it. */
 export type ChoiceName = "pass" | `move ${0 | 1 | 2 | 3 | 4}` | `switch ${1 | 2 | 3 | 4 | 5 | 6}`;
@@ -43,8 +43,8 @@ export interface Member {
   dvs?: Numbers;
   /** HP, Attack, Defense, Speed, Special: 0 to 65535. */
   exp?: Numbers;
-  /** At most four: the name or number, and the PP ups from 0 to 3. */
-  moves: readonly (readonly [MoveLike, number])[];
+  /** At most four: the name or number, with three PP ups, or a pair of it and its PP ups from 0 to 3. */
+  moves: readonly (MoveLike | readonly [MoveLike, number])[];
 }
 
 /** One to six members as an argument. Keys that a Member doesn't have are refused. */

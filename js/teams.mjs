@@ -34,17 +34,18 @@ const FIELDS = {
   [CODES.ERROR_TURN_LIMIT]: "limit",
 };
 
-// The number of a name, which must match exactly, or a number as a byte; 255, which the library refuses, for a number out of range.
+// The number of a name, of which letters and digits count, or a number as a byte; 255, which the library refuses, for a number out of range.
 function numberOf(library, value, kind, what) {
   if (typeof value === "number") return byteOr255(value, what) || 255;
   if (typeof value !== "string") throw wrongType(value, what, "a name or a number");
-  const found = kind.names.indexOf(value) + 1;
-  if (found) return found;
+  const exact = kind.names.indexOf(value) + 1;
+  if (exact) return exact;
   library.begin();
   const name = new TextEncoder().encode(value);
-  const near = library.calls[kind.find](library.put(name), library.size(name.length));
-  const meantName = near ? kind.names[near - 1] : nearest(value, kind.names, Math.floor(value.length / 3));
-  const meant = meantName ? `; did you mean ${shown(meantName)}?` : "";
+  const found = library.calls[kind.find](library.put(name), library.size(name.length));
+  if (found) return found;
+  const near = nearest(value, kind.names, Math.floor(value.length / 3));
+  const meant = near ? `; did you mean ${shown(near)}?` : "";
   throw new ArgumentError(`${what} is ${shown(value)}, which is not in docs/TABLES.md${meant}`, what);
 }
 
@@ -115,8 +116,10 @@ export function statsOf(library, member) {
   return {hp, attack, defense, speed, special};
 }
 
+// A move and its PP ups, of which a name or a number alone has three.
 function pairOf(library, value, what) {
-  const lawful = "a pair: a move, and its PP ups from 0 to 3";
+  if (typeof value === "string" || typeof value === "number") return [numberOf(library, value, MOVE_KIND, what), 3];
+  const lawful = "a move, or a pair: a move, and its PP ups from 0 to 3";
   if (list(value, what, lawful).length !== 2)
     throw new ArgumentError(`${what} is ${shown(value)}, not ${lawful}`, what);
   return [numberOf(library, value[0], MOVE_KIND, `${what}[0]`), byteOr255(value[1], `${what}[1]`)];
@@ -124,7 +127,8 @@ function pairOf(library, value, what) {
 
 function memberOf(library, given, what) {
   const it = record(given, what, "a member: an object with species and moves", MEMBER_KEYS);
-  const moves = list(it.moves, `${what}.moves`, "a list of pairs: a move, and its PP ups from 0 to 3");
+  const moves =
+      list(it.moves, `${what}.moves`, "a list of moves, each a name or a pair: a move, and its PP ups from 0 to 3");
   const most = `not at most ${MOST_MOVES}`;
   if (moves.length > MOST_MOVES)
     throw new ArgumentError(`${what}.moves has ${moves.length} moves, ${most}`, `${what}.moves`);

@@ -254,6 +254,13 @@ function submissionsCase(gen1, one) {
   equal(linesOf(told), one.stdout);
 }
 
+// Whether all names are those of the tables. The package reads other spellings too; the program that was recorded refuses them.
+function isExact({attacker, defender, move}) {
+  const known = [move, ...[attacker, defender].flatMap(({moves}) => moves.map(([name]) => name))];
+  return known.every((name) => library.MOVES.includes(name)) &&
+      [attacker, defender].every(({species}) => library.SPECIES.includes(species));
+}
+
 function damageCase(gen1, one) {
   const asked = JSON.parse(one.input);
   let text = "";
@@ -264,6 +271,7 @@ function damageCase(gen1, one) {
     equal(gen1.damage(asked.attacker, asked.defender, asked.move, asked.critical),
         battle.damage(1, asked.move, asked.critical));
     equal(gen1.odds(asked.attacker, asked.defender, asked.move), battle.odds(1, asked.move));
+    if (!isExact(asked)) text = "";
   } catch (fault) {
     holds(fault instanceof library.Gen1Error || fault instanceof RangeError, fault.message);
   }

@@ -13,8 +13,8 @@ const {RefusedError, RoomError, StateError, TeamError, TextError} = library;
 const MEMBERS = [
   [{species: "Missingno."}, ArgumentError, "species", /is "Missingno.", which is not in docs\/TABLES.md$/],
   [
-    {species: "tauros"}, ArgumentError, "species",
-    /is "tauros", which is not in docs\/TABLES.md; did you mean "Tauros"\?/
+    {species: "taurus"}, ArgumentError, "species",
+    /is "taurus", which is not in docs\/TABLES.md; did you mean "Tauros"\?/
   ],
   ...[undefined, null, {}, true, 1.5].map(
       (species) => [{species}, ArgumentTypeError, "species", /, not (a name or a number|a whole number)$/]),
@@ -27,19 +27,20 @@ const MEMBERS = [
   ...["1234", 5, {}, true].map((dvs) => [{dvs}, ArgumentTypeError, "dvs", /, not a list of 4 numbers$/]),
   ...[-1, 65536, 2 ** 32].map((exp) => [{exp: [0, 0, exp, 0, 0]}, ArgumentError, "exp[2]", /, not 0 to 65535$/]),
   [{exp: [0, 0, 0, 0, 0, 0]}, ArgumentError, "exp", /has 6 numbers, not 5$/],
-  ...[undefined, null, 5, "Pound", {}].map((moves) => [{moves}, ArgumentTypeError, "moves", /, not a list of pairs/]),
+  ...[undefined, null, 5, "Pound", {}].map(
+      (moves) => [{moves}, ArgumentTypeError, "moves", /, not a list of moves, each a name or a pair/]),
   [{moves: []}, TeamError, 5, /the member has no move: it has 1 to 4: moves is \[\]$/],
   [{moves: Array(5).fill(["Pound", 3])}, ArgumentError, "moves", /has 5 moves, not at most 4$/],
   [
-    {moves: [["Pound", 3], "Cut"]}, ArgumentTypeError, "moves[1]",
-    /is "Cut", not a pair: a move, and its PP ups from 0 to 3$/
+    {moves: [["Pound", 3], true]}, ArgumentTypeError, "moves[1]",
+    /is true, not a move, or a pair: a move, and its PP ups from 0 to 3$/
   ],
-  [{moves: [["Pound"]]}, ArgumentError, "moves[0]", /is \["Pound"\], not a pair/],
+  [{moves: [["Pound"]]}, ArgumentError, "moves[0]", /is \["Pound"\], not a move, or a pair/],
   [
     {moves: [["Pond", 3]]}, ArgumentError, "moves[0][0]",
     /is "Pond", which is not in docs\/TABLES.md; did you mean "Pound"\?$/
   ],
-  [{moves: [["body slam", 3]]}, ArgumentError, "moves[0][0]", /did you mean "Body Slam"\?$/],
+  [{moves: ["body slan"]}, ArgumentError, "moves[0]", /did you mean "Body Slam"\?$/],
   ...[0, 166, 255, ...BIG].map((move) => [{moves: [["Pound", 3], [move, 3]]}, TeamError, 11,
                                    /a move is not 1 to 165: moves is \[\["Pound",3\],/]),
   ...NO_NUMBERS.filter((it) => typeof it !== "string")
@@ -245,7 +246,7 @@ function bytes(gen1, check) {
         () => gen1.logBytes([{kind: "won", side: 1}]), /^events\[0\]\.kind is "won", not one of "turn", "switch", /);
     outside(() => gen1.logBytes([{kind: "win", sides: 1}]),
         /^events\[0\] has the unknown key "sides"; did you mean "side"\?$/);
-    outside(() => gen1.logBytes([{kind: "crit", ...who, species: "tauros"}]), /did you mean "Tauros"\?$/);
+    outside(() => gen1.logBytes([{kind: "crit", ...who, species: "taurus"}]), /did you mean "Tauros"\?$/);
     outside(() => gen1.logBytes([{kind: "cant", ...who, reason: "lazy"}]),
         /^events\[0\]\.reason is "lazy", not one of "asleep", /);
     for (const it of [undefined, ...NO_NUMBERS])
@@ -363,7 +364,7 @@ function moves(gen1, battle, check) {
     ];
     for (const call of [...calls, (move) => gen1.damage(TAUROS, TAUROS, move)]) {
       outside(() => call("Pond"), /^move is "Pond", which is not in docs\/TABLES.md; did you mean "Pound"\?$/);
-      outside(() => call("body slam"), /did you mean "Body Slam"\?$/);
+      outside(() => call("body slan"), /did you mean "Body Slam"\?$/);
       for (const it of [undefined, null, true, [1], {}, 1n])
         wrong(() => call(it), /^move is .*, not a name or a number$/);
     }
@@ -390,7 +391,7 @@ function rows(gen1, check) {
     for (const it of [0, 152, 255, ...BIG]) outside(() => gen1.base(it), /^species is -?\d.*, not 1 to 151$/);
     for (const it of [0, 166, 255, ...BIG]) outside(() => gen1.moveData(it), /^move is -?\d.*, not 1 to 165$/);
     outside(
-        () => gen1.base("tauros"), /^species is "tauros", which is not in docs\/TABLES.md; did you mean "Tauros"\?$/);
+        () => gen1.base("taurus"), /^species is "taurus", which is not in docs\/TABLES.md; did you mean "Tauros"\?$/);
     for (const call of [gen1.base, gen1.moveData])
       for (const it of [undefined, null, [1]]) wrong(() => call.call(gen1, it), /not a name or a number$/);
   });

@@ -451,6 +451,16 @@ function rows(gen1, check) {
     equal(gen1.stats({species: "Tauros", moves: [["Strength", 3]]}),
         {hp: 353, attack: 298, defense: 288, speed: 318, special: 238});
   });
+  check("a member in short", () => {
+    const [mime] = gen1.team([{species: "mr mime", moves: ["psychic", ["BODYSLAM", 1], 86]}]).members;
+    equal(mime, {
+      species: "Mr. Mime",
+      level: 100,
+      dvs: [15, 15, 15, 15],
+      exp: [65535, 65535, 65535, 65535, 65535],
+      moves: [["Psychic", 3], ["Body Slam", 1], ["Thunder Wave", 3]]
+    });
+  });
   check("drain and recoil", () => {
     for (const move of ["Absorb", "Mega Drain", "Leech Life", "Dream Eater"])
       equal([1, 2, 101].map((it) => gen1.drained(move, it)), [1, 1, 50]);

@@ -52,7 +52,8 @@
 //! The crate is `no_std`. The feature `alloc`, on by default, adds `Battle::outcomes`, whose list grows; [`Battle::outcomes_into`] and
 //! [`Battle::ways`] do without, and need no allocator with `default-features = false`. `serde` adds `Serialize` and `Deserialize` for members, names, choices, sides, events,
 //! states, outcomes, odds, playouts and battles. A [`Team`] is only deserialized, from a list of members. A member is the object of
-//! [docs/PROGRAM.md][program], a battle its 384 bytes, and a name its text:
+//! [docs/PROGRAM.md][program], in which `level`, `dvs`, `exp` and the PP ups of a move may be absent, a battle its 384 bytes, and a name
+//! its text:
 //!
 //! [program]: https://hibsuloy.example/gen1/blob/main/docs/PROGRAM.md
 //!

@@ -282,11 +282,22 @@ fn a_member_is_the_object_of_the_document() {
     for (old, new, why) in [
         ("Mr. Mime", "Mr. Nime", "did you mean Mr. Mime?"),
         ("Psychic", "Psyche!", "no move is called 'Psyche!'"),
-        ("\"level\":100", "\"lvl\":100", "missing field `level`"),
+        ("\"level\":100", "\"lvl\":100", "unknown field `lvl`"),
+        (
+            r#","moves":[["Psychic",3],["Double-Edge",0]]"#,
+            "",
+            "missing field `moves`",
+        ),
         ("100", "256", "invalid value: integer `256`, expected u8"),
         ("[1,2,3,4,65535]", "[1,2,3,4]", "invalid length 4"),
         ("65535", "65536", "expected u16"),
         (r#"["Psychic",3]"#, r#"["Psychic"]"#, "invalid length 1"),
+        (r#"["Psychic",3]"#, r#"["Psychic",3,3]"#, "invalid length 3"),
+        (
+            r#"["Psychic",3]"#,
+            "94",
+            "expected the name of a move, or a pair",
+        ),
         (
             r#"["Psychic",3]"#,
             r#"["Cut",0],["Cut",0],["Cut",0],["Cut",0]"#,
@@ -296,9 +307,13 @@ fn a_member_is_the_object_of_the_document() {
         let fault = read(&text.replace(old, new)).unwrap_err().to_string();
         assert!(fault.contains(why), "{fault}");
     }
-    // Names are compared as in a team builder's text, and other keys are ignored, as in the program.
+    // Names are compared as in a team builder's text. A move alone has three PP ups, and a key that is absent the highest values.
     assert_eq!(read(&text.replace("Mr. Mime", "mr mime")).unwrap(), spec);
-    assert_eq!(read(&text.replace('{', r#"{"name":"Joe","#)).unwrap(), spec);
+    let short = r#"{"species":"mr mime","moves":["psychic",["double edge",3]]}"#;
+    assert_eq!(
+        read(short).unwrap(),
+        member("Mr. Mime", &["Psychic", "Double-Edge"]).unwrap()
+    );
 }
 
 #[cfg(feature = "serde")]
