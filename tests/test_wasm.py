@@ -8,7 +8,7 @@ from cargo import want_cargo
 from processes import add_counts, has, ran
 
 # The modules are downloaded, so they may not grow beyond this.
-MOST_BYTES = {"gen1.wasm": 215_000, "search.wasm": 230_000}
+MOST_BYTES = {"gen1.wasm": 215_000, "search.wasm": 230_000, "showdown.wasm": 680_000}
 
 
 @pytest.fixture(scope="module")
@@ -45,3 +45,8 @@ def test_search(package):
     """The search knows no more than its player, refuses bad input, and takes at most 300 ms at level 3."""
     said = ran("node", "test/search.mjs", cwd=package)
     assert int(re.match(r"level 3: (\d+) ms", said)[1]) <= 300, said
+
+
+def test_showdown(package, checks):
+    """The protocol in JavaScript says what docs/PROGRAM.md says, and refuses bad input."""
+    add_counts(ran("node", "test/showdown.mjs", cwd=package), checks)

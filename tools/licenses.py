@@ -1,7 +1,7 @@
 """The licenses of what each artifact links: the text of LICENSES.txt, and the linked crates whose license is not permitted.
 
 The artifacts are c (the C library of the plain sources), proved (that of the Rattle kit), wasm (the module of WebAssembly, which the page
-has too), extras (gen1-search and gen1-showdown for Python), search_wasm (gen1-search for JavaScript) and program (the program gen1).
+has too), extras (gen1-search and gen1-showdown for Python), search_wasm and showdown_wasm (the same two for JavaScript) and program (the program gen1).
 Crates, versions and licenses are those that cargo takes, without a network. Where cargo can't list them, the C library's are listed
 without versions.
 """
@@ -32,7 +32,16 @@ CARGO = {
     "c": ("libgen1, the C library of the plain sources", LIBRARY, "core"),
     "wasm": ("the module of WebAssembly", LIBRARY, "core"),
     "extras": ("libgen1_extras, the searches and Showdown's protocol", ("gen1-extras-ffi",), "std"),
-    "search_wasm": ("the module of the searches", ("gen1-extras-ffi", "--no-default-features"), "core"),
+    "search_wasm": (
+        "the module of the searches",
+        ("gen1-extras-ffi", "--no-default-features", "--features", "search"),
+        "core",
+    ),
+    "showdown_wasm": (
+        "the module of Showdown's protocol",
+        ("gen1-extras-ffi", "--no-default-features", "--features", "showdown"),
+        "std",
+    ),
     "program": ("gen1, the program", ("gen1-cli",), "std"),
 }
 OTHER = {

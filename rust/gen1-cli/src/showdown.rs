@@ -67,7 +67,11 @@ impl Showdown {
             None => self.pixels.then_some(Hp::Pixels),
         };
         let clock = self.time.then_some(now as fn() -> u64);
-        Options { hp, clock }
+        Options {
+            hp,
+            clock,
+            chance: None,
+        }
     }
 }
 

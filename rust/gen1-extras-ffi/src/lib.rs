@@ -1,142 +1,24 @@
-//! The searches of gen1-search behind three functions, which the packages for Python and JavaScript call, and the protocol of
-//! gen1-showdown behind one, for Python.
+//! The searches of gen1-search behind three functions, and the protocol of gen1-showdown behind one, which the packages for Python and
+//! JavaScript call.
 //!
 //! A result is a JSON text, so its layout is stated nowhere else. `gen1_player`, `gen1_battle` and `gen1_team` are those of include/gen1.h.
-#![cfg_attr(target_family = "wasm", no_std)]
+#![cfg_attr(all(target_family = "wasm", not(feature = "showdown")), no_std)]
 #![warn(missing_docs)]
 
 extern crate alloc;
 
+#[cfg(feature = "search")]
 mod forms;
+#[cfg(feature = "search")]
+mod search;
 #[cfg(feature = "showdown")]
 mod showdown;
+#[cfg(feature = "search")]
 mod texts;
-#[cfg(target_family = "wasm")]
+#[cfg(all(target_family = "wasm", not(feature = "showdown")))]
 mod wasm;
 
-use alloc::string::{String, ToString};
-pub use forms::{SolveForm, ThinkForm};
-use gen1::generated::player::Player as PlainPlayer;
-use gen1::{Battle, Player};
-use gen1_search::{LEVELS, Solver, think};
-
-/// The nodes of a level of play, 1 to 5; 0 if there is no such level.
-#[unsafe(no_mangle)]
-pub extern "C" fn gen1_search_nodes(level: u8) -> u64 {
-    let at = usize::from(level).checked_sub(1);
-    at.and_then(|at| LEVELS.get(at)).copied().unwrap_or(0)
-}
-
-/// Searches for the choice of a player, and writes the result to `text`, as a JSON object with a key `error` if there is none.
-///
-/// Returns the length of the text. A longer one than `room` is not written.
-///
-/// # Safety
-///
-/// `text` has `room` bytes, and the pointers of the options have what [`ThinkForm`] says. Nothing else writes them during the call.
-#[unsafe(no_mangle)]
-pub unsafe extern "C" fn gen1_search_think(
-    player: &PlainPlayer,
-    options: &ThinkForm,
-    text: *mut u8,
-    room: usize,
-) -> usize {
-    // SAFETY: the caller says so.
-    let prior = unsafe { options.prior() };
-    let found = on_threads(options.threads, || {
-        let player = Player::from_plain(*player).ok_or("the player is of no side")?;
-        let prior = prior?;
-        let thought = think(&player, &prior, &options.options()?);
-        thought.map_err(|why| why.to_string())
-    });
-    // SAFETY: the caller says so.
-    unsafe { put(&texts::thought(found), text, room) }
-}
-
-/// Bounds the value of a battle, and writes the result to `text`, as a JSON object with a key `error` if there is none.
-///
-/// Returns the length of the text. A longer one than `room` is not written.
-///
-/// # Safety
-///
-/// `text` has `room` bytes. Nothing else writes the arguments during the call.
-#[unsafe(no_mangle)]
-pub unsafe extern "C" fn gen1_search_solve(
-    battle: &[u8; 384],
-    options: &SolveForm,
-    text: *mut u8,
-    room: usize,
-) -> usize {
-    let found = on_threads(options.threads, || {
-        let battle = Battle::from_bytes(battle).map_err(|why| why.to_string())?;
-        let solver = Solver::new(&battle, options.options()?);
-        let mut solver = solver.map_err(|why| why.to_string())?;
-        let goes_on = options.clock();
-        let stopped = solver.run(|_| goes_on());
-        let stopped = stopped.map_err(|why| why.to_string())?;
-        texts::solved(&solver, &battle, stopped)
-    });
-    // SAFETY: the caller says so.
-    unsafe { put(&texts::or_error(found), text, room) }
-}
-
-/// Does what an object in JSON says, and returns an object in JSON, which `gen1_showdown_free` gives back. Several threads may call it.
-///
-/// # Safety
-///
-/// `ask` has `length` bytes.
+#[cfg(feature = "search")]
+pub use search::{SolveForm, ThinkForm, gen1_search_nodes, gen1_search_solve, gen1_search_think};
 #[cfg(feature = "showdown")]
-#[unsafe(no_mangle)]
-pub unsafe extern "C" fn gen1_showdown_call(
-    ask: *const u8,
-    length: usize,
-    written: &mut usize,
-) -> *mut u8 {
-    // SAFETY: the caller says so.
-    let ask = unsafe { core::slice::from_raw_parts(ask, length) };
-    let text = showdown::call(ask).into_bytes().into_boxed_slice();
-    *written = text.len();
-    alloc::boxed::Box::into_raw(text).cast()
-}
-
-/// Gives back a text.
-///
-/// # Safety
-///
-/// `gen1_showdown_call` returned it, with this length, and it was not given back before.
-#[cfg(feature = "showdown")]
-#[unsafe(no_mangle)]
-pub unsafe extern "C" fn gen1_showdown_free(text: *mut u8, length: usize) {
-    let text = core::ptr::slice_from_raw_parts_mut(text, length);
-    // SAFETY: the caller says so.
-    drop(unsafe { alloc::boxed::Box::from_raw(text) });
-}
-
-/// Runs a search on threads of its own, so that a process may be forked between two searches.
-#[cfg(feature = "threads")]
-fn on_threads<T: Send>(
-    threads: u32,
-    search: impl FnOnce() -> Result<T, String> + Send,
-) -> Result<T, String> {
-    let pool = rayon::ThreadPoolBuilder::new().num_threads(threads.max(1) as usize);
-    let pool = pool.build().map_err(|why| why.to_string())?;
-    pool.install(search)
-}
-
-#[cfg(not(feature = "threads"))]
-fn on_threads<T>(_: u32, search: impl FnOnce() -> Result<T, String>) -> Result<T, String> {
-    search()
-}
-
-/// Writes a text where it fits, and returns its length.
-///
-/// # Safety
-///
-/// `to` has `room` bytes.
-unsafe fn put(text: &str, to: *mut u8, room: usize) -> usize {
-    if text.len() <= room {
-        // SAFETY: the caller says so.
-        unsafe { to.copy_from_nonoverlapping(text.as_ptr(), text.len()) };
-    }
-    text.len()
-}
+pub use showdown::{gen1_showdown_call, gen1_showdown_free};

@@ -118,9 +118,12 @@ enum Ask {
         clock: bool,
         formats: Option<String>,
     },
+    /// A command for a simulator. WebAssembly has no clock and no chance, so there it has the time and 64 bits by chance, as two numbers.
     Take {
         of: u64,
         line: String,
+        time: Option<u64>,
+        chance: Option<[u32; 2]>,
     },
     /// Reads a battle log as a side; with a guess of the foe's team and a seed also a battle that fits.
     Follow {
@@ -177,8 +180,38 @@ fn team_refused(side: u8, why: TeamRefusal) -> Refused {
     Refused(json!({"kind": "team", "side": side, "why": why.to_string()}))
 }
 
+/// Does what an object in JSON says, and returns an object in JSON, which `gen1_showdown_free` gives back. Several threads may call it.
+///
+/// # Safety
+///
+/// `ask` has `length` bytes.
+#[unsafe(no_mangle)]
+pub unsafe extern "C" fn gen1_showdown_call(
+    ask: *const u8,
+    length: usize,
+    written: &mut usize,
+) -> *mut u8 {
+    // SAFETY: the caller says so.
+    let ask = unsafe { core::slice::from_raw_parts(ask, length) };
+    let text = call(ask).into_bytes().into_boxed_slice();
+    *written = text.len();
+    Box::into_raw(text).cast()
+}
+
+/// Gives back a text.
+///
+/// # Safety
+///
+/// `gen1_showdown_call` returned it, with this length, and it was not given back before.
+#[unsafe(no_mangle)]
+pub unsafe extern "C" fn gen1_showdown_free(text: *mut u8, length: usize) {
+    let text = core::ptr::slice_from_raw_parts_mut(text, length);
+    // SAFETY: the caller says so.
+    drop(unsafe { Box::from_raw(text) });
+}
+
 /// Handles a call, and returns an object: with the key `error`, or with what was asked for.
-pub fn call(text: &[u8]) -> String {
+fn call(text: &[u8]) -> String {
     let ask = serde_json::from_slice::<Ask>(text).map_err(|why| Refused::of("call", why));
     let found = ask
         .and_then(done)
@@ -231,11 +264,23 @@ fn done(ask: Ask) -> Result<Value, Refused> {
         }),
         Ask::NewSimulator { hp, clock, formats } => {
             let hp = hp.as_deref().map(hp_of).transpose()?;
-            let clock = clock.then_some(now as fn() -> u64);
-            let simulator = Simulator::with_formats(Options { hp, clock }, formats_in(formats)?);
+            let options = Options {
+                hp,
+                clock: clock.then_some(host::now),
+                chance: host::CHANCE,
+            };
+            let simulator = Simulator::with_formats(options, formats_in(formats)?);
             Ok(kept(Object::Simulator(Box::new(simulator))))
         }
-        Ask::Take { of, line } => taken(of, &line),
+        Ask::Take {
+            of,
+            line,
+            time,
+            chance,
+        } => {
+            host::set(time, chance);
+            taken(of, &line)
+        }
         Ask::Hear {
             of,
             log,
@@ -560,10 +605,49 @@ fn viewer_of(word: &str) -> Result<Viewer, Refused> {
     }
 }
 
-/// The seconds since 1970; 0 for a clock before that.
-fn now() -> u64 {
-    let since = std::time::SystemTime::now().duration_since(std::time::UNIX_EPOCH);
-    since.map_or(0, |time| time.as_secs())
+/// The clock, and what is drawn by chance.
+#[cfg(not(target_family = "wasm"))]
+mod host {
+    use std::time::{SystemTime, UNIX_EPOCH};
+
+    /// Those of the standard library.
+    pub const CHANCE: Option<fn() -> u64> = None;
+
+    /// The seconds since 1970; 0 for a clock before that.
+    pub fn now() -> u64 {
+        let since = SystemTime::now().duration_since(UNIX_EPOCH);
+        since.map_or(0, |time| time.as_secs())
+    }
+
+    pub fn set(_: Option<u64>, _: Option<[u32; 2]>) {}
+}
+
+/// The clock, and what is drawn by chance, as the caller of the last `take` has them.
+#[cfg(target_family = "wasm")]
+mod host {
+    use std::sync::atomic::{AtomicU64, Ordering::Relaxed};
+
+    static TIME: AtomicU64 = AtomicU64::new(0);
+    static BITS: AtomicU64 = AtomicU64::new(0);
+
+    pub const CHANCE: Option<fn() -> u64> = Some(|| BITS.load(Relaxed));
+
+    pub fn now() -> u64 {
+        TIME.load(Relaxed)
+    }
+
+    pub fn set(time: Option<u64>, chance: Option<[u32; 2]>) {
+        TIME.store(time.unwrap_or(0), Relaxed);
+        if let Some([high, low]) = chance {
+            BITS.store(u64::from(high) << 32 | u64::from(low), Relaxed);
+        }
+    }
+
+    /// Bytes for the text of a call, which `gen1_showdown_free` gives back.
+    #[unsafe(no_mangle)]
+    pub extern "C" fn gen1_showdown_room(length: usize) -> *mut u8 {
+        Box::into_raw(vec![0_u8; length].into_boxed_slice()).cast()
+    }
 }
 
 fn hex(bytes: &[u8]) -> String {

@@ -15,6 +15,9 @@ pub struct Options {
     pub hp: Option<Hp>,
     /// A clock, in seconds since 1970. With it each update begins with `|t:|`.
     pub clock: Option<fn() -> u64>,
+    /// 64 bits by chance, for a battle without a seed; without it they are those with which the standard library seeds its hash maps, which
+    /// WebAssembly does not have.
+    pub chance: Option<fn() -> u64>,
 }
 
 /// What a simulator returns for a command.
@@ -147,7 +150,7 @@ impl Simulator {
             "start" => self.start(&object_in(rest)?),
             "player" => self.player(rest),
             _ => match &mut self.game {
-                Some(game) => on_game(game, word, rest, self.options.clock),
+                Some(game) => on_game(game, word, rest, self.options),
                 // Chat may come before the battle.
                 None if word.starts_with("chat") => Ok(String::new()),
                 None => Err(format!("\">{word}\" before >start and both >player").into()),
@@ -241,7 +244,7 @@ impl Simulator {
         Ok(Format {
             id: id.into(),
             rules: self.formats.rules(id).unwrap_or(both),
-            seed: seed_in(&value["seed"])?,
+            seed: seed_in(&value["seed"], self.options)?,
         })
     }
 }
@@ -265,24 +268,20 @@ impl From<String> for Refused {
 }
 
 /// A command during a battle.
-fn on_game(
-    game: &mut Game,
-    word: &str,
-    rest: &str,
-    clock: Option<fn() -> u64>,
-) -> Result<String, Refused> {
+fn on_game(game: &mut Game, word: &str, rest: &str, options: Options) -> Result<String, Refused> {
     let rest = rest.trim();
     match word {
         "p1" | "p2" if rest == "undo" => Ok(game.undo(side_in(word)?)),
-        "p1" | "p2" => Ok(game.choose(side_in(word)?, rest, clock.map(|now| now()))?),
+        "p1" | "p2" => Ok(game.choose(side_in(word)?, rest, options.clock.map(|now| now()))?),
         "forcewin" => Ok(game.end(&format!("{word} {rest}"), Some(side_in(rest)?))),
         "forcelose" => Ok(game.end(&format!("{word} {rest}"), Some(side_in(rest)?.other()))),
         "tiebreak" => Ok(game.break_tie()),
         "reseed" => {
-            game.reseed(seed_in(&match rest {
+            let given = match rest {
                 "" => Value::Null,
                 text => Value::from(text),
-            })?);
+            };
+            game.reseed(seed_in(&given, options)?);
             Ok(String::new())
         }
         "chat" => Ok(game.chat(rest)),
@@ -298,8 +297,8 @@ fn object_in(text: &str) -> Result<Value, String> {
         .ok_or_else(|| format!("expected a JSON object, found \"{}\"", text.trim()))
 }
 
-/// The ten bytes of a seed: as given, made from four numbers or from a text, or random.
-fn seed_in(value: &Value) -> Result<[u8; 10], String> {
+/// The ten bytes of a seed: as given, made from four numbers or from a text, or by chance.
+fn seed_in(value: &Value, options: Options) -> Result<[u8; 10], String> {
     let wrong = || {
         let forms = "four numbers to 65535, of ten to 255, or a text";
         format!("expected a \"seed\" of {forms}, found {value}")
@@ -308,7 +307,8 @@ fn seed_in(value: &Value) -> Result<[u8; 10], String> {
         return Ok(seed_of_text(text));
     }
     if value.is_null() {
-        return Ok(seed_of(RandomState::new().build_hasher().finish()));
+        let hashed = || RandomState::new().build_hasher().finish();
+        return Ok(seed_of(options.chance.map_or_else(hashed, |bits| bits())));
     }
     let numbers = value.as_array().ok_or_else(wrong)?;
     let numbers: Option<Vec<u64>> = numbers.iter().map(Value::as_u64).collect();

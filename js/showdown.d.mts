@@ -1,0 +1,181 @@
+// The types of showdown.mjs. docs/PROGRAM.md has the lines, the requests and the commands, which are from memory of Showdown's public
+// documents. Nothing of it is proved.
+import type {
+  Battle, ChoiceName, Gen1, Gen1Error, Host, Message, MoveName, Notice, Numbers, Player, Side, Source, SpeciesName, Team, WholeMember,
+} from "./gen1.mjs";
+
+/** The form in which a member's HP is shown to all but its owner: as it is told, in 48ths, or in hundredths. */
+export type Hp = "exact" | "pixels" | "percent";
+/** Who reads lines. Those of "omniscient" and "stream" have what a side must not see. */
+export type Viewer = "p1" | "p2" | "spectator" | "omniscient" | "stream";
+
+/** A command or a line of a log is not one, or can't be part of the battle. */
+export class ProtocolError extends Gen1Error {
+  /** The number of the line, from 1; 0 if the error is about no line. */
+  readonly line: number;
+}
+/** A text is no choice now. The message is what Showdown sends after `|error|[Invalid choice]` and a space. */
+export class ChoiceError extends Gen1Error {}
+
+/** A member with its exact names. What is left out is at its maximum. */
+export interface NamedMember {
+  species: SpeciesName;
+  level?: number;
+  dvs?: Numbers;
+  exp?: Numbers;
+  moves: readonly (MoveName | readonly [MoveName, number])[];
+}
+
+/** The members of a team, with their nicknames. */
+export class Members {
+  private constructor();
+  readonly length: number;
+  /** The members as `gen1.battle` takes them. */
+  readonly team: WholeMember[];
+  /** The nickname of each member, or null. */
+  readonly nicknames: (string | null)[];
+  /** The name of each member in lines: its nickname, or its species. */
+  readonly names: readonly string[];
+  /** The team as a packed line. Throws TeamError for a move that has other than three PP ups, which a text can't say. */
+  packed(): string;
+  /** The team as an export text. Throws TeamError as `packed` does. */
+  export(): string;
+}
+
+/** A rule of a format that a team breaks. */
+export interface Complaint {
+  /** The place of the member, from 1; 0 if it is about the whole team. */
+  member: number;
+  /** The number of its species; null for the whole team. */
+  species: number | null;
+  rule: string;
+  /** What breaks the rule. */
+  value: string;
+  /** All of it as a sentence. */
+  text: string;
+}
+
+/** Named rule sets, which check teams. */
+export class Formats {
+  private constructor();
+  readonly ids: readonly string[];
+  /** Where the rules are from, and of which day. */
+  readonly source: string;
+  readonly date: string;
+  /** The name of a format in lines. Throws ArgumentError, as the next three do, for an unknown format. */
+  tier(id: string): string;
+  /** The rules of a battle of a format, 0 to 3. */
+  rules(id: string): number;
+  /** The clauses of a format, for `lines`. */
+  clauses(id: string): string[];
+  /** The rules of a format that a team breaks: by members, then of the whole team. */
+  complaints(members: Members, id: string): Complaint[];
+}
+
+/** An object of the module. */
+interface Kept {
+  /** Gives its memory back at once. Otherwise that happens when it is collected. Any later call throws FreedError. */
+  free(): void;
+  [Symbol.dispose](): void;
+}
+
+/** Writes the lines of a battle, for each viewer. */
+export class Lines implements Kept {
+  private constructor();
+  /** Adds the lines of an update of a battle: a copy of the battle before it, its log, and the battle after it. */
+  update(before: Battle, log: Uint8Array, after: Battle, time?: number): void;
+  /** Adds the lines of the last pair of a host, at the beginning those of its start: once after each pair. */
+  report(host: Host, time?: number): void;
+  /** Adds the lines of a pair for one viewer: the player of the side whose members are known, or a spectator. Each is taken in once, in order. */
+  receive(sent: Message | Notice, time?: number): void;
+  /** Adds the lines of an earlier pair for one viewer, of which only the told log was kept. */
+  hear(log: Uint8Array): void;
+  /** Ends the battle by a win of a side, or with null by a tie. */
+  end(winner: Side | null): void;
+  /** Ends the battle by a forfeit of a side. */
+  forfeit(side: Side): void;
+  /** Adds a line that everyone sees, without its first bar. */
+  line(text: string): void;
+  /** The lines so far as a viewer sees them, each with a line feed. */
+  text(viewer: Viewer): string;
+  /** Forgets the lines so far. */
+  clear(): void;
+  free(): void;
+  [Symbol.dispose](): void;
+}
+
+/** A player of a battle, as Showdown sees one: its requests, and its choices read. It is given nothing that the player may not know. */
+export class Seat implements Kept {
+  private constructor();
+  /** Takes in a message of the player's host: each once, in order. */
+  receive(message: Message): void;
+  /** Takes in the told log of an earlier pair, for a player that comes back; `receive` then takes in the last message. */
+  hear(log: Uint8Array): void;
+  /** Takes in an update of a battle: the battle after it, and its log. */
+  tell(battle: Battle, log: Uint8Array): void;
+  /** The request to the player, as JSON, with its number from 1. */
+  request(rqid: number): string;
+  /** Whether the player has nothing to choose. Then its choice is a pass. */
+  readonly waits: boolean;
+  /** The choice in a text: `move` or `switch` with a name or a number of the request, `default` or `auto`. Throws ChoiceError. */
+  choiceIn(text: string): ChoiceName;
+  free(): void;
+  [Symbol.dispose](): void;
+}
+
+/** Plays battles by the commands of Showdown's simulator, one battle after the other (docs/PROGRAM.md, "showdown"). */
+export class Simulator implements Kept {
+  private constructor();
+  /**
+   * Handles a line: the messages, each with an empty line at its end, and why the command was passed over, or null. Throws ProtocolError, TeamError; the
+   * simulator is then unchanged.
+   */
+  take(line: string): { text: string; note: string | null };
+  free(): void;
+  [Symbol.dispose](): void;
+}
+
+/**
+ * A battle log of one battle from its beginning, as the player of a side reads it (docs/PROGRAM.md, "follow"). Its lines may come in pieces. All
+ * properties and calls throw ProtocolError for the first line that can't be part of the battle, and as long as not both sides have sent out a member.
+ */
+export class Follower {
+  private constructor();
+  /** Adds whole lines of a log, or a whole replay page. */
+  read(text: string): void;
+  /** What is unknown in the log, each once with its first line, from 1; the first twenty. */
+  readonly notes: { line: number; why: string }[];
+  /** The events of the log as log bytes. */
+  readonly log: Uint8Array;
+  /** The name, the number of members (null if the log does not have it), and the members' names of a side. */
+  side(side: Side): { name: string; count: number | null; names: string[] };
+  /** What the player knows after the log. Without the own team it has a team of the members that came out. */
+  player(gen1: Gen1): Player;
+  /** A battle that fits what the player knows, its last request, and a guess of the foe's team in any order. Without a seed its draws are by chance. */
+  battle(gen1: Gen1, guess: Members, seed?: Numbers): Battle;
+}
+
+/** The protocol. `loadShowdown` makes it. Its calls throw ArgumentError, ArgumentTypeError, and TeamError for a text or a team that is none. */
+export class Showdown {
+  private constructor();
+  /** The members of a text, in any form (docs/TEAM_TEXT.md), or of a team; with nicknames in place of those of the text. */
+  members(team: string | Team | readonly NamedMember[], nicknames?: readonly (string | null)[]): Members;
+  /** The formats of a file's text, in the form of rust/gen1-showdown/formats.json, or those of the library. */
+  formats(file?: string): Formats;
+  /**
+   * The lines of a battle, which begin with those of the heading. `members` are those of both sides; or of a side that is not known their number, for
+   * the lines of one viewer. `tier` and `rules` are a format's name and clauses, and `hp` is "exact" without it.
+   */
+  lines(options: {
+    players: readonly [string, string]; members: readonly [Members | number, Members | number]; tier?: string; rules?: readonly string[]; hp?: Hp;
+  }): Lines;
+  /** The player of a side before the first update. `foes` is how many members the foe has, if that is known. */
+  seat(options: { side: Side; name: string; members: Members; foes?: number; hp?: Hp }): Seat;
+  /** A simulator that waits for `>start`. With `clock` each update begins with the time. */
+  simulator(options?: { hp?: Hp; clock?: boolean; formats?: Formats }): Simulator;
+  /** With the own team its members have their places; without it they are numbered as they came out. */
+  follower(options: { side: Side; members?: Members }): Follower;
+}
+
+/** Loads the module of the protocol: that of this package, or one from its URL, its path in Node, or its bytes. Throws ModuleError. */
+export function loadShowdown(source?: Source): Promise<Showdown>;
