@@ -82,7 +82,8 @@ export class Members {
   constructor(module, team, nicknames = null) {
     this.#module = module;
     const given = typeof team === "string" ? team : Array.from(list(team, "team", "a text or members"), memberOf);
-    const named = nicknames && Array.from(list(nicknames, "nicknames"), (it) => (it === null ? null : lineOf(it, "nicknames")));
+    const named =
+        nicknames && Array.from(list(nicknames, "nicknames"), (it) => (it === null ? null : lineOf(it, "nicknames")));
     const {members, names} = module.call("read_members", {team: given, nicknames: named});
     this.#listed = members;
     this.names = Object.freeze(names);
@@ -95,8 +96,7 @@ export class Members {
 
   /** The members as `gen1.battle` takes them. */
   get team() {
-    return this.#listed.map(
-        ({species, level, dvs, exp, moves}) => structuredClone({species, level, dvs, exp, moves}));
+    return this.#listed.map(({species, level, dvs, exp, moves}) => structuredClone({species, level, dvs, exp, moves}));
   }
 
   /** The nickname of each member, or null. */
@@ -222,7 +222,8 @@ export class Lines extends Kept {
 
   /** Adds the lines of an update of a battle: a copy of the battle before it, its log, and the battle after it. */
   update(before, log, after, time) {
-    const [was, now] = [instance(before, Battle, "before"), instance(after, Battle, "after")].map((it) => hexOf(it.bytes));
+    const [was, now] =
+        [instance(before, Battle, "before"), instance(after, Battle, "after")].map((it) => hexOf(it.bytes));
     this._ask("update", {before: was, log: hexOf(octets(log, "log")), after: now, time: timeOf(time)});
   }
 
@@ -239,7 +240,8 @@ export class Lines extends Kept {
     const isMessage = sent instanceof Message;
     if (!isMessage) instance(sent, Notice, "sent");
     if (isMessage !== (this.#side !== null))
-      throw new ArgumentError("a message is for the player of the one side whose members are known, a notice for others", "sent");
+      throw new ArgumentError(
+          "a message is for the player of the one side whose members are known, a notice for others", "sent");
     const number = followingPair(this.#pair, sent.number);
     const message = isMessage ? hexOf(sent.bytes) : null;
     this._ask("hear", {log: hexOf(sent.log), side: this.#side, message, time: timeOf(time)});

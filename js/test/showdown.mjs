@@ -57,8 +57,9 @@ function hosted() {
   const members = [showdown.members(TAUROS), showdown.members(MEW)];
   const host = gen1.host(gen1.battle({one: members[0].team, two: members[1].team, seed: SEED}), {exactHp: true});
   const lines = showdown.lines({players: ["Alice", "Eve"], members: [members[0], members[1]]});
-  const seats = [1, 2].map((side) => showdown.seat(
-      {side: side === 1 ? 1 : 2, name: side === 1 ? "Alice" : "Eve", members: members[side - 1], foes: 2}));
+  const seats = [1, 2].map(
+      (side) => showdown.seat(
+          {side: side === 1 ? 1 : 2, name: side === 1 ? "Alice" : "Eve", members: members[side - 1], foes: 2}));
   const sent = () => {
     lines.report(host);
     seats.forEach((seat, at) => seat.receive(host.message(at === 0 ? 1 : 2)));
@@ -131,11 +132,13 @@ function followed() {
 
   // The example of docs/PROGRAM.md, "A battle to search".
   const simulator = showdown.simulator();
-  const stream = [
-    '>start {"formatid":"gen1customgame","seed":[1,2,3,4]}',
-    '>player p1 {"name":"Alice","team":"Tauros||||bodyslam,earthquake|||||||"}',
-    '>player p2 {"name":"Bob","team":"Alakazam||||psychic,recover|||||||"}', ">p1 move 1", ">p2 move 1"
-  ].map((line) => simulator.take(line).text).join("");
+  const stream =
+      [
+        ">start {\"formatid\":\"gen1customgame\",\"seed\":[1,2,3,4]}",
+        ">player p1 {\"name\":\"Alice\",\"team\":\"Tauros||||bodyslam,earthquake|||||||\"}",
+        ">player p2 {\"name\":\"Bob\",\"team\":\"Alakazam||||psychic,recover|||||||\"}", ">p1 move 1", ">p2 move 1"
+      ].map((line) => simulator.take(line).text)
+          .join("");
   const mine = showdown.members("Tauros\n- Body Slam\n- Earthquake\n");
   const knowing = showdown.follower({side: 1, members: mine});
   knowing.read(stream);
