@@ -136,6 +136,18 @@ export class Simulator implements Kept {
 }
 
 /**
+ * The sleep and the freeze clause as a cartridge's organiser has them: a side loses that puts a second living member of the foe to sleep by a move, or
+ * freezes a second one. Rest does not count. The rules of a battle make such a move fail, so that battle has none.
+ */
+export class EndingClauses implements Kept {
+  private constructor();
+  /** Takes in the log of a pair, such as that of a host's notice: each once, in order. Returns the first side that broke a clause so far, or null. */
+  hear(log: Uint8Array): Side | null;
+  free(): void;
+  [Symbol.dispose](): void;
+}
+
+/**
  * A battle log of one battle from its beginning, as the player of a side reads it (docs/PROGRAM.md, "follow"). Its lines may come in pieces. All
  * properties and calls throw ProtocolError for the first line that can't be part of the battle, and as long as not both sides have sent out a member.
  */
@@ -173,6 +185,8 @@ export class Showdown {
   seat(options: { side: Side; name: string; members: Members; foes?: number; hp?: Hp }): Seat;
   /** A simulator that waits for `>start`. With `clock` each update begins with the time. */
   simulator(options?: { hp?: Hp; clock?: boolean; formats?: Formats }): Simulator;
+  /** The clauses of a battle before its first update: both, unless an option says otherwise. */
+  endingClauses(options?: { sleep?: boolean; freeze?: boolean }): EndingClauses;
   /** With the own team its members have their places; without it they are numbered as they came out. */
   follower(options: { side: Side; members?: Members }): Follower;
 }

@@ -352,6 +352,21 @@ export class Simulator extends Kept {
   }
 }
 
+const CLAUSES = ["sleep", "freeze"];
+
+/** A second sleep by a move or a second freeze of the foe's members loses the battle. */
+export class EndingClauses extends Kept {
+  constructor(module, options = {}) {
+    const {sleep = true, freeze = true} = record(options, "options", "an object", CLAUSES);
+    super(module, "new_clauses", {sleep: truth(sleep, "sleep"), freeze: truth(freeze, "freeze")});
+  }
+
+  /** Takes in the log of a pair: each once, in order. Returns the first side that broke a clause so far, or null. */
+  hear(log) {
+    return this._ask("judge", {log: hexOf(octets(log, "log"))}).loser;
+  }
+}
+
 const FOLLOWER = ["side", "members"];
 
 /** A battle log of one battle from its beginning, as the player of a side reads it. */
@@ -447,6 +462,10 @@ export class Showdown {
 
   simulator(options) {
     return new Simulator(this.#module, options);
+  }
+
+  endingClauses(options) {
+    return new EndingClauses(this.#module, options);
   }
 
   follower(options) {

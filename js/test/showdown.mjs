@@ -148,5 +148,16 @@ function followed() {
   thrown(() => knowing.battle(gen1, showdown.members("Mew\n- Psychic")), ArgumentError, /./);
 }
 
-for (const test of [teams, rules, hosted, simulated, followed]) test();
-console.log("5 passed, 0 failed");
+function judged() {
+  const one = [{species: "Parasect", moves: ["Spore"]}];
+  const two = ["Chansey", "Snorlax"].map((species) => ({species, moves: ["Splash"]}));
+  const [battle, clauses] = [gen1.battle({one, two, seed: 7}), showdown.endingClauses()];
+  equal(clauses.hear(battle.update("pass", "pass").log), null);
+  equal(clauses.hear(battle.update("move 1", "move 1").log), null);
+  equal(clauses.hear(battle.update("move 1", "switch 2").log), 1);
+  thrown(() => clauses.hear(Uint8Array.of(255)), ArgumentError, /./);
+  thrown(() => showdown.endingClauses(/** @type {any} */ ({slep: true})), ArgumentError, /did you mean "sleep"/);
+}
+
+for (const test of [teams, rules, hosted, simulated, followed, judged]) test();
+console.log("6 passed, 0 failed");

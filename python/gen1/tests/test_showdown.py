@@ -17,6 +17,7 @@ from gen1 import (
     Member,
     Move,
     Player,
+    Row,
     Rules,
     Side,
     Team,
@@ -24,7 +25,19 @@ from gen1 import (
     sample_teams,
     showdown,
 )
-from gen1.showdown import ChoiceRefused, Follower, Formats, Hp, Lines, Members, ProtocolFault, Seat, Simulator, Viewer
+from gen1.showdown import (
+    ChoiceRefused,
+    EndingClauses,
+    Follower,
+    Formats,
+    Hp,
+    Lines,
+    Members,
+    ProtocolFault,
+    Seat,
+    Simulator,
+    Viewer,
+)
 
 
 def is_there():
@@ -166,6 +179,32 @@ def test_formats_check_teams():
     own = '{"source":"here","date":"today","clauses":[],"formats":[{"id":"one","name":"One","members":[1,1],"clauses":[]}]}'
     found = Formats(own).complaints(Members(TAUROS), "one")
     assert [str(it) for it in found] == ["team: 1 to 1 members; found 2"] and found[0].species is None
+
+
+def slept(pairs, **clauses):
+    """The loser after each pair of a Parasect's battle, by the log of the audience, and how many sleeps that log has."""
+    foes = [Member(it, ["Splash", "Rest"]) for it in ("Chansey", "Snorlax")]
+    host = Host(Battle([Member("Parasect", ["Spore", "Seismic Toss"])], foes, seed=7))
+    watch, found, sleeps = EndingClauses(**clauses), [], 0
+    watch.hear(host.notice().log)
+    for pair in pairs:
+        for side, choice in zip(Side, pair):
+            host.apply(Row.submit(side, host.number, choice, None))
+        found.append(watch.hear(host.notice().log))
+        sleeps += sum(line.endswith("|slp") and line.startswith("|-status|") for line in lines(host.notice().log))
+    return found, sleeps
+
+
+def test_a_second_sleep_loses():
+    spore, toss, switch = Choice.MOVE_1, Choice.MOVE_2, Choice.SWITCH_2
+    splash, rest = Choice.MOVE_1, Choice.MOVE_2
+    assert slept([(spore, splash), (spore, switch)]) == ([None, Side.ONE], 2)
+    assert slept([(spore, splash), (spore, switch)], sleep=False) == ([None, None], 2)
+    assert slept([(spore, splash), (toss, switch), (toss, rest)]) == ([None] * 3, 2)
+    with pytest.raises(BadArgument):
+        EndingClauses().hear(b"\xff")
+    with pytest.raises(BadType):
+        EndingClauses(sleep=1)
 
 
 def test_a_simulator_begins_as_the_program_does():

@@ -4,8 +4,8 @@
 use gen1::{Battle, LogFault, MemberSpec, Message, Notice, Rules, Side, Team, TeamRefusal};
 use gen1_showdown::reading::Typed;
 use gen1_showdown::{
-    Complaint, Fault, Follower, Formats, Heading, Hp, LineWriter, Members, Note, Options, Seat,
-    Simulator, Viewer, choice_in, names_of, request,
+    Complaint, EndingClauses, Fault, Follower, Formats, Heading, Hp, LineWriter, Members, Note,
+    Options, Seat, Simulator, Viewer, choice_in, names_of, request,
 };
 use serde::Deserialize;
 use serde_json::{Value, json};
@@ -113,6 +113,15 @@ enum Ask {
         of: u64,
         text: String,
     },
+    NewClauses {
+        sleep: bool,
+        freeze: bool,
+    },
+    /// Takes in the log of a pair, and returns the side that has lost.
+    Judge {
+        of: u64,
+        log: String,
+    },
     NewSimulator {
         hp: Option<String>,
         clock: bool,
@@ -143,6 +152,7 @@ enum Object {
     Lines(Box<LineWriter>),
     Seat(Box<Seat>),
     Simulator(Box<Simulator>),
+    Clauses(Box<EndingClauses>),
 }
 
 type Held = Arc<Mutex<Object>>;
@@ -262,6 +272,11 @@ fn done(ask: Ask) -> Result<Value, Refused> {
             let choice = choice_in(&text, seat).map_err(|why| Refused::of("choice", why))?;
             Ok(json!({"choice": choice.byte()}))
         }),
+        Ask::NewClauses { sleep, freeze } => {
+            let clauses = EndingClauses::new(sleep, freeze);
+            Ok(kept(Object::Clauses(Box::new(clauses))))
+        }
+        Ask::Judge { of, log } => judged(of, &bytes_in(&log)?),
         Ask::NewSimulator { hp, clock, formats } => {
             let hp = hp.as_deref().map(hp_of).transpose()?;
             let options = Options {
@@ -348,6 +363,16 @@ fn taken(of: u64, line: &str) -> Result<Value, Refused> {
     })
 }
 
+fn judged(of: u64, log: &[u8]) -> Result<Value, Refused> {
+    with(of, |object| match object {
+        Object::Clauses(clauses) => {
+            let loser = clauses.hear(log)?;
+            Ok(json!({"loser": loser.map(Side::number)}))
+        }
+        _ => Err(Refused::of("call", "the object has no clauses")),
+    })
+}
+
 fn heard(
     object: &mut Object,
     log: &[u8],
@@ -360,7 +385,9 @@ fn heard(
             lines.hear(log, own, time)?;
         }
         Object::Seat(seat) => seat.hear(log)?,
-        Object::Simulator(_) => return Err(Refused::of("call", "a simulator hears nothing")),
+        Object::Simulator(_) | Object::Clauses(_) => {
+            return Err(Refused::of("call", "the object hears nothing"));
+        }
     }
     Ok(json!({}))
 }

@@ -8,6 +8,7 @@
 //! | a log read back, as the knowledge of a [`Player`](gen1::Player) or as a battle to search | [`Follower`] |
 //! | teams as text, with nicknames | [`Members`] |
 //! | teams checked by the rules of a format | [`Formats`] |
+//! | a second sleep or freeze that loses the battle | [`EndingClauses`] |
 //!
 //! The table of events and lines is in docs/PROGRAM.md, "Showdown's battle log". Showdown's forms are from memory of its public documents.
 //!
@@ -26,6 +27,7 @@
 //! ```
 #![forbid(unsafe_code)]
 
+mod clauses;
 mod follow;
 mod formats;
 mod game;
@@ -38,6 +40,7 @@ mod simulator;
 mod texts;
 mod words;
 
+pub use clauses::EndingClauses;
 pub use follow::{Follower, Note};
 pub use formats::{Complaint, Formats};
 pub use lines::{Heading, LineWriter, Viewer};

@@ -434,6 +434,32 @@ class Seat(_Kept):
         return Choice(self._ask("choice_in", text=text)["choice"])
 
 
+class EndingClauses(_Kept):
+    """The sleep and the freeze clause as a cartridge's organiser has them: a
+    side loses that puts a second living member of the foe to sleep by a
+    move, or freezes a second one. Rest does not count.
+
+    The rules of a `Battle` make such a move fail, so that battle has none.
+    """
+
+    __slots__ = ()
+
+    def __init__(self, *, sleep: bool = True, freeze: bool = True) -> None:
+        """Creates the clauses of a battle before its first update. Raises
+        `BadType`.
+        """
+        super().__init__("new_clauses", sleep=truth(sleep, "sleep"), freeze=truth(freeze, "freeze"))
+
+    def hear(self, log: ReadableBuffer) -> Side | None:
+        """Takes in the log of a pair, such as that of a host's `Notice`: each
+        once, in order. Returns the first side that broke a clause so far,
+        for `Row.forfeit`. Raises `BadArgument` for bytes that are not a
+        log, `BadType`.
+        """
+        loser = self._ask("judge", log=octets(log, "log").hex())["loser"]
+        return None if loser is None else Side(loser)
+
+
 @dataclass(frozen=True)
 class Reply:
     """What a simulator returns for a line: messages, each with an empty line
