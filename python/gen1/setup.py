@@ -16,6 +16,9 @@ HERE = Path(__file__).resolve().parent
 LIBRARY = HERE / "src" / "gen1" / "libgen1.so"
 # The searches and Showdown's protocol, which a package without cargo lacks.
 EXTRAS = LIBRARY.with_name("libgen1_extras.so")
+# The program, which it lacks too, and the page; where they are, and where they are installed.
+PROGRAM, PAGE = HERE / "gen1", HERE / "gen1.html"
+INSTALLED = ((PROGRAM, "bin"), (PAGE, "share/gen1"))
 # What a manylinux wheel may link without carrying it, of what the libraries could need: glibc, and what unwinds.
 GLIBC = re.compile(rb"(libgen1|libgen1_extras_c|libc|libm|libgcc_s|ld-linux[\w-]*)\.so[.\d]*")
 
@@ -44,7 +47,7 @@ class Wheel(bdist_wheel):
     """A wheel of no Python's own binary interface: the library is loaded by ctypes."""
 
     def get_tag(self):
-        libraries = b"".join(it.read_bytes() for it in (LIBRARY, EXTRAS) if it.is_file())
+        libraries = b"".join(it.read_bytes() for it in (LIBRARY, EXTRAS, PROGRAM) if it.is_file())
         return "py3", "none", manylinux(super().get_tag()[2], libraries)
 
 
@@ -59,4 +62,9 @@ except OSError as fault:
         "build the C library here, and the package by tools/python_wheel of the repository"
     ) from None
 
-setup(version=(HERE / "VERSION").read_text().strip(), cmdclass={"bdist_wheel": Wheel}, distclass=Binary)
+setup(
+    version=(HERE / "VERSION").read_text().strip(),
+    cmdclass={"bdist_wheel": Wheel},
+    distclass=Binary,
+    data_files=[(folder, [it.name]) for it, folder in INSTALLED if it.is_file()],
+)

@@ -2,7 +2,6 @@
 
 import inspect
 import itertools
-import json
 import pydoc
 import random
 import subprocess
@@ -252,12 +251,3 @@ def test_move_0_is_explained():
     with pytest.raises(gen1.Refused) as fault:
         battle.update(Choice.MOVE_1, Choice.MOVE_1)
     assert str(fault.value) == "side 1's choice is not offered: move 1; it can choose move 0 (no slot can be chosen)"
-
-
-def test_move_0_is_explained_in_a_played_battle(tmp_path):
-    sides = {"one": [Member("Tauros", ["Hyper Beam"]).to_dict()], "two": [Member("Snorlax", ["Splash"]).to_dict()]}
-    path = tmp_path / "battle.json"
-    path.write_text(json.dumps(sides | {"seed": [1] * 10}))
-    words = [sys.executable, "-m", "gen1", "play", str(path), "--seed", "1"]
-    done = subprocess.run(words, capture_output=True, text=True, input="1\n" * 20, check=True)
-    assert "  1  move 1 Hyper Beam\n" in done.stdout and "  1  move 0 (no slot can be chosen)\n" in done.stdout

@@ -9,7 +9,6 @@ import gen1
 import pytest
 from conftest import RECORDED, random_team, recorded_only
 from gen1 import BadArgument, Battle, Choice, Recorder, Refused
-from gen1.program.commands import main
 
 if RECORDED.is_dir():
     from battles import cases, recorded
@@ -29,8 +28,8 @@ def a_recorder(dice, updates=20):
 
 @recorded_only
 @pytest.mark.parametrize("name", ["first_path", "battles", "rules", "limit"])
-def test_recorded_battles(name, tmp_path, capsys):
-    """A recorder that plays a recorded input has that input and its lines, and `gen1 run` prints the recorded text for its JSON."""
+def test_recorded_battles(name):
+    """A recorder that plays a recorded input has that input and its lines, and so has one of its JSON."""
     played = 0
     for case in cases(recorded(f"{name}.jsonl"))[:40]:
         asked = json.loads(case["input"])
@@ -40,9 +39,7 @@ def test_recorded_battles(name, tmp_path, capsys):
         told = [line for pair in asked["choices"] for line in made.update(*pair).lines]
         assert "".join(f"{it}\n" for it in told) == case["stdout"]
         assert made.input == {"rules": 0, "limit": 1000} | {key: asked[key] for key in made.input if key in asked}
-        path = tmp_path / "battle.json"
-        path.write_text(made.json())
-        assert main(["run", str(path)]) == 0 and capsys.readouterr().out == case["stdout"]
+        assert Recorder.from_json(made.json()).battle == made.battle
         played += 1
     assert played
 
@@ -99,6 +96,9 @@ def test_a_replay(tmp_path):
         made.write_replay(out, tmp_path / "missing.html")
     with pytest.raises(OSError):
         made.write_replay(tmp_path / "missing" / "out.html", page)
+    page.write_text(PAGE + PAGE)
+    with pytest.raises(BadArgument, match="it has 2 places for a battle, not 1"):
+        made.write_replay(out, page)
 
 
 def test_a_refused_pair_is_not_recorded(team):
@@ -120,7 +120,13 @@ def test_a_refused_pair_is_not_recorded(team):
 def test_texts_that_are_no_inputs(team):
     made = Recorder(team, team, range(10))
     twice = json.dumps(made.input | {"choices": [[0, 0], [0, 0]]})
-    for text, said in (("", "JSON"), ("[]", "object"), ("{}", "'seed'"), (twice, r"choices\[1\]: ")):
+    texts = [("", "JSON"), (b"\xff", "JSON"), ("[" * 100000, "JSON"), ("[]", "object"), ("{}", "'seed'")]
+    texts += [(twice, r"choices\[1\]: "), (made.json()[:-1] + f', "limit": {"9" * 5000}}}', "digits|limit")]
+    with pytest.raises(gen1.BadType, match="choices must be a list, not 5"):
+        Recorder.from_json(json.dumps(made.input | {"choices": 5}))
+    for choices, said in (([[0]], "two numbers"), ([[0, 256]], "0 to 255")):
+        texts.append((json.dumps(made.input | {"choices": choices}), said))
+    for text, said in texts:
         with pytest.raises(BadArgument, match=said):
             Recorder.from_json(text)
     with pytest.raises(gen1.BadTeam):

@@ -89,6 +89,12 @@ impl Fault {
         Fault::new(2, format!("{option} is missing"), why)
     }
 
+    /// No page is named, and none is installed with the program.
+    pub fn no_page() -> Fault {
+        let why = "no page is installed with the program; name one that web/build made";
+        Fault::new(2, "--page is missing", why)
+    }
+
     /// Two inputs would be standard input.
     pub fn one_standard_input() -> Fault {
         let why = "give the other inputs as files; without FILE the input is standard input too";

@@ -19,8 +19,8 @@ const PLACE: &str = r#"<script id="battle" type="application/json">null</script>
 pub struct Replay {
     /// The input of run, or a log; without FILE, or with -, standard input
     file: Option<PathBuf>,
-    /// The page, as web/build makes it
-    #[arg(long, value_name = "HTML", required_unless_present = "showdown")]
+    /// The page, as web/build makes it; without it the one that is installed with the program
+    #[arg(long, value_name = "HTML")]
     page: Option<PathBuf>,
     /// Makes a page for Showdown's viewer, which it loads from the network (docs/PROGRAM.md); FILE is an input of run
     #[arg(long, conflicts_with = "page")]
@@ -32,7 +32,11 @@ pub struct Replay {
 
 /// Writes the page with the battle in it.
 pub fn replay(asked: &Replay) -> Result<(), Fault> {
-    let (file, page) = (asked.file.as_deref(), asked.page.as_deref());
+    let page = match &asked.page {
+        None if !asked.showdown => Some(installed_page().ok_or_else(Fault::no_page)?),
+        page => page.clone(),
+    };
+    let (file, page) = (asked.file.as_deref(), page.as_deref());
     let out = named(asked.out.as_deref());
     if is_same(named(file), out) || is_same(page.and_then(|page| named(Some(page))), out) {
         return Err(Fault::out());
@@ -46,6 +50,13 @@ pub fn replay(asked: &Replay) -> Result<(), Fault> {
         Some(path) => replace(path, whole.as_bytes()),
         None => put(whole),
     }
+}
+
+/// The page beside the folder of the program, as a wheel installs it.
+fn installed_page() -> Option<PathBuf> {
+    let program = std::env::current_exe().ok()?;
+    let page = program.parent()?.parent()?.join("share/gen1/gen1.html");
+    page.is_file().then_some(page)
 }
 
 /// The page of the repository with the battle in it.
