@@ -48,10 +48,11 @@ no_face = face not_seen
 
 pub record Faces : Type 0 where
   pub place : ℕ
+  pub last_move : ℕ
   pub members : List Face
 
 abbrev pub faces : PublicSide → Faces
-faces x = record { place = x.place; members = map face x.members }
+faces x = record { place = x.place; last_move = x.last_move; members = map face x.members }
 
 -- Most events say nothing of it
 
@@ -171,7 +172,7 @@ used-allowed ids more None move slots h all = all
 used-allowed ids more (Some k) move slots h all = set-allowed ids slots k _ h all
 
 abbrev pub shows_use : ℕ → ℕ → PublicSide → PublicSide
-shows_use more move x = on_seen (λ m. record m { moves = used_more more move m.moves }) x
+shows_use more move x = on_seen (λ m. record m { moves = used_more more move m.moves }) (record x { last_move = move })
 
 pub uses-shows : (more move : ℕ) (x : PublicSide) (qs : List Traits) → 1 ≤ x.place → x.place ≤ length x.members → Allowed (get_or qs (x.place - 1) no_traits).moves move
     → AllShow (map face x.members) qs → AllShow (map face (shows_use more move x).members) qs
@@ -198,7 +199,7 @@ faces-if true x y z e h = h
 faces-if false x y z e h = absurd (true≢false (sym e))
 
 pub comes-faces : (species place level : ℕ) (h : Health) (x : PublicSide) → 1 ≤ place → place ≤ 6
-    → faces (comes_out species place level h x) ≡ record { place = place; members = map face (slice_set x.members (place - 1) (comes_at species place level h x)) }
+    → faces (comes_out species place level h x) ≡ record { place = place; last_move = 0; members = map face (slice_set x.members (place - 1) (comes_at species place level h x)) }
 comes-faces species place level h x low high = faces-if (nat_le 1 place && nat_le place 6) (side_out species place level h x) x (faces (side_out species place level h x))
     (and-true (nat_le 1 place) (nat_le place 6) (le-leb 1 place low) (le-leb place 6 high)) refl
 
@@ -268,7 +269,7 @@ any-ids : (id : ℕ) (moves : List KnownMove) → any (λ (j : ℕ). j == id) (m
 any-ids id [] = refl
 any-ids id (m ∷ ms) = ap (λ (b : Bool). (m.id == id) || b) (any-ids id ms)
 
-allowed-is : (m : Member) (id : ℕ) → Allowed (traits m).moves id → IsMoveOf m id
+pub allowed-is : (m : Member) (id : ℕ) → Allowed (traits m).moves id → IsMoveOf m id
 allowed-is m id h e = by (h e)
   where
     by : (id ≡ struggle) ⊎ (any (λ (j : ℕ). j == id) (traits m).moves ≡ true) → (id ≡ struggle) ⊎ (any (λ (k : KnownMove). k.id == id) m.moves ≡ true)

@@ -37,7 +37,7 @@ use Rattle.gen1_player.proofs.ToldActions.{carry_out-tells, Says}
 use Rattle.gen1_player.proofs.ToldRuns.{sizes_of, story-runs}
 use Rattle.gen1_player.proofs.Lenses.{tellable-last, AllTellable, Tellable}
 use Rattle.gen1_player.proofs.HeardSides.{clear-hears, end-hears, foe-side, hears-in, hears_all-last, move-hears, out-side, prepare-hears, switch-hears}
-use Rattle.gen1_player.proofs.Appearing.{AllShow, Allowed, Face, Faces, Shows, clear-faces, comes-face, comes-faces, comes-shows, end-faces, face, faces, no_face, no_traits, noise-faces, none-show, settled-faces, shows-seen, shows_use, start-faces, suffers-same, used-is-allowed, uses-face, uses-shows}
+use Rattle.gen1_player.proofs.Appearing.{allowed-is, AllShow, Allowed, Face, Faces, Shows, clear-faces, comes-face, comes-faces, comes-shows, end-faces, face, faces, no_face, no_traits, noise-faces, none-show, settled-faces, shows-seen, shows_use, start-faces, suffers-same, used-is-allowed, uses-face, uses-shows}
 
 -- The members of two teams, as no battle changes them.
 record Teams : Type 0 where
@@ -55,22 +55,36 @@ record Appeared (ts : List Traits) (z : Faces) (t : Party) : Type 0 where
   few : length ts ≤ 6
   named : (i : ℕ) → i < length ts → (get_or ts i no_traits).species ≢ 0
   out : z.place ≢ 0 → (get_or z.members (z.place - 1) no_face).species ≢ 0
+  last : Allowed (get_or ts (t.active.place - 1) no_traits).moves z.last_move
   shows : AllShow z.members ts
 
 record Appears (k : Teams) (f : Field) (p : Public) : Type 0 where
   one : Appeared k.one (faces p.one) f.one
   two : Appeared k.two (faces p.two) f.two
 
+-- Another active member at the same place.
+appeared-active : (ts : List Traits) (z : Faces) (t : Party) (a : Active) → a.place ≡ t.active.place → Appeared ts z t → Appeared ts z (record t { active = a })
+appeared-active ts z t a e m = record {
+  same = m.same;
+  place = m.place ∙ sym e;
+  six = m.six;
+  few = m.few;
+  named = m.named;
+  out = m.out;
+  last = subst (λ (i : ℕ). Allowed (get_or ts (i - 1) no_traits).moves z.last_move) (sym e) m.last;
+  shows = m.shows;
+}
+
 module _ {k : Teams} where
   appears-active : (s : Side) (change : Active → Active) → ((a : Active) → (change a).place ≡ a.place) → (f : Field) (p : Public) → Appears k f p → Appears k (changed_active s change f) p
   unfolding changed_active
   appears-active One change h f p m = record {
-    one = record { same = m.one.same; place = m.one.place ∙ sym (h f.one.active); six = m.one.six; few = m.one.few; named = m.one.named; out = m.one.out; shows = m.one.shows };
+    one = appeared-active k.one (faces p.one) f.one (change f.one.active) (h f.one.active) m.one;
     two = m.two;
   }
   appears-active Two change h f p m = record {
     one = m.one;
-    two = record { same = m.two.same; place = m.two.place ∙ sym (h f.two.active); six = m.two.six; few = m.two.few; named = m.two.named; out = m.two.out; shows = m.two.shows };
+    two = appeared-active k.two (faces p.two) f.two (change f.two.active) (h f.two.active) m.two;
   }
 
   appears-conditions : (s : Side) (change : ActiveConditions → ActiveConditions) (f : Field) (p : Public) → Appears k f p → Appears k (changed_conditions s change f) p
@@ -87,6 +101,7 @@ module _ {k : Teams} where
       few = m.one.few;
       named = m.one.named;
       out = m.one.out;
+      last = m.one.last;
       shows = m.one.shows;
     };
     two = m.two;
@@ -100,6 +115,7 @@ module _ {k : Teams} where
       few = m.two.few;
       named = m.two.named;
       out = m.two.out;
+      last = m.two.last;
       shows = m.two.shows;
     };
   }
@@ -136,6 +152,7 @@ uses-appeared ts x t more n o h m =
       few = m.few;
       named = m.named;
       out = λ z. subst (λ (i : ℕ). i ≢ 0) (sym (uses-face more n x low high)) (m.out z);
+      last = h;
       shows = uses-shows more n x ts low high
           (subst (λ (i : ℕ). Allowed (get_or ts (i - 1) no_traits).moves n) (sym e) h) m.shows;
     }
@@ -175,6 +192,7 @@ sent-appeared ts x t place m h low high e same a out k =
       few = k.few;
       named = k.named;
       out = λ z. subst (λ (i : ℕ). i ≢ 0) (sym (comes-face m.species place m.level h x low inside)) species;
+      last = λ e. absurd (e refl);
       shows = comes-shows m place x h ts low inside e at k.shows;
     })
 
@@ -189,12 +207,12 @@ sent-appears k One place f p low high m =
     subst (Appears k g) (sym (switch-hears (who_in One g) place (member_in One g).level (health_in One g) p)) (record {
       one = sent-appeared k.one p.one f.one place (member_in One g) (health_in One g) low high refl (member-out place f.one)
           (with_sent_out place (member_at place f.one) f.one.active) (sent-place place (member_at place f.one) f.one.active) m.one;
-      two = record { same = m.two.same; place = m.two.place; six = m.two.six; few = m.two.few; named = m.two.named; out = m.two.out; shows = m.two.shows };
+      two = record { same = m.two.same; place = m.two.place; six = m.two.six; few = m.two.few; named = m.two.named; out = m.two.out; last = m.two.last; shows = m.two.shows };
     })
 sent-appears k Two place f p low high m =
     let g : Field = sent Two place f in
     subst (Appears k g) (sym (switch-hears (who_in Two g) place (member_in Two g).level (health_in Two g) p)) (record {
-      one = record { same = m.one.same; place = m.one.place; six = m.one.six; few = m.one.few; named = m.one.named; out = m.one.out; shows = m.one.shows };
+      one = record { same = m.one.same; place = m.one.place; six = m.one.six; few = m.one.few; named = m.one.named; out = m.one.out; last = m.one.last; shows = m.one.shows };
       two = sent-appeared k.two p.two f.two place (member_in Two g) (health_in Two g) low high refl (member-out place f.two)
           (with_sent_out place (member_at place f.two) f.two.active) (sent-place place (member_at place f.two) f.two.active) m.two;
     })
@@ -456,6 +474,8 @@ side-appeared ts x t m = record {
       (subst (λ (s : Face). Shows s (traits (member_at place t))) (get_or-map face x.members (place - 1) not_seen)
       (subst (Shows (get_or (map face x.members) (place - 1) no_face))
       (ap (λ (qs : List Traits). get_or qs (place - 1) no_traits) (sym m.same) ∙ get_or-map traits t.members (place - 1) nobody) (m.shows (place - 1))));
+  last_move = allowed-is (member_at t.active.place t) x.last_move (subst (λ (q : Traits). Allowed q.moves x.last_move)
+      (ap (λ (qs : List Traits). get_or qs (t.active.place - 1) no_traits) (sym m.same) ∙ get_or-map traits t.members (t.active.place - 1) nobody) m.last);
 }
 
 team-named : (team : List Member) → IsTeam team → (i : ℕ) → i < length (map traits team) → (get_or (map traits team) i no_traits).species ≢ 0
@@ -472,6 +492,7 @@ first-appeared team h t e z = record {
   few = let c = length-map team traits in omega (arith, c, h.size.1);
   named = team-named team h;
   out = λ n. absurd (n refl);
+  last = λ e. absurd (e refl);
   shows = none-show 6 (map traits team);
 }
 

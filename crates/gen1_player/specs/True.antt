@@ -102,10 +102,12 @@ pub record IsSeen (s : Seen) (m : Member) : Type 0 where
   pub max : s.max ≡ m.max
   pub moves : All (λ (k : SeenMove). IsMoveOf m k.id) s.moves
 
--- The member that is out has appeared, and each member that has appeared is the one at its place.
+-- The member that is out has appeared, and each member that has appeared is the one at its place. The last move is one of the active
+-- member's.
 pub record SideHasAppeared (x : PublicSide) (t : Party) : Type 0 where
   pub out : x.place ≢ 0 → (seen_at x.place x).species ≢ 0
   pub each : (place : ℕ) → (seen_at place x).species ≢ 0 → IsSeen (seen_at place x) (member_at place t)
+  pub last_move : IsMoveOf (member_at t.active.place t) x.last_move
 
 abbrev pub MembersAgree : Type 0
 MembersAgree = OfRuns λ one two r. SideHasAppeared (public_of r).one r.state.field.one × SideHasAppeared (public_of r).two r.state.field.two

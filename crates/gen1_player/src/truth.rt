@@ -22,7 +22,7 @@ pub fn conditions_agree()
 {}
 
 /// After any run from the start, the member that is out has appeared. A member that has appeared has the species, level and maximum HP
-/// of the member at its place, and it was seen to prepare or use its own moves or Struggle.
+/// of the member at its place, and it was seen to prepare or use its own moves or Struggle. So is the last move of the active member.
 pub fn members_agree()
     ensures { MembersAgree }
 {}
