@@ -1,5 +1,5 @@
 -- After any run, the types and conditions that the log told of are those of the active members.
-use Rattle.std.proofs.Common.{[], Bool, List, ap, arith, false, length, length-set, not, refl, subst, sym, true, true≢false, ℕ, ◌++◌, ◌-◌, ◌∙◌, ◌∷◌, ◌≡◌, ◌≤◌}
+use Rattle.std.proofs.Common.{[], Bool, List, ap, arith, false, if◌then◌else◌, length, length-set, not, refl, subst, sym, true, true≢false, ℕ, ◌++◌, ◌-◌, ◌==◌, ◌∙◌, ◌∷◌, ◌≡◌, ◌≤◌}
 use Rattle.gen1_tables.specs.Types.{number_of}
 use Rattle.gen1_stats.specs.Members.{is_living, Member}
 use Rattle.gen1_machine.specs.declared.side.Side.{Side}
@@ -9,11 +9,13 @@ use Rattle.gen1_machine.specs.declared.event.Volatile.TheVariants as volatiles
 use Rattle.gen1_machine.specs.declared.event.Event.{Event}
 use Rattle.gen1_machine.specs.declared.event.Event.TheVariants as events
 use Rattle.gen1_machine.specs.Health.{Health}
-use Rattle.gen1_machine.specs.Moves.{Move}
+use Rattle.gen1_machine.specs.declared.health.Kind.TheVariants as kinds
+use Rattle.gen1_machine.specs.declared.picks.UsedMove.{UsedMove}
+use Rattle.gen1_machine.specs.Moves.{toxic, Move}
 use Rattle.gen1_machine.specs.Rules.{bit_of}
 use Rattle.gen1_machine.specs.Sides.{other}
-use Rattle.gen1_machine.specs.Conditions.{after_haze, without_seed, without_trapping, ActiveConditions}
-use Rattle.gen1_machine.specs.State.{active_in, changed_active, changed_conditions, changed_member, fallen, has_fallen_in, health_in, member_at, member_in, party, who_in, with_member, with_types_of, Active, Field, Party}
+use Rattle.gen1_machine.specs.Conditions.{after_haze, with_bad_poison, without_seed, without_trapping, ActiveConditions}
+use Rattle.gen1_machine.specs.State.{active_in, changed_active, changed_conditions, changed_member, fallen, has_fallen_in, health_in, member_at, member_in, party, who_in, with_current_move, with_member, with_types_of, Active, Field, Party}
 use Rattle.gen1_machine.specs.EarlyEffects.{with_levelled_stats}
 use Rattle.gen1_machine.specs.SwitchingIn.{switch_event, with_sent_out}
 use Rattle.gen1_machine.proofs.Showing.{member-after, BothOut, IsOut}
@@ -21,8 +23,8 @@ use Rattle.gen1_player.specs.declared.public.Public.{Public}
 use Rattle.gen1_player.specs.declared.public_side.PublicSide.{PublicSide}
 use Rattle.gen1_player.specs.Public.{comes_out, first_public, hears_all, is_cleared, on_announced, on_out, public_side, set_volatile, settled, takes_in, takes_types}
 use Rattle.gen1_player.specs.True.{ConditionsAgree, SideIsTold}
-use Rattle.gen1_player.proofs.Facts.{noise-is, sent-place, sent-standing, is_noise, marked, plain, sent, standing, with_cleared, Calm, Marks, Placid, Plain, Standing}
-use Rattle.gen1_player.proofs.Stories.{Story, Switching}
+use Rattle.gen1_player.proofs.Facts.{calm-mild, dull-noise, noise-is, noted, plain_of, sent-place, sent-standing, followed, is_noise, marked, plain, sent, standing, with_cleared, Followed, Marks, Mild, Placid, Plain, Standing}
+use Rattle.gen1_player.proofs.Stories.{sickened, Outline, Story, Switching}
 use Rattle.gen1_machine.specs.Ruling.{ruling_of}
 use Rattle.gen1_player.proofs.ToldEffects.{ruling_of-tells}
 use Rattle.gen1_player.proofs.ToldActions.{says-any}
@@ -72,7 +74,7 @@ with_conditions change t = record t { active = record t.active { conditions = ch
 placid-held : (change : Active → Active) → Placid change → (t : Party) → held t ≡ held (with_active (change t.active) t)
 placid-held change h t = sym (ap (λ (a : Standing). known_of a (plain a.conditions)) (h t.active))
 
-calm-held : (change : ActiveConditions → ActiveConditions) → Calm change → (t : Party) → held t ≡ held (with_conditions change t)
+calm-held : (change : ActiveConditions → ActiveConditions) → Mild change → (t : Party) → held t ≡ held (with_conditions change t)
 calm-held change h t = sym (ap (λ (c : Plain). known_of (standing t.active) c) (h t.active.conditions))
 
 exact-active : (change : Active → Active) → Placid change → (x : PublicSide) (t : Party) → Exact x t → Exact x (with_active (change t.active) t)
@@ -85,10 +87,10 @@ loose-active change h x t m = record {
   few = m.few;
 }
 
-exact-conditions : (change : ActiveConditions → ActiveConditions) → Calm change → (x : PublicSide) (t : Party) → Exact x t → Exact x (with_conditions change t)
+exact-conditions : (change : ActiveConditions → ActiveConditions) → Mild change → (x : PublicSide) (t : Party) → Exact x t → Exact x (with_conditions change t)
 exact-conditions change h x t m = record { same = m.same ∙ calm-held change h t; few = m.few }
 
-loose-conditions : (change : ActiveConditions → ActiveConditions) → Calm change → (x : PublicSide) (t : Party) → Loose x t → Loose x (with_conditions change t)
+loose-conditions : (change : ActiveConditions → ActiveConditions) → Mild change → (x : PublicSide) (t : Party) → Loose x t → Loose x (with_conditions change t)
 loose-conditions change h x t m = record { rest = m.rest ∙ ap hushed (calm-held change h t); living = λ e. m.living e ∙ calm-held change h t; few = m.few }
 
 exact-member : (i : ℕ) (n : Member) (x : PublicSide) (t : Party) → Exact x t → Exact x (with_member i n t)
@@ -118,20 +120,39 @@ explodes-loose x t o m = record {
 
 -- A volatile begins or ends
 
+noted-plain : (what : Volatile) (on : Bool) (x : Followed) → plain_of (noted what on x) ≡ marked what on (plain_of x)
+noted-plain volatiles.TypeChange on x = refl
+noted-plain volatiles.Mist on x = refl
+noted-plain volatiles.FocusEnergy on x = refl
+noted-plain volatiles.Disable on x = refl
+noted-plain volatiles.Rage on x = refl
+noted-plain volatiles.LeechSeed on x = refl
+noted-plain volatiles.Confusion on x = refl
+noted-plain volatiles.Bide on x = refl
+noted-plain volatiles.Substitute on x = refl
+noted-plain volatiles.LightScreen on x = refl
+noted-plain volatiles.Reflect on x = refl
+noted-plain volatiles.Trapped on x = refl
+noted-plain volatiles.Splash on x = refl
+
+plain-marks : (what : Volatile) (on : Bool) (change : ActiveConditions → ActiveConditions) (c : ActiveConditions) → followed (change c) ≡ noted what on (followed c)
+    → plain (change c) ≡ marked what on (plain c)
+plain-marks what on change c e = ap plain_of e ∙ noted-plain what on (followed c)
+
 marks-plain : (what : Volatile) (on : Bool) (change : ActiveConditions → ActiveConditions) → Marks what on change → (c : ActiveConditions) → plain (change c) ≡ marked what on (plain c)
 marks-plain volatiles.TypeChange on change h c = absurd h
-marks-plain volatiles.Mist on change h c = h c
-marks-plain volatiles.FocusEnergy on change h c = h c
-marks-plain volatiles.Disable on change h c = h c
-marks-plain volatiles.Rage on change h c = h c
-marks-plain volatiles.LeechSeed on change h c = h c
-marks-plain volatiles.Confusion on change h c = h c
-marks-plain volatiles.Bide on change h c = h c
-marks-plain volatiles.Substitute on change h c = h c
-marks-plain volatiles.LightScreen on change h c = h c
-marks-plain volatiles.Reflect on change h c = h c
-marks-plain volatiles.Trapped on change h c = h c
-marks-plain volatiles.Splash on change h c = h c
+marks-plain volatiles.Mist on change h c = plain-marks volatiles.Mist on change c (h c)
+marks-plain volatiles.FocusEnergy on change h c = plain-marks volatiles.FocusEnergy on change c (h c)
+marks-plain volatiles.Disable on change h c = plain-marks volatiles.Disable on change c (h c)
+marks-plain volatiles.Rage on change h c = plain-marks volatiles.Rage on change c (h c)
+marks-plain volatiles.LeechSeed on change h c = plain-marks volatiles.LeechSeed on change c (h c)
+marks-plain volatiles.Confusion on change h c = plain-marks volatiles.Confusion on change c (h c)
+marks-plain volatiles.Bide on change h c = plain-marks volatiles.Bide on change c (h c)
+marks-plain volatiles.Substitute on change h c = plain-marks volatiles.Substitute on change c (h c)
+marks-plain volatiles.LightScreen on change h c = plain-marks volatiles.LightScreen on change c (h c)
+marks-plain volatiles.Reflect on change h c = plain-marks volatiles.Reflect on change c (h c)
+marks-plain volatiles.Trapped on change h c = plain-marks volatiles.Trapped on change c (h c)
+marks-plain volatiles.Splash on change h c = plain-marks volatiles.Splash on change c (h c)
 
 marks-begins : (what : Volatile) (on : Bool) (change : ActiveConditions → ActiveConditions) → Marks what on change → Begins what
 marks-begins volatiles.TypeChange on change h = absurd h
@@ -176,12 +197,17 @@ unfolding changed_active
 both-active One change h f p m = record { one = exact-active change h p.one f.one m.one; two = m.two }
 both-active Two change h f p m = record { one = m.one; two = exact-active change h p.two f.two m.two }
 
+both-takes : (s : Side) (used : UsedMove) (f : Field) (p : Public) → Both f p → Both (changed_active s (with_current_move used) f) p
+unfolding changed_active with_current_move
+both-takes One used f p m = record { one = record { same = m.one.same; few = m.one.few }; two = m.two }
+both-takes Two used f p m = record { one = m.one; two = record { same = m.two.same; few = m.two.few } }
+
 either-active : (s : Side) (change : Active → Active) → Placid change → (f : Field) (p : Public) → Either f p → Either (changed_active s change f) p
 unfolding changed_active
 either-active One change h f p m = record { one = loose-active change h p.one f.one m.one; two = m.two }
 either-active Two change h f p m = record { one = m.one; two = loose-active change h p.two f.two m.two }
 
-both-conditions : (s : Side) (change : ActiveConditions → ActiveConditions) → Calm change → (f : Field) (p : Public) → Both f p → Both (changed_conditions s change f) p
+both-conditions : (s : Side) (change : ActiveConditions → ActiveConditions) → Mild change → (f : Field) (p : Public) → Both f p → Both (changed_conditions s change f) p
 unfolding changed_active changed_conditions
 both-conditions One change h f p m = record { one = exact-conditions change h p.one f.one m.one; two = m.two }
 both-conditions Two change h f p m = record { one = m.one; two = exact-conditions change h p.two f.two m.two }
@@ -281,7 +307,7 @@ exact-sent place level h x t low high few = record {
   few = few;
 }
 
-trapping-calm : Calm without_trapping
+trapping-calm : Mild without_trapping
 unfolding without_trapping
 trapping-calm c = refl
 
@@ -376,6 +402,14 @@ prepares-both s move f es m =
     let p : Public = settled e (told_by es) in
     next Both f es e (subst (Both f) (sym (prepare-hears (who_in s f) move.number p)) (both-heard f p _ (λ u. prepares-heard s u move.number p) (both-settled e f (told_by es) m)))
 
+sickened-both : (s : Side) (move : Move) (f : Field) (p : Public) → Both f p → Both (sickened s move f) p
+unfolding with_bad_poison
+sickened-both s move f p m = by (move.number == toxic)
+  where
+    by : (e : Bool) → Both (if e then changed_conditions (other s) with_bad_poison f else f) p
+    by true = both-conditions (other s) with_bad_poison (λ c. refl) f p m
+    by false = m
+
 noise-both : (e : Event) → is_noise e ≡ true → (f : Field) (es : List Event) → Both f (told_by es) → Both f (told_by (es ++ e ∷ []))
 noise-both e h f es m =
     let p : Public = settled e (told_by es) in
@@ -395,13 +429,15 @@ telling = record {
   exact = λ f es. Both f (told_by es);
   loose = λ f es. Either f (told_by es);
   said = λ s move. Unit {0};
+  acted = λ s move. Unit {0};
   loosen = λ f es m. record { one = loosened _ _ m.one; two = loosened _ _ m.two };
   tighten = λ f es m a b. record { one = tightened _ _ (none-fallen One f a) m.one; two = tightened _ _ (none-fallen Two f b) m.two };
   member = λ s change h f es m. both-member s change f (told_by es) m;
   active = λ s change h f es m. both-active s change h f (told_by es) m;
-  conditions = λ s change h f es m. both-conditions s change h f (told_by es) m;
+  conditions = λ s change h f es m. both-conditions s change (calm-mild change h) f (told_by es) m;
   apart = λ f g es a b m. both-apart f g (told_by es) a b m;
-  noise = λ e f h es m. noise-both e (noise-is f e h) f es m;
+  noise = λ e f h es m. noise-both e (noise-is f e (dull-noise f e h)) f es m;
+  poisons = λ s move a f es o m. noise-both (events.Status (who_in (other s) f) kinds.Poison) refl (sickened s move f) es (sickened-both s move f (told_by es) m);
   starts = starts-both;
   ends = ends-both;
   converts = converts-both;
@@ -411,8 +447,17 @@ telling = record {
   explodes = λ s f es o m. exploded s f (told_by es) o m;
   loose_active = λ s change h f es m. either-active s change h f (told_by es) m;
   loose_apart = λ f g es a b m. either-apart f g (told_by es) a b m;
-  loose_noise = λ e f h es m. noise-either e (noise-is f e h) f es m;
+  loose_noise = λ e f h es m. noise-either e (noise-is f e (dull-noise f e h)) f es m;
   loose_falls = λ s f es o m. either-falls s f (told_by es) o m;
+}
+
+telling-outline : Outline telling
+unfolding telling with_current_move changed_active
+telling-outline = record {
+  takes = λ s used f es m. both-takes s used f (told_by es) m;
+  mild = λ s change h f es m. both-conditions s change h f (told_by es) m;
+  noise = λ e f h es m. noise-both e (noise-is f e h) f es m;
+  acts = λ s move. tt;
 }
 
 telling-switches : Switching telling
@@ -442,6 +487,6 @@ side-told x t m = record {
 pub conditions_agree : ConditionsAgree
 unfolding hears_all telling
 conditions_agree t one two seed pairs a b =
-    let m = story-runs telling t one two seed pairs a b telling-switches (λ pre t. says-any (λ s move. tt) (ruling_of t) (ruling_of-tells t))
+    let m = story-runs telling t one two seed pairs a b telling-outline telling-switches (λ pre t. says-any telling-outline (λ s move. tt) (ruling_of t) (ruling_of-tells t))
     (record { one = record { same = refl; few = a.size.1 }; two = record { same = refl; few = b.size.1 } }) in
     (side-told _ _ m.one, side-told _ _ m.two)

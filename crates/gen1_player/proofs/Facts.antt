@@ -1,5 +1,5 @@
 -- What changes of a field and events leave as it is, and how many members the sides have.
-use Rattle.std.proofs.Common.{ap, slice_set, sym, ◌-◌, Bool, List, None, Option, Some, false, is_some, map, refl, true, true≢false, ℕ, ◌≡◌, ◌≤◌}
+use Rattle.std.proofs.Common.{ap, slice_set, sym, ◌-◌, Bool, List, None, Option, Some, false, is_some, map, not, refl, true, true≢false, ℕ, ◌≡◌, ◌≤◌}
 use Rattle.gen1_tables.specs.declared.element.Element.{Element}
 use Rattle.gen1_stats.specs.declared.known_move.KnownMove.{KnownMove}
 use Rattle.gen1_stats.specs.Members.{Member}
@@ -13,11 +13,16 @@ use Rattle.gen1_machine.specs.declared.side.Side.{Side}
 use Rattle.gen1_machine.specs.declared.side.Side.TheVariants.{One, Two}
 use Rattle.gen1_machine.specs.declared.event.Volatile.{Volatile}
 use Rattle.gen1_machine.specs.declared.event.Volatile.TheVariants as volatiles
+use Rattle.gen1_machine.specs.declared.event.DamageSource.{DamageSource}
+use Rattle.gen1_machine.specs.declared.event.DamageSource.TheVariants as sources
+use Rattle.gen1_machine.specs.declared.health.Kind.{Kind}
+use Rattle.gen1_machine.specs.declared.health.Kind.TheVariants as kinds
 use Rattle.gen1_machine.specs.declared.event.Event.{Event}
 use Rattle.gen1_machine.specs.declared.event.Event.TheVariants as events
 use Rattle.gen1_machine.specs.declared.picks.DisabledSlot.{DisabledSlot}
+use Rattle.gen1_machine.specs.declared.picks.UsedMove.{UsedMove}
 use Rattle.gen1_machine.specs.Sides.{other}
-use Rattle.gen1_machine.specs.Conditions.{after_haze, one_turn_less, with_confusion_one_less, with_disable_one_less, with_substitute_hurt, without_trapping, ActiveConditions}
+use Rattle.gen1_machine.specs.Conditions.{after_haze, less_by, one_more, one_turn_less, stored, with_bide_storing, with_worse_poison, Storing, with_confusion_one_less, with_disable_one_less, with_substitute_hurt, without_trapping, ActiveConditions}
 use Rattle.gen1_machine.specs.State.{level_stages, nobody_out, changed_active, changed_conditions, health_in, member_at, party, Active, Field}
 use Rattle.gen1_machine.specs.EarlyEffects.{with_levelled_stats}
 use Rattle.gen1_machine.specs.CurrentStats.{with_penalty_of}
@@ -47,13 +52,59 @@ marked volatiles.Rage on x = record x { rage = on }
 marked volatiles.LeechSeed on x = record x { seeded = on }
 marked _ on x = x
 
+abbrev pub Mild : (ActiveConditions → ActiveConditions) → Type 0
+Mild change = (c : ActiveConditions) → plain (change c) ≡ plain c
+
+-- The conditions that stories follow.
+pub record Followed : Type 0 where
+  pub mist : Bool
+  pub focus_energy : Bool
+  pub disabled : Bool
+  pub rage : Bool
+  pub seeded : Bool
+  pub substitute : Bool
+  pub bide : Bool
+  pub charging : Bool
+  pub invulnerable : Bool
+  pub toxic : Bool
+
+abbrev pub followed : ActiveConditions → Followed
+followed c = let u = c.underway in record {
+  mist = c.mist;
+  focus_energy = c.focus_energy;
+  disabled = is_some c.disabled;
+  rage = u.rage;
+  seeded = c.seeded;
+  substitute = is_some c.substitute;
+  bide = is_some u.bide;
+  charging = u.charging;
+  invulnerable = c.invulnerable;
+  toxic = is_some c.bad_poison;
+}
+
+abbrev pub plain_of : Followed → Plain
+plain_of x = record { mist = x.mist; focus_energy = x.focus_energy; disabled = x.disabled; rage = x.rage; seeded = x.seeded }
+
+abbrev pub noted : Volatile → Bool → Followed → Followed
+noted volatiles.Mist on x = record x { mist = on }
+noted volatiles.FocusEnergy on x = record x { focus_energy = on }
+noted volatiles.Disable on x = record x { disabled = on }
+noted volatiles.Rage on x = record x { rage = on }
+noted volatiles.LeechSeed on x = record x { seeded = on }
+noted volatiles.Substitute on x = record x { substitute = on }
+noted volatiles.Bide on x = record x { bide = on }
+noted _ on x = x
+
 abbrev pub Calm : (ActiveConditions → ActiveConditions) → Type 0
-Calm change = (c : ActiveConditions) → plain (change c) ≡ plain c
+Calm change = (c : ActiveConditions) → followed (change c) ≡ followed c
+
+pub calm-mild : (change : ActiveConditions → ActiveConditions) → Calm change → Mild change
+calm-mild change h c = ap plain_of (h c)
 
 -- A change that begins or ends a volatile. Types don't belong to the conditions.
 abbrev pub Marks : Volatile → Bool → (ActiveConditions → ActiveConditions) → Type 0
 Marks volatiles.TypeChange on change = ⊥
-Marks what on change = (c : ActiveConditions) → plain (change c) ≡ marked what on (plain c)
+Marks what on change = (c : ActiveConditions) → followed (change c) ≡ noted what on (followed c)
 
 pub confusion-calm : Calm with_confusion_one_less
 unfolding with_confusion_one_less
@@ -61,25 +112,46 @@ confusion-calm c = refl
 
 pub substitute-calm : (damage : ℕ) → Calm (with_substitute_hurt damage)
 unfolding with_substitute_hurt
-substitute-calm damage c = refl
+substitute-calm damage c = by c.substitute
+  where
+    by : (o : Option ℕ) → record (followed c) { substitute = is_some (less_by damage o) } ≡ record (followed c) { substitute = is_some o }
+    by None = refl
+    by (Some hp) = refl
+
+pub worse-calm : Calm with_worse_poison
+unfolding with_worse_poison
+worse-calm c = by c.bad_poison
+  where
+    by : (o : Option ℕ) → record (followed c) { toxic = is_some (one_more o) } ≡ record (followed c) { toxic = is_some o }
+    by None = refl
+    by (Some n) = refl
+
+pub storing-calm : (damage : ℕ) → Calm (with_bide_storing damage)
+unfolding with_bide_storing
+storing-calm damage c = by c.underway.bide
+  where
+    by : (o : Option Storing) → record (followed c) { bide = is_some (stored damage o) } ≡ record (followed c) { bide = is_some o }
+    by None = refl
+    by (Some b) = refl
 
 pub disable-calm : Calm with_disable_one_less
 unfolding with_disable_one_less
 disable-calm c = by c.disabled
   where
-    by : (o : Option DisabledSlot) → record (plain c) { disabled = is_some (one_turn_less o) } ≡ record (plain c) { disabled = is_some o }
+    by : (o : Option DisabledSlot) → record (followed c) { disabled = is_some (one_turn_less o) } ≡ record (followed c) { disabled = is_some o }
     by None = refl
     by (Some d) = refl
 
--- An active member without its stages and its moves.
+-- An active member without its stages, and without all that belongs to picks.
 pub record Standing : Type 0 where
   pub place : ℕ
   pub first_type : Element
   pub second_type : Element
+  pub current_move : UsedMove
   pub conditions : ActiveConditions
 
 abbrev pub standing : Active → Standing
-standing a = record { place = a.place; first_type = a.first_type; second_type = a.second_type; conditions = a.conditions }
+standing a = record { place = a.place; first_type = a.first_type; second_type = a.second_type; current_move = a.current_move; conditions = a.conditions }
 
 abbrev pub Placid : (Active → Active) → Type 0
 Placid change = (a : Active) → standing (change a) ≡ standing a
@@ -124,11 +196,27 @@ is_noise (events.End w what) = false
 is_noise events.ClearAll = false
 is_noise _ = true
 
+abbrev pub is_own_damage : DamageSource → Bool
+is_own_damage sources.Confusion = true
+is_own_damage _ = false
+
+abbrev pub is_poison : Kind → Bool
+is_poison kinds.Poison = true
+is_poison _ = false
+
+-- Events that also tell nothing of the conditions that end with an act.
+abbrev pub is_dull : Event → Bool
+is_dull (events.Cant w why) = false
+is_dull (events.Damage w h source) = not (is_own_damage source)
+is_dull (events.Status w kind) = not (is_poison kind)
+is_dull (events.Activate w volatiles.Confusion) = false
+is_dull event = is_noise event
+
 -- Those that name no health.
 abbrev pub is_still : Event → Bool
 is_still (events.Damage w h source) = false
 is_still (events.Heal w h) = false
-is_still event = is_noise event
+is_still event = is_dull event
 
 -- They name the health of the member that is out.
 abbrev pub Noise : Field → Event → Type 0
@@ -136,12 +224,31 @@ Noise f (events.Damage w h source) = h ≡ health_in w.side f
 Noise f (events.Heal w h) = h ≡ health_in w.side f
 Noise f event = is_noise event ≡ true
 
+abbrev pub Dull : Field → Event → Type 0
+Dull f (events.Damage w h source) = (h ≡ health_in w.side f) × (is_own_damage source ≡ false)
+Dull f (events.Heal w h) = h ≡ health_in w.side f
+Dull f event = is_dull event ≡ true
+
 pub noise-is : (f : Field) (e : Event) → Noise f e → is_noise e ≡ true
 noise-is f (events.Damage w h source) n = refl
 noise-is f (events.Heal w h) n = refl
 noise-is f _ n = n
 
-pub still-is : (f : Field) (e : Event) → is_still e ≡ true → Noise f e
+pub dull-noise : (f : Field) (e : Event) → Dull f e → Noise f e
+dull-noise f (events.Damage w h source) n = n.0
+dull-noise f (events.Heal w h) n = n
+dull-noise f (events.Cant w why) n = absurd (true≢false (sym n))
+dull-noise f (events.Status w kind) n = refl
+dull-noise f (events.Activate w what) n = refl
+dull-noise f (events.Switch w place level h) n = n
+dull-noise f (events.Move w move foe) n = n
+dull-noise f (events.Prepare w move) n = n
+dull-noise f (events.Start w what) n = n
+dull-noise f (events.End w what) n = n
+dull-noise f events.ClearAll n = n
+dull-noise f _ n = refl
+
+pub still-is : (f : Field) (e : Event) → is_still e ≡ true → Dull f e
 still-is f (events.Damage w h source) n = absurd (true≢false (sym n))
 still-is f (events.Heal w h) n = absurd (true≢false (sym n))
 still-is f _ n = n

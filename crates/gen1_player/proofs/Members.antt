@@ -1,5 +1,5 @@
 -- After any run, a member that has appeared is the member at its place, and it was seen to use its own moves or Struggle.
-use Rattle.std.proofs.Common.{[], List, ap, arith, get_or, length, length-set, map, refl, subst, sym, ℕ, true≢false, ◌++◌, ◌-◌, ◌∙◌, ◌∷◌, ◌≡◌, ◌≢◌, ◌<◌, ◌≤◌}
+use Rattle.std.proofs.Common.{[], Bool, List, ap, if◌then◌else◌, arith, get_or, false, length, length-set, map, refl, subst, sym, true, ℕ, true≢false, ◌++◌, ◌-◌, ◌==◌, ◌∙◌, ◌∷◌, ◌≡◌, ◌≢◌, ◌<◌, ◌≤◌}
 use Rattle.std.proofs.lemmas.List.{length-map}
 use Rattle.std.proofs.Math.ListN.{get_or-map}
 use Rattle.std.proofs.Math.Seq.{map-set_same}
@@ -13,10 +13,11 @@ use Rattle.gen1_machine.specs.declared.event.Event.TheVariants as events
 use Rattle.gen1_machine.specs.declared.health.Who.{Who}
 use Rattle.gen1_machine.specs.declared.picks.Pick.{Pick}
 use Rattle.gen1_machine.specs.Health.{Health}
-use Rattle.gen1_machine.specs.Moves.{Move}
+use Rattle.gen1_machine.specs.declared.health.Kind.TheVariants as kinds
+use Rattle.gen1_machine.specs.Moves.{toxic, Move}
 use Rattle.gen1_machine.specs.Sides.{other}
-use Rattle.gen1_machine.specs.Conditions.{after_haze, without_seed, ActiveConditions}
-use Rattle.gen1_machine.specs.State.{first_state, active_in, changed_active, changed_conditions, changed_member, fallen, health_in, member_at, member_in, party, who_in, with_types_of, Active, Field, Party, Terms}
+use Rattle.gen1_machine.specs.Conditions.{after_haze, with_bad_poison, without_seed, ActiveConditions}
+use Rattle.gen1_machine.specs.State.{first_state, active_in, changed_active, changed_conditions, changed_member, fallen, health_in, member_at, member_in, party, who_in, with_current_move, with_types_of, Active, Field, Party, Terms}
 use Rattle.gen1_machine.specs.EarlyEffects.{with_levelled_stats}
 use Rattle.gen1_machine.specs.Picks.{number_in, used_by}
 use Rattle.gen1_machine.specs.Progress.{active, given, member, Progress}
@@ -30,8 +31,8 @@ use Rattle.gen1_player.specs.declared.public.Public.{Public}
 use Rattle.gen1_player.specs.declared.public_side.PublicSide.{PublicSide}
 use Rattle.gen1_player.specs.Public.{begins, comes_out, first_public, hears_all, not_seen, seen_at, on_out, prepares, public_side, settled, takes_in, uses_move}
 use Rattle.gen1_player.specs.True.{events_in, public_of, MembersAgree, OfRuns, SideHasAppeared}
-use Rattle.gen1_player.proofs.Facts.{noise-is, sent-place, sent, traits, with_cleared, Noise, Sizes, Standing, Tame, Traits}
-use Rattle.gen1_player.proofs.Stories.{MayFall, Story, Switching}
+use Rattle.gen1_player.proofs.Facts.{dull-noise, noise-is, sent-place, sent, traits, with_cleared, Noise, Sizes, Standing, Tame, Traits}
+use Rattle.gen1_player.proofs.Stories.{sickened, MayFall, Outline, Story, Switching}
 use Rattle.gen1_player.proofs.ToldEffects.{ruling_of-tells}
 use Rattle.gen1_player.proofs.ToldActions.{carry_out-tells, Says}
 use Rattle.gen1_player.proofs.ToldRuns.{sizes_of, story-runs}
@@ -304,6 +305,13 @@ module _ {k : Teams} {U : Field → Type 0} (u : Further U) where
   unfolding changed_conditions
   with-conditions s change f es m = with-active s (λ a. record a { conditions = change a.conditions }) (λ a. refl) f es m
 
+  with-sickened : (s : Side) (move : Move) (f : Field) (es : List Event) → With k U f es → With k U (sickened s move f) es
+  with-sickened s move f es m = by (move.number == toxic)
+    where
+      by : (e : Bool) → With k U (if e then changed_conditions (other s) with_bad_poison f else f) es
+      by true = with-conditions (other s) with_bad_poison f es m
+      by false = m
+
   with-member : (s : Side) (change : Member → Member) → Tame change → (f : Field) (es : List Event) → With k U f es → With k U (changed_member s change f) es
   with-member s change h f es m = record { appears = appears-member s change h f (told_by es) m.appears; more = u.member s change f m.more; each = m.each }
 
@@ -362,13 +370,15 @@ appearing k U u = record {
   exact = With k U;
   loose = With k U;
   said = λ s move. (f : Field) → U f → Usable k s move.number f;
+  acted = λ s move. Unit {0};
   loosen = λ f es m. m;
   tighten = λ f es m a b. m;
   member = λ s change h f es m. with-member u s change h f es m;
   active = λ s change h f es m. with-active u s change (λ a. ap (λ (x : Standing). x.place) (h a)) f es m;
   conditions = λ s change h f es m. with-conditions u s change f es m;
   apart = λ f g es a b m. with-apart u f g es a b m;
-  noise = λ e f h es m. with-noise u e f h es m;
+  noise = λ e f h es m. with-noise u e f (dull-noise f e h) es m;
+  poisons = λ s move a f es o m. with-noise u (events.Status (who_in (other s) f) kinds.Poison) (sickened s move f) refl es (with-sickened u s move f es m);
   starts = λ s what change h f es o m. with-start u _ what _ es (with-conditions u s change f es m);
   ends = λ s what change h f es o m. with-end u _ what _ es (with-conditions u s change f es m);
   converts = λ s f es o m. with-convert u s f es m;
@@ -378,8 +388,17 @@ appearing k U u = record {
   explodes = λ s f es o m. with-conditions u s without_seed _ es (with-member u s fallen fallen-tame f es m);
   loose_active = λ s change h f es m. with-active u s change (λ a. ap (λ (x : Standing). x.place) (h a)) f es m;
   loose_apart = λ f g es a b m. with-apart u f g es a b m;
-  loose_noise = λ e f h es m. with-noise u e f h es m;
+  loose_noise = λ e f h es m. with-noise u e f (dull-noise f e h) es m;
   loose_falls = λ s f es o m. with-member u s fallen fallen-tame f es m;
+}
+
+appearing-outline : (k : Teams) (U : Field → Type 0) (u : Further U) → Outline (appearing k U u)
+unfolding appearing with_current_move
+appearing-outline k U u = record {
+  takes = λ s used f es m. with-active u s (with_current_move used) (λ a. refl) f es m;
+  mild = λ s change h f es m. with-conditions u s change f es m;
+  noise = λ e f h es m. with-noise u e f h es m;
+  acts = λ s move. tt;
 }
 
 nothing-further : Further (λ f. Unit {0})
@@ -461,7 +480,7 @@ unfolding given appearing
 says k n pre t s pick = record {
   leads = λ p r m.
       let i : ℕ = number_in (used_by pick (active s p).current_move) (member s p).moves in
-      forget k s i n pre _ ((carry_out-tells {v = of_action k s i} {z = n} {pre = pre} (ruling_of t) (ruling_of-tells t) s pick (move_taken_in s pick p.field) (λ f u. u)).leads p r
+      forget k s i n pre _ ((carry_out-tells {v = of_action k s i} {z = n} {pre = pre} (appearing-outline k (Usable k s i) (usable-further k s i)) (ruling_of t) (ruling_of-tells t) s pick (move_taken_in s pick p.field) refl (λ f u. u)).leads p r
       (record { begun = m.begun; exact = record { appears = m.exact.appears; more = taken-usable k s pick p.field (told_by (pre ++ p.events)) m.exact.appears; each = m.exact.each } }));
 }
 
@@ -504,7 +523,7 @@ ends : OfRuns Ends
 unfolding hears_all appearing
 ends t one two seed pairs a b =
     let k : Teams = record { one = map traits one; two = map traits two } in
-    story-runs (of_battle k) t one two seed pairs a b (battle-switches k) (λ pre t. says k (sizes_of one two) pre t) (record {
+    story-runs (of_battle k) t one two seed pairs a b (appearing-outline k (λ f. Unit {0}) nothing-further) (battle-switches k) (λ pre t. says k (sizes_of one two) pre t) (record {
       appears = record { one = first-appeared one a _ refl refl; two = first-appeared two b _ refl refl };
       more = tt;
       each = tt;

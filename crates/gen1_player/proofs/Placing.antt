@@ -1,17 +1,20 @@
 -- Each switch that a run logs names a place that holds a member. So what is public agrees with what a spectator sees.
-use Rattle.std.proofs.Common.{[], List, arith, length, length-set, refl, subst, sym, true, true≢false, ℕ, ◌++◌, ◌-◌, ◌∙◌, ◌∷◌, ◌≡◌, ◌≤◌}
+use Rattle.std.proofs.Common.{[], Bool, List, arith, false, if◌then◌else◌, length, length-set, refl, subst, sym, true, true≢false, ℕ, ◌++◌, ◌-◌, ◌==◌, ◌∙◌, ◌∷◌, ◌≡◌, ◌≤◌}
 use Rattle.gen1_stats.specs.Members.{Member}
 use Rattle.gen1_machine.specs.declared.side.Side.{Side}
 use Rattle.gen1_machine.specs.declared.side.Side.TheVariants.{One, Two}
 use Rattle.gen1_machine.specs.declared.event.Event.{Event}
 use Rattle.gen1_machine.specs.declared.event.Event.TheVariants as events
+use Rattle.gen1_machine.specs.Conditions.{with_bad_poison}
+use Rattle.gen1_machine.specs.Moves.{toxic, Move}
+use Rattle.gen1_machine.specs.Sides.{other}
 use Rattle.gen1_machine.specs.State.{changed_active, changed_conditions, changed_member, first_state, party, Active, Field, Party}
 use Rattle.gen1_machine.specs.Step.{run, Ran}
 use Rattle.gen1_machine.specs.View.{View}
 use Rattle.gen1_machine.proofs.Spectators.{watcher_knows}
 use Rattle.gen1_player.specs.True.{events_in, public_of, AgreesWith, PublicAgrees, PublicAgreesWithView}
-use Rattle.gen1_player.proofs.Facts.{is_noise, noise-is, Sizes, Fits}
-use Rattle.gen1_player.proofs.Stories.{Sized, Story, Switching}
+use Rattle.gen1_player.proofs.Facts.{dull-noise, is_noise, noise-is, Sizes, Fits}
+use Rattle.gen1_player.proofs.Stories.{sickened, Outline, Sized, Story, Switching}
 use Rattle.gen1_machine.specs.Ruling.{ruling_of}
 use Rattle.gen1_player.proofs.ToldEffects.{ruling_of-tells}
 use Rattle.gen1_player.proofs.ToldActions.{says-any}
@@ -56,6 +59,14 @@ placed-member s change f es m = record { sized = sized-member s change f m.sized
 placed-same : {n : Sizes} (f g : Field) (es : List Event) → f.one ≡ g.one → f.two ≡ g.two → Placed n f es → Placed n g es
 placed-same f g es a b m = record { sized = sized-same f g a b m.sized; each = m.each }
 
+placed-sickened : {n : Sizes} (s : Side) (move : Move) (f : Field) (es : List Event) → Placed n f es → Placed n (sickened s move f) es
+unfolding changed_conditions
+placed-sickened {n} s move f es m = by (move.number == toxic)
+  where
+    by : (e : Bool) → Placed n (if e then changed_conditions (other s) with_bad_poison f else f) es
+    by true = placed-active (other s) _ f es m
+    by false = m
+
 -- A switch to a place that holds a member.
 low-fits : (n : Sizes) (s : Side) (place : ℕ) (f : Field) → Sized n f → 1 ≤ place → place ≤ length (party s f).members → Fits n s place
 low-fits n One place f z low high = let e = z.one in (low, omega (arith, high, e))
@@ -67,13 +78,15 @@ placing n = record {
   exact = Placed n;
   loose = Placed n;
   said = λ s move. Unit {0};
+  acted = λ s move. Unit {0};
   loosen = λ f es m. m;
   tighten = λ f es m a b. m;
   member = λ s change h f es m. placed-member s change f es m;
   active = λ s change h f es m. placed-active s change f es m;
   conditions = λ s change h f es m. placed-active s _ f es m;
   apart = λ f g es a b m. placed-same f g es a b m;
-  noise = λ e f h es m. placed-last n f es e (noise-fits n e (noise-is f e h)) m;
+  noise = λ e f h es m. placed-last n f es e (noise-fits n e (noise-is f e (dull-noise f e h))) m;
+  poisons = λ s move a f es o m. placed-last n _ es _ tt (placed-sickened s move f es m);
   starts = λ s what change h f es o m. placed-last n _ es _ tt (placed-active s _ f es m);
   ends = λ s what change h f es o m. placed-last n _ es _ tt (placed-active s _ f es m);
   converts = λ s f es o m. placed-last n _ es _ tt (placed-active s _ f es m);
@@ -83,8 +96,17 @@ placing n = record {
   explodes = λ s f es o m. placed-active s _ _ es (placed-member s _ f es m);
   loose_active = λ s change h f es m. placed-active s change f es m;
   loose_apart = λ f g es a b m. placed-same f g es a b m;
-  loose_noise = λ e f h es m. placed-last n f es e (noise-fits n e (noise-is f e h)) m;
+  loose_noise = λ e f h es m. placed-last n f es e (noise-fits n e (noise-is f e (dull-noise f e h))) m;
   loose_falls = λ s f es o m. placed-member s _ f es m;
+}
+
+placing-outline : (n : Sizes) → Outline (placing n)
+unfolding placing changed_conditions
+placing-outline n = record {
+  takes = λ s used f es m. placed-active s _ f es m;
+  mild = λ s change h f es m. placed-active s _ f es m;
+  noise = λ e f h es m. placed-last n f es e (noise-fits n e (noise-is f e h)) m;
+  acts = λ s move. tt;
 }
 
 placing-switches : (n : Sizes) → Switching (placing n)
@@ -98,7 +120,7 @@ pub agrees_with_view : PublicAgreesWithView
 unfolding placing
 agrees_with_view t one two seed pairs a b =
     fitting-agrees one two (events_in (run (first_state t one two seed) pairs)) a.size.1 b.size.1
-    (story-runs (placing (sizes_of one two)) t one two seed pairs a b (placing-switches (sizes_of one two)) (λ pre t. says-any (λ s move. tt) (ruling_of t) (ruling_of-tells t)) (record { sized = record { one = refl; two = refl }; each = tt })).each
+    (story-runs (placing (sizes_of one two)) t one two seed pairs a b (placing-outline (sizes_of one two)) (placing-switches (sizes_of one two)) (λ pre t. says-any (placing-outline (sizes_of one two)) (λ s move. tt) (ruling_of t) (ruling_of-tells t)) (record { sized = record { one = refl; two = refl }; each = tt })).each
 
 pub agrees : PublicAgrees
 agrees t one two seed pairs a b =

@@ -1,31 +1,38 @@
 -- Stories: facts about a battle's field and the events that it wrote so far. Phases that keep a story true.
-use Rattle.std.proofs.Common.{[], Bool, List, None, Option, Some, ap, false, length, length-set, refl, subst, true, ℕ, ◌+◌, ◌++◌, ◌-◌, ◌∙◌, ◌∷◌, ◌≡◌, ◌≤◌}
+use Rattle.std.proofs.Common.{[], Bool, List, None, Option, Some, ap, false, if◌then◌else◌, length, length-set, not, refl, subst, true, ℕ, ◌==◌, ◌+◌, ◌++◌, ◌-◌, ◌∙◌, ◌∷◌, ◌≡◌, ◌≤◌}
 use Rattle.std.proofs.lemmas.List.{append_assoc}
 use Rattle.gen1_rolls.specs.Streams.{byte_at, span, first}
 use Rattle.gen1_stats.specs.declared.status.Status.{Status}
-use Rattle.gen1_stats.specs.declared.status.Status.TheVariants.{Healthy}
+use Rattle.gen1_stats.specs.declared.status.Status.TheVariants.{Healthy, Poisoned}
 use Rattle.gen1_stats.specs.Members.{Member}
 use Rattle.gen1_machine.specs.declared.side.Side.{Side}
 use Rattle.gen1_machine.specs.declared.side.Side.TheVariants.{One, Two}
 use Rattle.gen1_machine.specs.declared.terms.Outcome.TheVariants as outcomes
 use Rattle.gen1_machine.specs.declared.health.Kind.{Kind}
+use Rattle.gen1_machine.specs.declared.health.Kind.TheVariants as kinds
+use Rattle.gen1_machine.specs.declared.health.Who.{Who}
+use Rattle.gen1_machine.specs.declared.picks.UsedMove.{UsedMove}
 use Rattle.gen1_machine.specs.declared.event.DamageSource.{DamageSource}
 use Rattle.gen1_machine.specs.declared.event.Volatile.{Volatile}
 use Rattle.gen1_machine.specs.declared.event.Volatile.TheVariants as volatiles
 use Rattle.gen1_machine.specs.declared.event.Event.{Event}
 use Rattle.gen1_machine.specs.declared.event.Event.TheVariants as events
 use Rattle.gen1_machine.specs.Sides.{other}
-use Rattle.gen1_machine.specs.Moves.{Move}
-use Rattle.gen1_machine.specs.Conditions.{without_seed, ActiveConditions}
-use Rattle.gen1_machine.specs.State.{active_in, changed_active, changed_conditions, changed_member, fallen, has_fallen_in, healed_by, health_in, hurt_by, party, who_in, with_last_damage, with_outcome, with_status, with_types_of, Active, Field}
+use Rattle.gen1_machine.specs.Moves.{toxic, Move}
+use Rattle.gen1_machine.specs.Conditions.{with_bad_poison, without_seed, ActiveConditions}
+use Rattle.gen1_machine.specs.State.{active_in, changed_active, changed_conditions, changed_member, fallen, has_fallen_in, healed_by, health_in, hurt_by, party, who_in, with_current_move, with_last_damage, with_outcome, with_status, with_types_of, Active, Field}
 use Rattle.gen1_machine.specs.CurrentStats.{with_penalty_of}
 use Rattle.gen1_machine.specs.Progress.{cure, stop, draw, draw_until, ends, fault, gain_hp, inflict, lasts, lose_hp, note, on_action, on_active, on_conditions, on_field, on_member, set_last_damage, starts, told, Action, Phase, Progress}
 use Rattle.gen1_machine.specs.SwitchingIn.{switch_event}
 use Rattle.gen1_machine.proofs.Showing.{keeps-active, keeps-member, BothOut}
 use Rattle.gen1_machine.proofs.Watching.{choose-tells, stay-tells, stop-leads, ◌⊳◌, Lands, Leads, Runs}
-use Rattle.gen1_player.proofs.Facts.{penalty-placid, still-is, Calm, Marks, Noise, Standing, Placid, Tame, is_still, with_cleared, sent, Sizes}
+use Rattle.gen1_player.proofs.Facts.{penalty-placid, still-is, Calm, Dull, Marks, Mild, Noise, Standing, Placid, Tame, is_own_damage, is_poison, is_still, with_cleared, sent, Sizes}
 
 -- Stories
+
+-- A field in which the foe is poisoned badly, if the move is Toxic.
+abbrev pub sickened : Side → Move → Field → Field
+sickened s move f = if move.number == toxic then changed_conditions (other s) with_bad_poison f else f
 
 -- What a story says of a field after a list of events, and why each change and each event keeps it true. `loose` is what it says after
 -- a member fell without an event.
@@ -33,6 +40,7 @@ pub record Story : Type 1 where
   pub exact : Field → List Event → Type 0
   pub loose : Field → List Event → Type 0
   pub said : Side → Move → Type 0  -- that a side may use a move
+  pub acted : Side → Move → Type 0  -- that it has used it
   pub loosen : (f : Field) (es : List Event) → exact f es → loose f es
   pub tighten : (f : Field) (es : List Event) → loose f es → has_fallen_in One f ≡ false → has_fallen_in Two f ≡ false → exact f es
   pub member : (s : Side) (change : Member → Member) → Tame change → (f : Field) (es : List Event) → exact f es → exact (changed_member s change f) es
@@ -40,7 +48,9 @@ pub record Story : Type 1 where
   pub conditions : (s : Side) (change : ActiveConditions → ActiveConditions) → Calm change → (f : Field) (es : List Event)
       → exact f es → exact (changed_conditions s change f) es
   pub apart : (f g : Field) (es : List Event) → f.one ≡ g.one → f.two ≡ g.two → exact f es → exact g es
-  pub noise : (e : Event) (f : Field) → Noise f e → (es : List Event) → exact f es → exact f (es ++ e ∷ [])
+  pub noise : (e : Event) (f : Field) → Dull f e → (es : List Event) → exact f es → exact f (es ++ e ∷ [])
+  pub poisons : (s : Side) (move : Move) → acted s move → (f : Field) (es : List Event) → BothOut f → exact f es
+      → exact (sickened s move f) (es ++ events.Status (who_in (other s) f) kinds.Poison ∷ [])
   pub starts : (s : Side) (what : Volatile) (change : ActiveConditions → ActiveConditions) → Marks what true change → (f : Field) (es : List Event)
       → BothOut f → exact f es → exact (changed_conditions s change f) (es ++ events.Start (who_in s (changed_conditions s change f)) what ∷ [])
   pub ends : (s : Side) (what : Volatile) (change : ActiveConditions → ActiveConditions) → Marks what false change → (f : Field) (es : List Event)
@@ -55,8 +65,16 @@ pub record Story : Type 1 where
   pub explodes : (s : Side) (f : Field) (es : List Event) → BothOut f → exact f es → loose (changed_conditions s without_seed (changed_member s fallen f)) es
   pub loose_active : (s : Side) (change : Active → Active) → Placid change → (f : Field) (es : List Event) → loose f es → loose (changed_active s change f) es
   pub loose_apart : (f g : Field) (es : List Event) → f.one ≡ g.one → f.two ≡ g.two → loose f es → loose g es
-  pub loose_noise : (e : Event) (f : Field) → Noise f e → (es : List Event) → loose f es → loose f (es ++ e ∷ [])
+  pub loose_noise : (e : Event) (f : Field) → Dull f e → (es : List Event) → loose f es → loose f (es ++ e ∷ [])
   pub loose_falls : (s : Side) (f : Field) (es : List Event) → BothOut f → loose f es → loose (changed_member s fallen f) es
+
+-- A story that doesn't follow what an act ends.
+pub record Outline (v : Story) : Type 0 where
+  pub takes : (s : Side) (used : UsedMove) (f : Field) (es : List Event) → v.exact f es → v.exact (changed_active s (with_current_move used) f) es
+  pub mild : (s : Side) (change : ActiveConditions → ActiveConditions) → Mild change → (f : Field) (es : List Event)
+      → v.exact f es → v.exact (changed_conditions s change f) es
+  pub noise : (e : Event) (f : Field) → Noise f e → (es : List Event) → v.exact f es → v.exact f (es ++ e ∷ [])
+  pub acts : (s : Side) (move : Move) → v.acted s move
 
 -- Why a member that comes out keeps a story true.
 pub record Switching (v : Story) : Type 0 where
@@ -114,6 +132,13 @@ begun-member Two change f b = record {
   sized = record { one = b.sized.one; two = length-set f.two.members (f.two.active.place - 1) _ ∙ b.sized.two };
 }
 
+pub sickened-begun : {n : Sizes} (s : Side) (move : Move) (f : Field) → Begun n f → Begun n (sickened s move f)
+sickened-begun {n} s move f b = by (move.number == toxic)
+  where
+    by : (e : Bool) → Begun n (if e then changed_conditions (other s) with_bad_poison f else f)
+    by true = begun-conditions (other s) with_bad_poison f b
+    by false = b
+
 abbrev pub place_of : Standing → ℕ
 place_of x = x.place
 
@@ -133,7 +158,7 @@ module _ {v : Story} {n : Sizes} {pre : List Event} where
   pub holds-member : (s : Side) (change : Member → Member) → Tame change → (f : Field) (es : List Event) → Holds v n pre f es → Holds v n pre (changed_member s change f) es
   holds-member s change h f es m = record { begun = begun-member s change f m.begun; exact = v.member s change h f (pre ++ es) m.exact }
 
-  holds-health : (e : Event) (f : Field) → Noise f e → (es : List Event) → Holds v n pre f es → Holds v n pre f (es ++ e ∷ [])
+  holds-health : (e : Event) (f : Field) → Dull f e → (es : List Event) → Holds v n pre f es → Holds v n pre f (es ++ e ∷ [])
   holds-health e f h es m = record { begun = m.begun; exact = at_end v.exact f pre es e (v.noise e f h (pre ++ es) m.exact) }
 
   pub holds-noise : (e : Event) → is_still e ≡ true → (f : Field) (es : List Event) → Holds v n pre f es → Holds v n pre f (es ++ e ∷ [])
@@ -224,16 +249,16 @@ module _ {v : Story} {n : Sizes} {pre : List Event} {S : Progress → Type 0} wh
         (v.ends s what change h f (pre ++ es) m.begun.both m.exact);
   })
 
-  pub lasts-tells : (s : Side) (what : Volatile) (change : ActiveConditions → ActiveConditions) → Calm change
+  pub lasts-tells : (s : Side) (what : Volatile) → ((w : Who) → is_still (events.Activate w what) ≡ true) → (change : ActiveConditions → ActiveConditions) → Calm change
       → Leads (Now v n pre) (Now v n pre) S (lasts s what change)
   unfolding lasts
-  lasts-tells s what change h = told-noise (changed_conditions s change) (λ f. events.Activate (who_in s f) what) (holds-conditions s change h) (λ f. refl)
+  lasts-tells s what still change h = told-noise (changed_conditions s change) (λ f. events.Activate (who_in s f) what) (holds-conditions s change h) (λ f. still (who_in s f))
 
-  pub lose-tells : (s : Side) (source : DamageSource) (amount : ℕ) → Leads (Now v n pre) (Now v n pre) S (lose_hp s source amount)
+  pub lose-tells : (s : Side) (source : DamageSource) → is_own_damage source ≡ false → (amount : ℕ) → Leads (Now v n pre) (Now v n pre) S (lose_hp s source amount)
   unfolding lose_hp hurt_by
-  lose-tells s source amount = choose-tells _
+  lose-tells s source e amount = choose-tells _
       (told-tells (changed_member s (hurt_by amount)) (λ f. events.Damage (who_in s f) (health_in s f) source)
-      (λ f es m. holds-health _ (changed_member s (hurt_by amount) f) refl es (holds-member s (hurt_by amount) (λ m. refl) f es m))) stay-tells
+      (λ f es m. holds-health _ (changed_member s (hurt_by amount) f) (refl, e) es (holds-member s (hurt_by amount) (λ m. refl) f es m))) stay-tells
 
   pub gain-tells : (s : Side) (amount : ℕ) → Leads (Now v n pre) (Now v n pre) S (gain_hp s amount)
   unfolding gain_hp healed_by
@@ -241,15 +266,31 @@ module _ {v : Story} {n : Sizes} {pre : List Event} {S : Progress → Type 0} wh
       (told-tells (changed_member s (healed_by amount)) (λ f. events.Heal (who_in s f) (health_in s f))
       (λ f es m. holds-health _ (changed_member s (healed_by amount) f) refl es (holds-member s (healed_by amount) (λ m. refl) f es m))) stay-tells
 
-  pub status-tells : (s : Side) (status : Status) (kind : Kind)
+  pub status-tells : (s : Side) (status : Status) (kind : Kind) → is_poison kind ≡ false
       → Leads (Now v n pre) (Now v n pre) S (told (changed_member s (with_status status)) (λ f. events.Status (who_in s f) kind))
   unfolding with_status
-  status-tells s status kind = told-noise (changed_member s (with_status status)) (λ f. events.Status (who_in s f) kind) (holds-member s (with_status status) (λ m. refl)) (λ f. refl)
+  status-tells s status kind e = told-noise (changed_member s (with_status status)) (λ f. events.Status (who_in s f) kind) (holds-member s (with_status status) (λ m. refl)) (λ f. ap not e)
 
-  pub inflict-tells : (s : Side) (status : Status) (kind : Kind) → Leads (Now v n pre) (Now v n pre) S (inflict s status kind)
+  pub inflict-tells : (s : Side) (status : Status) (kind : Kind) → is_poison kind ≡ false → Leads (Now v n pre) (Now v n pre) S (inflict s status kind)
   unfolding inflict with_status
-  inflict-tells s status kind = member-tells s (with_status status) (λ m. refl)
-      ⊳ told-noise (changed_active s (with_penalty_of status)) (λ f. events.Status (who_in s f) kind) (holds-active s (with_penalty_of status) (penalty-placid status)) (λ f. refl)
+  inflict-tells s status kind e = member-tells s (with_status status) (λ m. refl)
+      ⊳ told-noise (changed_active s (with_penalty_of status)) (λ f. events.Status (who_in s f) kind) (holds-active s (with_penalty_of status) (penalty-placid status)) (λ f. ap not e)
+
+  -- Poison by a move, before Toxic's is bad.
+  pub poison-told : (s : Side) (move : Move) → v.acted s move
+      → Leads (Now v n pre) (λ p. Holds v n pre (sickened s move p.field) p.events) S (inflict (other s) Poisoned kinds.Poison)
+  unfolding inflict told with_status
+  poison-told s move a = member-tells (other s) (with_status Poisoned) (λ m. refl) ⊳ record {
+    leads = λ p r m.
+        let change : Active → Active = with_penalty_of Poisoned in
+        let f : Field = changed_active (other s) change p.field in
+        let h : Holds v n pre f p.events = holds-active (other s) change (penalty-placid Poisoned) p.field p.events m in
+        Runs r (record {
+          begun = sickened-begun s move f h.begun;
+          exact = at_end v.exact (sickened s move f) pre p.events (events.Status (who_in (other s) f) kinds.Poison)
+              (v.poisons s move a f (pre ++ p.events) h.begun.both h.exact);
+        });
+  }
 
   pub cure-tells : (s : Side) (kind : Kind) → Leads (Now v n pre) (Now v n pre) S (cure s kind)
   unfolding cure with_status
@@ -269,3 +310,40 @@ module _ {v : Story} {n : Sizes} {pre : List Event} where
   pub fault-tells : (k : ℕ) → Tells v n pre (fault k)
   unfolding fault
   fault-tells k = fault-step k ⊳ stop-tells
+
+-- What outlines don't follow
+
+module _ {v : Story} {n : Sizes} {pre : List Event} (o : Outline v) where
+  holds-mild : (s : Side) (change : ActiveConditions → ActiveConditions) → Mild change → (f : Field) (es : List Event)
+      → Holds v n pre f es → Holds v n pre (changed_conditions s change f) es
+  holds-mild s change h f es m = record { begun = begun-conditions s change f m.begun; exact = o.mild s change h f (pre ++ es) m.exact }
+
+  holds-any : (e : Event) (f : Field) → Noise f e → (es : List Event) → Holds v n pre f es → Holds v n pre f (es ++ e ∷ [])
+  holds-any e f h es m = record { begun = m.begun; exact = at_end v.exact f pre es e (o.noise e f h (pre ++ es) m.exact) }
+
+  pub mild-tells : {S : Progress → Type 0} (s : Side) (change : ActiveConditions → ActiveConditions) → Mild change → Leads (Now v n pre) (Now v n pre) S (on_conditions s change)
+  unfolding on_conditions
+  mild-tells s change h = field-tells _ (holds-mild s change h)
+
+  pub takes-tells : {S : Progress → Type 0} (s : Side) (used : UsedMove) → Leads (Now v n pre) (Now v n pre) S (on_active s (with_current_move used))
+  unfolding on_active with_current_move
+  takes-tells s used = field-tells _ (λ f es m. record {
+    begun = begun-active s (with_current_move used) f (λ a. refl) m.begun;
+    exact = o.takes s used f (pre ++ es) m.exact;
+  })
+
+  pub any-note : {S : Progress → Type 0} (event : Field → Event) → ((f : Field) → Noise f (event f)) → Leads (Now v n pre) (Now v n pre) S (note event)
+  unfolding note
+  any-note event h = record { leads = λ p r m. Runs r (holds-any (event p.field) p.field (h p.field) p.events m) }
+
+  pub any-lasts : {S : Progress → Type 0} (s : Side) (what : Volatile) (change : ActiveConditions → ActiveConditions) → Mild change
+      → Leads (Now v n pre) (Now v n pre) S (lasts s what change)
+  unfolding lasts
+  any-lasts s what change h = told-tells (changed_conditions s change) (λ f. events.Activate (who_in s f) what)
+      (λ f es m. holds-any _ (changed_conditions s change f) refl es (holds-mild s change h f es m))
+
+  pub any-loses : {S : Progress → Type 0} (s : Side) (source : DamageSource) (amount : ℕ) → Leads (Now v n pre) (Now v n pre) S (lose_hp s source amount)
+  unfolding lose_hp hurt_by
+  any-loses s source amount = choose-tells _
+      (told-tells (changed_member s (hurt_by amount)) (λ f. events.Damage (who_in s f) (health_in s f) source)
+      (λ f es m. holds-any _ (changed_member s (hurt_by amount) f) refl es (holds-member s (hurt_by amount) (λ m. refl) f es m))) stay-tells

@@ -6,6 +6,7 @@ use Rattle.gen1_tables.specs.declared.effect.Effect.TheVariants as effects
 use Rattle.gen1_stats.specs.declared.known_move.KnownMove.{KnownMove}
 use Rattle.gen1_rolls.specs.Streams.{low_bits}
 use Rattle.gen1_machine.specs.declared.side.Side.{Side}
+use Rattle.gen1_machine.specs.declared.event.Volatile.TheVariants as volatiles
 use Rattle.gen1_machine.specs.declared.event.Event.{Event}
 use Rattle.gen1_machine.specs.declared.event.Event.TheVariants as events
 use Rattle.gen1_machine.specs.declared.picks.Pick.{Pick}
@@ -17,7 +18,7 @@ use Rattle.gen1_machine.specs.Conditions.{without_seed, Storing}
 use Rattle.gen1_machine.specs.State.{after_use, changed_active, changed_conditions, changed_member, fallen, known_in, with_kept_accuracy, with_less_pp, with_pp_spent, who_in, is_over, Field}
 use Rattle.gen1_stats.specs.Members.{nothing_known}
 use Rattle.gen1_tables.specs.Effects.{explodes, hits_more}
-use Rattle.gen1_machine.specs.Moves.{Move}
+use Rattle.gen1_machine.specs.Moves.{move_at, Move}
 use Rattle.gen1_machine.specs.Progress.{Phase, given, note, on_field, on_active, on_conditions, on_member, on_action, Progress}
 use Rattle.gen1_machine.specs.CriticalHits.{set_critical, critical_by, roll_critical}
 use Rattle.gen1_machine.specs.Damage.{before_types, is_factor, type_steps, varied_by, vary, set_through_types, damage_from, roll_damage, DamageNumbers}
@@ -32,10 +33,10 @@ use Rattle.gen1_machine.specs.Ruling.{Ruling}
 use Rattle.gen1_machine.specs.Action.{set_going_on, see_if_going_on, gate_or_held, move_taken_in, spend_pp, use_move, prelude, lead_up, usual_damage, damage_of, strike, carry_out, action_parts, accuracy_to_keep, keep_accuracy, begin, resume, act}
 use Rattle.gen1_machine.proofs.Watching.{seeing, Runs, Rests, Lands, Leads, after-leads, before-leads, ◌⊳◌, choose-tells, if-sees, given-tells, stay-tells, stop-leads}
 use Rattle.std.proofs.Math.Seq.{map-set_same}
-use Rattle.gen1_player.proofs.Facts.{Sizes, Tame, traits}
-use Rattle.gen1_player.proofs.Stories.{Story, May, Now, MayFall, Tells, at_end, begun-conditions, begun-member, may-active, loosened, draw-tells, until-tells, stop-tells, fault-tells, action-tells, active-tells, conditions-tells, member-tells, damage-tells, note-tells, starts-tells, ends-tells, lasts-tells, lose-tells, gain-tells}
+use Rattle.gen1_player.proofs.Facts.{storing-calm, Sizes, Tame, traits}
+use Rattle.gen1_player.proofs.Stories.{mild-tells, takes-tells, Outline, Story, May, Now, MayFall, Tells, at_end, begun-conditions, begun-member, may-active, loosened, draw-tells, until-tells, stop-tells, fault-tells, action-tells, active-tells, conditions-tells, member-tells, damage-tells, note-tells, starts-tells, ends-tells, lasts-tells, lose-tells, gain-tells}
 use Rattle.gen1_player.proofs.ToldGate.{missed-tells, cant-tells, gate-tells, land-tells, hit_or_miss-tells, note_miss-tells}
-use Rattle.gen1_player.proofs.ToldEffects.{IsDue, RulingTells, now-due, due-field, raise-tells, raise-falls, confuse-tells, early_effect-tells, late_effect-tells, side_effect-tells}
+use Rattle.gen1_player.proofs.ToldEffects.{may_poison_by, not-toxic, IsDue, Poisons, RulingTells, now-due, due-field, raise-tells, raise-falls, confuse-tells, early_effect-tells, late_effect-tells, side_effect-tells}
 
 -- An explosion makes one hit.
 one-explosion : (e : Effect) → explodes e ≡ true → hits_more e ≡ false
@@ -57,8 +58,8 @@ abbrev pub Says : Story → Sizes → List Event → Ruling → Type 0
 Says v z pre r = (s : Side) (pick : Pick)
     → Leads (Now v z pre) (MayFall v z pre) (MayFall v z pre) (given (λ p. move_taken_in s pick p.field) (carry_out r s pick))
 
-module _ {v : Story} {z : Sizes} {pre : List Event} where
-  -- Before any damage
+module _ {v : Story} {z : Sizes} {pre : List Event} (o : Outline v) where
+  -- Before any damage, in an outline
 
   going-tells : (going_on : Bool) → Tells v z pre (set_going_on going_on)
   unfolding set_going_on seeing
@@ -70,10 +71,10 @@ module _ {v : Story} {z : Sizes} {pre : List Event} where
 
   pub gate_or_held-tells : (s : Side) (pick : Pick) → Tells v z pre (gate_or_held s pick)
   unfolding gate_or_held seeing
-  gate_or_held-tells s Held = cant-tells s _
-  gate_or_held-tells s (Use used) = gate-tells s (Use used)
-  gate_or_held-tells s Continue = gate-tells s Continue
-  gate_or_held-tells s Idle = gate-tells s Idle
+  gate_or_held-tells s Held = cant-tells o s _
+  gate_or_held-tells s (Use used) = gate-tells o s (Use used)
+  gate_or_held-tells s Continue = gate-tells o s Continue
+  gate_or_held-tells s Idle = gate-tells o s Idle
 
   letting_go-tells : Tells v z pre set_letting_go
   unfolding set_letting_go seeing
@@ -85,9 +86,9 @@ module _ {v : Story} {z : Sizes} {pre : List Event} where
 
   pub store-tells : (s : Side) (damage : ℕ) → Tells v z pre (store_energy s damage)
   unfolding store_energy seeing
-  store-tells s damage = lasts-tells s _ _ (λ c. refl) ⊳ stop-tells
+  store-tells s damage = lasts-tells s volatiles.Bide (λ w. refl) _ (storing-calm damage) ⊳ stop-tells
 
-  pub bide_on-tells : (s : Side) (o : Option Storing) (damage : ℕ) → Tells v z pre (bide_on s o damage)
+  pub bide_on-tells : (s : Side) (x : Option Storing) (damage : ℕ) → Tells v z pre (bide_on s x damage)
   unfolding bide_on seeing
   bide_on-tells s None damage = stay-tells
   bide_on-tells s (Some b) damage = choose-tells _ (let_energy_go-tells s _) (store-tells s damage)
@@ -98,7 +99,7 @@ module _ {v : Story} {z : Sizes} {pre : List Event} where
 
   pub current-tells : (s : Side) (pick : Pick) → Tells v z pre (make_current s pick)
   unfolding make_current seeing
-  current-tells s pick = given-tells _ (λ a. active-tells s _ (λ a. refl))
+  current-tells s pick = given-tells _ (λ a. takes-tells o s _)
 
   prepare-tells : {S : Progress → Type 0} (s : Side) (move : Move) → v.said s move
       → Leads (Now v z pre) (Now v z pre) S (note (λ f. events.Prepare (who_in s f) move.number))
@@ -111,12 +112,12 @@ module _ {v : Story} {z : Sizes} {pre : List Event} where
 
   pub begin_charge-tells : (s : Side) (pick : Pick) (move : Move) → v.said s move → Tells v z pre (begin_charge s pick move)
   unfolding begin_charge seeing
-  begin_charge-tells s pick move k = current-tells s pick ⊳ conditions-tells s _ (λ c. refl) ⊳ choose-tells _ (conditions-tells s _ (λ c. refl)) stay-tells
+  begin_charge-tells s pick move k = current-tells s pick ⊳ mild-tells o s _ (λ c. refl) ⊳ choose-tells _ (mild-tells o s _ (λ c. refl)) stay-tells
       ⊳ prepare-tells s move k ⊳ stop-tells
 
   pub end_charge-tells : (s : Side) → Tells v z pre (end_charge s)
   unfolding end_charge seeing
-  end_charge-tells s = conditions-tells s _ (λ c. refl) ⊳ conditions-tells s _ (λ c. refl)
+  end_charge-tells s = mild-tells o s _ (λ c. refl) ⊳ mild-tells o s _ (λ c. refl)
 
   pub charge-tells : (s : Side) (pick : Pick) (move : Move) → v.said s move → Tells v z pre (charge s pick move)
   unfolding charge seeing
@@ -138,6 +139,11 @@ module _ {v : Story} {z : Sizes} {pre : List Event} where
   pub use_move-tells : (s : Side) (pick : Pick) (move : Move) → v.said s move → Tells v z pre (use_move s pick move)
   unfolding use_move seeing
   use_move-tells s pick move k = current-tells s pick ⊳ choose-tells _ stay-tells (spend-tells s) ⊳ choose-tells _ (move-tells s move k) stay-tells
+
+module _ {v : Story} {z : Sizes} {pre : List Event} where
+  pub begin-tells : (s : Side) → Tells v z pre (begin s)
+  unfolding begin
+  begin-tells s = action-tells _
 
   -- A count of hits or of turns takes two draws at most
 
@@ -177,12 +183,6 @@ module _ {v : Story} {z : Sizes} {pre : List Event} where
   pub prelude-tells : (s : Side) (move : Move) → Tells v z pre (prelude s move)
   unfolding prelude seeing
   prelude-tells s move = choose-tells _ (trap-tells s) stay-tells ⊳ choose-tells _ (thrash-tells s move) stay-tells
-
-  pub lead_up-tells : (s : Side) (pick : Pick) (move : Move) → v.said s move → Tells v z pre (lead_up s pick move)
-  unfolding lead_up seeing
-  lead_up-tells s pick move k = charge-tells s pick move k ⊳ use_move-tells s pick move k
-      ⊳ choose-tells _ (early_effect-tells s move move.effect ⊳ stop-tells) stay-tells
-      ⊳ prelude-tells s move
 
   -- Damage: one loop at most
 
@@ -269,7 +269,7 @@ module _ {v : Story} {z : Sizes} {pre : List Event} where
 
   pub recoil-tells : (s : Side) (move : Move) → Tells v z pre (recoil s move)
   unfolding recoil seeing
-  recoil-tells s move = given-tells _ (lose-tells s _)
+  recoil-tells s move = given-tells _ (lose-tells s _ refl)
 
   drain_by-tells : (s : Side) (n : ℕ) → Tells v z pre (drain_by s n)
   unfolding drain_by seeing
@@ -295,7 +295,7 @@ module _ {v : Story} {z : Sizes} {pre : List Event} where
 
   crash-tells : (s : Side) → Tells v z pre (crash s)
   unfolding crash seeing
-  crash-tells s = lose-tells s _ 1 ⊳ damage-tells 1
+  crash-tells s = lose-tells s _ refl 1 ⊳ damage-tells 1
 
   effectiveness-tells : (target : Side) (n : DamageNumbers) → Tells v z pre (note_effectiveness target n)
   unfolding note_effectiveness seeing
@@ -410,37 +410,45 @@ module _ {v : Story} {z : Sizes} {pre : List Event} where
   side_effect-falls r s move effects.Explode h = choose-tells _ stay-tells stay-tells
   side_effect-falls r s move _ h = absurd (true≢false (sym h))
 
-  strike-tells : (r : Ruling) → RulingTells v z pre r → (s : Side) (move : Move) → Leads (Now v z pre) (MayFall v z pre) (MayFall v z pre) (strike r s move)
+  pub strike-tells : (r : Ruling) → RulingTells v z pre r → (s : Side) (move : Move) → (may_poison_by move.effect ≡ true → Poisons v s move)
+      → Leads (Now v z pre) (MayFall v z pre) (MayFall v z pre) (strike r s move)
   unfolding strike
-  strike-tells r h s move = by (explodes move.effect) refl
+  strike-tells r h s move a = by (explodes move.effect) refl
     where
       by : (b : Bool) → explodes move.effect ≡ b → Leads (Now v z pre) (MayFall v z pre) (MayFall v z pre) (strike r s move)
       by false e = choose-tells _ (missed_move-tells s move) stay-tells ⊳ hits-tells s move e
-          ⊳ after-leads loosened (choose-tells _ stay-tells (side_effect-tells r h s move move.effect))
+          ⊳ after-leads loosened (choose-tells _ stay-tells (side_effect-tells r h s move move.effect a))
       by true e = choose-tells _ (missed_move-tells s move) stay-tells ⊳ hits-falls s move e
           ⊳ choose-tells _ stay-tells (side_effect-falls r s move move.effect e)
 
+module _ {v : Story} {z : Sizes} {pre : List Event} (o : Outline v) where
+  pub lead_up-tells : (s : Side) (pick : Pick) (move : Move) → v.said s move → Tells v z pre (lead_up s pick move)
+  unfolding lead_up seeing
+  lead_up-tells s pick move k = charge-tells o s pick move k ⊳ use_move-tells o s pick move k
+      ⊳ choose-tells _ (early_effect-tells s move move.effect (o.acts s move) ⊳ stop-tells) stay-tells
+      ⊳ prelude-tells s move
+
   -- An action
 
-  pub carry_out-tells : (r : Ruling) → RulingTells v z pre r → (s : Side) (pick : Pick) (move : Move) → v.said s move
+  pub carry_out-tells : (r : Ruling) → RulingTells v z pre r → (s : Side) (pick : Pick) (move : Move) → move.effect ≡ (move_at move.number).effect → v.said s move
       → Leads (Now v z pre) (MayFall v z pre) (MayFall v z pre) (carry_out r s pick move)
   unfolding carry_out
-  carry_out-tells r h s pick move k = bide_goes_on-tells s
+  carry_out-tells r h s pick move same k = bide_goes_on-tells o s
       ⊳ choose-tells _ stay-tells (lead_up-tells s pick move k)
       ⊳ choose-tells _ stay-tells (damage_of-tells s move move.effect)
       ⊳ choose-tells _ stay-tells (choose-tells _ (late_effect-tells r h s move move.effect ⊳ stop-tells) stay-tells)
       ⊳ strike-tells r h s move
+      (λ e. record { acts = o.acts s move; plain = not-toxic move.number (ap may_poison_by (sym same) ∙ e) })
 
   pub says-any : ((s : Side) (move : Move) → v.said s move) → (r : Ruling) → RulingTells v z pre r → Says v z pre r
-  says-any k r h s pick = given-tells _ (λ move. carry_out-tells r h s pick move (k s move))
+  unfolding given
+  says-any k r h s pick = record {
+    leads = λ p i m. let move : Move = move_taken_in s pick p.field in (carry_out-tells r h s pick move refl (k s move)).leads p i m;
+  }
 
   parts-tells : (r : Ruling) → RulingTells v z pre r → Says v z pre r → (s : Side) (pick : Pick) → Leads (Now v z pre) (MayFall v z pre) (MayFall v z pre) (action_parts r s pick)
   unfolding action_parts
-  parts-tells r h k s pick = gate_or_held-tells s pick ⊳ see_if-tells s pick ⊳ k s pick
-
-  pub begin-tells : (s : Side) → Tells v z pre (begin s)
-  unfolding begin
-  begin-tells s = action-tells _
+  parts-tells r h k s pick = gate_or_held-tells o s pick ⊳ see_if-tells o s pick ⊳ k s pick
 
 -- Only a fault stops more than the action
 
@@ -463,11 +471,11 @@ resume-lands s byte q l =
     let g : Field = changed_active s (with_kept_accuracy byte) q.field in
     by-end (record q { field = g }) (is_over g.outcome) (may-accuracy s byte q.field q.events (landed q l))
 
-pub act-tells : {v : Story} {z : Sizes} {pre : List Event} (r : Ruling) → RulingTells v z pre r → Says v z pre r → (s : Side) (pick : Pick)
+pub act-tells : {v : Story} {z : Sizes} {pre : List Event} → Outline v → (r : Ruling) → RulingTells v z pre r → Says v z pre r → (s : Side) (pick : Pick)
     → Leads (Now v z pre) (MayFall v z pre) (MayFall v z pre) (act r s pick)
 unfolding act keep_accuracy given begin on_action
-act-tells r h k s pick = record {
+act-tells o r h k s pick = record {
   leads = λ p i m.
       let x : Progress = action_parts r s pick (begin s p) in
-      resume-lands s (accuracy_to_keep s x) x ((parts-tells r h k s pick).leads (begin s p) i m);
+      resume-lands s (accuracy_to_keep s x) x ((parts-tells o r h k s pick).leads (begin s p) i m);
 }

@@ -1,5 +1,7 @@
 -- A story stays true through what moves do in addition to damage.
-use Rattle.std.proofs.Common.{[], Bool, List, None, Option, Some, ap, false, refl, subst, sym, true, ℕ, ◌++◌, ◌∷◌, ◌≡◌}
+use Rattle.std.proofs.Common.{[], Bool, List, None, Option, Some, ap, false, if◌then◌else◌, inl, inr, refl, subst, sym, true, true≢false, ℕ, ◌++◌, ◌==◌, ◌∙◌, ◌∷◌, ◌≡◌, ◌≢◌, ◌⊎◌}
+use Rattle.std.proofs.lemmas.Bool.Decides.{eqb_tells}
+use Rattle.gen1_tables.specs.Moves.{move_row, move_rows}
 use Rattle.gen1_tables.specs.declared.effect.Stat.{Stat}
 use Rattle.gen1_tables.specs.declared.effect.Stat.TheVariants.{Attack, Speed}
 use Rattle.gen1_tables.specs.declared.effect.Effect.{Effect}
@@ -15,24 +17,46 @@ use Rattle.gen1_machine.specs.declared.event.Volatile.TheVariants as volatiles
 use Rattle.gen1_machine.specs.declared.event.Event.{Event}
 use Rattle.gen1_machine.specs.declared.event.Event.TheVariants as events
 use Rattle.gen1_machine.specs.Sides.{other}
-use Rattle.gen1_machine.specs.Conditions.{with_recharge, after_haze}
-use Rattle.gen1_machine.specs.Moves.{Move}
+use Rattle.gen1_machine.specs.Conditions.{with_bad_poison, with_recharge, after_haze}
+use Rattle.gen1_machine.specs.Moves.{move_at, toxic, Move}
 use Rattle.gen1_machine.specs.State.{active_in, who_in, kind_of, changed_active, changed_conditions, with_types_of, Active, Field, Terms}
 use Rattle.gen1_machine.specs.CurrentStats.{at_new_stage, recomputed_at, with_penalty_of}
-use Rattle.gen1_machine.specs.Progress.{Phase, active, note, on_active, on_conditions, on_field, told, Progress}
+use Rattle.gen1_machine.specs.Progress.{choose, Phase, active, note, on_active, on_conditions, on_field, stay, told, Progress}
 use Rattle.gen1_machine.specs.StageShift.{note_boost, note_unboost, take_penalty_again, shift_to, raise_from, lower_from, raise_stage, lower_stage}
 use Rattle.gen1_machine.specs.Ruling.{is_sleep_count, sleep_for, fall_asleep, sleep_freely, freeze_freely, sleep_only_one, freeze_only_one, sleeps_under, freezes_under, ruling_of, Ruling}
 use Rattle.gen1_machine.specs.EarlyEffects.{confused_by, confuse, confuse_foe, take_types, convert, set_mist, set_focus_energy, set_light_screen, set_reflect, set_screen, with_levelled_stats, clear_side, cure_kind, set_skips, haze_cures, haze, rest_up, recover, heal, poison_foe, paralyse_foe, seed_foe, pay_for_substitute, make_substitute, splash, early_effect}
 use Rattle.gen1_machine.specs.LateEffects.{ready_to_sleep, put_to_sleep, lower_foes_stat, bide_for, start_bide, late_effect}
 use Rattle.gen1_machine.specs.SideEffects.{happens_below, by_chance, thaw, may_inflict, may_poison, may_confuse, flinch, kept_away_effect, names_slot, disable_for, disable_slot, disable, must_recharge, side_effect}
-use Rattle.gen1_machine.proofs.Watching.{seeing, Runs, Leads, before-leads, ◌⊳◌, choose-tells, given-tells, given-sees, stay-tells}
+use Rattle.gen1_machine.proofs.Watching.{seeing, Runs, Leads, after-leads, before-leads, ◌⊳◌, choose-tells, if-sees, given-tells, given-sees, stay-tells}
 use Rattle.gen1_player.proofs.Facts.{penalty-placid, is_still, with_cleared, Placid, Sizes}
-use Rattle.gen1_player.proofs.Stories.{Begun, Story, Holds, Now, MayFall, Tells, at_end, begun-active, begun-conditions, holds-conditions, may-active, may-noise, draw-tells, until-tells, told-noise, note-tells, active-tells, conditions-tells, starts-tells, lose-tells, gain-tells, status-tells, inflict-tells, cure-tells}
+use Rattle.gen1_player.proofs.Stories.{Begun, Story, Holds, Now, MayFall, Tells, at_end, begun-active, begun-conditions, holds-conditions, may-active, may-noise, draw-tells, until-tells, told-noise, note-tells, active-tells, conditions-tells, starts-tells, lose-tells, gain-tells, status-tells, inflict-tells, cure-tells, poison-told, sickened}
 use Rattle.gen1_player.proofs.ToldGate.{fail-tells, fails_if-tells, must_hit-tells}
 
 pub record RulingTells (v : Story) (n : Sizes) (pre : List Event) (r : Ruling) : Type 0 where
   pub sleeps : (s : Side) → Tells v n pre (r.sleeps s)
   pub freezes : (s : Side) → Tells v n pre (r.freezes s)
+
+-- Effects that may poison in addition to damage. Toxic has none of them.
+
+abbrev pub may_poison_by : Effect → Bool
+may_poison_by (effects.PoisonChance n) = true
+may_poison_by effects.Twineedle = true
+may_poison_by _ = false
+
+pub record Poisons (v : Story) (s : Side) (move : Move) : Type 0 where
+  pub acts : v.acted s move
+  pub plain : (move.number == toxic) ≡ false
+
+toxic-poisons : may_poison_by (move_at toxic).effect ≡ false
+unfolding move_rows move_row
+toxic-poisons = refl
+
+pub not-toxic : (n : ℕ) → may_poison_by (move_at n).effect ≡ true → (n == toxic) ≡ false
+not-toxic n e = by (eqb_tells n toxic)
+  where
+    by : (((n == toxic) ≡ true) × (n ≡ toxic)) ⊎ (((n == toxic) ≡ false) × (n ≢ toxic)) → (n == toxic) ≡ false
+    by (inl x) = absurd (true≢false (sym e ∙ ap (λ (k : ℕ). may_poison_by (move_at k).effect) x.1 ∙ toxic-poisons))
+    by (inr x) = x.0
 
 -- Stages. They shift after a member fell without an event too
 
@@ -164,7 +188,7 @@ module _ {v : Story} {n : Sizes} {pre : List Event} where
 
   pub sleep_for-tells : (marked : Bool) (s : Side) (b : ℕ) → Tells v n pre (sleep_for marked s b)
   unfolding sleep_for seeing
-  sleep_for-tells marked s b = inflict-tells s _ _
+  sleep_for-tells marked s b = inflict-tells s _ _ refl
 
   pub fall_asleep-tells : (marked : Bool) (s : Side) → Tells v n pre (fall_asleep marked s)
   unfolding fall_asleep seeing
@@ -177,7 +201,7 @@ module _ {v : Story} {n : Sizes} {pre : List Event} where
 
   freeze_freely-tells : (s : Side) → Tells v n pre (freeze_freely s)
   unfolding freeze_freely seeing
-  freeze_freely-tells s = conditions-tells (other s) _ (λ c. refl) ⊳ inflict-tells (other s) _ _
+  freeze_freely-tells s = conditions-tells (other s) _ (λ c. refl) ⊳ inflict-tells (other s) _ _ refl
 
   freezes_under-tells : (clause : Bool) (s : Side) → Tells v n pre (freezes_under clause s)
   unfolding freezes_under freeze_only_one seeing
@@ -253,7 +277,7 @@ module _ {v : Story} {n : Sizes} {pre : List Event} where
 
   pub rest_up-tells : (s : Side) → Tells v n pre (rest_up s)
   unfolding rest_up seeing
-  rest_up-tells s = status-tells s (Asleep 2 false) kinds.Sleep ⊳ given-tells _ (λ m. gain-tells s _)
+  rest_up-tells s = status-tells s (Asleep 2 false) kinds.Sleep refl ⊳ given-tells _ (λ m. gain-tells s _)
 
   pub recover-tells : (s : Side) → Tells v n pre (recover s)
   unfolding recover seeing
@@ -263,14 +287,22 @@ module _ {v : Story} {n : Sizes} {pre : List Event} where
   unfolding heal seeing
   heal-tells s move = fails_if-tells s _ ⊳ choose-tells _ (rest_up-tells s) (recover-tells s)
 
-  pub poison-tells : (s : Side) (move : Move) → Tells v n pre (poison_foe s move)
+  -- Toxic's poison is bad.
+  bad-told : (s : Side) (move : Move) → Leads (λ p. Holds v n pre (sickened s move p.field) p.events) (Now v n pre) (MayFall v n pre)
+      (choose (λ p. move.number == toxic) (on_conditions (other s) with_bad_poison) stay)
+  unfolding on_conditions on_field stay
+  bad-told s move = if-sees (move.number == toxic)
+      (λ e. record { leads = λ p r m. Runs r (subst (λ (b : Bool). Holds v n pre (if b then changed_conditions (other s) with_bad_poison p.field else p.field) p.events) e m) })
+      (λ e. record { leads = λ p r m. Runs r (subst (λ (b : Bool). Holds v n pre (if b then changed_conditions (other s) with_bad_poison p.field else p.field) p.events) e m) })
+
+  pub poison-tells : (s : Side) (move : Move) → v.acted s move → Tells v n pre (poison_foe s move)
   unfolding poison_foe seeing
-  poison-tells s move = fails_if-tells s _ ⊳ fails_if-tells s _ ⊳ fails_if-tells s _ ⊳ must_hit-tells s move ⊳ inflict-tells (other s) _ _
-      ⊳ choose-tells _ (conditions-tells (other s) _ (λ c. refl)) stay-tells
+  poison-tells s move a = fails_if-tells s _ ⊳ fails_if-tells s _ ⊳ fails_if-tells s _ ⊳ must_hit-tells s move ⊳ poison-told s move a
+      ⊳ bad-told s move
 
   pub paralyse-tells : (s : Side) (move : Move) → Tells v n pre (paralyse_foe s move)
   unfolding paralyse_foe seeing
-  paralyse-tells s move = fails_if-tells s _ ⊳ fails_if-tells s _ ⊳ must_hit-tells s move ⊳ inflict-tells (other s) _ _
+  paralyse-tells s move = fails_if-tells s _ ⊳ fails_if-tells s _ ⊳ must_hit-tells s move ⊳ inflict-tells (other s) _ _ refl
 
   pub seed-tells : (s : Side) (move : Move) → Tells v n pre (seed_foe s move)
   unfolding seed_foe seeing
@@ -278,7 +310,7 @@ module _ {v : Story} {n : Sizes} {pre : List Event} where
 
   pub pay-tells : (s : Side) (cost : ℕ) → Tells v n pre (pay_for_substitute s cost)
   unfolding pay_for_substitute seeing
-  pay-tells s cost = starts-tells s _ _ (λ c. refl) ⊳ lose-tells s _ cost
+  pay-tells s cost = starts-tells s _ _ (λ c. refl) ⊳ lose-tells s _ refl cost
 
   pub make_substitute-tells : (s : Side) → Tells v n pre (make_substitute s)
   unfolding make_substitute seeing
@@ -288,21 +320,21 @@ module _ {v : Story} {n : Sizes} {pre : List Event} where
   unfolding splash seeing
   splash-tells s = note-tells _ (λ f. refl)
 
-  pub early_effect-tells : (s : Side) (move : Move) (e : Effect) → Tells v n pre (early_effect s move e)
+  pub early_effect-tells : (s : Side) (move : Move) (e : Effect) → v.acted s move → Tells v n pre (early_effect s move e)
   unfolding early_effect seeing
-  early_effect-tells s move effects.Conversion = convert-tells s
-  early_effect-tells s move effects.Mist = mist-tells s
-  early_effect-tells s move effects.FocusEnergy = focus_energy-tells s
-  early_effect-tells s move effects.Screen = screen-tells s move
-  early_effect-tells s move effects.Haze = haze-tells s
-  early_effect-tells s move effects.InflictConfusion = confuse_foe-tells s move
-  early_effect-tells s move effects.Heal = heal-tells s move
-  early_effect-tells s move effects.InflictPoison = poison-tells s move
-  early_effect-tells s move effects.InflictParalysis = paralyse-tells s move
-  early_effect-tells s move effects.LeechSeed = seed-tells s move
-  early_effect-tells s move effects.Substitute = make_substitute-tells s
-  early_effect-tells s move effects.Splash = splash-tells s
-  early_effect-tells s move _ = fail-tells s
+  early_effect-tells s move effects.Conversion a = convert-tells s
+  early_effect-tells s move effects.Mist a = mist-tells s
+  early_effect-tells s move effects.FocusEnergy a = focus_energy-tells s
+  early_effect-tells s move effects.Screen a = screen-tells s move
+  early_effect-tells s move effects.Haze a = haze-tells s
+  early_effect-tells s move effects.InflictConfusion a = confuse_foe-tells s move
+  early_effect-tells s move effects.Heal a = heal-tells s move
+  early_effect-tells s move effects.InflictPoison a = poison-tells s move a
+  early_effect-tells s move effects.InflictParalysis a = paralyse-tells s move
+  early_effect-tells s move effects.LeechSeed a = seed-tells s move
+  early_effect-tells s move effects.Substitute a = make_substitute-tells s
+  early_effect-tells s move effects.Splash a = splash-tells s
+  early_effect-tells s move _ a = fail-tells s
 
   -- After the damage step
 
@@ -352,9 +384,10 @@ module _ {v : Story} {n : Sizes} {pre : List Event} where
   unfolding may_inflict seeing
   may_inflict-tells s move bound h = choose-tells _ (thaw-tells s move) (choose-tells _ stay-tells (by_chance-tells bound h))
 
-  pub may_poison-tells : (s : Side) (bound : ℕ) → Tells v n pre (may_poison s bound)
+  pub may_poison-tells : (s : Side) (move : Move) → v.acted s move → (move.number == toxic) ≡ false → (bound : ℕ) → Tells v n pre (may_poison s bound)
   unfolding may_poison seeing
-  may_poison-tells s bound = choose-tells _ stay-tells (by_chance-tells bound (inflict-tells (other s) _ _))
+  may_poison-tells s move a e bound = choose-tells _ stay-tells (by_chance-tells bound (after-leads
+      (λ p m. subst (λ (b : Bool). Holds v n pre (if b then changed_conditions (other s) with_bad_poison p.field else p.field) p.events) e m) (poison-told s move a)))
 
   pub may_confuse-tells : (s : Side) (bound : ℕ) → Tells v n pre (may_confuse s bound)
   unfolding may_confuse seeing
@@ -364,16 +397,17 @@ module _ {v : Story} {n : Sizes} {pre : List Event} where
   unfolding flinch seeing
   flinches-tells s = conditions-tells s _ (λ c. refl) ⊳ conditions-tells s _ (λ c. refl)
 
-  pub kept_away-tells : (r : Ruling) → RulingTells v n pre r → (s : Side) (move : Move) (e : Effect) → Tells v n pre (kept_away_effect r s move e)
+  pub kept_away-tells : (r : Ruling) → RulingTells v n pre r → (s : Side) (move : Move) (e : Effect) → (may_poison_by e ≡ true → Poisons v s move)
+      → Tells v n pre (kept_away_effect r s move e)
   unfolding kept_away_effect seeing
-  kept_away-tells r h s move (effects.PoisonChance n) = may_poison-tells s n
-  kept_away-tells r h s move effects.Twineedle = may_poison-tells s 52
-  kept_away-tells r h s move (effects.BurnChance n) = may_inflict-tells s move n (inflict-tells (other s) _ _)
-  kept_away-tells r h s move effects.FreezeChance = may_inflict-tells s move 26 (h.freezes s)
-  kept_away-tells r h s move (effects.ParalysisChance n) = may_inflict-tells s move n (inflict-tells (other s) _ _)
-  kept_away-tells r h s move (effects.FlinchChance n) = by_chance-tells n (flinches-tells (other s))
-  kept_away-tells r h s move (effects.StatDownChance stat) = by_chance-tells 85 (lower-tells s (other s) stat 1 stay-tells)
-  kept_away-tells r h s move _ = stay-tells
+  kept_away-tells r h s move (effects.PoisonChance n) a = let k = a refl in may_poison-tells s move k.acts k.plain n
+  kept_away-tells r h s move effects.Twineedle a = let k = a refl in may_poison-tells s move k.acts k.plain 52
+  kept_away-tells r h s move (effects.BurnChance n) a = may_inflict-tells s move n (inflict-tells (other s) _ _ refl)
+  kept_away-tells r h s move effects.FreezeChance a = may_inflict-tells s move 26 (h.freezes s)
+  kept_away-tells r h s move (effects.ParalysisChance n) a = may_inflict-tells s move n (inflict-tells (other s) _ _ refl)
+  kept_away-tells r h s move (effects.FlinchChance n) a = by_chance-tells n (flinches-tells (other s))
+  kept_away-tells r h s move (effects.StatDownChance stat) a = by_chance-tells 85 (lower-tells s (other s) stat 1 stay-tells)
+  kept_away-tells r h s move _ a = stay-tells
 
   disable_for-tells : (s : Side) (b c : ℕ) → Tells v n pre (disable_for s b c)
   unfolding disable_for seeing
@@ -391,9 +425,10 @@ module _ {v : Story} {n : Sizes} {pre : List Event} where
   unfolding must_recharge with_recharge
   must_recharge-tells s = told-noise (changed_conditions s with_recharge) (λ f. events.MustRecharge (who_in s f)) (holds-conditions s with_recharge (λ c. refl)) (λ f. refl)
 
-  pub side_effect-tells : (r : Ruling) → RulingTells v n pre r → (s : Side) (move : Move) (e : Effect) → Tells v n pre (side_effect r s move e)
+  pub side_effect-tells : (r : Ruling) → RulingTells v n pre r → (s : Side) (move : Move) (e : Effect) → (may_poison_by e ≡ true → Poisons v s move)
+      → Tells v n pre (side_effect r s move e)
   unfolding side_effect seeing
-  side_effect-tells r h s move (effects.ConfusionChance n) = may_confuse-tells s n
-  side_effect-tells r h s move effects.Disable = disable-tells s move
-  side_effect-tells r h s move effects.Recharge = must_recharge-tells s
-  side_effect-tells r h s move e = choose-tells _ stay-tells (kept_away-tells r h s move e)
+  side_effect-tells r h s move (effects.ConfusionChance n) a = may_confuse-tells s n
+  side_effect-tells r h s move effects.Disable a = disable-tells s move
+  side_effect-tells r h s move effects.Recharge a = must_recharge-tells s
+  side_effect-tells r h s move e a = choose-tells _ stay-tells (kept_away-tells r h s move e a)

@@ -8,10 +8,12 @@ use Rattle.gen1_machine.specs.declared.health.Who.{Who}
 use Rattle.gen1_machine.specs.declared.event.CantReason.{CantReason}
 use Rattle.gen1_machine.specs.declared.event.DamageSource.{DamageSource}
 use Rattle.gen1_machine.specs.declared.event.DamageSource.TheVariants as sources
+use Rattle.gen1_machine.specs.declared.event.Volatile.TheVariants as volatiles
 use Rattle.gen1_machine.specs.declared.event.Event.{Event}
 use Rattle.gen1_machine.specs.declared.event.Event.TheVariants as events
 use Rattle.gen1_machine.specs.declared.picks.Pick.{Pick}
 use Rattle.gen1_machine.specs.declared.picks.DisabledSlot.{DisabledSlot}
+use Rattle.gen1_machine.specs.Conditions.{with_confusion_one_less}
 use Rattle.gen1_machine.specs.Sides.{other}
 use Rattle.gen1_machine.specs.State.{who_in, changed_member, with_sleep_one_less}
 use Rattle.gen1_machine.specs.Moves.{Move}
@@ -22,8 +24,8 @@ use Rattle.gen1_machine.specs.Landing.{set_broke, land_on_substitute, land_on_hp
 use Rattle.gen1_machine.specs.HitOnItself.{land_on_foes_substitute, hurt_itself_by, hurt_itself}
 use Rattle.gen1_machine.specs.Gate.{cant, wake, sleep_on, sleep_test, frozen_test, trapped_test, flinch_test, recharge_test, disable_count, may_hurt_itself, confusion_test, disabled_test, may_be_paralysed, paralysis_test, gate_of_status, gate_of_turn, gate_of_move, gate}
 use Rattle.gen1_machine.proofs.Watching.{seeing, ◌⊳◌, choose-tells, given-tells, stay-tells}
-use Rattle.gen1_player.proofs.Facts.{is_still, Tame, Sizes, confusion-calm, substitute-calm, disable-calm}
-use Rattle.gen1_player.proofs.Stories.{Story, Tells, holds-member, draw-tells, action-tells, told-noise, note-tells, conditions-tells, member-tells, damage-tells, ends-tells, lasts-tells, lose-tells, stop-tells, fault-tells}
+use Rattle.gen1_player.proofs.Facts.{is_own_damage, is_still, Tame, Sizes, calm-mild, confusion-calm, substitute-calm, disable-calm}
+use Rattle.gen1_player.proofs.Stories.{Outline, Story, Tells, any-lasts, any-loses, any-note, mild-tells, holds-member, draw-tells, action-tells, told-noise, note-tells, conditions-tells, member-tells, damage-tells, ends-tells, lasts-tells, lose-tells, stop-tells, fault-tells}
 
 miss-noise : (b : Bool) (x y : Who) → is_still (if b then events.Immune x else events.Miss y) ≡ true
 miss-noise true x y = refl
@@ -48,10 +50,6 @@ module _ {v : Story} {n : Sizes} {pre : List Event} where
   unfolding fails_if seeing
   fails_if-tells s test = choose-tells test (fail-tells s) stay-tells
 
-  pub cant-tells : (s : Side) (why : CantReason) → Tells v n pre (cant s why)
-  unfolding cant seeing
-  cant-tells s why = note-tells _ (λ f. refl) ⊳ stop-tells
-
   -- The landing
 
   pub broke-tells : Tells v n pre set_broke
@@ -60,16 +58,16 @@ module _ {v : Story} {n : Sizes} {pre : List Event} where
 
   pub on_substitute-tells : (s : Side) (damage hp : ℕ) → Tells v n pre (land_on_substitute s damage hp)
   unfolding land_on_substitute seeing
-  on_substitute-tells s damage hp = choose-tells _ (broke-tells ⊳ ends-tells s _ _ (λ c. refl)) (lasts-tells s _ _ (substitute-calm damage))
+  on_substitute-tells s damage hp = choose-tells _ (broke-tells ⊳ ends-tells s _ _ (λ c. refl)) (lasts-tells s volatiles.Substitute (λ w. refl) _ (substitute-calm damage))
 
-  pub on_hp-tells : (s : Side) (source : DamageSource) (damage : ℕ) → Tells v n pre (land_on_hp s source damage)
+  pub on_hp-tells : (s : Side) (source : DamageSource) → is_own_damage source ≡ false → (damage : ℕ) → Tells v n pre (land_on_hp s source damage)
   unfolding land_on_hp seeing
-  on_hp-tells s source damage = given-tells _ (λ m. damage-tells _ ⊳ lose-tells s source damage)
+  on_hp-tells s source e damage = given-tells _ (λ m. damage-tells _ ⊳ lose-tells s source e damage)
 
   pub land_by-tells : (s : Side) (damage : ℕ) (o : Option ℕ) → Tells v n pre (land_by s damage o)
   unfolding land_by seeing
   land_by-tells s damage (Some hp) = on_substitute-tells s damage hp
-  land_by-tells s damage None = on_hp-tells s sources.Direct damage
+  land_by-tells s damage None = on_hp-tells s sources.Direct refl damage
 
   pub land_damage-tells : (s : Side) (damage : ℕ) → Tells v n pre (land_damage s damage)
   unfolding land_damage seeing
@@ -79,24 +77,33 @@ module _ {v : Story} {n : Sizes} {pre : List Event} where
   unfolding land seeing
   land-tells s = choose-tells _ (given-tells _ (land_damage-tells s)) stay-tells
 
-  -- The hit on itself
+-- The hit on itself, in an outline
 
-  pub on_foes_substitute-tells : (s : Side) (damage : ℕ) (o : Option ℕ) → Tells v n pre (land_on_foes_substitute s damage o)
+module _ {v : Story} {n : Sizes} {pre : List Event} (o : Outline v) where
+  pub own_hp-tells : (s : Side) (damage : ℕ) → Tells v n pre (land_on_hp s sources.Confusion damage)
+  unfolding land_on_hp seeing
+  own_hp-tells s damage = given-tells _ (λ m. damage-tells _ ⊳ any-loses o s sources.Confusion damage)
+
+  pub on_foes_substitute-tells : (s : Side) (damage : ℕ) (x : Option ℕ) → Tells v n pre (land_on_foes_substitute s damage x)
   unfolding land_on_foes_substitute seeing
   on_foes_substitute-tells s damage None = stay-tells
   on_foes_substitute-tells s damage (Some hp) = on_substitute-tells (other s) damage hp
 
-  pub hurt_itself_by-tells : (s : Side) (o : Option ℕ) → Tells v n pre (hurt_itself_by s o)
+  pub hurt_itself_by-tells : (s : Side) (x : Option ℕ) → Tells v n pre (hurt_itself_by s x)
   unfolding hurt_itself_by seeing
   hurt_itself_by-tells s None = fault-tells 1
-  hurt_itself_by-tells s (Some damage) = damage-tells damage ⊳ choose-tells _ (given-tells _ (on_foes_substitute-tells s damage)) (on_hp-tells s sources.Confusion damage)
+  hurt_itself_by-tells s (Some damage) = damage-tells damage ⊳ choose-tells _ (given-tells _ (on_foes_substitute-tells s damage)) (own_hp-tells s damage)
 
   pub hurt_itself-tells : (s : Side) → Tells v n pre (hurt_itself s)
   unfolding hurt_itself seeing
-  hurt_itself-tells s = conditions-tells s _ (λ c. refl) ⊳ conditions-tells s _ (λ c. refl) ⊳ conditions-tells s _ (λ c. refl)
+  hurt_itself-tells s = mild-tells o s _ (λ c. refl) ⊳ mild-tells o s _ (λ c. refl) ⊳ mild-tells o s _ (λ c. refl)
       ⊳ given-tells _ (λ n. hurt_itself_by-tells s (before_types n)) ⊳ stop-tells
 
   -- The gate
+
+  pub cant-tells : (s : Side) (why : CantReason) → Tells v n pre (cant s why)
+  unfolding cant seeing
+  cant-tells s why = any-note o _ (λ f. refl) ⊳ stop-tells
 
   pub wake-tells : (s : Side) → Tells v n pre (wake s)
   unfolding wake
@@ -127,7 +134,7 @@ module _ {v : Story} {n : Sizes} {pre : List Event} where
   unfolding recharge_test seeing
   recharge-tells s = choose-tells _ (conditions-tells s _ (λ c. refl) ⊳ cant-tells s _) stay-tells
 
-  pub disable_count-tells : (s : Side) (o : Option DisabledSlot) → Tells v n pre (disable_count s o)
+  pub disable_count-tells : (s : Side) (x : Option DisabledSlot) → Tells v n pre (disable_count s x)
   unfolding disable_count seeing
   disable_count-tells s None = stay-tells
   disable_count-tells s (Some d) = choose-tells _ (ends-tells s _ _ (λ c. refl)) (conditions-tells s _ disable-calm)
@@ -136,18 +143,18 @@ module _ {v : Story} {n : Sizes} {pre : List Event} where
   unfolding may_hurt_itself seeing
   may_hurt_itself-tells s b = choose-tells _ (hurt_itself-tells s) stay-tells
 
-  pub confusion-tells : (s : Side) (o : Option ℕ) → Tells v n pre (confusion_test s o)
+  pub confusion-tells : (s : Side) (x : Option ℕ) → Tells v n pre (confusion_test s x)
   unfolding confusion_test seeing
   confusion-tells s None = stay-tells
-  confusion-tells s (Some turns) = choose-tells _ (ends-tells s _ _ (λ c. refl)) (lasts-tells s _ _ confusion-calm ⊳ draw-tells (may_hurt_itself-tells s))
+  confusion-tells s (Some turns) = choose-tells _ (ends-tells s _ _ (λ c. refl)) (any-lasts o s _ with_confusion_one_less (calm-mild with_confusion_one_less confusion-calm) ⊳ draw-tells (may_hurt_itself-tells s))
 
   pub disabled-tells : (s : Side) (pick : Pick) → Tells v n pre (disabled_test s pick)
   unfolding disabled_test seeing
-  disabled-tells s pick = choose-tells _ (conditions-tells s _ (λ c. refl) ⊳ cant-tells s _) stay-tells
+  disabled-tells s pick = choose-tells _ (mild-tells o s _ (λ c. refl) ⊳ cant-tells s _) stay-tells
 
   pub may_be_paralysed-tells : (s : Side) (b : ℕ) → Tells v n pre (may_be_paralysed s b)
   unfolding may_be_paralysed seeing
-  may_be_paralysed-tells s b = choose-tells _ (conditions-tells s _ (λ c. refl) ⊳ cant-tells s _) stay-tells
+  may_be_paralysed-tells s b = choose-tells _ (mild-tells o s _ (λ c. refl) ⊳ cant-tells s _) stay-tells
 
   pub paralysis-tells : (s : Side) → Tells v n pre (paralysis_test s)
   unfolding paralysis_test seeing
@@ -169,8 +176,9 @@ module _ {v : Story} {n : Sizes} {pre : List Event} where
   unfolding gate seeing
   gate-tells s pick = gate_of_status-tells s ⊳ gate_of_turn-tells s ⊳ gate_of_move-tells s pick
 
-  -- The hit test
+-- The hit test
 
+module _ {v : Story} {n : Sizes} {pre : List Event} where
   pub miss-tells : (s : Side) → Tells v n pre (miss s)
   unfolding miss seeing
   miss-tells s = missed-tells true ⊳ damage-tells 0 ⊳ conditions-tells s _ (λ c. refl)

@@ -18,7 +18,7 @@ use Rattle.gen1_stats.specs.Members.{IsTeam, Member}
 use Rattle.gen1_machine.proofs.Promised.{among-append, offered-moves}
 use Rattle.gen1_machine.proofs.Fitting.{offered-place}
 use Rattle.gen1_player.proofs.Facts.{Sizes, Fits}
-use Rattle.gen1_player.proofs.Stories.{Story, Switching, Sized}
+use Rattle.gen1_player.proofs.Stories.{Outline, Story, Switching, Sized}
 use Rattle.gen1_player.proofs.ToldEffects.{ruling_of-tells}
 use Rattle.gen1_player.proofs.ToldActions.{Says}
 use Rattle.gen1_player.proofs.ToldTurns.{ChoiceFits, Goes}
@@ -114,9 +114,9 @@ abbrev pub sizes_of : List Member → List Member → Sizes
 sizes_of one two = record { one = length one; two = length two }
 
 pub story-runs : (v : Story) (t : Terms) (one two : List Member) (seed : List ℕ) (pairs : List (Choice × Choice)) → IsTeam one → IsTeam two
-    → Switching v → ((pre : List Event) (t : Terms) → Says v (sizes_of one two) pre (ruling_of t)) → v.exact (first_state t one two seed).field []
+    → Outline v → Switching v → ((pre : List Event) (t : Terms) → Says v (sizes_of one two) pre (ruling_of t)) → v.exact (first_state t one two seed).field []
     → v.loose (run (first_state t one two seed) pairs).state.field (flat_map events_of (run (first_state t one two seed) pairs).answers)
-story-runs v t one two seed pairs a b w k start =
+story-runs v t one two seed pairs a b o w k start =
     let s : State = first_state t one two seed in
     ready-loose (flat_map events_of (run s pairs).answers) (run s pairs).state.field
-    (run-ready [] s pairs (λ pre t. record { tells = ruling_of-tells t; switching = w; says = k pre t }) (Opens (record { sized = record { one = refl; two = refl }; exact = start }) refl refl a.size.0 b.size.0))
+    (run-ready [] s pairs (λ pre t. record { tells = ruling_of-tells t; switching = w; says = k pre t; outline = o }) (Opens (record { sized = record { one = refl; two = refl }; exact = start }) refl refl a.size.0 b.size.0))

@@ -20,8 +20,8 @@ use Rattle.gen1_machine.specs.TurnOrder.{toss, in_order_of_speed, in_order_of_ra
 use Rattle.gen1_machine.specs.Turn.{Part, Sends, Acts, Suffers, do_part, is_cut, end_spent_trapping, end_turn, do_parts, both_act, set_picked, both_pick, switch_then_act, one_picks, both_switch, play_turn, turn}
 use Rattle.gen1_machine.proofs.Showing.{IsOut}
 use Rattle.gen1_machine.proofs.Watching.{seeing, Runs, Lands, Leads, after-leads, before-leads, ◌⊳◌, choose-tells, choose-sees, given-tells, stay-tells}
-use Rattle.gen1_player.proofs.Facts.{sent-place, Fits, Sizes, sent}
-use Rattle.gen1_player.proofs.Stories.{Story, Switching, Sized, Begun, Now, MayFall, Tells, at_end, loosened, draw-tells, active-tells, conditions-tells, lose-tells, gain-tells}
+use Rattle.gen1_player.proofs.Facts.{is_own_damage, sent-place, worse-calm, Fits, Sizes, sent}
+use Rattle.gen1_player.proofs.Stories.{Outline, Story, Switching, Sized, Begun, Now, MayFall, Tells, at_end, loosened, draw-tells, active-tells, conditions-tells, lose-tells, gain-tells}
 use Rattle.gen1_player.proofs.ToldEffects.{RulingTells}
 use Rattle.gen1_player.proofs.ToldActions.{Says, begin-tells, act-tells}
 
@@ -112,6 +112,7 @@ pub record Goes (v : Story) (n : Sizes) (pre : List Event) (r : Ruling) : Type 0
   pub tells : RulingTells v n pre r
   pub switching : Switching v
   pub says : Says v n pre r
+  pub outline : Outline v
 
 pub send_out-tells : {v : Story} {n : Sizes} {pre : List Event} {S : Progress → Type 0} → Switching v → (s : Side) (place : ℕ) → Fits n s place
     → Leads (Now v n pre) (Now v n pre) S (send_out s place)
@@ -142,15 +143,15 @@ module _ {v : Story} {n : Sizes} {pre : List Event} where
 
   worsen-tells : (s : Side) → Tells v n pre (worsen s)
   unfolding worsen seeing
-  worsen-tells s = conditions-tells s _ (λ c. refl)
+  worsen-tells s = conditions-tells s _ worse-calm
 
-  suffer-tells : (s : Side) (source : DamageSource) → Tells v n pre (suffer s source)
+  suffer-tells : (s : Side) (source : DamageSource) → is_own_damage source ≡ false → Tells v n pre (suffer s source)
   unfolding suffer
-  suffer-tells s source = worsen-tells s ⊳ given-tells _ (lose-tells s source)
+  suffer-tells s source e = worsen-tells s ⊳ given-tells _ (lose-tells s source e)
 
   drained_by-tells : (s : Side) (amount : ℕ) → Tells v n pre (drained_by s amount)
   unfolding drained_by
-  drained_by-tells s amount = lose-tells s sources.LeechSeed amount ⊳ gain-tells (other s) amount
+  drained_by-tells s amount = lose-tells s sources.LeechSeed refl amount ⊳ gain-tells (other s) amount
 
   suffer_seed-tells : (s : Side) → Tells v n pre (suffer_seed s)
   unfolding suffer_seed
@@ -158,11 +159,11 @@ module _ {v : Story} {n : Sizes} {pre : List Event} where
 
   suffer_status-tells : (s : Side) (status : Status) → Tells v n pre (suffer_status s status)
   unfolding suffer_status
-  suffer_status-tells s Poisoned = suffer-tells s sources.Poison
-  suffer_status-tells s Burned = suffer-tells s sources.Burn
+  suffer_status-tells s Poisoned = suffer-tells s sources.Poison refl
+  suffer_status-tells s Burned = suffer-tells s sources.Burn refl
   suffer_status-tells s _ = stay-tells
 
-  residual-tells : (s : Side) → Tells v n pre (residual s)
+  pub residual-tells : (s : Side) → Tells v n pre (residual s)
   unfolding residual
   residual-tells s = choose-tells _ (given-tells _ (suffer_status-tells s) ⊳ choose-tells _ (suffer_seed-tells s) stay-tells) stay-tells
 
@@ -171,7 +172,7 @@ module _ {v : Story} {n : Sizes} {pre : List Event} where
   do_part-tells : (r : Ruling) → Goes v n pre r → (part : Part) → PartFits n part → Leads (Now v n pre) (MayFall v n pre) (MayFall v n pre) (do_part r part)
   unfolding do_part
   do_part-tells r k (Sends s place) fits = begin-tells s ⊳ after-leads loosened (send_out-tells k.switching s place fits)
-  do_part-tells r k (Acts s pick) fits = begin-tells s ⊳ choose-tells _ (after-leads loosened stay-tells) (act-tells r k.tells k.says s pick)
+  do_part-tells r k (Acts s pick) fits = begin-tells s ⊳ choose-tells _ (after-leads loosened stay-tells) (act-tells k.outline r k.tells k.says s pick)
   do_part-tells r k (Suffers s) fits = after-leads loosened (residual-tells s)
 
   spent-tells : (s : Side) → Tells v n pre (end_spent_trapping s)
