@@ -97,7 +97,8 @@ pub fn run(
     }
 }
 
-fn pool_of(jobs: u16) -> Result<ThreadPool, Fault> {
+/// Threads: as many as `--jobs` says, or one per core for 0.
+pub fn pool_of(jobs: u16) -> Result<ThreadPool, Fault> {
     let pool = rayon::ThreadPoolBuilder::new()
         .num_threads(usize::from(jobs))
         .build();

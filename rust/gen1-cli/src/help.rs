@@ -98,6 +98,17 @@ value whatever was left out: memory, draws, sweeps and rounding. After it come t
 to stop (solved, memory, endless, sweeps) and the choices of both sides, with how often to
 make them. rust/gen1-search/README.md describes what a position is.";
 
+pub const LEAGUE: &str = "\
+Each bot chooses from what its own player knows. random makes any choice, greedy the
+move with the greatest mean damage. monte takes the choice that wins most random
+playouts, think searches by `gen1 think`; MS are the milliseconds of each choice, on
+Linux those that its thread uses of the processor. nodes and level are searches with
+as many nodes as in `gen1 think`.
+
+Two battles have the same teams, and the bots swap sides. A tie counts as half a win.
+Elo is 400 for odds of 10 to 1, with the first bot at 0. Without MS the tables do not
+depend on --jobs. After an interruption the same command with --file continues.";
+
 pub const REPLAY: &str = "A file is written completely or not at all.";
 
 pub const BENCH: &str = "\

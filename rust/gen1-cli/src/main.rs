@@ -16,6 +16,7 @@ mod game;
 mod help;
 mod input;
 mod json;
+mod league;
 mod names;
 mod play;
 mod random;
@@ -80,6 +81,7 @@ fn done(command: &Command) -> Result<(), Fault> {
         Command::Follow(asked) => follow::follow(asked),
         Command::Think(asked) => on_battle(&asked.battle, |given| search::think(asked, given)),
         Command::Solve(asked) => on_battle(&asked.battle, |given| search::solve(asked, given)),
+        Command::League(asked) => league::league(asked),
         Command::Play(game) => play::play(game),
         Command::Replay(asked) => replay::replay(asked),
         Command::Bench(measure) => bench::bench(measure),

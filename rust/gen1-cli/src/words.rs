@@ -1,7 +1,8 @@
 //! The command line: subcommands and their arguments.
 use crate::input::{Input, Terms};
 use crate::{
-    batch, bench, calc, explain, follow, help, names, play, replay, search, shell, showdown, team,
+    batch, bench, calc, explain, follow, help, league, names, play, replay, search, shell,
+    showdown, team,
 };
 use clap::{Args, Parser, Subcommand};
 
@@ -61,6 +62,9 @@ pub enum Command {
     /// Prints how often side 1 wins if both sides play as well as can be
     #[command(after_help = help::SOLVE)]
     Solve(search::Solve),
+    /// Plays bots against each other, and prints tables of their strength
+    #[command(after_help = help::LEAGUE)]
+    League(league::Asked),
     /// Plays against the computer, in the terminal
     #[command(after_help = help::PLAY)]
     Play(play::Game),

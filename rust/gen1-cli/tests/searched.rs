@@ -1,5 +1,5 @@
-//! `gen1 follow --battle`: the battle of a stream that is cut fits what its side knows, and offers it the same choices; `gen1 think` and
-//! `gen1 solve`.
+//! `gen1 follow --battle`: the battle of a stream that is cut fits what its side knows, and offers it the same choices; `gen1 think`,
+//! `gen1 solve` and `gen1 league`.
 mod common;
 use common::played::{battle, commands, inputs, is_played_by_showdown, members, name, pairs, view};
 use common::{fed, file_with, gen1, ran};
@@ -452,6 +452,81 @@ fn a_battle_that_is_over_is_not_searched() {
         assert_eq!(
             (done.status.code(), told),
             (Some(1), format!("error: search\n{due}\n"))
+        );
+    }
+}
+
+const LEAGUE: [&str; 7] = [
+    "league",
+    "random",
+    "greedy",
+    "nodes:60",
+    "--battles",
+    "6",
+    "--seed=3",
+];
+
+fn league(more: &[&str]) -> String {
+    printed(&[&LEAGUE, more].concat(), "")
+}
+
+#[test]
+fn a_league_has_the_same_tables_for_any_number_of_jobs() {
+    let table = league(&["--jobs", "1"]);
+    assert_eq!(league(&["--jobs", "3"]), table);
+    let rows: Vec<_> = table.lines().collect();
+    assert_eq!(rows.len(), 11, "{table}");
+    for (row, pair) in rows[2..5].iter().zip(["greedy", "nodes:60", "nodes:60"]) {
+        assert!(row.contains(&format!("| `{pair}` | 6 | ")), "{row}");
+    }
+    assert_eq!(rows[8], "| `random` | 0 | 0 to 0 |");
+    assert_ne!(league(&["--teams", "drawn"]), table);
+}
+
+/// The program ended while it wrote a line, and the lines are in any order.
+#[test]
+fn a_league_continues_after_an_interruption() {
+    let file = file_with("league.tsv", "");
+    let table = league(&["--file", &file]);
+    let text = std::fs::read_to_string(&file).expect("the results");
+    let mut lines: Vec<_> = text.split_inclusive('\n').collect();
+    assert_eq!(lines.len(), 18);
+    assert!(lines.iter().all(|it| it.starts_with("samples:3\t")));
+    lines.truncate(11);
+    lines.reverse();
+    let of_others = "samples:4\trandom\tgreedy\t0\t1\nsamples:3\trandom\tlevel:1\t0\t0.5\n";
+    std::fs::write(
+        &file,
+        format!("{of_others}{}samples:3\tran", lines.concat()),
+    )
+    .expect("a file");
+    assert_eq!(league(&["--file", &file, "--jobs", "2"]), table);
+    let text = std::fs::read_to_string(&file).expect("the results");
+    assert_eq!(
+        (text.lines().count(), league(&["--file", &file])),
+        (20, table)
+    );
+    std::fs::write(&file, format!("{text}samples:3\trandom\tgreedy\t0\t2\n")).expect("a file");
+    let done = ran(&[&LEAGUE[..], &["--file", &file]].concat(), b"");
+    let told = String::from_utf8(done.stderr).expect("UTF-8");
+    assert_eq!(
+        told,
+        format!("error: search\n{file}: line 21 is not a result\n")
+    );
+}
+
+#[test]
+fn a_league_of_one_bot_is_refused() {
+    for (bots, due) in [
+        (["greedy", "greedy"], "error: BOT\ngreedy is there twice\n"),
+        (["greedy", "level:6"], "error: Invalid value 'level:6'"),
+        (["greedy", "think:0"], "error: Invalid value 'think:0'"),
+    ] {
+        let done = ran(&["league", bots[0], bots[1]], b"");
+        let told = String::from_utf8(done.stderr).expect("UTF-8");
+        assert!(
+            done.status.code() == Some(2) && told.starts_with(due),
+            "{told}"
         );
     }
 }

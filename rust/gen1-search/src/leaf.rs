@@ -7,7 +7,7 @@ pub const COUNT: usize = 20;
 
 /// The weights of the features, in the order of [`features`].
 ///
-/// Each is the change of [`score`] by 1 of the feature. They are the result of `cargo run --release --example league -- fit 400 2`: a
+/// Each is the change of [`score`] by 1 of the feature. They are the result of `cargo run --release --example fit -- 400 2`: a
 /// logistic regression on battles of the bot against itself, between sample teams, with 1,000 nodes for each choice.
 pub const WEIGHTS: [f64; COUNT] = [
     0.29, 1.01, -0.42, -0.35, -0.33, -0.17, 0.0, -0.06, 0.0, 0.2, 0.05, 0.0, 0.0, 0.04, 0.0, -0.27,

@@ -7,12 +7,14 @@
 //! | what the foe may have | [`Prior`] |
 //! | the value at the leaf of a search | [`leaf`] |
 //! | one game of choices made at once | [`matrix`] |
+//! | battles between bots, and their ratings | `league` |
 //!
 //! Nothing here is proved. The engine under it is that of the crate [`gen1`].
 //!
 //! # Features
 //!
-//! `threads`, which is on by default, uses rayon. `std` without it has the time budget of [`think`]. Without both the crate needs only an
+//! `league`, which is on by default, has battles between bots, and needs `threads`, which uses rayon. `std` alone has the time budget of [`think`].
+//! Without these the crate needs only an
 //! allocator. The results are the same with any number of threads.
 #![no_std]
 #![forbid(unsafe_code)]
@@ -23,6 +25,8 @@ extern crate alloc;
 extern crate std;
 
 pub mod leaf;
+#[cfg(feature = "league")]
+pub mod league;
 pub mod matrix;
 mod positions;
 mod prior;

@@ -297,6 +297,10 @@ type Guesses = (Vec<Battle>, u64);
 #[cfg(feature = "threads")]
 fn searched<'a>(side: Side, sets: &'a [Guesses], options: &ThinkOptions<'_>) -> Vec<Searched<'a>> {
     use rayon::prelude::*;
+    // A single tree is searched by this thread, so that `stop` can ask how much of the processor the thread has used.
+    if let [only] = sets {
+        return alloc::vec![search(side, only, options, Share::new(options, 0, 1, 1))];
+    }
     let threads = rayon::current_num_threads();
     let all = sets.par_iter().enumerate();
     all.map(|(at, set)| {

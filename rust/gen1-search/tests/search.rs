@@ -525,6 +525,44 @@ fn the_bot_beats_random_choices() {
     assert!(won >= 6, "{won} of 8");
 }
 
+/// Two bots of which one wins 3 of 4 differ by 400 log10(3), and a third that is even with the second has its rating.
+#[test]
+#[cfg(feature = "league")]
+fn ratings_are_those_of_the_formula() {
+    use gen1_search::league::ratings;
+    let of = |wins: usize, count: usize| (0..count).map(move |at| f64::from(u8::from(at < wins)));
+    let pairs = [
+        (0, 1, of(25_000, 100_000).collect()),
+        (1, 2, of(50_000, 100_000).collect()),
+    ];
+    let due = 400.0 * 3.0_f64.log10();
+    for (rating, due) in ratings(3, &pairs).into_iter().zip([0.0, due, due]) {
+        assert!((rating - due).abs() < 0.1, "{rating}, not {due}");
+    }
+}
+
+/// Wilson's 95 % interval of 8 of 10 is 0.490 to 0.943.
+#[test]
+#[cfg(feature = "league")]
+fn a_league_counts_ties_as_half() {
+    use gen1_search::league::{Bot, League, Results, Teams};
+    let league = League::new(Teams::Drawn, 7);
+    let bots = [Bot::Level(2), Bot::Random];
+    let mut results = Results::new(&bots);
+    let lines: Vec<String> = [0.5, 0.0, 0.5, 1.0, 1.0, 1.0, 1.0, 1.0, 1.0, 1.0]
+        .into_iter()
+        .enumerate()
+        .map(|(number, score)| league.line(bots, number as u64, score))
+        .collect();
+    assert_eq!(lines[0], "drawn:7\tlevel:2\trandom\t0\t0.5\n");
+    assert_eq!(results.read(&league, &lines.concat()), Ok(()));
+    let row = "| `level:2` | `random` | 10 | 80.0 % | 49.0 to 94.3 |";
+    assert_eq!(results.table().lines().nth(2), Some(row));
+    assert_eq!(results.read(&league, "drawn:7\tlevel:2\n"), Err(1));
+    let score = league.score(bots[0], bots[1], 3);
+    assert_eq!(score, league.score(bots[0], bots[1], 3));
+}
+
 #[test]
 fn bad_input_is_named() {
     let one = team(100, &[("Tauros", &["Body Slam"])]);
