@@ -50,7 +50,6 @@ const tauros = (...moves) => ({
 const terms = (one, two) => ({one, two, seed: SEED, rules: 0, limit: 1000});
 const asked = (moves, player) => {
   const match = new LocalMatch(engine, terms([tauros(...moves)], [tauros(...moves)]), [player, "random"]);
-  match.update([0, 0]);
   return match.question(1, 1);
 };
 const begun = (...moves) => engine.update(engine.begin(terms([tauros(...moves)], [tauros(...moves)])), 0, 0);
@@ -212,7 +211,6 @@ check("guesses fit what a player knows", () => {
   for (let round = 0; round < 12; round++) {
     const match = new LocalMatch(engine,
         {...terms(six(round), six(round + 5)), seed: Array.from({length: 10}, () => draw(256))}, ["random", "random"]);
-    match.update([0, 0]);
     for (; !match.isOver; match.update([1, 2].map((side) => {
            const offered = match.offered(side);
            return offered[draw(offered.length)];

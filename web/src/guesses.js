@@ -11,8 +11,8 @@ import {usualMoves} from "./sets.js";
  * @typedef {(bound: number) => number} Draw a random whole number from 0, below a bound
  * @typedef {{ seed: number[], rules: number, limit: number, marks: number[] }} Frame the parts of a battle other than its sides, and the places of
  *   the foe's members whose sleep the sleep clause counts
- * @typedef {{ side: 1 | 2, team: Member[], foes: number, told: Uint8Array, marks: number[], guess: Uint8Array }} Sight a side's knowledge: its team,
- *   how many members the foe has, the log as reported to it, its marks as in Frame, and a battle that shows its own side as it is now
+ * @typedef {{ side: 1 | 2, team: Member[], foes: number, messages: Uint8Array[], marks: number[] }} Sight a side's knowledge: its team, how many
+ *   members the foe has, the messages that the host sent it, and its marks as in Frame
  */
 
 /** The bit of the sleep clause in the rules of a battle. */
@@ -69,9 +69,8 @@ export function guessed(engine, player, draw, {seed, rules, limit, marks}) {
  * @param {Engine} engine
  * @param {Sight} sight
  */
-export function playerOf({gen1}, {side, team, foes, told, guess}) {
+export function playerOf({gen1}, {side, team, foes, messages}) {
   const player = gen1.player({side, team: /** @type {any} */ (team), foes});
-  player.feed(told);
-  player.show(gen1.load(guess));
+  for (const message of messages) player.receive(gen1.messageOfBytes(message));
   return player;
 }

@@ -1,5 +1,5 @@
 // A battle that is shown while it is played: its updates, and what each side knows of them. The page plays it itself, or a server does (remote.js).
-import {byteOf, REASONS} from "gen1";
+import {byteOf, HostError, REASONS} from "gen1";
 
 import {joined} from "./bytes.js";
 import {Problem} from "./dom.js";
@@ -12,7 +12,8 @@ import {guessed} from "./guesses.js";
  * @typedef {{ told: Uint8Array[], players: import("gen1").Player[], marks: number[][], views: import("gen1").PlayerView[],
  *   usual: import("gen1").Battle[] }} Known the knowledge after a pair of choices; each list has an item for each side, and the last two are filled on
  *   demand. Marks are the places of the foe's members that the side has put to sleep.
- * @typedef {Known & { pair: number[], battle: Uint8Array, log: Uint8Array, tellers: import("gen1").Teller[] }} Step the whole situation
+ * @typedef {Known & { pair: number[], host: import("gen1").Host, messages: import("gen1").Message[], log?: Uint8Array }} Step the table after a
+ *   pair, what it sent the sides, and on demand the whole log
  */
 
 /** @type {Side[]} */
@@ -42,6 +43,8 @@ export class Match {
     this.names = null;
     /** @type {import("./address.js").Values} at a server, its values in an address */
     this.address = {};
+    /** @type {(number | null)[]} what the sides have chosen for the current pair, as far as the page knows */
+    this.chosen = [null, null];
     /** At a server, how it ended. */
     this.ended = "";
     /** @type {(what: "choose" | "rematch", choice?: number) => void} at a server, asks it for something */
@@ -81,6 +84,20 @@ export class Match {
    */
   offered(side) {
     return this.last.players[side - 1].choices.map(byteOf);
+  }
+
+  /**
+   * Makes or changes a side's choice for the current pair, and returns whether that has ended it.
+   * @param {Side} side @param {number} choice
+   */
+  choose(side, choice) {
+    this.chosen[side - 1] = choice;
+    return false;
+  }
+
+  /** Forgets the choices for the current pair. */
+  clear() {
+    this.chosen = [null, null];
   }
 
   get outcome() {
@@ -183,7 +200,7 @@ export class Match {
 }
 
 /**
- * A battle that the page plays itself.
+ * A battle that the page plays itself. Its table is the library's Host, and each side's player receives the host's messages.
  * @extends {Match<Step>}
  */
 export class LocalMatch extends Match {
@@ -191,48 +208,86 @@ export class LocalMatch extends Match {
   constructor(engine, terms, who) {
     super(engine, terms, who);
     const [one, two] = [terms.one, terms.two];
-    /** @type {Step} before the first update */
-    this.before = {
-      pair: [],
-      battle: engine.begin(terms),
-      log: new Uint8Array(),
-      told: [],
-      marks: [[], []],
-      views: [],
-      usual: [],
-      tellers: SIDES.map((side) => engine.gen1.teller({side, pixels: true})),
-      players: SIDES.map(
-          (side) => engine.gen1.player({side, team: side === 1 ? one : two, foes: (side === 1 ? two : one).length})),
-    };
-  }
-
-  /** @returns {Step} */
-  get last() {
-    return super.last ?? this.before;
+    /** The table with the choices for the current pair. */
+    this.host = engine.gen1.host(engine.gen1.load(engine.begin(terms)), {mayCancel: true});
+    this.add([0, 0],
+        SIDES.map(
+            (side) => engine.gen1.player({side, team: side === 1 ? one : two, foes: (side === 1 ? two : one).length})));
   }
 
   /**
-   * Updates the battle with a pair of choices.
+   * Adds the step after a pair.
+   * @param {number[]} pair @param {import("gen1").Player[]} players as they were before it
+   */
+  add(pair, players) {
+    const messages = SIDES.map((side) => this.host.message(side));
+    messages.forEach((message, at) => players[at].receive(message));
+    const told = messages.map(({log}) => log);
+    const marks = SIDES.map((side) => this.marksAfter(side, told[side - 1]));
+    this.steps.push({pair, host: this.host.clone(), messages, told, players, marks, views: [], usual: []});
+    this.clear();
+  }
+
+  clear() {
+    super.clear();
+    this.host = this.last.host.clone();
+  }
+
+  /** Takes the last pair back, but not the beginning. */
+  undo() {
+    if (this.steps.length > 1) this.steps.pop();
+    this.clear();
+  }
+
+  /** @param {Side} side @param {number} choice @param {number} [number] of the pair */
+  choose(side, choice, number = this.host.number) {
+    const {host, last: {players}} = this;
+    if (this.chosen[side - 1] !== null) host.cancel(side, number);
+    // No new numbers: the seed and the pairs are the whole battle.
+    const isEnded = host.submit(side, number, choice, null);
+    super.choose(side, choice);
+    if (isEnded) this.add(this.chosen.map(Number), players.map((it) => it.clone()));
+    return isEnded;
+  }
+
+  /** The sides whose choices for the current pair are missing. The host fills in the pass of a side that is not asked. */
+  get awaited() {
+    return SIDES.filter((side) => this.host.awaits(side));
+  }
+
+  /**
+   * Plays a pair of choices from elsewhere.
    * @param {number[]} pair
    */
   update(pair) {
-    const {last, engine} = this;
-    const {refused, battle, log} = engine.update(last.battle, pair[0], pair[1]);
-    if (refused) throw new Problem(`The choices ${pair.join(" and ")} are refused: the battle cannot continue.`);
-    const [tellers, players] = [last.tellers.map((it) => it.clone()), last.players.map((it) => it.clone())];
-    const told = tellers.map((teller) => teller.tell(log));
-    const loaded = engine.gen1.load(battle);
-    players.forEach((player, at) => {
-      player.feed(told[at]);
-      player.show(loaded);
-    });
-    const marks = SIDES.map((side) => this.marksAfter(side, told[side - 1]));
-    this.steps.push({pair, battle, log, told, tellers, players, marks, views: [], usual: []});
+    const {awaited, host: {number}} = this;
+    try {
+      for (const side of SIDES)
+        if (awaited.includes(side) || pair[side - 1]) this.choose(side, pair[side - 1], number);
+    } catch (error) {
+      if (!(error instanceof HostError)) throw error;
+      throw new Problem(`The choices ${pair.join(" and ")} are refused: the battle cannot continue.`);
+    }
+  }
+
+  /** The battle after a step, with all that is hidden. */
+  battle(step = this.last) {
+    return step.host.battle;
   }
 
   /** Everything about the battle after a step. */
   state(step = this.last) {
-    return this.engine.state(step.battle);
+    return this.engine.state(this.battle(step).bytes);
+  }
+
+  /**
+   * The log of a step's update as no side is told it.
+   * @param {Step} step
+   */
+  whole(step) {
+    const before = this.steps[this.steps.indexOf(step) - 1];
+    const battle = before ? this.battle(before).bytes : this.engine.begin(this.terms);
+    return (step.log ??= this.engine.update(battle, step.pair[0], step.pair[1]).log);
   }
 
   /**
@@ -252,7 +307,7 @@ export class LocalMatch extends Match {
       rules: this.terms.rules,
       limit: this.terms.limit,
       sight: isCheating ? null : this.sight(side),
-      battle: isCheating ? this.last.battle : null,
+      battle: isCheating ? this.battle().bytes : null,
     };
   }
 
@@ -264,24 +319,18 @@ export class LocalMatch extends Match {
   sight(side) {
     const [team, others] = side === 1 ? [this.terms.one, this.terms.two] : [this.terms.two, this.terms.one];
     const {marks} = this.last;
-    return {
-      side,
-      team,
-      foes: others.length,
-      told: this.log(side),
-      marks: marks[side - 1],
-      guess: this.usual(side).bytes
-    };
+    const messages = this.steps.map((step) => step.messages[side - 1].bytes);
+    return {side, team, foes: others.length, messages, marks: marks[side - 1]};
   }
 
   /** @param {Viewer} viewer @param {Step} step */
   basis(viewer, step) {
-    return viewer === "all" ? this.engine.gen1.load(step.battle) : super.basis(viewer, step);
+    return viewer === "all" ? this.battle(step) : super.basis(viewer, step);
   }
 
   /** @param {Step} step @param {Viewer} viewer @returns {GameEvent[]} */
   events(step, viewer) {
-    if (viewer === "all") return this.explained(step, viewer, this.engine.events(step.log));
+    if (viewer === "all") return this.explained(step, viewer, this.engine.events(this.whole(step)));
     if (viewer) return super.events(step, viewer);
     // Both sides know what is reported about a side to the other side.
     const [one, two] = step.told.map((told) => this.engine.events(told));
@@ -290,7 +339,7 @@ export class LocalMatch extends Match {
 
   /** @param {Viewer} viewer */
   log(viewer) {
-    if (viewer === "all") return joined(...this.steps.map((step) => step.log));
+    if (viewer === "all") return joined(...this.steps.map((step) => this.whole(step)));
     return viewer ? super.log(viewer) : joined(...this.steps.flatMap((step) => this.pieces(step)));
   }
 

@@ -267,7 +267,7 @@ class Online {
   again() {
     const {play, shown} = this;
     if (!shown) return;
-    play.chosen = [null, null];
+    play.game.clear();
     play.wait("");
     play.drawChoices();
   }

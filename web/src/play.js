@@ -63,8 +63,6 @@ export class Play {
     this.looked = null;
     /** Whether the heading has the focus of the choices. */
     this.isLent = false;
-    /** @type {(number | null)[]} */
-    this.chosen = [null, null];
     /** @type {(Promise<number> | null)[]} the computer's choices for this turn */
     this.thinking = [null, null];
     this.asked = 0;
@@ -164,7 +162,8 @@ export class Play {
   /** @param {import("./engine.js").Terms} terms @param {number[][]} pairs @param {string[]} who plays the sides @param {boolean} isOpen */
   begin(terms, pairs, who, isOpen) {
     const match = new LocalMatch(this.engine, terms, who);
-    for (const pair of pairs) match.update(pair);
+    // The host itself plays the first pair, of two passes.
+    for (const pair of pairs.slice(pairs[0].some(Boolean) ? 0 : 1)) match.update(pair);
     this.open(match, isOpen);
   }
 
@@ -265,8 +264,8 @@ export class Play {
     this.asked++;
     this.revealed = 0;
     this.looked = null;
-    this.chosen = [null, null];
     const {game} = this;
+    game.clear();
     const isWatched = this.isLocal && !game.persons.length;
     keepingFocus(find("play-now", HTMLElement), () => {
       this.draw();
@@ -297,32 +296,39 @@ export class Play {
   choose(side, choice) {
     const {game} = this;
     if (this.isMoving || !game.offered(side).includes(choice)) return;
-    if (!this.isLocal && this.chosen[side - 1] !== null) return;
-    this.chosen[side - 1] = choice;
+    if (!this.isLocal && game.chosen[side - 1] !== null) return;
+    for (const button of document.querySelectorAll(`#play-choices-${side} [data-choice]`))
+      button.setAttribute("aria-pressed", String(button.getAttribute("data-choice") === String(choice)));
+    if (game.choose(side, choice)) return void guarded(() => this.showLast());
     if (!this.isOpen && game.persons.length === 2) {
       this.revealed = 0;
       this.draw();
     }
-    for (const button of document.querySelectorAll(`#play-choices-${side} [data-choice]`))
-      button.setAttribute("aria-pressed", String(button.getAttribute("data-choice") === String(choice)));
-    if (!this.isLocal) {
+    if (!this.isLocal)
       this.drawChoices();
-      game.act("choose", choice);
-    } else if (SIDES.every((it) => !game.isAsked(it) || this.chosen[it - 1] !== null))
+    else if (SIDES.every((it) => !game.isAsked(it) || game.chosen[it - 1] !== null))
       void guarded(() => this.goOn());
     else if (!this.isOpen)
       find("play-reveal", HTMLElement).focus();
   }
 
-  /** Has the computer choose where a person does not, updates the battle, and shows what happens. */
+  /** Has the computer choose where a person does not, which ends the pair, and shows what happens. */
   async goOn() {
     const asked = ++this.asked;
     const game = this.local;
-    const pair = await Promise.all(SIDES.map((side) => this.choiceOf(side)));
+    const {awaited} = game;
+    const choices = await Promise.all(awaited.map((side) => this.choiceOf(side)));
     // A choice is dropped if the battle was left, an update undone, or the choice changed meanwhile.
     if (asked !== this.asked) return;
+    awaited.forEach((side, at) => game.choose(side, choices[at]));
+    await this.showLast();
+  }
+
+  /** Shows the update that a choice has just caused. */
+  async showLast() {
+    const asked = ++this.asked;
+    const {game} = this;
     this.wait("");
-    game.update(pair);
     this.isMoving = true;
     this.drawChoices();
     find("play-game", HTMLElement).dataset.updates = String(game.steps.length);
@@ -332,10 +338,8 @@ export class Play {
     this.next(true);
   }
 
-  /** @param {Side} side @returns {number | Promise<number>} */
+  /** @param {Side} side that the computer plays @returns {number | Promise<number>} */
   choiceOf(side) {
-    const chosen = this.chosen[side - 1];
-    if (chosen !== null) return chosen;
     const thinking = this.thinking[side - 1];
     if (!thinking) return this.game.offered(side)[0];
     this.wait(this.game.persons.length === 1 ? "The foe is thinking." : `Side ${side} is thinking.`);
@@ -353,9 +357,8 @@ export class Play {
     const game = this.local;
     this.drop();
     do {
-      if (game.steps.length < 2) break;
-      game.steps.pop();
-    } while (game.persons.length && !game.persons.some((side) => game.isAsked(side)));
+      game.undo();
+    } while (game.steps.length > 1 && game.persons.length && !game.persons.some((side) => game.isAsked(side)));
     this.retell();
     this.next(false);
   }
@@ -492,7 +495,7 @@ export class Play {
   /** What the calculator takes from the position, as the side that chooses knows it. */
   get scene() {
     const {game, isOpen, near, titles, field} = this;
-    const {state} = isOpen ? this.engine.gen1.load(this.local.last.battle) : game.usual(near === 1 ? 1 : 2);
+    const {state} = isOpen ? this.local.battle() : game.usual(near === 1 ? 1 : 2);
     const order = near === 1 ? [0, 1] : [1, 0];
     const standing = (/** @type {number} */ at, /** @type {number} */ place) => {
       const [side, team] = order[at] ? [state.two, game.terms.two] : [state.one, game.terms.one];
@@ -523,7 +526,7 @@ export class Play {
       const place = find(`play-choices-${side}`, HTMLElement);
       const hadFocus = place.contains(document.activeElement);
       // While an update is shown, the buttons stay in their places, without effect.
-      const isBusy = (this.isMoving || (!this.isLocal && this.chosen[side - 1] !== null)) &&
+      const isBusy = (this.isMoving || (!this.isLocal && game.chosen[side - 1] !== null)) &&
           place.childElementCount > 0 && game.persons.length === 1;
       place.toggleAttribute("data-busy", isBusy);
       for (const it of isBusy ? place.querySelectorAll("button") : []) it.setAttribute("aria-disabled", "true");
@@ -566,7 +569,7 @@ export class Play {
   drawCover() {
     const {game} = this;
     const place = find("play-cover", HTMLElement);
-    const side = SIDES.find((it) => game.isAsked(it) && this.chosen[it - 1] === null);
+    const side = SIDES.find((it) => game.isAsked(it) && game.chosen[it - 1] === null);
     const isCovered = !this.isOpen && game.persons.length === 2 && !this.isMoving && !this.revealed && !game.isOver &&
         side !== undefined;
     place.hidden = !isCovered && !game.isOver && !this.looked;
@@ -627,7 +630,7 @@ export class Play {
   buttons(side) {
     const offer = this.offer(side);
     const use = {
-      chosen: this.chosen[side - 1],
+      chosen: this.game.chosen[side - 1],
       keys: this.keysOf(side),
       choose: (/** @type {number} */ choice) => this.choose(side, choice),
       preview: (/** @type {number | null} */ choice) => this.preview(side, offer, choice),
@@ -646,7 +649,7 @@ export class Play {
   offer(side) {
     const {game, engine} = this;
     const view = game.view(side);
-    const battle = this.isOpen ? engine.gen1.load(this.local.last.battle) : game.usual(side);
+    const battle = this.isOpen ? this.local.battle() : game.usual(side);
     const foe = battle.state[side === 1 ? "two" : "one"];
     const odds = engine.oddsOf(battle, side).map((it) => ({...it, knockOut: battle.knockOut(side, it.move)}));
     const {members, active} = view.own ?? {members: [], active: null};

@@ -100,6 +100,12 @@ export class RemoteMatch extends Match {
     [this.isAwaited, this.due] = [false, 0];
   }
 
+  /** @param {Side} side @param {number} choice */
+  choose(side, choice) {
+    this.act("choose", choice);
+    return super.choose(side, choice);
+  }
+
   /** @param {Side} side */
   offered(side) {
     return side === this.side && this.isAwaited ? super.offered(side) : [];
