@@ -12,9 +12,12 @@ from gen1 import (  # noqa: E402
     BadArgument,
     BadTeam,
     BadType,
+    Battle,
     BattleEnv,
     Encoding,
+    Host,
     Member,
+    Player,
     Refused,
     ResetNeeded,
     Side,
@@ -310,6 +313,31 @@ def test_two_players_come_out_the_same():
         return found
 
     assert same(told(3), told(3)) and not same(told(3), told(4))
+
+
+def test_two_players_see_what_a_host_sends():
+    """The rows and masks of each step are those of players that receive the messages of a host."""
+    env, dice = TwoPlayerEnv(), np.random.default_rng(9)
+    for seed in range(10):
+        observations, _ = env.reset(seed=seed)
+        numbers = np.random.default_rng(seed).integers(0, 256, (1, 10), np.uint8).tobytes()
+        host = Host(Battle(DEFAULT_TEAM, DEFAULT_TEAM, numbers), exact_hp=True)
+        players = [Player(side, DEFAULT_TEAM, len(DEFAULT_TEAM)) for side in Side]
+        while True:
+            assert host.battle == env.battle
+            for agent, player in zip(env.possible_agents, players):
+                player.receive(host.message(player.side))
+                assert np.array_equal(observations[agent], Encoding().row(player))
+                offered = [CHOICES[at] for at in np.flatnonzero(env.action_masks(agent))]
+                assert offered == [int(it) for it in host.message(player.side).choices]
+            if not env.agents:
+                break
+            actions = {it: int(dice.choice(np.flatnonzero(env.action_masks(it)))) for it in env.agents}
+            number, awaited = host.number, [side for side in Side if host.awaits(side)]
+            for side in awaited:
+                host.submit(side, number, int(CHOICES[actions[env.agents[side - 1]]]), None)
+            observations = env.step(actions)[0]
+        assert host.is_closed
 
 
 def test_actions_of_two_players_that_are_wrong():
