@@ -164,10 +164,10 @@ export function octets(value, what) {
 }
 
 /** A side, 1 or 2. */
-export function sideOf(value) {
+export function sideOf(value, what = "side") {
   if (value === 1 || value === 2) return value;
-  if (whole(value, "side") !== 1 && value !== 2) throw new ArgumentError(`side is ${value}, not 1 or 2`, "side");
-  return value;
+  whole(value, what);
+  throw new ArgumentError(`${what} is ${value}, not 1 or 2`, what);
 }
 
 /** The byte of a choice, whether offered or not: a byte, or a name such as "pass", "move 1", "switch 2". */
@@ -191,6 +191,16 @@ const OFFERED = new Array(MASKS).fill(null);
 /** The names of the choices in a mask. Each mask has one list, which is frozen. */
 export function choicesIn(mask) {
   return (OFFERED[mask] ??= Object.freeze(CHOICES.filter((_, bit) => (mask >> bit) & 1)));
+}
+
+/** The bytes of the choices in a mask. */
+export function choiceBytesIn(mask) {
+  return BYTES.filter((_, bit) => (mask >> bit) & 1);
+}
+
+/** The mask of choices that are given as bytes. */
+export function maskOf(bytes, what) {
+  return Array.from(list(bytes, what)).reduce((mask, byte) => mask | (1 << CHOICES.indexOf(choiceOf(byte))), 0);
 }
 
 /** The name of a choice's byte. */

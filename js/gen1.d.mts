@@ -699,6 +699,43 @@ export class Room {
 
 export type RowKind = "submit" | "cancel" | "expire" | "draw" | "forfeit";
 
+/** The JSON of rows, messages and notices, the same in Rust and Python (docs/HOST.schema.json). Numbers mean what they mean in include/gen1.h. */
+export interface RowJSON {
+  kind: RowKind;
+  side: Side;
+  number: number;
+  choice: number;
+  numbers: number[] | null;
+}
+export interface OwnSideJSON {
+  members: {
+    species: number; level: number; status: number; moves: number[]; pp: number[]; hp: number; max_hp: number; stats: number[]
+  }[];
+  conditions: number;
+  stats: number[];
+  turn: number;
+  place: number;
+  types: number[];
+  stages: number[];
+  disabled_slot: number;
+  held: number;
+  request: number;
+  outcome: number;
+}
+export interface MessageJSON {
+  number: number;
+  log: number[];
+  own: OwnSideJSON;
+  choices: number[];
+  draw: Side | null;
+}
+export interface NoticeJSON {
+  number: number;
+  log: number[];
+  outcome: number;
+  draw: Side | null;
+}
+
 /**
  * What happens at a host, as a value that can be stored. For `numbers` see `submit` of Host. Its calls throw ArgumentTypeError and ArgumentError.
  */
@@ -711,6 +748,8 @@ export class Row {
   static forfeit(side: Side): Row;
   /** The row with these 18 bytes. Throws ArgumentError if `bytes` returns them for no row. */
   static ofBytes(bytes: Uint8Array | ArrayBuffer): Row;
+  /** The row with this JSON. Throws ArgumentError if `toJSON` returns it for no row. */
+  static ofJSON(json: RowJSON): Row;
   /**
    * A copy of its 18 bytes: its kind (the index in ROW_KINDS, plus 1), its side, the byte of its choice, 1 if it has numbers, the number of the pair in
    * four bytes, the lowest first, and the ten numbers. Those that its kind does not use are 0.
@@ -724,7 +763,7 @@ export class Row {
   readonly choice: number;
   /** The ten numbers that the battle draws from then on; null to draw on. */
   readonly numbers: Uint8Array | null;
-  toJSON(): { kind: RowKind; side: Side; number: number; choice: number; numbers: number[] | null };
+  toJSON(): RowJSON;
 }
 
 export interface HostOptions {
@@ -797,7 +836,7 @@ export class Message {
   readonly draw: Side | null;
   /** A copy of its gen1_message (include/gen1.h), which may be sent to the side. */
   readonly bytes: Uint8Array;
-  toJSON(): { number: number; log: number[]; own: OwnSide; choices: readonly ChoiceName[]; draw: Side | null };
+  toJSON(): MessageJSON;
 }
 
 /** What a host sends the audience. `host.notice` and `gen1.noticeOfBytes` create it. */
@@ -812,7 +851,7 @@ export class Notice {
   readonly draw: Side | null;
   /** A copy of its gen1_notice (include/gen1.h), which may be sent to anyone. */
   readonly bytes: Uint8Array;
-  toJSON(): { number: number; log: number[]; outcome: Outcome; draw: Side | null };
+  toJSON(): NoticeJSON;
 }
 
 /** A spectator, which knows only both teams and the log. `gen1.spectator` creates it. */
@@ -913,6 +952,10 @@ export class Gen1 {
   messageOfBytes(bytes: Uint8Array | ArrayBuffer): Message;
   /** The notice whose `bytes` these are. Throws as `messageOfBytes`. */
   noticeOfBytes(bytes: Uint8Array | ArrayBuffer): Notice;
+  /** The message with this JSON. Throws ArgumentError and ArgumentTypeError. */
+  messageOfJSON(json: MessageJSON): Message;
+  /** The notice with this JSON. Throws as `messageOfJSON`. */
+  noticeOfJSON(json: NoticeJSON): Notice;
   /** Creates a spectator of a battle of two teams, before its start. Throws TeamError. */
   spectator(one: Team | Members, two: Team | Members): Spectator;
   /** Creates a player of a side, before the first update. `foes` is the number of the foe's members, if the player may know it. Throws TeamError. */

@@ -13,7 +13,7 @@ import {Battle, blockOfTerms, damageError, loadError} from "./battle.mjs";
 import {ModuleError} from "./errors.mjs";
 import {CANT_REASONS, DAMAGE_SOURCES, EVENT_KINDS, eventsOf, FAULTS, linesOf, VOLATILES} from "./events.mjs";
 import {CODES} from "./header.mjs";
-import {Host, hostOf, Message, Notice, structBytes} from "./host.mjs";
+import {Host, hostOf, Message, messageBytes, Notice, noticeBytes, structBytes} from "./host.mjs";
 import {instanceOf, Library} from "./memory.mjs";
 import {COLUMNS} from "./observing.mjs";
 import {Outcomes} from "./outcomes.mjs";
@@ -134,6 +134,16 @@ export class Gen1 {
   /** The notice whose `bytes` these are. Only their number and that of its log are tested. */
   noticeOfBytes(bytes) {
     return new Notice(this.#library, structBytes(this.#library, "gen1_notice", bytes));
+  }
+
+  /** The message with this JSON. Its numbers are tested as far as its fields can hold them. */
+  messageOfJSON(json) {
+    return this.messageOfBytes(messageBytes(json));
+  }
+
+  /** The notice with this JSON. Its numbers are tested as far as its fields can hold them. */
+  noticeOfJSON(json) {
+    return this.noticeOfBytes(noticeBytes(json));
   }
 
   /** Creates a spectator of a battle of two teams, before its start. */

@@ -1,11 +1,11 @@
 // A battle of two players and an audience, each of whom is sent what it may know (docs/MECHANICS.md, "Hosts").
-import {choicesIn, choiceText, octets, record, sideOf, truth, wrongType} from "./arguments.mjs";
+import {choiceBytesIn, choicesIn, choiceText, list, maskOf, octets, record, sideOf, truth, wrongType} from "./arguments.mjs";
 import {Battle} from "./battle.mjs";
 import {ArgumentError, HostError} from "./errors.mjs";
 import {CODES} from "./header.mjs";
 import {inspected} from "./inspecting.mjs";
 import {Row} from "./row.mjs";
-import {fieldOf, layoutOf} from "./structs.mjs";
+import {bytesOfJson, fieldOf, jsonOf, layoutOf} from "./structs.mjs";
 import {made} from "./update.mjs";
 import {OUTCOMES, ownSideOf, resultOf} from "./views.mjs";
 
@@ -28,6 +28,26 @@ export function structBytes(library, struct, bytes) {
   const [given, {size}] = [octets(bytes, "bytes"), layoutOf(struct, library.isLong)];
   if (given.length !== size) throw new ArgumentError(`bytes has ${given.length} bytes, not ${size}`, "bytes");
   return given.slice();
+}
+
+// The fields that a message and a notice have, from their JSON.
+function sentFields({number, log, draw}) {
+  return {number, log, log_length: list(log, "json.log").length, draw: draw === null ? 0 : sideOf(draw, "json.draw")};
+}
+
+/** The bytes of the message with this JSON. */
+export function messageBytes(json) {
+  const {own, choices} = record(json, "json", "an object", ["number", "log", "own", "choices", "draw"]);
+  const keys = layoutOf("gen1_own_side", false).fields.map(({name}) => name).filter((name) => name !== "count");
+  const count = list(record(own, "json.own", "an object", keys).members, "json.own.members").length;
+  const offered = maskOf(choices, "json.choices");
+  return bytesOfJson("gen1_message", {...sentFields(json), own: {...own, count}, offered}, "json");
+}
+
+/** The bytes of the notice with this JSON. */
+export function noticeBytes(json) {
+  const {outcome} = record(json, "json", "an object", ["number", "log", "outcome", "draw"]);
+  return bytesOfJson("gen1_notice", {...sentFields(json), outcome}, "json");
 }
 
 // The log of a struct that is sent.
@@ -97,10 +117,12 @@ export class Message {
     return this.#field("draw") || null;
   }
 
-  /** All of it. */
+  /** All of it, as docs/HOST.schema.json says. */
   toJSON() {
-    const {number, log, own, choices, draw} = this;
-    return {number, log: Array.from(log), own, choices, draw};
+    const {number, log, draw} = this;
+    const {count, ...own} = jsonOf("gen1_own_side", this.#bytes);
+    own.members = own.members.slice(0, count);
+    return {number, log: Array.from(log), own, choices: choiceBytesIn(this.#field("offered")), draw};
   }
 
   [Symbol.for("nodejs.util.inspect.custom")](depth, options, inspect) {
@@ -146,10 +168,10 @@ export class Notice {
     return this.#field("draw") || null;
   }
 
-  /** All of it. */
+  /** All of it, as docs/HOST.schema.json says. */
   toJSON() {
-    const {number, log, outcome, draw} = this;
-    return {number, log: Array.from(log), outcome, draw};
+    const {number, log, draw} = this;
+    return {number, log: Array.from(log), outcome: this.#field("outcome"), draw};
   }
 
   [Symbol.for("nodejs.util.inspect.custom")](depth, options, inspect) {

@@ -1,5 +1,5 @@
 // What happens at a host, as values of 18 bytes that can be stored (docs/MECHANICS.md, "Hosts").
-import {choiceByte, freshNumbers, octets, seedOf, sideOf, within} from "./arguments.mjs";
+import {choiceByte, freshNumbers, octets, record, seedOf, shown, sideOf, within} from "./arguments.mjs";
 import {ArgumentError, ArgumentTypeError} from "./errors.mjs";
 import {inspected} from "./inspecting.mjs";
 
@@ -8,6 +8,7 @@ export const ROW_KINDS = Object.freeze(["submit", "cancel", "expire", "draw", "f
 export const ROW_SIZE = 18;
 const [CHOICE_AT, HAS_NUMBERS_AT, NUMBER_AT, NUMBERS_AT] = [2, 3, 4, 8];
 const MOST_NUMBER = 2 ** 32 - 1;
+const FIELDS = ["kind", "side", "number", "choice", "numbers"];
 // The key that lets this file alone call the constructor.
 const OWN = Symbol("row");
 
@@ -78,6 +79,14 @@ export class Row {
         (hasNumbers || kind === "cancel" || number === 0);
   }
 
+  /** The row with this JSON. */
+  static ofJSON(json) {
+    const {kind, side, number, choice, numbers} = record(json, "json", "an object", FIELDS);
+    if (!ROW_KINDS.includes(kind))
+      throw new ArgumentError(`json.kind is ${shown(kind)}, not ${ROW_KINDS.join(", ")}`, "json.kind");
+    return Row.ofBytes(Row.#of(kind, side, number, within(choice, "json.choice", 0, 255), numbers).#bytes);
+  }
+
   /** A copy of its 18 bytes: kind, side, choice, 1 if it has numbers, the number of the pair in four, lowest first, and the ten numbers. */
   get bytes() {
     return this.#bytes.slice();
@@ -107,7 +116,7 @@ export class Row {
     return this.#bytes[HAS_NUMBERS_AT] ? this.#bytes.slice(NUMBERS_AT) : null;
   }
 
-  /** Its fields. */
+  /** Its fields, as docs/HOST.schema.json says. */
   toJSON() {
     const {kind, side, number, choice, numbers} = this;
     return {kind, side, number, choice, numbers: numbers && Array.from(numbers)};

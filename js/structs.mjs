@@ -1,4 +1,6 @@
 // The structs of include/gen1.h in the module's memory, by C's layout rules, from the fields in header.mjs.
+import {record, within, wrongType} from "./arguments.mjs";
+import {ArgumentError} from "./errors.mjs";
 import {STRUCTS} from "./header.mjs";
 
 // The size of each type of number in bytes, and its name in a DataView. A size_t is 4 or 8 bytes.
@@ -67,6 +69,42 @@ export function readStruct(name, view, at, isLong) {
     found[field.key] = valueOf(field, view, at + field.at, isLong);
   }
   return found;
+}
+
+/** A struct of numbers in bytes as an object for JSON, by the names of the header. */
+export function jsonOf(name, bytes, at = 0) {
+  const view = new DataView(bytes.buffer, bytes.byteOffset);
+  const value = (field, place) =>
+      (field.struct ? jsonOf(field.struct, bytes, place) : view[`get${field.kind}`](place, true));
+  const fields = layoutOf(name, false).fields.filter(({key}) => !FILLS.includes(key));
+  return Object.fromEntries(fields.map((field) => {
+    const first = at + field.at;
+    if (field.count === undefined) return [field.name, value(field, first)];
+    return [field.name, Array.from({length: field.count}, (_, turn) => value(field, first + turn * field.size))];
+  }));
+}
+
+/** The bytes of a struct of numbers from such an object, whose lists of structs and log may have fewer items. Throws ArgumentError. */
+export function bytesOfJson(name, object, what, bytes = new Uint8Array(layoutOf(name, false).size), at = 0) {
+  const fields = layoutOf(name, false).fields.filter(({key}) => !FILLS.includes(key));
+  record(object, what, "an object", fields.map((field) => field.name));
+  const view = new DataView(bytes.buffer);
+  for (const field of fields) {
+    const [given, path, count] = [object[field.name], `${what}.${field.name}`, field.count ?? 1];
+    const values = field.count === undefined ? [given] : given;
+    if (!Array.isArray(values)) throw wrongType(given, path, "an array");
+    const isShort = (field.struct || field.name === "log") && values.length < count;
+    if (values.length !== count && !isShort)
+      throw new ArgumentError(`${path} has ${values.length} items, not ${count}`, path);
+    values.forEach((value, turn) => {
+      const [place, label] = [at + field.at + turn * field.size, field.count === undefined ? path : `${path}[${turn}]`];
+      if (field.struct)
+        bytesOfJson(field.struct, value, label, bytes, place);
+      else
+        view[`set${field.kind}`](place, within(value, label, 0, 256 ** field.size - 1), true);
+    });
+  }
+  return bytes;
 }
 
 /** The value of one field of a struct's bytes; an array of bytes is a Uint8Array. `name` is the name in the header. */

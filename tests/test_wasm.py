@@ -1,11 +1,14 @@
 """The plain module of WebAssembly and its JavaScript package, under Node: recorded and random battles, and bad input."""
 
+import json
 import re
 import shutil
+import subprocess
 
 import pytest
 from cargo import want_cargo
 from processes import add_counts, has, ran
+from repository import ROOT
 
 # The modules are downloaded, so they may not grow beyond this.
 MOST_BYTES = {"gen1.wasm": 215_000, "search.wasm": 230_000, "showdown.wasm": 680_000}
@@ -34,6 +37,48 @@ def test_size_of_the_module(package, module):
 def test_recorded_battles(package, unpacked, checks):
     """The package's own tests (js/test), with the recorded battles."""
     add_counts(ran("node", "test/test.mjs", unpacked, cwd=package, allowed=(0, 1)), checks)
+
+
+HOSTED = """
+import {readFileSync} from "node:fs";
+import {load, Row} from "./gen1.mjs";
+const [gen1, examples] = [await load(readFileSync("gen1.wasm")), JSON.parse(readFileSync(0, "utf8"))];
+const of = {row: Row.ofJSON, message: (it) => gen1.messageOfJSON(it), notice: (it) => gen1.noticeOfJSON(it)};
+const said = (name, value) => console.log(JSON.stringify([name, value]));
+for (const [name, values] of Object.entries(examples)) for (const value of values) said(name, of[name](value));
+const team = ["Starmie", "Tauros", "Jynx"].map((species) => ({species, moves: ["Rest", "Surf"]}));
+for (let seed = 1; seed < 20; seed++) {
+  const host = gen1.host(gen1.battle({one: team, two: team, seed}));
+  for (let place = seed; !host.isClosed && host.number < 40;) {
+    const {number} = host;
+    for (const [side, message] of [1, 2].map((side) => [side, host.message(side)])) {
+      said("message", message);
+      const row = Row.submit(side, number, message.choices[place++ % message.choices.length], place % 3 ? undefined : null);
+      said("row", row);
+      try {
+        host.apply(row);
+      } catch {}
+    }
+    said("notice", host.notice());
+  }
+}
+"""
+
+
+def test_json_of_hosts(package):
+    """The JSON of rows, messages and notices is as docs/HOST.schema.json says, and its examples come out as they go in."""
+    jsonschema = pytest.importorskip("jsonschema")
+    schema = json.loads((ROOT / "docs" / "HOST.schema.json").read_text())
+    kinds = ("row", "message", "notice")
+    validators = {it: jsonschema.Draft202012Validator({**schema, "$ref": f"#/$defs/{it}"}) for it in kinds}
+    examples = {it: schema["$defs"][it]["examples"] for it in kinds}
+    words = ["node", "--input-type=module", "--eval", HOSTED]
+    said = subprocess.run(words, cwd=package, input=json.dumps(examples), capture_output=True, text=True, check=True)
+    values = [json.loads(line) for line in said.stdout.splitlines()]
+    wanted = [[name, value] for name in kinds for value in examples[name]]
+    assert values[: len(wanted)] == wanted and len(values) > 1000
+    for name, value in values:
+        validators[name].validate(value)
 
 
 def test_random_bytes(package):

@@ -89,4 +89,7 @@ export function usesOfHosts(gen1, offers) {
           message instanceof Message && gen1.noticeOfBytes(notice.bytes) instanceof Notice &&
           gen1.playerOfBytes(player.bytes).side === 1 && message.draw === null && notice.outcome === "ongoing",
       "another host");
+  holds(Row.ofJSON(row.toJSON()) instanceof Row && gen1.messageOfJSON(message.toJSON()) instanceof Message &&
+          gen1.noticeOfJSON(notice.toJSON()) instanceof Notice,
+      "a host's values from JSON");
 }

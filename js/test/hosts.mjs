@@ -128,6 +128,75 @@ function storedHosts(gen1, check, begun) {
     equal(wanted.map((hex) => Row.ofBytes(bytesOfHex(hex))), rows);
     equal(rows[0], {kind: "submit", side: 2, number: 259, choice: 17, numbers: SEED});
   });
+  check("rows, messages and notices as JSON", () => {
+    const host = begun();
+    for (const side of [1, 2]) host.submit(side, 0, 17, null);
+    host.offerDraw(2);
+    const [message, notice] = [host.message(2), host.notice()].map((it) => JSON.parse(JSON.stringify(it)));
+    const log = [...LOG.subarray(23, 59)];
+    equal(notice, {number: 1, log, outcome: 0, draw: 2});
+    // The HP are those of README.md, the stats those of docs/MECHANICS.md.
+    const member = {
+      species: 128,
+      level: 100,
+      status: 0,
+      moves: [70, 0, 0, 0],
+      pp: [23, 0, 0, 0],
+      hp: 149,
+      max_hp: 353,
+      stats: [298, 288, 318, 238]
+    };
+    const own = {
+      members: [member],
+      conditions: 0,
+      stats: member.stats,
+      turn: 2,
+      place: 1,
+      types: [0, 0],
+      stages: Array(6).fill(6),
+      disabled_slot: 0,
+      held: 0,
+      request: 1,
+      outcome: 0
+    };
+    equal(message, {number: 1, log, own, choices: [17], draw: 2});
+    equal(hexOf(gen1.messageOfJSON(message).bytes), hexOf(host.message(2).bytes));
+    equal(hexOf(gen1.noticeOfJSON(notice).bytes), hexOf(host.notice().bytes));
+    const row = {kind: "draw", side: 1, number: 0, choice: 0, numbers: null};
+    equal([Row.ofJSON(row), Row.offerDraw(1)], [row, row]);
+    const changed = (it, ...parts) => parts.map((part) => [it, {...it, ...part}]);
+    const wrong = [
+      ...changed(message, {draw: 3}, {choices: [21]}, {choices: 17}, {log: Array(513).fill(0)}, {log: [256]}, {more: 1},
+          {own: {...own, count: 1}}, {own: {...own, turn: 1.5}}, {own: {...own, types: [0]}},
+          {own: {...own, members: Array(7).fill(member)}}),
+      ...changed(notice, {number: -1}, {outcome: 256}, {log: null}, {draw: 0}),
+      ...changed(row, {kind: "win"}, {side: 3}, {choice: 17}, {number: 1}, {numbers: SEED}, {numbers: [1]}, {more: 1})
+    ];
+    const of = {own: gen1.messageOfJSON, outcome: gen1.noticeOfJSON, kind: Row.ofJSON};
+    for (const [whole, it] of wrong) {
+      const call = Object.entries(of).find(([key]) => key in whole)[1];
+      thrown(() => call.call(gen1, it),
+          it.choices === 17 || it.log === null || it.own?.turn === 1.5 ? library.ArgumentTypeError :
+                                                                         library.ArgumentError,
+          /./);
+    }
+    for (const key of Object.keys(row)) thrown(() => Row.ofJSON({...row, [key]: undefined}), Error, /./);
+  });
+  check("a player that was lost", () => {
+    const [host, player] = [begun(), gen1.player({side: 2, team: [STRONG]})];
+    const stored = [];
+    for (;;) {
+      stored.push(host.message(2));
+      player.receive(stored.at(-1));
+      if (host.isClosed) break;
+      for (const side of [1, 2]) host.submit(side, host.number, 17, null);
+    }
+    const again = gen1.player({side: 2, team: [STRONG]});
+    for (const message of stored) again.receive(gen1.messageOfBytes(message.bytes));
+    equal(hexOf(again.bytes), hexOf(player.bytes));
+    const log = Uint8Array.from(stored.flatMap((it) => [...it.log]));
+    equal(hexOf(log), hexOf(LOG));
+  });
   check("a host from its rows, and from its bytes", () => {
     const [host, again] = [begun({mayCancel: true}), begun({mayCancel: true})];
     const rows = [Row.submit(1, 0, 17), Row.cancel(1, 0), Row.expire(2, 0), Row.submit(1, 0, 17), Row.offerDraw(1)];

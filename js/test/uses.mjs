@@ -103,6 +103,8 @@ const OF_GEN1 = {
   hostOfBytes: true,
   messageOfBytes: true,
   noticeOfBytes: true,
+  messageOfJSON: true,
+  noticeOfJSON: true,
   playerOfBytes: true,
   spectator: true,
   player: true,

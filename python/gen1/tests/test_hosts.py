@@ -1,9 +1,11 @@
 """Hosts: against a room and tellers that are called by hand, what each side receives while the foe's choices differ, endings, and bytes."""
 
 import copy
+import json
 import pickle
 import random
 import threading
+from pathlib import Path
 
 import pytest
 from conftest import BIG, NO_NUMBERS, random_team
@@ -35,6 +37,7 @@ from gen1 import (
 from gen1.players import Teller
 
 TAUROS = Team([Member("Tauros", ["Body Slam", "Hyper Beam"]), Member("Starmie", ["Surf", "Recover"])])
+SCHEMA = Path(__file__).resolve().parents[3] / "docs" / "HOST.schema.json"
 SEED = bytes([1, 36, 255, 7, 31, 100, 179, 254, 127, 10])
 
 
@@ -270,6 +273,77 @@ def test_bytes_of_messages():
             with pytest.raises(BadArgument, match=f"data must be the {length} bytes of a "):
                 kind.from_bytes(wrong)
     assert Message.from_bytes(bytes(host.message(1))) != Notice.from_bytes(bytes(host.notice()))
+
+
+def test_json_of_rows_messages_and_notices():
+    """The examples of docs/HOST.schema.json go in and come out; what random hosts send is as it says; what differs is refused."""
+    schema, kinds = json.loads(SCHEMA.read_text()), {"row": Row, "message": Message, "notice": Notice}
+    values = [(name, it) for name in kinds for it in schema["$defs"][name]["examples"]]
+    for name, value in values:
+        assert kinds[name].from_json(value).to_json() == value
+    dice = random.Random(8)
+    for seed in range(20):
+        host = Host(Battle(random_team(dice), random_team(dice), seed), exact_hp=seed % 2 == 0)
+        while not host.is_closed and host.number < 40:
+            number, sides = host.number, [side for side in Side if host.awaits(side)]
+            for side in sides:
+                row = Row.submit(side, number, dice.choice(host.message(side).choices), dice.choice(("fresh", None)))
+                host.apply(row)
+                values.append(("row", json.loads(json.dumps(row.to_json()))))
+                assert Row.from_json(values[-1][1]) == row
+            for name, sent in (("message", host.message(1)), ("message", host.message(2)), ("notice", host.notice())):
+                values.append((name, json.loads(json.dumps(sent.to_json()))))
+                assert type(sent).from_json(values[-1][1]) == sent
+    assert len(values) > 1000
+    refused_json(kinds, values, dice)
+    jsonschema = pytest.importorskip("jsonschema")
+    validators = {it: jsonschema.Draft202012Validator({**schema, "$ref": f"#/$defs/{it}"}) for it in kinds}
+    for name, value in values:
+        validators[name].validate(value)
+
+
+def refused_json(kinds, values, dice):
+    """A value of another kind at any place, a field too few, or one too many is refused with the name of its place."""
+    for _ in range(3000):
+        name, value = dice.choice(values)
+        changed, wrong = copy.deepcopy(value), dice.choice((-1, 1 << 32, "x", 1.5, [], {}, True, None, [[]]))
+        at = changed
+        key = dice.choice(list(at))
+        while isinstance(at[key], (dict, list)) and at[key] and dice.random() < 0.7:
+            at = at[key]
+            key = dice.choice(list(at)) if isinstance(at, dict) else dice.randrange(len(at))
+        if dice.random() < 0.2 and isinstance(at, dict):
+            at["more"] = at.pop(key)
+        elif (
+            wrong == at[key]
+            or (wrong is None and key in ("numbers", "draw"))
+            or (wrong == [] and key in ("log", "choices"))
+        ):
+            continue
+        else:
+            at[key] = wrong
+        with pytest.raises((BadArgument, BadType), match="value|choice|side|number|seed|data is not"):
+            kinds[name].from_json(changed)
+
+
+def test_a_lost_player_is_that_of_all_messages():
+    """What a side that comes back needs: its stored messages, from the first on."""
+    for seed in range(10):
+        dice = random.Random(seed)
+        team, foes = random_team(dice), random_team(dice)
+        host, player, stored = Host(Battle(team, foes, seed)), Player(1, team), []
+        while True:
+            stored.append(bytes(host.message(1)))
+            player.receive(Message.from_bytes(stored[-1]))
+            if host.is_closed:
+                break
+            number, sides = host.number, [side for side in Side if host.awaits(side)]
+            for side in sides:
+                host.submit(side, number, dice.choice(host.message(side).choices))
+        again = Player(1, team)
+        for data in stored:
+            again.receive(Message.from_bytes(data))
+        assert again == player and again.outcome is host.result.outcome
 
 
 def test_a_player_receives_each_message_once():

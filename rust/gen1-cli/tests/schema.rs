@@ -1,6 +1,7 @@
 //! What the program reads and prints is as docs/PROGRAM.schema.json says. Without Python's jsonschema nothing is tested, and the test says so.
 mod common;
 use common::{TAUROS, battle, ran, recorded};
+use gen1::{Battle, Host, Row, Side, Team, member};
 use serde_json::{Value, json};
 use std::io::Write;
 use std::path::Path;
@@ -144,12 +145,60 @@ fn collected() -> Values {
     values
 }
 
+/// Rows, messages and notices of hosts, and each of them without one of its fields.
+fn sent_and_stored() -> Values {
+    let mut values = Values::default();
+    let mut both = |name, value: Value| {
+        for key in value.as_object().expect("an object").keys() {
+            let mut less = value.clone();
+            less.as_object_mut().expect("an object").remove(key);
+            values.refuses(name, less);
+        }
+        values.allows(name, value);
+    };
+    let members = ["Starmie", "Tauros", "Jynx"].map(|it| member(it, &["Rest", "Surf"]));
+    let team = Team::new(&members.map(|it| it.expect("a member"))).expect("a team");
+    for seed in 1..4 {
+        let mut host = Host::new(Battle::new(&team, &team, [seed; 10]));
+        let mut place = usize::from(seed);
+        while !host.is_closed() && host.number() < 40 {
+            let (number, sides) = (host.number(), Side::BOTH.map(|side| host.message(side)));
+            for (side, message) in Side::BOTH.into_iter().zip(sides) {
+                both("message", json!(message));
+                both("own_side", json!(message.own()));
+                place += 1;
+                let offered = message.offered();
+                let byte = offered
+                    .get(place % offered.len())
+                    .map_or(0, |it| it.choice().byte());
+                let numbers = (place % 3 > 0).then_some([seed; 10]);
+                let row = Row::Submit {
+                    side,
+                    number,
+                    byte,
+                    numbers,
+                };
+                let _ = host.apply(&row);
+                both("row", json!(row));
+            }
+            both("notice", json!(host.notice()));
+        }
+    }
+    values
+}
+
 #[test]
 fn values_are_as_the_schema_says() {
+    tested("PROGRAM.schema.json", &collected());
+    tested("HOST.schema.json", &sent_and_stored());
+}
+
+/// Tests values by a schema in docs.
+fn tested(schema: &str, values: &Values) {
     let folder = Path::new(env!("CARGO_MANIFEST_DIR"));
     let child = Command::new("python3")
         .arg(folder.join("tests/schema.py"))
-        .arg(folder.join("../../docs/PROGRAM.schema.json"))
+        .arg(folder.join("../../docs").join(schema))
         .stdin(Stdio::piped())
         .stdout(Stdio::piped())
         .spawn();
@@ -157,11 +206,7 @@ fn values_are_as_the_schema_says() {
         println!("there is no python3");
         return;
     };
-    let lines: String = collected()
-        .0
-        .iter()
-        .map(|value| format!("{value}\n"))
-        .collect();
+    let lines: String = values.0.iter().map(|value| format!("{value}\n")).collect();
     let mut given = child.stdin.take().expect("its input");
     // Without jsonschema it reads nothing.
     let writer = std::thread::spawn(move || given.write_all(lines.as_bytes()));

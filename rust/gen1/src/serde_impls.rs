@@ -1,5 +1,11 @@
-//! Serde for battles, and for what a host stores and sends: their bytes, which are checked when they are deserialized.
-use crate::{Battle, Line, Message, Notice, OwnSide, Row};
+//! Serde for battles, and for what a host stores and sends. Both are checked when they are deserialized.
+//!
+//! A battle is its bytes. So are rows, messages, notices and own sides in binary formats; in formats for people, such as JSON, they are the
+//! objects of docs/HOST.schema.json.
+use crate::generated::host as plain;
+use crate::generated::player::OwnMember;
+use crate::{Battle, Line, Message, Notice, OfferedMask, OwnSide, Row, WireFault};
+use arrayvec::ArrayVec;
 use core::fmt;
 use core::marker::PhantomData;
 use serde::de::{Error, SeqAccess, Visitor};
@@ -43,7 +49,7 @@ impl<'de, T: AsBytes, const N: usize> Visitor<'de> for Bytes<T, N> {
 }
 
 macro_rules! as_bytes {
-    ($($name:ty, $length:expr, $what:expr, $bytes:ident, $restored:expr;)*) => {$(
+    ($($name:ident $(as $fields:ty)?, $length:expr, $what:expr, $bytes:ident, $restored:expr;)*) => {$(
         impl AsBytes for $name {
             const WHAT: &'static str = $what;
 
@@ -54,12 +60,19 @@ macro_rules! as_bytes {
 
         impl Serialize for $name {
             fn serialize<S: Serializer>(&self, serializer: S) -> Result<S::Ok, S::Error> {
+                $(if serializer.is_human_readable() {
+                    return <$fields>::from(self).serialize(serializer);
+                })?
                 serializer.serialize_bytes(self.$bytes().as_ref())
             }
         }
 
         impl<'de> Deserialize<'de> for $name {
             fn deserialize<D: Deserializer<'de>>(deserializer: D) -> Result<Self, D::Error> {
+                $(if deserializer.is_human_readable() {
+                    let fields = <$fields>::deserialize(deserializer)?;
+                    return fields.restored().map_err(D::Error::custom);
+                })?
                 deserializer.deserialize_bytes(Bytes::<$name, { $length }>(PhantomData))
             }
         }
@@ -73,10 +86,259 @@ fn array<const N: usize>(bytes: &[u8]) -> [u8; N] {
 
 as_bytes! {
     Battle, 384, "a battle", as_bytes, Battle::load;
-    Row, Row::LENGTH, "a row", to_bytes, |bytes: &[u8]| Row::from_bytes(&array(bytes)).ok_or("not a row");
-    OwnSide, OwnSide::LENGTH, "an own side", to_bytes, |bytes: &[u8]| OwnSide::from_bytes(&array(bytes));
-    Message, Message::LENGTH, "a message", to_bytes, |bytes: &[u8]| Message::from_bytes(&array(bytes));
-    Notice, Notice::LENGTH, "a notice", to_bytes, |bytes: &[u8]| Notice::from_bytes(&array(bytes));
+    Row as RowFields, Row::LENGTH, "a row", to_bytes, |bytes: &[u8]| Row::from_bytes(&array(bytes)).ok_or(NO_ROW);
+    OwnSide as OwnFields, OwnSide::LENGTH, "an own side", to_bytes, |bytes: &[u8]| OwnSide::from_bytes(&array(bytes));
+    Message as MessageFields, Message::LENGTH, "a message", to_bytes, |bytes: &[u8]| Message::from_bytes(&array(bytes));
+    Notice as NoticeFields, Notice::LENGTH, "a notice", to_bytes, |bytes: &[u8]| Notice::from_bytes(&array(bytes));
+}
+
+const NO_ROW: &str = "not a row";
+/// The mask of all choices.
+const ALL: u16 = 0xfff;
+
+#[derive(Clone, Copy, Serialize, Deserialize)]
+#[serde(rename_all = "lowercase")]
+enum RowKind {
+    Submit = 1,
+    Cancel,
+    Expire,
+    Draw,
+    Forfeit,
+}
+
+/// A row as an object.
+#[derive(Serialize, Deserialize)]
+#[serde(deny_unknown_fields)]
+struct RowFields {
+    kind: RowKind,
+    side: u8,
+    number: u32,
+    choice: u8,
+    numbers: Option<[u8; 10]>,
+}
+
+impl From<&Row> for RowFields {
+    fn from(row: &Row) -> Self {
+        let bytes = row.to_bytes();
+        RowFields {
+            kind: match row {
+                Row::Submit { .. } => RowKind::Submit,
+                Row::Cancel { .. } => RowKind::Cancel,
+                Row::Expire { .. } => RowKind::Expire,
+                Row::OfferDraw { .. } => RowKind::Draw,
+                Row::Forfeit { .. } => RowKind::Forfeit,
+            },
+            side: bytes[1],
+            number: u32::from_le_bytes(array(&bytes[4..8])),
+            choice: bytes[2],
+            numbers: (bytes[3] == 1).then(|| array(&bytes[8..])),
+        }
+    }
+}
+
+impl RowFields {
+    fn restored(self) -> Result<Row, &'static str> {
+        let mut bytes = [0; Row::LENGTH];
+        let has_numbers = self.numbers.is_some().into();
+        bytes[..4].copy_from_slice(&[self.kind as u8, self.side, self.choice, has_numbers]);
+        bytes[4..8].copy_from_slice(&self.number.to_le_bytes());
+        bytes[8..].copy_from_slice(&self.numbers.unwrap_or_default());
+        Row::from_bytes(&bytes).ok_or(NO_ROW)
+    }
+}
+
+/// A member of an own side as an object.
+#[derive(Serialize, Deserialize)]
+#[serde(deny_unknown_fields)]
+struct MemberFields {
+    species: u8,
+    level: u8,
+    status: u8,
+    moves: [u8; 4],
+    pp: [u8; 4],
+    hp: u16,
+    max_hp: u16,
+    stats: [u16; 4],
+}
+
+/// An own side as an object.
+#[derive(Serialize, Deserialize)]
+#[serde(deny_unknown_fields)]
+struct OwnFields {
+    members: ArrayVec<MemberFields, 6>,
+    conditions: u32,
+    stats: [u16; 4],
+    turn: u16,
+    place: u8,
+    types: [u8; 2],
+    stages: [u8; 6],
+    disabled_slot: u8,
+    held: u8,
+    request: u8,
+    outcome: u8,
+}
+
+impl From<&OwnSide> for OwnFields {
+    fn from(own: &OwnSide) -> Self {
+        let there = own.members.iter().take(usize::from(own.count));
+        let fields = |it: &OwnMember| MemberFields {
+            species: it.species,
+            level: it.level,
+            status: it.status,
+            moves: it.moves,
+            pp: it.pp,
+            hp: it.hp,
+            max_hp: it.max_hp,
+            stats: it.stats,
+        };
+        OwnFields {
+            members: there.map(fields).collect(),
+            conditions: own.conditions,
+            stats: own.stats,
+            turn: own.turn,
+            place: own.place,
+            types: own.types,
+            stages: own.stages,
+            disabled_slot: own.disabled_slot,
+            held: own.held,
+            request: own.request,
+            outcome: own.outcome,
+        }
+    }
+}
+
+impl OwnFields {
+    /// The own side, which is not tested yet.
+    fn untested(self) -> OwnSide {
+        let member = |it: Option<&MemberFields>| OwnMember {
+            species: it.map_or(0, |it| it.species),
+            level: it.map_or(0, |it| it.level),
+            status: it.map_or(0, |it| it.status),
+            unused: 0,
+            moves: it.map_or([0; 4], |it| it.moves),
+            pp: it.map_or([0; 4], |it| it.pp),
+            hp: it.map_or(0, |it| it.hp),
+            max_hp: it.map_or(0, |it| it.max_hp),
+            stats: it.map_or([0; 4], |it| it.stats),
+        };
+        OwnSide {
+            members: [0, 1, 2, 3, 4, 5].map(|at| member(self.members.get(at))),
+            conditions: self.conditions,
+            stats: self.stats,
+            turn: self.turn,
+            place: self.place,
+            types: self.types,
+            stages: self.stages,
+            disabled_slot: self.disabled_slot,
+            held: self.held,
+            request: self.request,
+            outcome: self.outcome,
+            count: self.members.len() as u8,
+        }
+    }
+
+    fn restored(self) -> Result<OwnSide, WireFault> {
+        OwnSide::from_bytes(&self.untested().to_bytes())
+    }
+}
+
+/// The bytes of a log, of which there are at most 512.
+type Log = ArrayVec<u8, 512>;
+
+/// The log of a struct, and its length.
+fn log_of(log: &Log) -> ([u8; 512], u16) {
+    let mut bytes = [0; 512];
+    bytes[..log.len()].copy_from_slice(log);
+    (bytes, log.len() as u16)
+}
+
+/// The byte of who offers a draw. Nobody is `None`, so 0 becomes a byte that is refused.
+fn draw_of(side: Option<u8>) -> u8 {
+    side.map_or(0, |side| if side == 0 { u8::MAX } else { side })
+}
+
+/// A message as an object.
+#[derive(Serialize, Deserialize)]
+#[serde(deny_unknown_fields)]
+struct MessageFields {
+    number: u32,
+    log: Log,
+    own: OwnFields,
+    choices: ArrayVec<u8, 12>,
+    draw: Option<u8>,
+}
+
+impl From<&Message> for MessageFields {
+    fn from(message: &Message) -> Self {
+        MessageFields {
+            number: message.number(),
+            log: message.log().iter().copied().collect(),
+            own: message.own().into(),
+            choices: message
+                .offered()
+                .iter()
+                .map(|it| it.choice().byte())
+                .collect(),
+            draw: message.draw().map(|side| side.number()),
+        }
+    }
+}
+
+impl MessageFields {
+    fn restored(self) -> Result<Message, WireFault> {
+        let mut offered = 0;
+        for byte in self.choices {
+            let mut all = OfferedMask(ALL).iter();
+            let place = all.position(|it| it.choice().byte() == byte);
+            offered |= 1 << place.ok_or(WireFault::new("a message", "choices"))?;
+        }
+        let (log, log_length) = log_of(&self.log);
+        let inner = plain::Message {
+            own: self.own.untested(),
+            number: self.number,
+            offered,
+            log_length,
+            draw: draw_of(self.draw),
+            unused: [0; 3],
+            log,
+        };
+        Message::from_bytes(&Message { inner }.to_bytes())
+    }
+}
+
+/// A notice as an object.
+#[derive(Serialize, Deserialize)]
+#[serde(deny_unknown_fields)]
+struct NoticeFields {
+    number: u32,
+    log: Log,
+    outcome: u8,
+    draw: Option<u8>,
+}
+
+impl From<&Notice> for NoticeFields {
+    fn from(notice: &Notice) -> Self {
+        NoticeFields {
+            number: notice.number(),
+            log: notice.log().iter().copied().collect(),
+            outcome: notice.inner.outcome,
+            draw: notice.draw().map(|side| side.number()),
+        }
+    }
+}
+
+impl NoticeFields {
+    fn restored(self) -> Result<Notice, WireFault> {
+        let (log, log_length) = log_of(&self.log);
+        let inner = plain::Notice {
+            number: self.number,
+            log_length,
+            outcome: self.outcome,
+            draw: draw_of(self.draw),
+            log,
+        };
+        Notice::from_bytes(&Notice { inner }.to_bytes())
+    }
 }
 
 /// A line is its text.

@@ -15,6 +15,11 @@ pub struct WireFault {
 }
 
 impl WireFault {
+    #[cfg(feature = "serde")]
+    pub(crate) fn new(kind: &'static str, field: &'static str) -> Self {
+        WireFault { kind, field }
+    }
+
     /// The name of the field in include/gen1.h, such as "log_length".
     #[must_use]
     pub fn field(&self) -> &'static str {

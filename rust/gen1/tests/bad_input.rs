@@ -162,16 +162,49 @@ fn serde() {
         number: 7,
     };
     let text = serde_json::to_string(&row).unwrap();
-    assert_eq!(text, "[2,1,0,0,7,0,0,0,0,0,0,0,0,0,0,0,0,0]");
+    assert_eq!(
+        text,
+        r#"{"kind":"cancel","side":1,"number":7,"choice":0,"numbers":null}"#
+    );
     assert_eq!(serde_json::from_str::<gen1::Row>(&text).unwrap(), row);
-    let fault = serde_json::from_str::<gen1::Row>(&text.replace("[2", "[6")).unwrap_err();
-    assert!(fault.to_string().starts_with("not a row"));
+    let fault = |text: &str| {
+        serde_json::from_str::<gen1::Row>(text)
+            .unwrap_err()
+            .to_string()
+    };
+    assert!(fault(&text.replace("\"choice\":0", "\"choice\":17")).starts_with("not a row"));
+    assert!(fault(&text.replace("\"side\":1", "\"side\":3")).starts_with("not a row"));
+    assert!(fault(&text.replace("cancel", "chancel")).contains("unknown variant `chancel`"));
+    assert!(fault(&text.replace("number\"", "pair\"")).contains("unknown field `pair`"));
     let message = gen1::Host::new(battle.clone()).message(Side::Two);
     let text = serde_json::to_string(&message).unwrap();
     let again = serde_json::from_str::<gen1::Message>(&text).unwrap();
     assert_eq!(again.to_bytes(), message.to_bytes());
+    let own = serde_json::to_string(message.own()).unwrap();
+    let again = serde_json::from_str::<gen1::OwnSide>(&own).unwrap();
+    assert_eq!(again.to_bytes(), message.own().to_bytes());
+    let wrong = [
+        ("\"draw\":null", "\"draw\":0", "not a message: draw"),
+        (
+            "\"choices\":[17",
+            "\"choices\":[21",
+            "not a message: choices",
+        ),
+        ("\"level\":100", "\"level\":101", "not a message: species"),
+        ("\"log\":[", "\"log\":[99", "not a message: log"),
+        (
+            "\"own\":{",
+            "\"own\":{\"count\":1,",
+            "unknown field `count`",
+        ),
+    ];
+    for (from, to, said) in wrong {
+        assert!(text.contains(from), "{from} in {text}");
+        let fault = serde_json::from_str::<gen1::Message>(&text.replace(from, to)).unwrap_err();
+        assert!(fault.to_string().contains(said), "{fault}");
+    }
     let fault = serde_json::from_str::<gen1::Notice>(&text).unwrap_err();
-    assert!(fault.to_string().contains("the 520 bytes of a notice"));
+    assert!(fault.to_string().contains("unknown field `own`"));
     assert_eq!(
         serde_json::to_string(&battle.choices(Side::One).as_slice()).unwrap(),
         r#"["move 1","move 2"]"#

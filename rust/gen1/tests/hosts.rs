@@ -472,6 +472,76 @@ fn what_is_sent_is_bytes() {
     assert_eq!(Notice::from_bytes(&all).unwrap().to_bytes(), all);
 }
 
+/// What a side that comes back needs: its stored messages, from the first on.
+#[test]
+fn a_lost_player_is_that_of_all_messages() {
+    for seed in 0..20 {
+        let mut dice = Dice(3000 + seed);
+        let (one, two) = (dice.team(), dice.team());
+        let mut host = Host::new(Battle::new(&one, &two, dice.numbers()));
+        let (mut player, mut stored) = (Player::new(Side::Two, &two), Vec::new());
+        loop {
+            stored.push(host.message(Side::Two).to_bytes());
+            player.receive(&host.message(Side::Two)).unwrap();
+            if host.is_closed() {
+                break;
+            }
+            let number = host.number();
+            for side in Side::BOTH {
+                let choice = dice.choice(&host, side);
+                let _ = host.submit(side, number, choice, Some(dice.numbers()));
+            }
+        }
+        let mut again = Player::new(Side::Two, &two);
+        for bytes in &stored {
+            again.receive(&Message::from_bytes(bytes).unwrap()).unwrap();
+        }
+        assert_eq!(format!("{again:?}"), format!("{player:?}"));
+    }
+}
+
+/// The examples of docs/HOST.schema.json go in and come out, and the battle in README.md sends two of them.
+#[cfg(feature = "serde")]
+#[test]
+fn the_examples_of_the_schema() {
+    use serde_json::{Value, from_value, json};
+    let path = concat!(env!("CARGO_MANIFEST_DIR"), "/../../docs/HOST.schema.json");
+    let schema: Value = serde_json::from_str(&std::fs::read_to_string(path).unwrap()).unwrap();
+    let examples = |name: &str| {
+        schema["$defs"][name]["examples"]
+            .as_array()
+            .unwrap()
+            .clone()
+    };
+    for row in examples("row") {
+        assert_eq!(json!(from_value::<Row>(row.clone()).unwrap()), row);
+    }
+    let team = Team::new(&[member("Tauros", &["Strength"]).unwrap()]).unwrap();
+    let battle = Battle::new(&team, &team, [1, 36, 255, 7, 31, 100, 179, 254, 127, 10]);
+    let options = HostOptions {
+        exact_hp: true,
+        ..HostOptions::default()
+    };
+    let mut host = Host::with_options(battle, options);
+    for side in Side::BOTH {
+        host.submit(side, 0, Choice::MOVE_1, None).unwrap();
+    }
+    host.offer_draw(Side::Two).unwrap();
+    let (message, notice) = (host.message(Side::Two), host.notice());
+    let [first] = &examples("message")[..] else {
+        panic!("one message")
+    };
+    assert_eq!(json!(message), *first);
+    let again: Message = from_value(first.clone()).unwrap();
+    assert_eq!(again.to_bytes(), message.to_bytes());
+    let [first] = &examples("notice")[..] else {
+        panic!("one notice")
+    };
+    assert_eq!(json!(notice), *first);
+    let again: Notice = from_value(first.clone()).unwrap();
+    assert_eq!(again.to_bytes(), notice.to_bytes());
+}
+
 #[test]
 fn bytes_that_nobody_sends_are_refused() {
     let (host, _) = table(HostOptions::default());

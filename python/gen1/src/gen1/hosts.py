@@ -5,19 +5,20 @@
 from __future__ import annotations
 
 import os
+from collections.abc import Mapping
 from ctypes import byref
 from dataclasses import dataclass
 from struct import Struct
 from threading import RLock
-from typing import TYPE_CHECKING, Literal, TypeAlias
+from typing import TYPE_CHECKING, Any, Literal, TypeAlias
 
 from gen1 import _library
-from gen1._check import octets, seed_bytes, shown, truth, within
+from gen1._check import octets, seed_bytes, shown, ten_bytes, truth, within
 from gen1._structs import HostStruct, MessageStruct, NoticeStruct, RowStruct
 from gen1.battle import RESULTS, Battle, Result, SeedLike, battle_of
 from gen1.choices import Choice, Side, a_choice, a_side, not_offered
 from gen1.errors import BadArgument, BadType, HostRefused
-from gen1.messages import Message, Notice, message_of, notice_of
+from gen1.messages import Message, Notice, message_of, notice_of, record
 from gen1.names import HostRefusal, RowKind
 
 if TYPE_CHECKING:
@@ -28,6 +29,8 @@ Numbers: TypeAlias = SeedLike | Literal["fresh"] | None
 PAIRS = (1 << 32) - 1
 ROW_BYTES = 18
 _PACK = Struct("<4BI10s").pack
+_JSON_FIELDS = ("kind", "side", "number", "choice", "numbers")
+_JSON_KINDS = ("submit", "cancel", "expire", "draw", "forfeit")
 # The fields that a kind of row has besides its side.
 _USED = {
     RowKind.SUBMIT: ("number", "choice", "numbers"),
@@ -118,6 +121,31 @@ class Row:
         if bytes(row) != given:
             raise BadArgument(f"data is not a row: its fourth byte says whether it has numbers: {given.hex(' ')}")
         return row
+
+    def to_json(self) -> dict[str, Any]:
+        """The object that docs/HOST.schema.json describes, which `json.dumps`
+        takes: the same as in Rust and JavaScript. `from_json` is the way back.
+        """
+        numbers = None if self.numbers is None else list(self.numbers)
+        kind, side = _JSON_KINDS[self.kind - 1], int(self.side)
+        return {"kind": kind, "side": side, "number": self.number, "choice": self.choice, "numbers": numbers}
+
+    @classmethod
+    def from_json(cls, value: Mapping[str, Any]) -> Row:
+        """The row of an object that `to_json` returned. Raises `BadArgument`,
+        `BadType`.
+        """
+        given = record(value, "value", _JSON_FIELDS)
+        kind, numbers = given["kind"], given["numbers"]
+        if not isinstance(kind, str) or kind not in _JSON_KINDS:
+            raise BadArgument(f"value['kind'] must be one of {', '.join(_JSON_KINDS)}, not {shown(kind)}")
+        return cls(
+            RowKind(_JSON_KINDS.index(kind) + 1),
+            Side(a_side(given["side"])),
+            _pair(given["number"]),
+            within(given["choice"], "value['choice']", 0, 255),
+            None if numbers is None else ten_bytes(numbers),
+        )
 
     def __bytes__(self) -> bytes:
         has_numbers = self.numbers is not None

@@ -4,12 +4,13 @@
 
 from __future__ import annotations
 
-from ctypes import sizeof
+from collections.abc import Iterable, Mapping, Sequence
+from ctypes import Array, Structure, sizeof
 from typing import TYPE_CHECKING, Any
 
-from gen1._check import octets, shown
-from gen1._structs import LOG_ROOM, MessageStruct, NoticeStruct
-from gen1.choices import Choice, Side
+from gen1._check import octets, shown, within
+from gen1._structs import LOG_ROOM, MessageStruct, NoticeStruct, OwnSideStruct
+from gen1.choices import Choice, Side, a_side
 from gen1.errors import BadArgument, BadLog, BadType
 from gen1.events import Event, events
 from gen1.names import Outcome
@@ -50,6 +51,15 @@ class _Sent:
     def draw(self) -> Side | None:
         """The side that offers a draw, or None."""
         return Side(self._held.draw) if self._held.draw else None
+
+    def to_json(self) -> dict[str, Any]:
+        """The object that docs/HOST.schema.json describes, which `json.dumps`
+        takes: the same as in Rust and JavaScript. `from_json` is the way back.
+        """
+        return {"number": self.number, "log": list(self.log), **self._fields(), "draw": self._held.draw or None}
+
+    def _fields(self) -> dict[str, Any]:
+        raise NotImplementedError
 
     def __bytes__(self) -> bytes:
         return bytes(memoryview(self._held))
@@ -114,6 +124,26 @@ class Message(_Sent):
             raise BadArgument(f"data is not a message: its mask of choices is {held.offered}")
         return message_of(held)
 
+    def _fields(self) -> dict[str, Any]:
+        own = _object(self._held.own)
+        own["members"] = own["members"][: own.pop("count")]
+        return {"own": own, "choices": [int(it) for it in self.choices]}
+
+    @classmethod
+    def from_json(cls, value: Mapping[str, Any]) -> Message:
+        """The message of an object that `to_json` returned. Raises
+        `BadArgument`, `BadType`.
+        """
+        held, given = _sent(MessageStruct, value, ("own", "choices"))
+        own = record(given["own"], "value['own']", [it for it in _names(OwnSideStruct) if it != "count"])
+        count = len(_items(own["members"], "value['own']['members']"))
+        _fill(held.own, {**own, "count": min(count, 255)}, "value['own']")
+        for at, it in enumerate(_items(given["choices"], "value['choices']")):
+            if within(it, f"value['choices'][{at}]", 0, 255) not in _CHOICES:
+                raise BadArgument(f"value['choices'][{at}] must be the byte of a choice, not {it}")
+            held.offered |= 1 << _CHOICES.index(it)
+        return cls.from_bytes(bytes(held))
+
     def __repr__(self) -> str:
         return f"<Message, pair {self.number}, {self.outcome.label}>"
 
@@ -145,6 +175,18 @@ class Notice(_Sent):
             raise BadArgument(f"data is not a notice: outcome must be 0 to {max(Outcome):d}, not {held.outcome}")
         return notice_of(held)
 
+    def _fields(self) -> dict[str, Any]:
+        return {"outcome": self._held.outcome}
+
+    @classmethod
+    def from_json(cls, value: Mapping[str, Any]) -> Notice:
+        """The notice of an object that `to_json` returned. Raises
+        `BadArgument`, `BadType`.
+        """
+        held, given = _sent(NoticeStruct, value, ("outcome",))
+        held.outcome = within(given["outcome"], "value['outcome']", 0, int(max(Outcome)))
+        return cls.from_bytes(bytes(held))
+
     def __repr__(self) -> str:
         return f"<Notice, pair {self.number}, {self.outcome.label}>"
 
@@ -164,6 +206,64 @@ def _struct(data: ReadableBuffer, kind: Any) -> Any:
     except BadLog as fault:
         raise BadArgument(f"data is not a {name}: its log is {fault}") from None
     return held
+
+
+def record(value: object, what: str, names: Iterable[str]) -> Mapping[str, Any]:
+    """The value, which must be a mapping with exactly these names."""
+    if not isinstance(value, Mapping):
+        raise BadType(f"{what} must be a dict, not {shown(value)}")
+    if set(value) != set(names):
+        raise BadArgument(f"{what} must have the keys {', '.join(names)}, not {', '.join(map(str, value))}")
+    return value
+
+
+def _items(value: object, what: str) -> Sequence[Any]:
+    if not isinstance(value, (list, tuple)):
+        raise BadType(f"{what} must be a list, not {shown(value)}")
+    return value
+
+
+def _names(kind: type[Structure]) -> list[str]:
+    """The fields of a struct that have information."""
+    return [field[0] for field in kind._fields_ if field[0] != "unused"]
+
+
+def _object(held: Any) -> Any:
+    """A struct, array or number as JSON."""
+    if isinstance(held, Structure):
+        return {name: _object(getattr(held, name)) for name in _names(type(held))}
+    return [_object(it) for it in held] if isinstance(held, Array) else held
+
+
+def _fill(held: Any, value: object, what: str) -> None:
+    """Writes an object that `_object` returned to a struct; a list of structs may have fewer of them."""
+    given = record(value, what, _names(type(held)))
+    for name, kind in [field[:2] for field in held._fields_ if field[0] != "unused"]:
+        path, field = f"{what}[{name!r}]", getattr(held, name)
+        if not isinstance(field, Array):
+            setattr(held, name, within(given[name], path, 0, 256 ** sizeof(kind) - 1))
+            continue
+        items, most = _items(given[name], path), 256 ** sizeof(field._type_) - 1
+        if len(items) > len(field) or (len(items) < len(field) and not issubclass(field._type_, Structure)):
+            raise BadArgument(f"{path} must have {len(field)} items, not {len(items)}")
+        for at, it in enumerate(items):
+            if issubclass(field._type_, Structure):
+                _fill(field[at], it, f"{path}[{at}]")
+            else:
+                field[at] = within(it, f"{path}[{at}]", 0, most)
+
+
+def _sent(kind: Any, value: object, more: tuple[str, ...]) -> tuple[Any, Mapping[str, Any]]:
+    """A struct with the number, the log and the draw of its JSON, and the JSON, which also has these fields."""
+    given, held = record(value, "value", ("number", "log", *more, "draw")), kind()
+    held.number = within(given["number"], "value['number']", 0, (1 << 32) - 1)
+    log = _items(given["log"], "value['log']")
+    if len(log) > LOG_ROOM:
+        raise BadArgument(f"value['log'] must have at most {LOG_ROOM} bytes")
+    held.log_length = len(log)
+    held.log[: len(log)] = [within(it, f"value['log'][{at}]", 0, 255) for at, it in enumerate(log)]
+    held.draw = 0 if given["draw"] is None else a_side(given["draw"])
+    return held, given
 
 
 def message_of(held: MessageStruct) -> Message:
