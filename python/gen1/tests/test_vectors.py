@@ -21,6 +21,7 @@ from gen1 import (  # noqa: E402
 )
 from gen1.arrays import CHOICES  # noqa: E402
 from gen1.encodings import COLUMNS  # noqa: E402
+from gen1.environments import DEFAULT_TEAM  # noqa: E402
 from gen1.opponents import worths  # noqa: E402
 from gen1.player_arrays import PlayerArray  # noqa: E402
 from gen1.spaces import AutoresetMode, mode_of  # noqa: E402
@@ -56,11 +57,10 @@ def test_the_spaces():
 @pytest.mark.parametrize("opponent", ["random", "greedy", lambda observations, masks: masks.argmax(1)])
 def test_steps(mode, opponent):
     """Types and shapes of what a step returns, what follows an end in each mode, and that a seed gives the same again."""
-    n, env, again = (
-        20,
-        VectorEnv(20, opponent=opponent, autoreset=mode),
-        VectorEnv(20, opponent=opponent, autoreset=mode, threads=3),
-    )
+    # Three members a side, so that many battles end.
+    n, teams = 20, {"one": DEFAULT_TEAM[:3], "two": DEFAULT_TEAM[:3]}
+    env = VectorEnv(n, **teams, opponent=opponent, autoreset=mode)
+    again = VectorEnv(n, **teams, opponent=opponent, autoreset=mode, threads=3)
     dice = np.random.default_rng(1)
     observations, infos = env.reset(seed=7)
     assert np.array_equal(observations, again.reset(seed=7)[0])

@@ -14,8 +14,8 @@ from gen1.encodings import Encoding, Rows
 from gen1.errors import BadArgument, BadType, Refused, ResetNeeded
 from gen1.names import Refusal, Species
 from gen1.player_arrays import PlayerArray, Start, start_of
+from gen1.samples import sample_teams
 from gen1.spaces import AutoresetMode
-from gen1.teams import Member
 
 Truths: TypeAlias = NDArray[np.bool_]
 # A team, or a function of a generator that returns the team of the next battle.
@@ -24,11 +24,7 @@ TeamSource: TypeAlias = TeamLike | Callable[[np.random.Generator], TeamLike]
 TeamSources: TypeAlias = tuple[TeamSource | None, TeamSource | None]
 
 BEFORE = "call reset() before step(): no battle has begun"
-DEFAULT_TEAM = (
-    Member("Starmie", ["Surf", "Thunderbolt", "Thunder Wave", "Recover"]),
-    Member("Snorlax", ["Body Slam", "Reflect", "Rest", "Ice Beam"]),
-    Member("Tauros", ["Body Slam", "Hyper Beam", "Blizzard", "Earthquake"]),
-)
+DEFAULT_TEAM = sample_teams()["starmie_lead"].members
 
 
 @dataclass(frozen=True)

@@ -185,7 +185,7 @@ class BattleEnv(_Environment, _Base):  # type: ignore[misc, valid-type]
 
     `one` and `two` are teams, or functions of a numpy generator, such as
     `random_team`, that return the team for each new battle; None is
-    `environments.DEFAULT_TEAM`, three members. `opponent` is "random",
+    `environments.DEFAULT_TEAM`, six members. `opponent` is "random",
     "greedy" or a function of observations, (1, columns), and action masks,
     (1, 12), as in `VectorEnv`; it sees what the player of side 2 knows.
     `observations` is "player", or an `Encoding`.

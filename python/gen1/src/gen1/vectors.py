@@ -112,7 +112,7 @@ class VectorEnv(_Vector, _Base):  # type: ignore[misc, valid-type]
 
     `one` and `two` are teams, or functions of a numpy generator, such as
     `random_team`, that return the team for each new battle; None is
-    `environments.DEFAULT_TEAM`, three members. `autoreset` is one of
+    `environments.DEFAULT_TEAM`, six members. `autoreset` is one of
     Gymnasium's modes, or its name: "next_step", "same_step", "disabled"
     (`AutoresetMode`). With "same_step" the infos of a step that ended
     battles have `final_obs` (also as `final_observation`, its older name),
