@@ -33,6 +33,14 @@ pub mod ToldPublic
 -- What is public of members agrees with the battle.
 pub mod Appearing
 pub mod Members
+-- What is public of what members do agrees with the battle.
+pub mod Deeds
+pub mod DeedStory
+pub mod DeedGate
+pub mod DeedActs
+pub mod DeedMoves
+pub mod DeedTurns
+pub mod DeedRuns
 -- Worked examples.
 pub mod WorkedPlayers
 -- The player in two battles that give a side the same.

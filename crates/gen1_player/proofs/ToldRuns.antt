@@ -51,7 +51,7 @@ offered-fits n s f place z h = by (is_over f.outcome) h
     by true e = absurd (false≢true e)
     by false e = switch-fits n s f place (request_of s f) z e
 
-choice-fits : (n : Sizes) (s : Side) (f : Field) (c : Choice) → Sized n f → is_among c (offered s f) ≡ true → ChoiceFits n s c
+pub choice-fits : (n : Sizes) (s : Side) (f : Field) (c : Choice) → Sized n f → is_among c (offered s f) ≡ true → ChoiceFits n s c
 choice-fits n s f (choices.Switch place) z h = offered-fits n s f place z h
 choice-fits n s f (choices.Move k) z h = tt
 choice-fits n s f choices.Pass z h = tt

@@ -1,6 +1,7 @@
 -- What holds of all that a log makes public, after any run of a battle from its start, and of what a player holds of it.
-use Rattle.std.specs.Prelude.{All, List, None, [], if◌then◌else◌, is_some, map, replicate, true, ℕ, ◌+◌, ◌-◌, ◌==◌, ◌≡◌, ◌≢◌, ◌⊎◌, ◌∷◌}
+use Rattle.std.specs.Prelude.{All, Bool, List, None, [], false, if◌then◌else◌, is_some, map, replicate, true, ℕ, ◌+◌, ◌-◌, ◌==◌, ◌≡◌, ◌≢◌, ◌⊎◌, ◌∷◌}
 use Rattle.std.specs.List.{flat_map}
+use Rattle.gen1_tables.specs.Effects.{bides}
 use Rattle.gen1_tables.specs.Moves.{struggle}
 use Rattle.gen1_tables.specs.Types.{any, number_of}
 use Rattle.gen1_stats.specs.declared.known_move.KnownMove.{KnownMove}
@@ -9,13 +10,19 @@ use Rattle.gen1_machine.specs.declared.choice.Choice.{Choice}
 use Rattle.gen1_machine.specs.declared.event.Event.{Event}
 use Rattle.gen1_machine.specs.declared.side.Side.{Side}
 use Rattle.gen1_machine.specs.declared.side.Side.TheVariants.{One, Two}
+use Rattle.gen1_rolls.specs.Streams.{IsStream, Link}
+use Rattle.gen1_machine.specs.declared.terms.Outcome.{Outcome}
+use Rattle.gen1_machine.specs.declared.terms.Outcome.TheVariants as outcomes
 use Rattle.gen1_machine.specs.Layout.{outcome_byte}
 use Rattle.gen1_machine.specs.LogBytes.{kind_or_0}
+use Rattle.gen1_machine.specs.Moves.{move_at}
 use Rattle.gen1_machine.specs.Numbers.{side_number}
+use Rattle.gen1_machine.specs.Picks.{number_in}
 use Rattle.gen1_machine.specs.Rules.{bit_of}
 use Rattle.gen1_machine.specs.Sides.{other}
 use Rattle.gen1_machine.specs.State.{first_state, member_at, Field, Party, Terms}
 use Rattle.gen1_machine.specs.Step.{events_of, run, Ran}
+use Rattle.gen1_machine.specs.Valid.{IsTerms}
 use Rattle.gen1_machine.specs.View.{first_view, sees_all, shown_at, shows, Shown, SideView, View}
 use Rattle.gen1_player.specs.declared.public.Public.{Public}
 use Rattle.gen1_player.specs.declared.public_side.PublicSide.{PublicSide}
@@ -89,6 +96,34 @@ IsTold p f = SideIsTold p.one f.one × SideIsTold p.two f.two
 
 abbrev pub ConditionsAgree : Type 0
 ConditionsAgree = OfRuns λ one two r. IsTold (public_of r) r.state.field
+
+-- What active members do
+
+-- The number of the current move, 0 for none.
+abbrev pub current_move_of : Party → ℕ
+current_move_of t = number_in t.active.current_move (member_at t.active.place t).moves
+
+-- Bide, charging and bad poison are announced exactly if they are on. A member that is announced as invulnerable is so. The last move is
+-- the current one; only Bide is not seen as it is used.
+pub record SideDoes (x : PublicSide) (t : Party) : Type 0 where
+  pub bide : x.announced.bide ≡ bit_of (is_some t.active.conditions.underway.bide)
+  pub charging : x.announced.charging ≡ bit_of t.active.conditions.underway.charging
+  pub toxic : x.announced.toxic ≡ bit_of (is_some t.active.conditions.bad_poison)
+  pub invulnerable : x.invulnerable ≢ 0 → t.active.conditions.invulnerable ≡ true
+  pub last_move : bides (move_at (current_move_of t)).effect ≡ false → x.last_move ≡ current_move_of t
+
+abbrev pub is_fault : Outcome → Bool
+is_fault (outcomes.Fault n) = true
+is_fault _ = false
+
+-- A fault may come between a change and its event. It ends the battle.
+abbrev pub DoesOrFaults : Ran → Type 0
+DoesOrFaults r = is_fault r.state.field.outcome ≡ false → SideDoes (public_of r).one r.state.field.one × SideDoes (public_of r).two r.state.field.two
+
+-- Of any battle with valid terms and seed bytes.
+abbrev pub DeedsAgree : Type 0
+DeedsAgree = (t : Terms) (one two : List Member) (seed : List ℕ) (pairs : List (Choice × Choice))
+    → IsTerms t → IsStream (Link seed) → IsTeam one → IsTeam two → DoesOrFaults (run (first_state t one two seed) pairs)
 
 -- Members that have appeared
 

@@ -1,5 +1,5 @@
 //! What holds of all that a log makes public (docs/MECHANICS.md, "Player's view"), as functions that do nothing.
-ghost use Rattle.gen1_player.specs.True.{ConditionsAgree, MembersAgree, PlayersHoldThePublic, PublicAgrees, PublicAgreesWithView};
+ghost use Rattle.gen1_player.specs.True.{ConditionsAgree, DeedsAgree, MembersAgree, PlayersHoldThePublic, PublicAgrees, PublicAgreesWithView};
 
 /// After any run of a battle of two teams from its start, what its log made public agrees with the battle: active places, stages,
 /// Substitute, confusion, screens, turn, outcome, and HP and kind of status of each member that has appeared.
@@ -25,4 +25,10 @@ pub fn conditions_agree()
 /// of the member at its place, and it was seen to prepare or use its own moves or Struggle. So is the last move of the active member.
 pub fn members_agree()
     ensures { MembersAgree }
+{}
+
+/// After any run from the start that has not ended in a fault, Bide, charging and bad poison are announced exactly if they are on. A
+/// member that is announced as invulnerable is so. The last move is the current one, unless that is Bide.
+pub fn deeds_agree()
+    ensures { DeedsAgree }
 {}

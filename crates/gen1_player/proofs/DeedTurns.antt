@@ -1,0 +1,497 @@
+-- What active members do, through a turn.
+use Rattle.std.proofs.Common.{[], Bool, List, ap, arith, false, if◌then◌else◌, inl, inr, is_some, length, nat_le, not, refl, subst, suc, sym, true, true≢false, zero, ℕ, ◌&&◌, ◌+◌, ◌++◌, ◌∙◌, ◌∷◌, ◌≡◌, ◌≤◌, ◌⊎◌, ◌||◌}
+use Rattle.std.proofs.lemmas.Bool.{le-leb}
+use Rattle.gen1_tables.specs.declared.effect.Effect.{Effect}
+use Rattle.gen1_tables.specs.declared.effect.Effect.TheVariants as effects
+use Rattle.gen1_rolls.specs.Streams.{byte_at, Stream}
+use Rattle.gen1_stats.specs.declared.status.Status.{Status}
+use Rattle.gen1_stats.specs.declared.status.Status.TheVariants.{Burned, Poisoned}
+use Rattle.gen1_stats.specs.Members.{is_living, sleeps_or_freezes}
+use Rattle.gen1_machine.specs.declared.side.Side.{Side}
+use Rattle.gen1_machine.specs.declared.side.Side.TheVariants.{One, Two}
+use Rattle.gen1_machine.specs.declared.choice.Choice.{Choice}
+use Rattle.gen1_machine.specs.declared.choice.Choice.TheVariants as choices
+use Rattle.gen1_machine.specs.declared.terms.Outcome.{Outcome}
+use Rattle.gen1_machine.specs.declared.terms.Outcome.TheVariants as outcomes
+use Rattle.gen1_machine.specs.declared.event.DamageSource.{DamageSource}
+use Rattle.gen1_machine.specs.declared.event.DamageSource.TheVariants as sources
+use Rattle.gen1_machine.specs.declared.event.Event.{Event}
+use Rattle.gen1_machine.specs.declared.event.Event.TheVariants as events
+use Rattle.gen1_machine.specs.declared.picks.Pick.{Pick}
+use Rattle.gen1_machine.specs.declared.picks.Pick.TheVariants.{Continue, Held, Idle, Use}
+use Rattle.gen1_machine.specs.declared.picks.UsedMove.{UsedMove}
+use Rattle.gen1_machine.specs.declared.picks.UsedMove.TheVariants.{Struggle}
+use Rattle.gen1_machine.specs.Health.{Health}
+use Rattle.gen1_machine.specs.Picks.{must_continue, number_in, pick_in}
+use Rattle.gen1_machine.specs.Sides.{other}
+use Rattle.gen1_machine.specs.Conditions.{with_worse_poison, without_flinch, without_trapping, ActiveConditions, Underway}
+use Rattle.gen1_machine.specs.State.{active_in, changed_active, changed_conditions, changed_member, healed_by, health_in, hurt_by, is_over, member_at, member_in, party, status_in, underway_in, who_in, with_picked_move, Field, Party, Terms}
+use Rattle.gen1_machine.specs.Progress.{draw, gain_hp, given, has_fallen, lose_hp, on_action, on_active, on_conditions, Action, Phase, Progress}
+use Rattle.gen1_machine.specs.ResidualDamage.{drained_by, residual, suffer, suffer_seed, suffer_status, worsen}
+use Rattle.gen1_machine.specs.Ruling.{ruling_of}
+use Rattle.gen1_machine.specs.Action.{begin}
+use Rattle.gen1_machine.specs.SwitchingIn.{switch_event, with_sent_out}
+use Rattle.gen1_machine.specs.TurnOrder.{in_order, in_order_of_rank, in_order_of_speed, toss}
+use Rattle.gen1_machine.specs.Turn.{both_act, both_pick, both_switch, do_part, do_parts, end_spent_trapping, end_turn, is_cut, of_side, one_picks, play_turn, set_picked, switch_then_act, turn, Acts, Part, Sends, Suffers}
+use Rattle.gen1_machine.specs.Valid.{effect_of, IsUnderway}
+use Rattle.gen1_machine.specs.Plans.{with_plan, Any, Doing, FitsPick, InRange, IsPlanned, Plan, PlanOf, Plans}
+use Rattle.gen1_machine.proofs.Keeps.{on_conditions-keeps, Keeps}
+use Rattle.gen1_machine.proofs.Leads as steps
+use Rattle.gen1_machine.proofs.Tame.{without_flinch-tame}
+use Rattle.gen1_machine.proofs.Sound.{party-valid, planned-sound, replanned, with_plan-is}
+use Rattle.gen1_machine.proofs.SoundWalk.{conditions-spared}
+use Rattle.gen1_machine.proofs.Acts.{begin-keeps}
+use Rattle.gen1_machine.proofs.Fitting.{free-plain, Fits}
+use Rattle.gen1_machine.proofs.ValidTurns.{act_part, both-plan_of, both-planned, both_plan, send_part, set_picked-keeps, suffers_part, with_plan-other, Sure}
+use Rattle.gen1_machine.proofs.Watching.{after-leads, before-leads, choose-tells, given-tells, stay-tells, ◌⊳◌, Lands, Leads, Rests, Runs}
+use Rattle.gen1_machine.proofs.Watching as watching
+use Rattle.gen1_player.specs.declared.public.Public.{Public}
+use Rattle.gen1_player.specs.declared.public_side.PublicSide.{PublicSide}
+use Rattle.gen1_player.specs.Public.{comes_out, on_public_side, settled, settled_by, takes_in}
+use Rattle.gen1_player.specs.True.{is_fault}
+use Rattle.gen1_player.proofs.Facts.{followed, fresh, is_dull, is_own_damage, sent, sent-standing, side_out, standing, worse-calm, Sizes, Standing}
+use Rattle.gen1_player.proofs.Facts as facts
+use Rattle.gen1_player.proofs.Stories.{begun-active, begun-member, Begun, MayFall, Now, Switching}
+use Rattle.gen1_player.proofs.HeardSides.{switch-hears}
+use Rattle.gen1_player.proofs.ToldActions.{begin-tells}
+use Rattle.gen1_player.proofs.ToldTurns.{fits-now, or-left, or-right, residual-tells, send_out-tells, ChoiceFits}
+use Rattle.gen1_player.proofs.Deeds.{calm-bland, core, deeds_of, does-conditions, even-conditions, even-member, with_active, Bland, Does, Even}
+use Rattle.gen1_player.proofs.DeedStory.{deeding, even-before, quiet-settled, tale-active, tale-conditions, tells-next, told_by, Tale}
+use Rattle.gen1_player.proofs.DeedGate.{at-conditions, at-field, at-told, at-weak, dull-tale, opens-past, tale-opens, tale-past, In, Nothing_more, Opens, Over, Past}
+use Rattle.gen1_player.proofs.DeedActs.{nothing-lasts, rests-leads, with-keeps, IdleIsQuiet}
+use Rattle.gen1_player.proofs.DeedMoves.{act-deeds, plain_story}
+
+-- A member comes out
+
+and-true : (a b : Bool) → a ≡ true → b ≡ true → (a && b) ≡ true
+and-true a b e h = ap (λ (x : Bool). x && b) e ∙ h
+
+out-if : (c : Bool) (x y : PublicSide) → c ≡ true → (if c then x else y) ≡ x
+out-if c x y e = ap (λ (d : Bool). if d then x else y) e
+
+comes-is : (species place level : ℕ) (h : Health) (x : PublicSide) → 1 ≤ place → place ≤ 6 → comes_out species place level h x ≡ side_out species place level h x
+comes-is species place level h x low high = out-if (nat_le 1 place && nat_le place 6) (side_out species place level h x) x (and-true (nat_le 1 place) (nat_le place 6) (le-leb 1 place low) (le-leb place 6 high))
+
+does-sent : (species place level : ℕ) (h : Health) (x : PublicSide) (t : Party) → 1 ≤ place → place ≤ length t.members → Does x t
+    → Does (comes_out species place level h x) (with_active (with_sent_out place (member_at place t) t.active) t)
+does-sent species place level h x t low high m =
+    let e : standing (with_sent_out place (member_at place t) t.active) ≡ standing (fresh place (member_at place t)) = sent-standing place (member_at place t) t.active in
+    subst (λ (y : PublicSide). Does y (with_active (with_sent_out place (member_at place t) t.active) t)) (sym (comes-is species place level h x low (omega (arith, high, m.few)))) (record {
+      same = sym (ap (λ (a : Standing). deeds_of a.place (core a.conditions)) e);
+      reach = λ i. absurd (i refl);
+      last = λ c. sym (ap (λ (a : Standing). number_in a.current_move (member_at a.place t).moves) e);
+      few = m.few;
+    })
+
+trapping-bland : Bland without_trapping
+unfolding without_trapping
+trapping-bland c = refl
+
+pending-side : (s : Side) (h : PublicSide → PublicSide) (p : Public) → (on_public_side s h p).may_hit_itself ≡ p.may_hit_itself
+pending-side One h p = refl
+pending-side Two h p = refl
+
+even-sent : (s : Side) (place : ℕ) (f : Field) (p : Public) (species level : ℕ) (h : Health) → 1 ≤ place → place ≤ length (party s f).members → Even f p
+    → Even (sent s place f) (on_public_side s (comes_out species place level h) p)
+unfolding changed_active changed_conditions
+even-sent One place f p species level h low high m = record {
+  one = does-sent species place level h p.one f.one low high m.one;
+  two = does-conditions without_trapping trapping-bland p.two f.two m.two;
+}
+even-sent Two place f p species level h low high m = record {
+  one = does-conditions without_trapping trapping-bland p.one f.one m.one;
+  two = does-sent species place level h p.two f.two low high m.two;
+}
+
+tale-sent : (s : Side) (place : ℕ) (f : Field) (es : List Event) → 1 ≤ place → place ≤ length (party s f).members → Tale Nothing_more f es
+    → Tale Nothing_more (sent s place f) (es ++ switch_event s place (sent s place f) ∷ [])
+tale-sent s place f es low high m =
+    let g : Field = sent s place f in
+    let e : Event = switch_event s place g in
+    let q : Public = settled e (told_by es) in
+    let h : PublicSide → PublicSide = comes_out (who_in s g).species place (member_in s g).level (health_in s g) in
+    let is : takes_in e q ≡ on_public_side s h q = switch-hears (who_in s g) place (member_in s g).level (health_in s g) q in
+    tells-next Nothing_more g es e
+    (subst (Even g) (sym is) (even-sent s place f q (who_in s g).species (member_in s g).level (health_in s g) low high (even-before e f (told_by es) m.quiet m.even)))
+    (subst (λ (p : Public). p.may_hit_itself ≡ 0) (sym is) (pending-side s h q ∙ quiet-settled e (told_by es))) tt
+
+pub plain-switches : Switching plain_story
+unfolding deeding
+plain-switches = record {
+  sends = λ s place f es low high m. tale-sent s place f es low high m;
+  loose_sends = λ s place f es low high m. tale-sent s place f es low high m;
+}
+
+-- Two facts at once
+
+with-leads : {P Q S : Progress → Type 0} {K L : Field → Action → Stream → Type 0} {f : Phase} → Leads P Q S f → steps.Leads K L f
+    → Leads (λ p. P p × K p.field p.action p.stream) (λ p. Q p × L p.field p.action p.stream) S f
+with-leads {P} {Q} {S} {K} {L} {f} h k = record { leads = λ p r m. both (f p) (h.leads p r m.0) (k.led p m.1) }
+  where
+    both : (q : Progress) → Lands Q S q → L q.field q.action q.stream → Lands (λ p. Q p × L p.field p.action p.stream) S q
+    both q (Runs r x) y = Runs r (x, y)
+    both q (Rests r x) y = Rests r x
+
+-- The second fact is a premise of the first.
+joined-leads : {P Q S : Progress → Type 0} {K L : Field → Action → Stream → Type 0} {f : Phase} → Leads (λ p. P p × K p.field p.action p.stream) Q S f → steps.Leads K L f
+    → Leads (λ p. P p × K p.field p.action p.stream) (λ p. Q p × L p.field p.action p.stream) S f
+joined-leads {P} {Q} {S} {K} {L} {f} h k = record { leads = λ p r m. both (f p) (h.leads p r m) (k.led p m.1) }
+  where
+    both : (q : Progress) → Lands Q S q → L q.field q.action q.stream → Lands (λ p. Q p × L p.field p.action p.stream) S q
+    both q (Runs r x) y = Runs r (x, y)
+    both q (Rests r x) y = Rests r x
+
+-- Residual damage after an act
+
+past-conditions : (b : Bool) (u s : Side) (change : ActiveConditions → ActiveConditions) → Bland change → (f : Field) (es : List Event) → Past b u f es → Past b u (changed_conditions s change f) es
+past-conditions b u s change h f es m = record { even = even-conditions s change h f _ m.even; first = m.first }
+
+module _ {n : Sizes} {pre : List Event} {S : Progress → Type 0} (b : Bool) (u : Side) where
+  past-loses : (s : Side) (source : DamageSource) → is_own_damage source ≡ false → (amount : ℕ) → Leads (In n pre (Past b u)) (In n pre (Past b u)) S (lose_hp s source amount)
+  unfolding lose_hp hurt_by
+  past-loses s source e amount = choose-tells _ (at-told (changed_member s (hurt_by amount)) (λ f. events.Damage (who_in s f) (health_in s f) source) (begun-member s (hurt_by amount))
+      (λ f es o m. tale-past b u _ _ (dull-tale 0 _ es _ refl (ap not e) (even-member s (hurt_by amount) (λ k. refl) f _ m.even)))) stay-tells
+
+  past-gains : (s : Side) (amount : ℕ) → Leads (In n pre (Past b u)) (In n pre (Past b u)) S (gain_hp s amount)
+  unfolding gain_hp healed_by
+  past-gains s amount = choose-tells _ (at-told (changed_member s (healed_by amount)) (λ f. events.Heal (who_in s f) (health_in s f)) (begun-member s (healed_by amount))
+      (λ f es o m. tale-past b u _ _ (dull-tale 0 _ es _ refl refl (even-member s (healed_by amount) (λ k. refl) f _ m.even)))) stay-tells
+
+  past-worsens : (s : Side) → Leads (In n pre (Past b u)) (In n pre (Past b u)) S (worsen s)
+  unfolding worsen
+  past-worsens s = at-conditions s with_worse_poison (λ f es o m. past-conditions b u s with_worse_poison (calm-bland with_worse_poison worse-calm) f es m)
+
+  past-suffers : (s : Side) (status : Status) → Leads (In n pre (Past b u)) (In n pre (Past b u)) S (suffer_status s status)
+  unfolding suffer_status suffer
+  past-suffers s Poisoned = past-worsens s ⊳ given-tells _ (past-loses s sources.Poison refl)
+  past-suffers s Burned = past-worsens s ⊳ given-tells _ (past-loses s sources.Burn refl)
+  past-suffers s _ = stay-tells
+
+  past-residual : (s : Side) → Leads (In n pre (Past b u)) (In n pre (Past b u)) S (residual s)
+  unfolding residual suffer_seed drained_by
+  past-residual s = choose-tells _ (given-tells _ (past-suffers s)
+      ⊳ choose-tells _ (past-worsens s ⊳ given-tells _ (λ amount. past-loses s sources.LeechSeed refl amount ⊳ past-gains (other s) amount)) stay-tells) stay-tells
+
+-- The end of a turn
+
+abbrev pub Settling : Field → List Event → Type 0
+Settling f es = Even f (settled_by 0 (told_by es)) ⊎ (is_fault f.outcome ≡ true)
+
+over-settling : (b : Bool) (s : Side) (f : Field) (es : List Event) → Over b s f es → Settling f es
+over-settling b s f es (inl m) = inl m.even
+over-settling b s f es (inr m) = inr m
+
+past-settling : (b : Bool) (s : Side) (f : Field) (es : List Event) → Past b s f es → Settling f es
+past-settling b s f es m = inl m.even
+
+pub now-settling : {n : Sizes} {pre : List Event} (p : Progress) → Now plain_story n pre p → In n pre Settling p
+unfolding deeding
+now-settling p m = record { begun = m.begun; is = inl (tale-past false One p.field _ m.exact).even }
+
+pub may-settling : {n : Sizes} {pre : List Event} (p : Progress) → MayFall plain_story n pre p → In n pre Settling p
+unfolding deeding
+may-settling p m = record { begun = m.begun; is = inl (tale-past false One p.field _ m.loose).even }
+
+faults-over : (o : Outcome) → is_over o ≡ false → is_fault o ≡ true → ⊥
+faults-over (outcomes.Fault k) e h = true≢false e
+faults-over outcomes.Ongoing e h = true≢false (sym h)
+faults-over outcomes.WinOne e h = true≢false (sym h)
+faults-over outcomes.WinTwo e h = true≢false (sym h)
+faults-over outcomes.Tie e h = true≢false (sym h)
+
+uncut-over : (p : Progress) → is_cut p ≡ false → is_over p.field.outcome ≡ false
+uncut-over p e = or-right (has_fallen One p || has_fallen Two p) (is_over p.field.outcome) e
+
+not-false : (c : Bool) → not c ≡ false → c ≡ true
+not-false true e = refl
+not-false false e = absurd (true≢false e)
+
+uncut-lives : (s : Side) (p : Progress) → is_cut p ≡ false → is_living (member_in s p.field) ≡ true
+uncut-lives One p e = not-false _ (or-left (has_fallen One p) (has_fallen Two p) (or-left (has_fallen One p || has_fallen Two p) (is_over p.field.outcome) e))
+uncut-lives Two p e = not-false _ (or-right (has_fallen One p) (has_fallen Two p) (or-left (has_fallen One p || has_fallen Two p) (is_over p.field.outcome) e))
+
+uncut-past : {n : Sizes} {pre : List Event} (b : Bool) (s : Side) (p : Progress) → is_cut p ≡ false → In n pre (Over b s) p → In n pre (Past b s) p
+uncut-past {n} {pre} b s p e m = record { begun = m.begun; is = by m.is }
+  where
+    by : Over b s p.field (pre ++ p.events) → Past b s p.field (pre ++ p.events)
+    by (inl k) = k
+    by (inr k) = absurd (faults-over p.field.outcome (uncut-over p e) k)
+
+-- The other side's act follows.
+next-opens : {n : Sizes} {pre : List Event} (s : Side) (p : Progress) → is_cut p ≡ false → In n pre (Past true s) p → In n pre (Opens false (other s)) p
+next-opens s p e m = record { begun = m.begun; is = record { even = m.is.even; free = m.is.first refl; first = λ h. absurd (true≢false (sym h)); lives = uncut-lives (other s) p e } }
+
+now-opens : {n : Sizes} {pre : List Event} (b : Bool) (s : Side) (p : Progress) → is_living (member_in s p.field) ≡ true → Now plain_story n pre p → In n pre (Opens b s) p
+unfolding deeding
+now-opens b s p l m = record { begun = m.begun; is = tale-opens b s p.field _ l m.exact }
+
+-- The parts of a turn
+
+abbrev Ends : Sizes → List Event → Progress → Type 0
+Ends n pre = In n pre Settling
+
+abbrev Planned : Terms → (Side → Plan) → Progress → Type 0
+Planned t plan p = IsPlanned t plan p.field p.action p.stream
+
+module _ (t : Terms) {n : Sizes} {pre : List Event} where
+  begin-in : {K : Field → List Event → Type 0} {S : Progress → Type 0} (s : Side) → Leads (In n pre K) (In n pre K) S (begin s)
+  unfolding begin on_action
+  begin-in s = record { leads = λ p r m. Runs r m }
+
+  acts-part : (plan : Side → Plan) (b : Bool) (s : Side) (pick : Pick) → FitsPick pick (plan s) → IdleIsQuiet pick (plan s)
+      → Leads (λ p. In n pre (Opens b s) p × Planned t plan p) (In n pre (Over b s)) (In n pre (Over b s)) (do_part (ruling_of t) (Acts s pick))
+  unfolding do_part
+  acts-part plan b s pick fits idle = with-keeps (begin-in s) (begin-keeps t plan s)
+      ⊳ choose-tells _ (before-leads (λ p m. m.0) (after-leads (at-weak (λ f es m. inl (opens-past b s f es m))) stay-tells)) (act-deeds t plan b s pick fits idle)
+
+  act-part : (plan : Side → Plan) (b : Bool) (s : Side) (pick : Pick) → FitsPick pick (plan s) → IdleIsQuiet pick (plan s)
+      → Leads (λ p. In n pre (Opens b s) p × Planned t plan p) (λ p. In n pre (Over b s) p × Planned t (with_plan s Any plan) p) (Ends n pre) (do_part (ruling_of t) (Acts s pick))
+  act-part plan b s pick fits idle = rests-leads (at-weak (λ f es m. over-settling b s f es m)) (joined-leads (acts-part plan b s pick fits idle) (act_part t plan s pick fits))
+
+  -- A part, and the rest unless it cuts them off
+  then-part : {P W : Progress → Type 0} (part : Part) (rest : List Part) → Leads P W (Ends n pre) (do_part (ruling_of t) part) → ((p : Progress) → W p → Ends n pre p)
+      → Leads (λ p. W p × (is_cut p ≡ false)) (Ends n pre) (Ends n pre) (do_parts (ruling_of t) rest) → Leads P (Ends n pre) (Ends n pre) (do_parts (ruling_of t) (part ∷ rest))
+  unfolding do_parts
+  then-part part rest h cut l = h ⊳ watching.choose-sees is_cut (before-leads (λ p m. cut p m.0) stay-tells) l
+
+  ends-deeds : {S : Progress → Type 0} (b : Bool) (s : Side) → Leads (In n pre (Past b s)) (Ends n pre) S (do_parts (ruling_of t) [])
+  unfolding do_parts end_turn end_spent_trapping
+  ends-deeds b s = after-leads (at-weak (λ f es m. past-settling b s f es m))
+      (choose-tells _ (at-conditions One without_trapping (λ f es o m. past-conditions b s One without_trapping trapping-bland f es m)) stay-tells
+      ⊳ choose-tells _ (at-conditions Two without_trapping (λ f es o m. past-conditions b s Two without_trapping trapping-bland f es m)) stay-tells)
+
+  suffers-part : {S : Progress → Type 0} (b : Bool) (u s : Side) → Leads (In n pre (Past b u)) (In n pre (Past b u)) S (do_part (ruling_of t) (Suffers s))
+  unfolding do_part
+  suffers-part b u s = past-residual b u s
+
+  -- The last act of a turn
+  last-act : (plan : Side → Plan) (b : Bool) (s : Side) (pick : Pick) → FitsPick pick (plan s) → IdleIsQuiet pick (plan s)
+      → Leads (λ p. In n pre (Opens b s) p × Planned t plan p) (Ends n pre) (Ends n pre) (do_parts (ruling_of t) (Acts s pick ∷ Suffers s ∷ []))
+  last-act plan b s pick fits idle = then-part {W = In n pre (Over b s)} (Acts s pick) (Suffers s ∷ []) (after-leads (λ p m. m.0) (act-part plan b s pick fits idle)) (at-weak (λ f es m. over-settling b s f es m))
+      (then-part {W = In n pre (Past b s)} (Suffers s) [] (before-leads (λ p m. uncut-past b s p m.1 m.0) (suffers-part b s s)) (at-weak (λ f es m. past-settling b s f es m))
+      (before-leads (λ p m. m.0) (ends-deeds b s)))
+
+  both-deeds : (plan : Side → Plan) (one two : Pick) → ((s : Side) → FitsPick (of_side s one two) (plan s)) → ((s : Side) → IdleIsQuiet (of_side s one two) (plan s)) → (s : Side)
+      → Leads (λ p. In n pre (Opens true s) p × Planned t plan p) (Ends n pre) (Ends n pre) (do_parts (ruling_of t) (both_act one two s))
+  both-deeds plan one two fits idle s =
+      let next : Side → Plan = with_plan s Any plan in
+      let same : next (other s) ≡ plan (other s) = with_plan-other s Any plan in
+      then-part {W = λ p. In n pre (Over true s) p × Planned t next p} (Acts s (of_side s one two)) _ (act-part plan true s (of_side s one two) (fits s) (idle s)) (λ p m. at-weak (λ f es k. over-settling true s f es k) p m.0)
+      (then-part {W = λ p. In n pre (Past true s) p × Planned t next p} (Suffers s) _
+      (before-leads (λ p m. (uncut-past true s p m.1 m.0.0, m.0.1)) (with-keeps (suffers-part true s s) (suffers_part t next s))) (λ p m. at-weak (λ f es k. past-settling true s f es k) p m.0)
+      (before-leads (λ p m. (next-opens s p m.1 m.0.0, m.0.1))
+      (last-act next false (other s) (of_side (other s) one two) (subst (λ (x : Plan). FitsPick (of_side (other s) one two) x) (sym same) (fits (other s)))
+      (subst (λ (x : Plan). IdleIsQuiet (of_side (other s) one two) x) (sym same) (idle (other s))))))
+
+  -- Switches
+
+  send-part : (s : Side) (place : ℕ) → facts.Fits n s place → Leads (Now plain_story n pre) (Now plain_story n pre) (Ends n pre) (do_part (ruling_of t) (Sends s place))
+  unfolding do_part
+  send-part s place fits = rests-leads may-settling (begin-tells s ⊳ send_out-tells plain-switches s place fits)
+
+  hurts-part : (s : Side) → Leads (Now plain_story n pre) (Now plain_story n pre) (Ends n pre) (do_part (ruling_of t) (Suffers s))
+  unfolding do_part
+  hurts-part s = rests-leads may-settling (residual-tells s)
+
+  switch-deeds : (plan : Side → Plan) (s : Side) (pick : Pick) (place : ℕ) → FitsPick pick (plan s) → IdleIsQuiet pick (plan s) → plan (other s) ≡ Any → facts.Fits n (other s) place
+      → Leads (λ p. Now plain_story n pre p × (Planned t plan p × InRange (other s) place p.field)) (Ends n pre) (Ends n pre) (do_parts (ruling_of t) (switch_then_act s pick place))
+  switch-deeds plan s pick place fits idle any room =
+      then-part {W = λ p. Now plain_story n pre p × Planned t plan p} (Sends (other s) place) _
+      (with-leads {K = λ f a w. IsPlanned t plan f a w × InRange (other s) place f} (send-part (other s) place room) (send_part t plan (other s) place any)) (λ p m. now-settling p m.0)
+      (then-part {W = λ p. Now plain_story n pre p × Planned t plan p} (Suffers (other s)) _
+      (before-leads (λ p m. m.0) (with-keeps (hurts-part (other s)) (suffers_part t plan (other s)))) (λ p m. now-settling p m.0)
+      (before-leads (λ p m. (now-opens false s p (uncut-lives s p m.1) m.0.0, m.0.1)) (last-act plan false s pick fits idle)))
+
+  now-ends : {S : Progress → Type 0} → Leads (Now plain_story n pre) (Ends n pre) S (do_parts (ruling_of t) [])
+  unfolding deeding
+  now-ends = before-leads (λ p m. record { begun = m.begun; is = tale-past false One p.field _ m.exact }) (ends-deeds false One)
+
+  both_switch-deeds : (one two : ℕ) → facts.Fits n One one → facts.Fits n Two two → Leads (Now plain_story n pre) (Ends n pre) (Ends n pre) (do_parts (ruling_of t) (both_switch one two))
+  both_switch-deeds one two a c =
+      then-part (Sends One one) _ (send-part One one a) now-settling
+      (then-part (Suffers One) _ (before-leads (λ p m. m.0) (hurts-part One)) now-settling
+      (then-part (Sends Two two) _ (before-leads (λ p m. m.0) (send-part Two two c)) now-settling
+      (then-part (Suffers Two) [] (before-leads (λ p m. m.0) (hurts-part Two)) now-settling
+      (before-leads (λ p m. m.0) now-ends))))
+
+-- Picks
+
+never : (b : Bool) → (b ≡ true → false ≡ true) → b ≡ false
+never true h = absurd (true≢false (sym (h refl)))
+never false h = refl
+
+plain-free : (u : Underway) → IsUnderway effects.DamageOnly u → must_continue u ≡ false
+plain-free u h =
+    let a = never u.recharge h.recharge_tied in
+    let b = never u.rage h.rage_tied in
+    let c = never (is_some u.thrash) h.thrash_tied in
+    let d = never u.charging h.charging_tied in
+    let e = never (is_some u.bide) h.bide_tied in
+    let f = never (is_some u.trapping) h.trapping_tied in
+    rw (a, b, c, d, e, f) refl
+
+record Chosen (t : Terms) (plan : Side → Plan) (s : Side) (pick : Pick) (f : Field) (a : Action) (w : Stream) : Type 0 where
+  next : Side → Plan
+  planned : IsPlanned t next f a w
+  fits : FitsPick pick (next s)
+  idle : IdleIsQuiet pick (next s)
+  rest : next (other s) ≡ plan (other s)
+
+pick-chosen : {t : Terms} (plan : Side → Plan) (s : Side) (j : ℕ) (f : Field) (a : Action) (w : Stream) → PlanOf (choices.Move j) (plan s) → IsPlanned t plan f a w
+    → Chosen t plan s (pick_in j s f) f a w
+pick-chosen plan s (suc k) f a w fits h = record { next = plan; planned = h; fits = (fits.0, fits.1, λ e. cc); idle = λ e. absurd (true≢false (sym e)); rest = refl }
+pick-chosen {t} plan s zero f a w fits h = by (must_continue (underway_in s f)) (sleeps_or_freezes (status_in s f)) (is_some (underway_in (other s) f).trapping) refl
+  where
+    by : (b c d : Bool) → must_continue (underway_in s f) ≡ b → Chosen t plan s (if b then Continue else if c then Idle else if d then Held else Use Struggle) f a w
+    by true c d e =
+        let effect = effect_of (active_in s f).current_move (member_in s f).moves in
+        record {
+          next = with_plan s (Doing effect) plan;
+          planned = replanned s (Doing effect) f a w refl h;
+          fits = (
+            effect,
+            with_plan-is s (Doing effect) plan,
+            λ plain. absurd (true≢false (sym e ∙ plain-free (underway_in s f)
+                (subst (λ (x : Effect). IsUnderway x (underway_in s f)) plain (party-valid s f h.field).active.conditions.underway))),
+          );
+          idle = λ i. absurd (true≢false (sym i));
+          rest = with_plan-other s (Doing effect) plan;
+        }
+    by false true d e =
+        let effect = effect_of Struggle (member_in s f).moves in
+        record {
+          next = with_plan s (Plans Struggle effect) plan;
+          planned = replanned s (Plans Struggle effect) f a w (tt, refl, free-plain s f h.field e) h;
+          fits = tt;
+          idle = λ i. (effect, with_plan-is s (Plans Struggle effect) plan);
+          rest = with_plan-other s (Plans Struggle effect) plan;
+        }
+    by false false true e = record { next = plan; planned = h; fits = tt; idle = λ i. absurd (true≢false (sym i)); rest = refl }
+    by false false false e =
+        let effect = effect_of Struggle (member_in s f).moves in
+        record {
+          next = with_plan s (Plans Struggle effect) plan;
+          planned = replanned s (Plans Struggle effect) f a w (tt, refl, free-plain s f h.field e) h;
+          fits = (effect, with_plan-is s (Plans Struggle effect) plan, λ none. cc);
+          idle = λ i. absurd (true≢false (sym i));
+          rest = with_plan-other s (Plans Struggle effect) plan;
+        }
+
+-- A turn
+
+-- Nobody may have hit itself, and both active members live.
+pub record Stood (f : Field) (es : List Event) : Type 0 where
+  pub tale : Tale Nothing_more f es
+  pub lives : (s : Side) → is_living (member_in s f) ≡ true
+
+lives-conditions : (u : Side) (change : ActiveConditions → ActiveConditions) (f : Field) → ((s : Side) → is_living (member_in s f) ≡ true) → (s : Side) → is_living (member_in s (changed_conditions u change f)) ≡ true
+unfolding changed_active changed_conditions
+lives-conditions One change f l One = l One
+lives-conditions One change f l Two = l Two
+lives-conditions Two change f l One = l One
+lives-conditions Two change f l Two = l Two
+
+lives-picked : (u : Side) (used : UsedMove) (f : Field) → ((s : Side) → is_living (member_in s f) ≡ true) → (s : Side) → is_living (member_in s (changed_active u (with_picked_move used) f)) ≡ true
+unfolding changed_active with_picked_move
+lives-picked One used f l One = l One
+lives-picked One used f l Two = l Two
+lives-picked Two used f l One = l One
+lives-picked Two used f l Two = l Two
+
+flinch-bland : Bland without_flinch
+unfolding without_flinch
+flinch-bland c = refl
+
+picked-tale : (u : Side) (used : UsedMove) (f : Field) (es : List Event) → Tale Nothing_more f es → Tale Nothing_more (changed_active u (with_picked_move used) f) es
+unfolding with_picked_move
+picked-tale u used f es m = tale-active nothing-lasts u (with_picked_move used) (λ a. refl) f es m
+
+begun-picked : {n : Sizes} (u : Side) (used : UsedMove) (f : Field) → Begun n f → Begun n (changed_active u (with_picked_move used) f)
+unfolding with_picked_move
+begun-picked u used f b = begun-active u (with_picked_move used) f (λ a. refl) b
+
+stood-opens : {n : Sizes} {pre : List Event} (b : Bool) (s : Side) (p : Progress) → In n pre Stood p → In n pre (Opens b s) p
+stood-opens b s p m = record { begun = m.begun; is = tale-opens b s p.field _ (m.is.lives s) m.is.tale }
+
+stood-now : {n : Sizes} {pre : List Event} (p : Progress) → In n pre Stood p → Now plain_story n pre p
+unfolding deeding
+stood-now p m = record { begun = m.begun; exact = m.is.tale }
+
+in-range : {n : Sizes} (s : Side) (place : ℕ) (f : Field) → Begun n f → facts.Fits n s place → InRange s place f
+in-range {n} s place f b fits = let high = fits-now n f s place b.sized fits in (omega (arith, fits.0), omega (arith, fits.0, high))
+
+chosen-fits : {t : Terms} (plan : Side → Plan) (one two : Pick) (f : Field) (a : Action) (w : Stream) (first : Chosen t plan One one f a w) (second : Chosen t first.next Two two f a w)
+    → ((s : Side) → FitsPick (of_side s one two) (second.next s)) × ((s : Side) → IdleIsQuiet (of_side s one two) (second.next s))
+chosen-fits plan one two f a w first second = (fits, idle)
+  where
+    fits : (s : Side) → FitsPick (of_side s one two) (second.next s)
+    fits One = subst (λ (x : Plan). FitsPick one x) (sym second.rest) first.fits
+    fits Two = second.fits
+
+    idle : (s : Side) → IdleIsQuiet (of_side s one two) (second.next s)
+    idle One = subst (λ (x : Plan). IdleIsQuiet one x) (sym second.rest) first.idle
+    idle Two = second.idle
+
+module _ (t : Terms) {n : Sizes} {pre : List Event} where
+  picks : {S : Progress → Type 0} (s : Side) (pick : Pick) → Leads (In n pre Stood) (In n pre Stood) S (set_picked s pick)
+  unfolding set_picked on_active
+  picks s pick = given-tells _ (λ a. at-field (changed_active s (with_picked_move _)) (begun-picked s _)
+      (λ f es o m. record { tale = picked-tale s _ f es m.tale; lives = lives-picked s _ f m.lives }))
+
+  flinches : {S : Progress → Type 0} (s : Side) → Leads (In n pre Stood) (In n pre Stood) S (on_conditions s without_flinch)
+  flinches s = at-conditions s without_flinch (λ f es o m. record { tale = tale-conditions nothing-lasts s without_flinch flinch-bland f es m.tale; lives = lives-conditions s without_flinch f m.lives })
+
+  draw-deeds : {plan : Side → Plan} {f : ℕ → Phase} → ((x : ℕ) → Leads (λ p. In n pre Stood p × Planned t plan p) (Ends n pre) (Ends n pre) (f x))
+      → Leads (λ p. In n pre Stood p × Planned t plan p) (Ends n pre) (Ends n pre) (draw f)
+  unfolding draw
+  draw-deeds h = record { leads = λ p r m. (h (byte_at p.stream p.drawn)).leads (record p { drawn = p.drawn + 1 }) r m }
+
+  order-deeds : {plan : Side → Plan} (begins : Side → Phase) → ((s : Side) → Leads (λ p. In n pre Stood p × Planned t plan p) (Ends n pre) (Ends n pre) (begins s))
+      → Leads (λ p. In n pre Stood p × Planned t plan p) (Ends n pre) (Ends n pre) (in_order begins)
+  unfolding in_order in_order_of_rank in_order_of_speed toss
+  order-deeds begins h = given-tells _ (λ x. given-tells _ (λ y.
+      choose-tells _ (h One) (choose-tells _ (h Two) (choose-tells _ (h One) (choose-tells _ (h Two) (draw-deeds (λ b. choose-tells _ (h One) (h Two))))))))
+
+  both_pick-deeds : (plan : Side → Plan) (one two : Pick) → ((s : Side) → FitsPick (of_side s one two) (plan s)) → ((s : Side) → IdleIsQuiet (of_side s one two) (plan s))
+      → Leads (λ p. In n pre Stood p × Planned t plan p) (Ends n pre) (Ends n pre) (both_pick (ruling_of t) one two)
+  unfolding both_pick
+  both_pick-deeds plan one two fits idle = with-keeps (picks One one) (set_picked-keeps t plan One one (fits One)) ⊳ with-keeps (picks Two two) (set_picked-keeps t plan Two two (fits Two))
+      ⊳ order-deeds (λ s. do_parts (ruling_of t) (both_act one two s)) (λ s. before-leads (λ p m. (stood-opens true s p m.0, m.1)) (both-deeds t plan one two fits idle s))
+
+  one_picks-deeds : (plan : Side → Plan) (s : Side) (pick : Pick) (place : ℕ) → FitsPick pick (plan s) → IdleIsQuiet pick (plan s) → plan (other s) ≡ Any → facts.Fits n (other s) place
+      → Leads (λ p. In n pre Stood p × Planned t plan p) (Ends n pre) (Ends n pre) (one_picks (ruling_of t) s pick place)
+  unfolding one_picks
+  one_picks-deeds plan s pick place fits idle any room = with-keeps (picks s pick) (set_picked-keeps t plan s pick fits)
+      ⊳ before-leads (λ p m. (stood-now p m.0, (m.1, in-range (other s) place p.field m.0.begun room))) (switch-deeds t plan s pick place fits idle any room)
+
+  play-deeds : (plan : Side → Plan) (x y : Choice) → PlanOf x (plan One) → PlanOf y (plan Two) → ChoiceFits n One x → ChoiceFits n Two y
+      → Leads (λ p. In n pre Stood p × Planned t plan p) (Ends n pre) (Ends n pre) (play_turn (ruling_of t) x y)
+  unfolding play_turn given
+  play-deeds plan (choices.Move j) (choices.Move k) one two a b = record {
+    leads = λ p r m.
+        let first = pick-chosen plan One j p.field p.action p.stream one m.1 in
+        let second = pick-chosen first.next Two k p.field p.action p.stream (subst (λ (z : Plan). PlanOf (choices.Move k) z) (sym first.rest) two) first.planned in
+        let fit = chosen-fits plan (pick_in j One p.field) (pick_in k Two p.field) p.field p.action p.stream first second in
+        (both_pick-deeds second.next (pick_in j One p.field) (pick_in k Two p.field) fit.0 fit.1).leads p r (m.0, second.planned);
+  }
+  play-deeds plan (choices.Move j) (choices.Switch place) one two a b = record {
+    leads = λ p r m.
+        let first = pick-chosen plan One j p.field p.action p.stream one m.1 in
+        (one_picks-deeds first.next One (pick_in j One p.field) place first.fits first.idle (first.rest ∙ two) b).leads p r (m.0, first.planned);
+  }
+  play-deeds plan (choices.Switch place) (choices.Move k) one two a b = record {
+    leads = λ p r m.
+        let first = pick-chosen plan Two k p.field p.action p.stream two m.1 in
+        (one_picks-deeds first.next Two (pick_in k Two p.field) place first.fits first.idle (first.rest ∙ one) a).leads p r (m.0, first.planned);
+  }
+  play-deeds plan (choices.Switch x) (choices.Switch y) one two a b = before-leads (λ p m. stood-now p m.0) (both_switch-deeds t x y a b)
+  play-deeds plan _ _ one two a b = before-leads (λ p m. now-settling p (stood-now p m.0)) stay-tells
+
+  pub turn-deeds : (x y : Choice) (p : Progress) → p.stopped ≡ false → In n pre Stood p → Sure t p.field p.action p.stream → Fits x One p.field → Fits y Two p.field → ChoiceFits n One x → ChoiceFits n Two y
+      → Lands (Ends n pre) (Ends n pre) (turn (ruling_of t) x y p)
+  unfolding turn
+  turn-deeds x y p r m h one two a b =
+      let plan : Side → Plan = both_plan x y p.field in
+      let flinch : (s : Side) → Keeps (IsPlanned t plan) (on_conditions s without_flinch) = λ s. on_conditions-keeps s _ (conditions-spared (planned-sound t plan) s _ without_flinch-tame) in
+      (with-keeps (flinches One) (flinch One) ⊳ with-keeps (flinches Two) (flinch Two)
+      ⊳ play-deeds plan x y (both-plan_of x y p.field).0 (both-plan_of x y p.field).1 a b).leads p r (m, both-planned x y p.field p.action p.stream h one two)
