@@ -140,11 +140,12 @@ impl Thought {
         self.choices.first().map_or(Choice::Pass, |it| it.choice)
     }
 
-    /// A choice drawn by the probabilities, without those below a tenth of the highest, which are mostly the search's exploration.
+    /// A choice drawn by the probabilities, without those below half of the highest: they are mostly the noise of the search, and a bot that
+    /// makes them loses more often.
     pub fn draw(&self, dice: &mut Dice) -> Choice {
         let most = self.choices.first().map_or(0.0, |it| it.probability);
         let weight = |it: &Considered| {
-            if it.probability < most / 10.0 {
+            if it.probability < most / 2.0 {
                 0.0
             } else {
                 it.probability
