@@ -1,12 +1,20 @@
-"""A socket of a client: what it may send, and what waits for it to read."""
+"""A socket of a client: what it may send, and what waits for it to read.
+
+aiohttp answers requests, and hands the connection of a websocket over: a
+protocol with its request and its tasks would take 20 kB for each socket.
+"""
 
 import asyncio
 import logging
+from base64 import b64encode
+from collections import deque
 from collections.abc import Callable
+from hashlib import sha1
 from struct import Struct
 from typing import TYPE_CHECKING, ClassVar
 
-from aiohttp import WSMsgType, web
+from aiohttp import WSCloseCode, WSMessage, WSMsgType, web
+from aiohttp.http import WebSocketError, WebSocketReader
 from gen1_server import metrics
 from gen1_server.accounts import Account
 from gen1_server.core import Refused
@@ -21,11 +29,17 @@ LOG = logging.getLogger("gen1_server")
 PATIENCE = 10.0
 # What a message costs that has a finished battle played again.
 REPLAY = 20.0
-_MIDDLE, _LONG = Struct(">BBH").pack, Struct(">BBQ").pack
-
-
-# The first byte of a whole frame (RFC 6455): text, a ping, and the answer to one.
-TEXT, PING, PONG = 0x81, 0x89, 0x8A
+# While so many messages wait to be answered, no more are read.
+MOST_WAITING = 8
+_MIDDLE, _LONG, _CODE = Struct(">BBH").pack, Struct(">BBQ").pack, Struct(">H").pack
+# The codes of the end after messages of these kinds.
+ENDS = {WSMsgType.CLOSE: WSCloseCode.OK, WSMsgType.BINARY: WSCloseCode.UNSUPPORTED_DATA}
+# The first byte of a whole frame (RFC 6455): text, the end, a ping, and the answer to one.
+TEXT, CLOSE, PING, PONG = 0x81, 0x88, 0x89, 0x8A
+_KEY = "258EAFA5-E914-47DA-95CA-C5AB0DC85B11"
+_SWITCHED = (
+    "HTTP/1.1 101 Switching Protocols\r\nUpgrade: websocket\r\nConnection: Upgrade\r\nSec-WebSocket-Accept: {}\r\n\r\n"
+)
 
 
 def frame(kind: int, payload: bytes) -> bytes:
@@ -36,7 +50,17 @@ def frame(kind: int, payload: bytes) -> bytes:
     return (_MIDDLE(kind, 126, size) if size < 1 << 16 else _LONG(kind, 127, size)) + payload
 
 
-class Connection(Watcher):
+def handshake(request: web.Request) -> bytes:
+    """The answer to the request for a websocket. Raises `HTTPBadRequest`."""
+    headers = request.headers
+    key = headers.get("Sec-WebSocket-Key", "")
+    asks = headers.get("Upgrade", "").lower() == "websocket" and "upgrade" in headers.get("Connection", "").lower()
+    if not asks or not key or headers.get("Sec-WebSocket-Version") != "13":
+        raise web.HTTPBadRequest(text="a websocket of version 13 is expected\n")
+    return _SWITCHED.format(b64encode(sha1((key + _KEY).encode()).digest()).decode()).encode()
+
+
+class Connection(Watcher, asyncio.Protocol):
     """A protocol is a subclass that defines the first four methods here, and
     those of `Watcher`.
     """
@@ -44,15 +68,20 @@ class Connection(Watcher):
     protocol: ClassVar[str]
 
     def __init__(
-        self, services: "Services", socket: web.WebSocketResponse, transport: asyncio.Transport, address: str
+        self, services: "Services", transport: asyncio.Transport, address: str, ended: Callable[["Connection"], None]
     ) -> None:
         self.services, self.address = services, address
         self.account: Account | None = None
-        self._socket, self._transport, self._closed = socket, transport, False
+        self._transport, self._closed, self._ended = transport, False, ended
         # Whether something came since the last check, and whether the client was asked to say something.
         self._heard, self._pinged = True, False
         config = services.config
         self._bucket = Bucket(config.messages_per_second, config.messages_at_once)
+        self._reader = WebSocketReader(self, config.message_bytes, compress=False)  # type: ignore[arg-type]
+        # The messages that wait, the task that answers them, and for how many seconds the client was slowed down without a pause.
+        self._waiting: deque[WSMessage] | None = None
+        self._task: asyncio.Task[None] | None = None
+        self._late, self._is_lost = 0.0, False
 
     def greet(self) -> None:
         """Says what comes first."""
@@ -119,43 +148,80 @@ class Connection(Watcher):
         if not self._bucket.takes(cost):
             raise Refused("too fast", "wait a few seconds")
 
-    async def serve(self) -> None:
-        """Answers messages until the socket closes."""
-        late = asyncio.get_running_loop().call_later(self.services.config.login_seconds, self._expect_login)
-        with metrics.CONNECTIONS.labels(self.protocol).track_inprogress():
-            try:
-                self.greet()
-                await self._receive()
-            finally:
-                late.cancel()
-                self._closed = True
-                self.exit()
+    def begin(self) -> None:
+        """Begins after the handshake, and expects a login."""
+        metrics.CONNECTIONS.labels(self.protocol).inc()
+        self._login = asyncio.get_running_loop().call_later(self.services.config.login_seconds, self._expect_login)
+        self.greet()
+
+    def connection_lost(self, _: Exception | None) -> None:
+        """Ends the connection, once what it has sent is answered."""
+        metrics.CONNECTIONS.labels(self.protocol).dec()
+        self._login.cancel()
+        self._is_lost = True
+        if self._task is None:
+            self._end()
+
+    def _end(self) -> None:
+        self._closed = True
+        self.exit()
+        self._ended(self)
 
     def _expect_login(self) -> None:
         if self.account is None:
             self.drop("no login")
 
-    async def _receive(self) -> None:
-        count, late = metrics.MESSAGES.labels(self.protocol), 0.0
-        async for message in self._socket:
-            self._heard, self._pinged = True, False
-            if message.type is WSMsgType.PONG:
-                continue
-            if message.type is WSMsgType.PING:
-                self._transport.write(frame(PONG, message.data))
-            elif self._closed or message.type is not WSMsgType.TEXT:
-                break
+    def data_received(self, data: bytes) -> None:
+        """Reads bytes. The reader calls the two methods that follow."""
+        self._reader.feed_data(data)
+
+    def set_exception(self, fault: BaseException) -> None:
+        """Takes in that the client breaks the protocol of websockets."""
+        code = fault.code if isinstance(fault, WebSocketError) else WSCloseCode.INTERNAL_ERROR
+        self.feed_data(WSMessage(WSMsgType.ERROR, code, None))
+
+    def feed_data(self, message: WSMessage, _: int = 0) -> None:
+        """Takes a message in, and has it answered after those before it."""
+        self._heard, self._pinged = True, False
+        if self._closed or message.type is WSMsgType.PONG:
+            return
+        if self._waiting is None:
+            self._waiting = deque()
+        self._waiting.append(message)
+        if len(self._waiting) == MOST_WAITING:
+            self._transport.pause_reading()
+        if self._task is None:
+            self._task = asyncio.get_running_loop().create_task(self._receive(self._waiting))
+
+    async def _receive(self, waiting: deque[WSMessage]) -> None:
+        """Answers messages until none waits."""
+        count = metrics.MESSAGES.labels(self.protocol)
+        while waiting and not self._closed:
             count.inc()
             wait = self._bucket.take()
-            late = late + wait if wait else 0.0
-            if late > PATIENCE:
+            self._late = self._late + wait if wait else 0.0
+            if self._late > PATIENCE:
                 self.drop("flood")
                 break
             if wait:
                 # What is not read fills the client's buffers, and so slows it down.
+                self._transport.pause_reading()
                 await asyncio.sleep(wait)
+            message = waiting.popleft()
             if message.type is WSMsgType.TEXT:
                 await self._answer(message.data)
+            elif message.type is WSMsgType.PING:
+                self._transport.write(frame(PONG, message.data))
+            elif not self._closed:
+                self._closed = True
+                code = ENDS.get(message.type, message.data)
+                self._transport.write(frame(CLOSE, _CODE(code)))
+                self._transport.close()
+        self._task = self._waiting = None
+        if self._is_lost:
+            self._end()
+        elif not self._transport.is_closing():
+            self._transport.resume_reading()
 
     async def _answer(self, text: str) -> None:
         try:

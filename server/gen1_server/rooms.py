@@ -2,7 +2,7 @@
 
 import asyncio
 import logging
-from collections import defaultdict, deque
+from collections import defaultdict
 from collections.abc import Callable
 from dataclasses import dataclass, field, replace
 from functools import partial
@@ -73,7 +73,8 @@ class OpenRoom:
 
     def __init__(self, match: Match) -> None:
         self.match, self.watchers = match, dict[Watcher, Side | None]()
-        self.waiting, self.is_busy = deque[Request](), False
+        self.waiting: list[Request] = []
+        self.is_busy = False
 
     @property
     def id(self) -> int:
@@ -275,7 +276,7 @@ class Rooms:
     def _next(self, room: OpenRoom) -> None:
         """Has the next row of a room committed."""
         while room.waiting and not room.is_busy:
-            request, match = room.waiting.popleft(), room.match
+            request, match = room.waiting.pop(0), room.match
             try:
                 entry = Entry(request.row(match), now(), request.cause)
                 end = match.reason_after(entry)

@@ -15,7 +15,7 @@ from gen1_server import metrics, people, schema
 from gen1_server.accounts import Accounts, folded
 from gen1_server.computer import Computer
 from gen1_server.config import Config
-from gen1_server.connections import Connection
+from gen1_server.connections import Connection, handshake
 from gen1_server.core import Refused
 from gen1_server.formats import load
 from gen1_server.json_protocol import JsonConnection
@@ -177,23 +177,24 @@ class Server:
         limits = self.services.limits
         if not self._ready or len(self._connections) >= config.most_connections:
             raise web.HTTPServiceUnavailable
+        answer = handshake(request)
         if not limits.connect(address, config.most_connections_of_address):
             raise web.HTTPTooManyRequests
-        try:
-            # With compression each socket would keep buffers of zlib.
-            socket = web.WebSocketResponse(max_msg_size=config.message_bytes, compress=False, autoping=False)
-            await socket.prepare(request)
-            if request.transport is None:
-                return socket
-            connection = kind(self.services, socket, request.transport, address)
-            self._connections.add(connection)
-            try:
-                await connection.serve()
-            finally:
-                self._connections.discard(connection)
-            return socket
-        finally:
+        transport = request.transport
+        assert transport is not None
+
+        def ended(connection: Connection) -> None:
+            self._connections.discard(connection)
             limits.disconnect(address)
+
+        connection = kind(self.services, transport, address, ended)
+        self._connections.add(connection)
+        transport.write(answer)
+        transport.set_protocol(connection)
+        # For aiohttp the connection has ended, and so has the request.
+        request.protocol.connection_lost(None)
+        connection.begin()
+        raise asyncio.CancelledError
 
     async def _login(self, login: Any, request: web.Request) -> web.Response:
         """The login of Showdown's protocol."""

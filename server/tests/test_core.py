@@ -139,7 +139,7 @@ class FakeTransport:
 
 
 def watching(services, account):
-    made = JsonConnection(services, None, FakeTransport(), "")
+    made = JsonConnection(services, FakeTransport(), "", None)
     if account:
         services.rooms.arrive(account, made)
     return made

@@ -9,6 +9,7 @@ import signal
 import socket
 import subprocess
 import time
+from collections import deque
 from functools import partial
 from types import SimpleNamespace
 
@@ -186,17 +187,16 @@ def test_a_client_that_is_slowed_down_for_long_is_dropped(monkeypatch):
         async def sleep(seconds):
             slept.append(seconds)
 
-        async def messages():
-            for _ in range(5):
-                yield SimpleNamespace(type=connections.WSMsgType.TEXT, data="")
-
         monkeypatch.setattr(connections.asyncio, "sleep", sleep)
-        services = SimpleNamespace(config=Config())
-        made = connections.Connection(services, messages(), SimpleNamespace(abort=lambda: dropped.append(1)), "")
+        services, nothing = SimpleNamespace(config=Config()), lambda: None
+        transport = SimpleNamespace(
+            abort=lambda: dropped.append(1), pause_reading=nothing, resume_reading=nothing, is_closing=lambda: True
+        )
+        made = connections.Connection(services, transport, "", nothing)
         made.protocol = "json"
         made._bucket = SimpleNamespace(take=lambda: 4.0)
         made.turn_down = lambda fault: None
-        await made._receive()
+        await made._receive(deque(SimpleNamespace(type=connections.WSMsgType.TEXT, data="") for _ in range(5)))
         assert slept == [4.0, 4.0] and dropped == [1]
 
     asyncio.run(test())
@@ -343,6 +343,47 @@ def test_connections_that_ask_for_nothing(server):
         except ConnectionResetError:
             pass
     assert it.metric("gen1_dropped_total") == 3
+
+
+def test_the_protocol_of_a_websocket(server):
+    """As RFC 6455 has it: the handshake of its section 1.3, fragments, pings, and the codes of its section 7.4."""
+    it = server(message_bytes=4096)
+    ask = "GET /socket HTTP/1.1\r\nHost: a\r\nConnection: keep-alive, Upgrade\r\nUpgrade: websocket\r\n{}\r\n"
+    key = "Sec-WebSocket-Key: dGhlIHNhbXBsZSBub25jZQ==\r\n"
+
+    def said(more, *frames):
+        with socket.create_connection(("127.0.0.1", it.port), 5) as made:
+            made.sendall(ask.format(more).encode())
+            heard = made.recv(1 << 16)
+            while frames and b'"now"' not in heard:
+                heard += made.recv(1 << 16)
+            for each in frames:
+                made.sendall(each)
+            while more and (new := made.recv(1 << 16)):
+                heard += new
+        return heard
+
+    for wrong in ("", key, "Sec-WebSocket-Version: 13\r\n", key + "Sec-WebSocket-Version: 8\r\n"):
+        assert said(wrong + "Connection: close\r\n").startswith(b"HTTP/1.1 400 ")
+    whole, end = key + "Sec-WebSocket-Version: 13\r\n", b"\x88\x80" + bytes(4)
+    found = said(whole, end)
+    assert found.startswith(b"HTTP/1.1 101 ") and b"Sec-WebSocket-Accept: s3pPLMBiTxaQ9kYGzzhZRbK+xOo=\r\n" in found
+    assert found.endswith(b"\x88\x02\x03\xe8")
+    # A text in two fragments, with a ping between them.
+    parts = b"\x01\x81" + bytes(4) + b"{", b"\x89\x82" + bytes(4) + b"ab", b"\x80\x81" + bytes(4) + b"}"
+    found = said(whole, *parts, b"", end)
+    assert b"\x8a\x02ab" in found and found.count(b'"refused","code":"type"') == 1
+    codes = {
+        b"\x82\x80" + bytes(4): 1003,
+        b"\x81\xfe\x10\x00" + bytes(4): 1009,
+        b"\x81\xff" + b"\x7f" * 8: 1009,
+        b"\x81\x81" + bytes(4) + b"\xff": 1007,
+        b"\x83\x80" + bytes(4): 1002,
+        b"\xc1\x80" + bytes(4): 1002,
+    }
+    for each, code in codes.items():
+        assert said(whole, each).endswith(b"\x88\x02" + code.to_bytes(2, "big")), (each, code)
+    assert it.metric("gen1_connections") == 0
 
 
 def test_a_client_that_is_dead_is_dropped(server):

@@ -397,7 +397,7 @@ class Listener(Bot):
 def watching(services, account):
     """A connection of this protocol, for the games of test_core."""
     services.lobby = SimpleNamespace(searching=lambda account: [])
-    made = ShowdownConnection(services, None, test_core.FakeTransport(), "")
+    made = ShowdownConnection(services, test_core.FakeTransport(), "", None)
     made.account, made._name = Account(account, "a"), "a"
     if account:
         services.rooms.arrive(account, made)
