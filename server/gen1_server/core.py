@@ -8,6 +8,7 @@ know, is decided by `gen1.Host`.
 
 import json
 from dataclasses import dataclass
+from typing import NamedTuple
 
 from gen1 import Battle, Host, Message, Notice, Row, RowKind, Side
 from gen1_server.clock import Clock
@@ -52,8 +53,7 @@ class Start:
     created: int
 
 
-@dataclass(frozen=True, slots=True)
-class Entry:
+class Entry(NamedTuple):
     """A row, when it was made (milliseconds), and its cause."""
 
     row: Row

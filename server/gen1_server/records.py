@@ -121,8 +121,9 @@ def stored(numbers: list[int], connection: Any) -> list[StoredRoom]:
     of = select(room_row.c.room, room_row.c.bytes, room_row.c.at, room_row.c.cause)
     rows: dict[int, list[Entry]] = defaultdict(list)
     ordered = of.where(room_row.c.room.in_(numbers)).order_by(room_row.c.room, room_row.c.sequence)
-    for number, row, at, cause in connection.execute(ordered):
-        rows[number].append(Entry(Row.from_bytes(bytes(row)), at, cause))
+    # The driver's rows: SQLAlchemy's would take as long as all the rest.
+    for number, row, at, cause in connection.execute(ordered).cursor:
+        rows[number].append(Entry(Row.from_bytes(row), at, cause))
     changes = _changes([it[0] for it in found if it.outcome], connection)
     return [_stored(it, rows[it[0]], changes.get(it[0], ())) for it in found]
 

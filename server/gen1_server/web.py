@@ -4,6 +4,7 @@ import asyncio
 import gc
 import logging
 from collections.abc import Awaitable, Callable
+from ctypes import CDLL
 from functools import partial
 from importlib.resources import files
 from pathlib import Path
@@ -46,8 +47,8 @@ class Server:
         self._connections: set[Connection] = set()
         self._tasks: list[asyncio.Task[None]] = []
         self._ready = False
-        # The protocols of aiohttp, one for each connection, that have asked for nothing yet.
-        self._silent: set[Any] = set()
+        # The protocols of aiohttp, one for each connection, that have asked for nothing yet, with their timers.
+        self._silent: dict[Any, asyncio.TimerHandle] = {}
 
     def application(self) -> web.Application:
         """The application, with its routes."""
@@ -93,6 +94,8 @@ class Server:
         # A full collection of the garbage over a thousand rooms would stop everything for a tenth of a second.
         gc.collect()
         gc.freeze()
+        # The memory that the start has freed goes back to the system, where the C library can do that.
+        getattr(CDLL(None), "malloc_trim", int)(0)
         gc.set_threshold(10_000, 20, 1000)
         self._tasks = [
             asyncio.create_task(self._every(0.5, rooms.expire)),
@@ -146,16 +149,14 @@ class Server:
         for nothing: aiohttp has no limit for that.
         """
         made = server()
-
-        def expect() -> None:
-            if made in self._silent and made.transport is not None:
-                metrics.DROPPED.labels("silent").inc()
-                made.transport.abort()
-            self._silent.discard(made)
-
-        self._silent.add(made)
-        asyncio.get_running_loop().call_later(self.config.first_seconds, expect)
+        self._silent[made] = asyncio.get_running_loop().call_later(self.config.first_seconds, self._expect, made)
         return made
+
+    def _expect(self, made: Any) -> None:
+        del self._silent[made]
+        if made.transport is not None:
+            metrics.DROPPED.labels("silent").inc()
+            made.transport.abort()
 
     def _address(self, request: web.Request) -> str:
         """The address of a client; behind a proxy the one that it names."""
@@ -207,7 +208,8 @@ class Server:
 
     @web.middleware
     async def _headers(self, request: web.Request, handler: Any) -> web.StreamResponse:
-        self._silent.discard(request.protocol)
+        if request.protocol in self._silent:
+            self._silent.pop(request.protocol).cancel()
         found: web.StreamResponse = await handler(request)
         if not found.prepared:
             found.headers.update(HEADERS)

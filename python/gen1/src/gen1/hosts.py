@@ -29,6 +29,8 @@ Numbers: TypeAlias = SeedLike | Literal["fresh"] | None
 PAIRS = (1 << 32) - 1
 ROW_BYTES = 18
 _PACK = Struct("<4BI10s").pack
+# The kinds and the sides by their bytes.
+_KINDS, _SIDES = tuple(RowKind), tuple(Side)
 _JSON_FIELDS = ("kind", "side", "number", "choice", "numbers")
 _JSON_KINDS = ("submit", "cancel", "expire", "draw", "forfeit")
 # The fields that a kind of row has besides its side.
@@ -112,12 +114,12 @@ class Row:
         if len(given) != ROW_BYTES:
             raise BadArgument(f"data must be the {ROW_BYTES} bytes of a row, not {len(given):,}")
         kind, side, choice, has_numbers = given[:4]
-        if kind not in list(RowKind) or side not in (1, 2):
+        if not 1 <= kind <= len(_KINDS) or not 1 <= side <= len(_SIDES):
             raise BadArgument(
-                f"data is not a row: its kind is {kind} of 1 to {len(RowKind)}, its side {side} of 1 and 2"
+                f"data is not a row: its kind is {kind} of 1 to {len(_KINDS)}, its side {side} of 1 and {len(_SIDES)}"
             )
-        numbers = given[8:] if has_numbers else None
-        row = cls(RowKind(kind), Side(side), int.from_bytes(given[4:8], "little"), choice, numbers)
+        number, numbers = int.from_bytes(given[4:8], "little"), given[8:] if has_numbers else None
+        row = cls(_KINDS[kind - 1], _SIDES[side - 1], number, choice, numbers)
         if bytes(row) != given:
             raise BadArgument(f"data is not a row: its fourth byte says whether it has numbers: {given.hex(' ')}")
         return row
