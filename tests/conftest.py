@@ -21,7 +21,7 @@ SHOWN = 40
 sys.dont_write_bytecode = True
 sys.path.insert(0, str(ROOT / "tools"))
 
-from libraries import archive_of  # noqa: E402
+from artifacts import archive_of  # noqa: E402
 
 
 def pytest_addoption(parser):

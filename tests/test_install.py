@@ -8,6 +8,7 @@ import subprocess
 import sys
 
 import pytest
+from artifacts import plays
 from c_library import (
     PROFILED,
     PROVED,
@@ -24,7 +25,6 @@ from c_library import (
     write_record,
 )
 from licenses import licenses, not_permitted, of_library, permitted
-from playing_tauros import plays
 from repository import ROOT
 
 # The functions that the library may need of the C library; abort only where it is the plain one.

@@ -4,10 +4,10 @@ import shutil
 import sys
 
 import pytest
+from artifacts import fault_of
 from cargo import built, play_cases, want_cargo
 from processes import ran
 from program_files import NAMES, PROGRAM
-from published import fault_of
 from release_archive import packed_crate
 from repository import ROOT
 

@@ -11,12 +11,11 @@ import tarfile
 from pathlib import Path
 
 import pytest
+from artifacts import LINES, fault_of, plays
 from c_library import build_of, calls
 from c_library import ran as run
 from documents import lost_links
-from playing_tauros import LINES, plays
 from processes import ran
-from published import fault_of
 from repository import ROOT, version
 
 STORED = ROOT / "crates" / "battle_tool" / "stdin"

@@ -4,9 +4,9 @@ import subprocess
 import sys
 
 import pytest
+from artifacts import archive_of
 from c_library import plain_archive
 from c_profile import profiled_archive, profiler
-from libraries import archive_of
 from repository import ROOT
 
 sys.path.insert(0, str(ROOT / "examples" / "python"))

@@ -260,13 +260,15 @@ does-ends : (x : PublicSide) (t : Party) → is_some t.active.conditions.underwa
 unfolding without_charging
 does-ends x t a c m =
     let on : x.announced.charging ≡ 1 = ap (λ (k : Deeds). k.charging) m.same ∙ ap bit_of c in
-    let gone : (strikes x).invulnerable ≡ 0 = ap (λ (i : ℕ). if i == 0 then x.invulnerable else 0) on in
-    (record {
-      same = ap (λ (k : Deeds). record k { bide = 0; charging = 0 }) m.same
-          ∙ ap (λ (d : Bool). record (deeds_of t.active.place (core t.active.conditions)) { bide = bit_of d; charging = 0 }) (sym a);
-      reach = λ e. absurd (e gone);
-      few = m.few;
-    }, gone)
+    let gone : (strikes x).invulnerable ≡ 0 = ap (λ (i : ℕ). if i == 0 then x.invulnerable else 0) on in (
+      record {
+        same = ap (λ (k : Deeds). record k { bide = 0; charging = 0 }) m.same
+            ∙ ap (λ (d : Bool). record (deeds_of t.active.place (core t.active.conditions)) { bide = bit_of d; charging = 0 }) (sym a);
+        reach = λ e. absurd (e gone);
+        few = m.few;
+      },
+      gone,
+    )
 
 pub off-due : (b : Bool) (s : Side) (pick : Pick) (move : Move) (f : Field) (es : List Event) → (underway_in s f).charging ≡ false → Off b s pick move f es → Due s pick move f es
 off-due b s pick move f es c m = record {
@@ -334,18 +336,22 @@ struck : (s : Side) (k : ℕ) (f : Field) (q : Public) → BothOut f → current
     → Even f (on_out s (uses_move k) q) × (public_side s (on_out s (uses_move k) q) ≡ uses_move k (public_side s q))
 struck One k f q o e mine theirs =
     let at : q.one.place ≡ f.one.active.place = ap (λ (d : Deeds). d.place) mine.same in
-    let is = out-side One (uses_move k) q (omega (arith, o.one.placed, at)) in
-    (record {
-      one = subst (λ (x : PublicSide). Does x f.one) (sym is) (does-uses q.one f.one k e mine);
-      two = subst (λ (x : PublicSide). Does x f.two) (sym (foe-side One (uses_move k) q)) theirs;
-    }, is)
+    let is = out-side One (uses_move k) q (omega (arith, o.one.placed, at)) in (
+      record {
+        one = subst (λ (x : PublicSide). Does x f.one) (sym is) (does-uses q.one f.one k e mine);
+        two = subst (λ (x : PublicSide). Does x f.two) (sym (foe-side One (uses_move k) q)) theirs;
+      },
+      is,
+    )
 struck Two k f q o e mine theirs =
     let at : q.two.place ≡ f.two.active.place = ap (λ (d : Deeds). d.place) mine.same in
-    let is = out-side Two (uses_move k) q (omega (arith, o.two.placed, at)) in
-    (record {
-      one = subst (λ (x : PublicSide). Does x f.one) (sym (foe-side Two (uses_move k) q)) theirs;
-      two = subst (λ (x : PublicSide). Does x f.two) (sym is) (does-uses q.two f.two k e mine);
-    }, is)
+    let is = out-side Two (uses_move k) q (omega (arith, o.two.placed, at)) in (
+      record {
+        one = subst (λ (x : PublicSide). Does x f.one) (sym (foe-side Two (uses_move k) q)) theirs;
+        two = subst (λ (x : PublicSide). Does x f.two) (sym is) (does-uses q.two f.two k e mine);
+      },
+      is,
+    )
 
 pub uses-tale : (s : Side) (move : Move) (f : Field) (es : List Event) → BothOut f → Uses s move f es
     → Tale (UsedBy s move.number) f (es ++ events.Move (who_in s f) move.number (who_in (other s) f) ∷ [])
