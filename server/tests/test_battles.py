@@ -55,11 +55,12 @@ def test_two_play_a_third_watches_a_fourth_plays_the_computer(server, database):
 def expect_schema(clients):
     """Each message is as messages.schema.json says."""
     jsonschema = pytest.importorskip("jsonschema")
-    schema = json.loads((PACKAGE / "gen1_server" / "messages.schema.json").read_text())
+    paths = PACKAGE / "gen1_server" / "messages.schema.json", PACKAGE.parent / "docs" / "HOST.schema.json"
+    schema, host = (json.loads(it.read_text()) for it in paths)
     for definition, messages in (("client", [it.said for it in clients]), ("server", [it.heard for it in clients])):
-        checker = jsonschema.Draft7Validator(
-            {"$ref": f"#/definitions/{definition}", "definitions": schema["definitions"]}
-        )
+        part = {"$id": schema["$id"], "$ref": f"#/definitions/{definition}", "definitions": schema["definitions"]}
+        resolver = jsonschema.RefResolver(schema["$id"], part, {host["$id"]: host})
+        checker = jsonschema.Draft7Validator(part, resolver=resolver)
         for message in sum(messages, [])[:300]:
             checker.validate(message)
 
