@@ -842,8 +842,8 @@ typedef struct gen1_outcome_list {
  *
  * With `least` above 0, a course of the update is left out as soon as its draws so far have a probability below `least` / 2^32
  * together. A weight is then that of the ways to its battle that are not left out, and the rest is in `left_low` and `left_high`
- * of the list: the weights and the weight left out add up exactly to the sum of the list. Draws whose numerator has more than 96
- * bits are not left out. An update without a draw always has its outcome; an update with draws may have none.
+ * of the list: the weights and the weight left out add up exactly to the sum of the list. Each listed outcome has at least the
+ * probability `least` / 2^32. An update without a draw always has its outcome; an update with draws may have none.
  *
  * Returns 0, or the first of these codes that applies, and then nothing has changed: GEN1_ERROR_OVER,
  * GEN1_ERROR_NOT_OFFERED_ONE, GEN1_ERROR_NOT_OFFERED_TWO. Otherwise it returns GEN1_ERROR_OUTCOMES or GEN1_ERROR_TABLE if that

@@ -1,5 +1,5 @@
 -- A list of the battles that an update can lead to (include/gen1.h, "exact outcomes").
-use Rattle.std.specs.Prelude.{List, Some, length, ℕ, ◌*◌, ◌+◌, ◌≡◌, ◌≤◌, ◌⊎◌}
+use Rattle.std.specs.Prelude.{List, Some, length, ℕ, ◌*◌, ◌+◌, ◌<◌, ◌≡◌, ◌≤◌, ◌⊎◌}
 use Rattle.gen1_machine.specs.declared.choice.Choice.{Choice}
 use Rattle.gen1_machine.specs.State.{State}
 use Rattle.gen1_machine.specs.Step.{Accepted, Answer, Refused}
@@ -8,6 +8,7 @@ use Rattle.gen1_engine.specs.Update.{refusal_of}
 use Rattle.gen1_outcomes.specs.declared.options.OutcomeOptions.{OutcomeOptions}
 use Rattle.gen1_outcomes.specs.declared.successor.Successor.{Successor}
 use Rattle.gen1_outcomes.specs.Listing.{EachFollows, sum_of}
+use Rattle.gen1_outcomes.specs.Shares.{weight_at}
 use Rattle.gen1_c.specs.Codes.{refusal_code}
 use Rattle.gen1_c.specs.declared.outcomes.OutcomeForm.{OutcomeForm}
 use Rattle.gen1_c.specs.declared.outcomes.OutcomeList.{OutcomeList}
@@ -38,17 +39,22 @@ whole_of list = list.low + list.high * 18446744073709551616
 abbrev pub left_out_of : OutcomeList → ℕ
 left_out_of list = list.left_low + list.left_high * 18446744073709551616
 
--- each battle in the first places can follow from the pair, and the weights and what is left out sum to the whole
-pub record AreListed (s : State) (one two : Choice) (successors : List Successor) (list : OutcomeList) : Type 0 where
+-- each battle in the first places is at least as probable as the least probability
+abbrev pub AreProbable : ℕ → List Successor → OutcomeList → Type 0
+AreProbable least successors list =
+    (k : ℕ) → (past : Successor) → k < list.count → least * whole_of list ≤ weight_at successors k past * 4294967296
+
+-- each battle in the first places can follow from the pair, by a way that is noted by the options, and the weights and what is left out sum to the whole
+pub record AreListed (s : State) (one two : Choice) (options : OutcomeOptions) (successors : List Successor) (list : OutcomeList) : Type 0 where
   pub within : list.count ≤ length successors
-  pub follow : EachFollows s one two list.count successors
+  pub follow : EachFollows s one two options list.count successors
   pub sum : sum_of list.count successors + left_out_of list ≡ whole_of list
 
 -- for a refused pair its code, and nothing has changed; for any other a list, if the code is 0
-abbrev pub ListsAs : Answer → State → ℕ × ℕ → Arrays → Arrays → OutcomeList → ℕ → Type 0
-ListsAs (Refused why) s bytes old new list code = (code ≡ refusal_code (refusal_of why)) × (new ≡ old)
-ListsAs (Accepted events) s bytes old new list code =
-    code ≡ 0 → (pair : Choice × Choice) × (choices_at bytes ≡ Some pair) × AreListed s pair.0 pair.1 new.successors list
+abbrev pub ListsAs : Answer → State → ℕ × ℕ → OutcomeOptions → Arrays → Arrays → OutcomeList → ℕ → Type 0
+ListsAs (Refused why) s bytes options old new list code = (code ≡ refusal_code (refusal_of why)) × (new ≡ old)
+ListsAs (Accepted events) s bytes options old new list code =
+    code ≡ 0 → (pair : Choice × Choice) × (choices_at bytes ≡ Some pair) × AreListed s pair.0 pair.1 options new.successors list
 
-abbrev pub Lists : State → ℕ × ℕ → Arrays → Arrays → OutcomeList → ℕ → Type 0
+abbrev pub Lists : State → ℕ × ℕ → OutcomeOptions → Arrays → Arrays → OutcomeList → ℕ → Type 0
 Lists s bytes = ListsAs (step_by_bytes s bytes).answer s bytes

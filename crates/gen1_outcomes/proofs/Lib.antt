@@ -4,9 +4,11 @@ pub mod Joining
 pub mod Leaving
 pub mod Lists
 pub mod Offered
+pub mod Parts
 pub mod Paths
 pub mod Repeated
 pub mod Scripts
 pub mod Sets
+pub mod Shares
 pub mod Sums
 pub mod Walking

@@ -11,9 +11,9 @@ use Rattle.gen1_outcomes.specs.declared.outcomes.Outcomes.{Outcomes}
 use Rattle.gen1_outcomes.specs.declared.successor.Successor.{Successor}
 use Rattle.gen1_layout.specs.Within.{Stands}
 use Rattle.gen1_engine.specs.Update.{AreOffered}
-use Rattle.gen1_outcomes.specs.Following.{CanFollow, Walk}
+use Rattle.gen1_outcomes.specs.Following.{IsBegun, Walk}
 use Rattle.gen1_outcomes.specs.Merging.{IsFull}
-use Rattle.gen1_outcomes.specs.Listing.{AreThose, AreThoseOr, EachFollows, StillFollow, battle_at, untold}
+use Rattle.gen1_outcomes.specs.Listing.{AreThose, AreThoseOr, EachFollows, FollowsBy, StillFollow, battle_at}
 
 same_or : (m n : ℕ) → (m ≡ n) ⊎ (m ≢ n)
 same_or m n = grind arith
@@ -30,6 +30,13 @@ those_then battle before count old now new those more k none lt =
       | inl h ↦ inl (h.0, h.1 ∙ those k none)
       | inr e ↦ inr e
     ]
+
+pub on_ok_those : (battle other : Parts) (before at count : ℕ) (old now new : List Successor) (r : Result (Unit {0}) OutcomesFault) → at ≡ before → other ≡ battle
+    → AreThose old now → OnOk r (AreThoseOr other at now count new) → OnOk r (AreThoseOr battle before old count new)
+on_ok_those battle other before at count old now new (Ok done) e f those more =
+    those_then battle before count old now new those
+    (subst (λ (b : Parts). AreThoseOr b before now count new) f (subst (λ (n : ℕ). AreThoseOr other n now count new) e more))
+on_ok_those battle other before at count old now new (Err why) e f those more = tt
 
 -- A place is written.
 pub written : (xs : List Successor) (at : ℕ) (x : Successor) → at < length xs → AreThoseOr x.battle at xs (at + 1) (set xs at x)
@@ -50,12 +57,12 @@ rewritten xs at x within e k none =
     ]
 
 -- Where each battle follows, and one that follows is added, each follows.
-pub follows_more : (s : State) (one two : Choice) (battle : Parts) (before count : ℕ) (old new : List Successor) → EachFollows s one two before old
-    → CanFollow s one two battle untold → AreThoseOr battle before old count new → EachFollows s one two count new
-follows_more s one two battle before count old new each follows those k none lt =
+pub follows_more : (s : State) (one two : Choice) (options : OutcomeOptions) (battle : Parts) (before count : ℕ) (old new : List Successor)
+    → EachFollows s one two options before old → FollowsBy s one two options battle → AreThoseOr battle before old count new → EachFollows s one two options count new
+follows_more s one two options battle before count old new each follows those k none lt =
     elim (those k none lt) [
-      | inl h ↦ subst (λ (p : Parts). CanFollow s one two p untold) (sym h.1) (each k none h.0)
-      | inr e ↦ subst (λ (p : Parts). CanFollow s one two p untold) (sym e) follows
+      | inl h ↦ subst (λ (p : Parts). FollowsBy s one two options p) (sym h.1) (each k none h.0)
+      | inr e ↦ subst (λ (p : Parts). FollowsBy s one two options p) (sym e) follows
     ]
 
 -- The same of a place that is read at some default.
@@ -63,33 +70,37 @@ pub rewritten_at : (xs : List Successor) (at : ℕ) (x d : Successor) → at < l
 rewritten_at xs at x d within e = rewritten xs at x within (λ none. e ∙ ap (λ (y : Successor). y.battle) (get_or_default xs at d none within))
 
 -- A result that has so many outcomes.
-pub finished_follows : (s : State) (one two : Choice) (count : ℕ) (xs : List Successor) (r : Result Outcomes OutcomesFault) → EachFollows s one two count xs
-    → IfOk r (λ o. o.count ≡ count) → IfOk r (λ o. EachFollows s one two o.count xs)
-finished_follows s one two count xs (Ok o) each e = subst (λ (n : ℕ). EachFollows s one two n xs) (sym e) each
-finished_follows s one two count xs (Err fault) each e = tt
+pub finished_follows : (s : State) (one two : Choice) (options : OutcomeOptions) (count : ℕ) (xs : List Successor) (r : Result Outcomes OutcomesFault)
+    → EachFollows s one two options count xs → IfOk r (λ o. o.count ≡ count) → IfOk r (λ o. EachFollows s one two options o.count xs)
+finished_follows s one two options count xs (Ok o) each e = subst (λ (n : ℕ). EachFollows s one two options n xs) (sym e) each
+finished_follows s one two options count xs (Err fault) each e = tt
 
 -- What a walk lists follows from the pair that it was made of.
-pub follows_walk : (s : State) (one two : Choice) (options : OutcomeOptions) (battle : Parts) (w : Walk) → w ≡ record { start = battle; one = one; two = two; options = options } → Stands battle s
+pub follows_walk : (s : State) (one two : Choice) (options : OutcomeOptions) (battle : Parts) (w : Walk) → IsBegun battle one two options w → Stands battle s
     → AreOffered s one two → (xs : List Successor) (r : Result Outcomes OutcomesFault)
-    → (Stands w.start s → AreOffered s w.one w.two → IfOk r (λ o. EachFollows s w.one w.two o.count xs)) → IfOk r (λ o. EachFollows s one two o.count xs)
+    → (Stands w.start s → AreOffered s w.one w.two → IfOk r (λ o. EachFollows s w.one w.two w.options o.count xs))
+    → IfOk r (λ o. EachFollows s one two options o.count xs)
 follows_walk s one two options battle w is stands offered xs r all =
-    subst (λ (v : Walk). Stands v.start s → AreOffered s v.one v.two → IfOk r (λ o. EachFollows s v.one v.two o.count xs)) is all stands offered
+    subst (λ (m : OutcomeOptions). IfOk r (λ o. EachFollows s one two m o.count xs)) is.options
+    (subst (λ (a : Choice). AreOffered s a two → IfOk r (λ o. EachFollows s a two w.options o.count xs)) is.one
+    (subst (λ (b : Choice). AreOffered s w.one b → IfOk r (λ o. EachFollows s w.one b w.options o.count xs)) is.two
+    (all (subst (λ (p : Parts). Stands p s) (sym is.start) stands))) offered)
 
 -- Where a battle that follows is added, what a walk lists still follows, also under another name of the walk.
 pub still_more : (w v : Walk) (battle : Parts) (first before count now : ℕ) (start old new : List Successor) → v ≡ w → StillFollow w first start before old
-    → ((s : State) → Stands v.start s → AreOffered s v.one v.two → CanFollow s v.one v.two battle untold) → AreThoseOr battle before old count new → now ≡ count
+    → ((s : State) → Stands v.start s → AreOffered s v.one v.two → FollowsBy s v.one v.two v.options battle) → AreThoseOr battle before old count new → now ≡ count
     → StillFollow w first start now new
 still_more w v battle first before count now start old new is still follows those e s h o each =
-    let this : CanFollow s w.one w.two battle untold =
-    subst (λ (x : Walk). Stands x.start s → AreOffered s x.one x.two → CanFollow s x.one x.two battle untold) is (follows s) h o
+    let this : FollowsBy s w.one w.two w.options battle =
+    subst (λ (x : Walk). Stands x.start s → AreOffered s x.one x.two → FollowsBy s x.one x.two x.options battle) is (follows s) h o
     in
-    subst (λ (n : ℕ). EachFollows s w.one w.two n new) (sym e) (follows_more s w.one w.two battle before count old new (still s h o each) this those)
+    subst (λ (n : ℕ). EachFollows s w.one w.two w.options n new) (sym e) (follows_more s w.one w.two w.options battle before count old new (still s h o each) this those)
 
 -- The same where the battles stay.
 pub still_those : (w : Walk) (first before now : ℕ) (start old new : List Successor) → StillFollow w first start before old → AreThose old new → now ≡ before
     → StillFollow w first start now new
 still_those w first before now start old new still those e s h o each k none lt =
-    subst (λ (p : Parts). CanFollow s w.one w.two p untold) (sym (those k none)) (still s h o each k none (omega (arith, e, lt)))
+    subst (λ (p : Parts). FollowsBy s w.one w.two w.options p) (sym (those k none)) (still s h o each k none (omega (arith, e, lt)))
 
 -- The same where more is listed.
 pub still_then : (w v : Walk) (first before count : ℕ) (start old new : List Successor) → v ≡ w → StillFollow w first start before old

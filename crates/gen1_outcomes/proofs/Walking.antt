@@ -1,11 +1,12 @@
 -- How one way leads to the next.
-use Rattle.std.proofs.Common.{◌≡◌, ◌≢◌, ℕ, Bool, false, true, inl, inr, refl, ◌*◌, ◌/◌, ◌%◌, ◌-◌, ◌<◌, ◌≤◌, List, length, get_or, get_or-set_other, get_or-set_same, set, ap, subst, sym, ◌∙◌, arith}
+use Rattle.std.proofs.Common.{◌≡◌, ◌≢◌, ℕ, Bool, Some, false, not, true, inl, inr, refl, ◌*◌, ◌/◌, ◌%◌, ◌-◌, ◌<◌, ◌≤◌, List, length, get_or, get_or-set_other, get_or-set_same, set, ap, subst, sym, ◌∙◌, arith}
 use Rattle.std.proofs.Math.Nat.{mul_assoc, mul_comm}
 use Rattle.std.proofs.lemmas.List.{get_or_default}
 use Rattle.gen1_outcomes.specs.declared.nodes.Chance.{Chance}
 use Rattle.gen1_outcomes.specs.declared.nodes.Node.{Node}
 use Rattle.gen1_outcomes.specs.declared.nodes.Nodes.{Nodes}
 use Rattle.gen1_outcomes.specs.declared.plain.PlainWalk.{PlainWalk}
+use Rattle.gen1_outcomes.specs.Following.{PlaysNext, Walk}
 use Rattle.gen1_outcomes.specs.Nodes.{AllDone, GoesOn, IsChance, IsDone, LeadsOn}
 use Rattle.gen1_outcomes.specs.Plain.{ArePlain, IsWay}
 
@@ -38,6 +39,14 @@ way_is nodes next chance walk true is leads done going over count draws =
     record { nodes = nodes; chance = is; next = inl (record { going = going refl; next = next; leads = leads refl; count = count; draws = draws }) }
 way_is nodes next chance walk false is leads done going over count draws =
     record { nodes = nodes; chance = is; next = inr (record { over = over refl; done = done refl }) }
+
+-- The same of a walk whose type guarantees it.
+pub goes_past : (nodes next : Nodes) (c : Chance) (old : Walk) (on : Bool) → IsChance nodes c → old.over ≡ false → (on ≡ true → LeadsOn nodes next)
+    → (on ≡ false → AllDone nodes) → PlaysNext (Some c) old (record old { nodes = next; over = not on })
+goes_past nodes next c old true is going leads done =
+    (nodes, is, record { start = refl; one = refl; two = refl; options = refl; going = going; next = inl (refl, leads refl) })
+goes_past nodes next c old false is going leads done =
+    (nodes, is, record { start = refl; one = refl; two = refl; options = refl; going = going; next = inr (refl, done refl) })
 
 -- Halves are in the same proportion.
 pub halved : (n t w c : ℕ) → n * t ≡ w * c → n % 2 ≡ 0 → w % 2 ≡ 0 → n / 2 * t ≡ w / 2 * c

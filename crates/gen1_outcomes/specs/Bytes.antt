@@ -12,6 +12,10 @@ has set b = bit_at (slice_index set.words (b / 64)) (b % 64)
 abbrev pub IsNone : ByteSet → Type 0
 IsNone set = (b : ℕ) → b < 256 → has set b ≡ 0
 
+-- The set has all bytes.
+abbrev pub IsAll : ByteSet → Type 0
+IsAll set = (b : ℕ) → b < 256 → has set b ≡ 1
+
 -- The set has the bytes that pass a test.
 abbrev pub ArePassing : (ℕ → Bool) → ByteSet → Type 0
 ArePassing p set = (b : ℕ) → b < 256 → has set b ≡ (if p b then 1 else 0)

@@ -1,6 +1,6 @@
 -- What can follow from a pair of choices: what the machine makes of it, with some stream of bytes for its draws
 -- (docs/MECHANICS.md, "Link numbers", "Falls and requests").
-use Rattle.std.specs.Prelude.{ℕ, ◌≡◌, ◌≢◌}
+use Rattle.std.specs.Prelude.{Bool, None, Option, Some, false, true, ℕ, ◌≡◌, ◌≢◌, ◌⊎◌}
 use Rattle.gen1_rolls.specs.Draws.{Drawing}
 use Rattle.gen1_rolls.specs.Streams.{Drawn, IsStream, Stream}
 use Rattle.gen1_machine.specs.declared.choice.Choice.{Choice}
@@ -14,15 +14,45 @@ use Rattle.gen1_layout.specs.Parts.{Parts}
 use Rattle.gen1_layout.specs.Shows.{Telling}
 use Rattle.gen1_layout.specs.Operations.{Scene}
 use Rattle.gen1_layout.specs.Within.{Within, setting_of}
+use Rattle.gen1_outcomes.specs.declared.nodes.Chance.{Chance}
+use Rattle.gen1_outcomes.specs.declared.nodes.Nodes.{Nodes}
 use Rattle.gen1_outcomes.specs.declared.options.OutcomeOptions.{OutcomeOptions}
+use Rattle.gen1_outcomes.specs.Nodes.{AllDone, IsChance, LeadsOn}
 use Rattle.gen1_switching.specs.Updates.{Steps, UpdatesDrawing, drawing_on}
 
--- What a walk goes through: the ways of an update of a battle by a pair of choices, and what of them is listed.
+-- A walk through the ways of an update of a battle by a pair of choices: which of them are listed, the draws of the next one, and whether
+-- all were played.
 pub record Walk : Type 0 where
   pub start : Parts
   pub one : Choice
   pub two : Choice
   pub options : OutcomeOptions
+  pub nodes : Nodes
+  pub over : Bool
+
+-- No way of a walk was played.
+pub record IsBegun (battle : Parts) (first second : Choice) (form : OutcomeOptions) (w : Walk) : Type 0 where
+  pub start : w.start ≡ battle
+  pub one : w.one ≡ first
+  pub two : w.two ≡ second
+  pub options : w.options ≡ form
+  pub noted : w.nodes.options ≡ form
+  pub empty : w.nodes.len ≡ 0
+  pub going : w.over ≡ false
+
+-- A way was played, of these draws: they lead on to those of the next way, or nothing of them is left to be tried.
+pub record GoesPast (nodes : Nodes) (old new : Walk) : Type 0 where
+  pub start : new.start ≡ old.start
+  pub one : new.one ≡ old.one
+  pub two : new.two ≡ old.two
+  pub options : new.options ≡ old.options
+  pub going : old.over ≡ false
+  pub next : ((new.over ≡ false) × LeadsOn nodes new.nodes) ⊎ ((new.over ≡ true) × AllDone nodes)
+
+-- A walk plays a way of this probability; or all were played, and nothing happens.
+abbrev pub PlaysNext : Option Chance → Walk → Walk → Type 0
+PlaysNext (Some c) old new = (nodes : Nodes) × IsChance nodes c × GoesPast nodes old new
+PlaysNext None old new = (old.over ≡ true) × (new ≡ old)
 
 -- A turn, and its close, with the draws of a stream from a place on.
 abbrev pub turn_on : State → Choice → Choice → Stream → ℕ → Progress

@@ -9,5 +9,6 @@ pub mod Following
 pub mod Listing
 pub mod Middles
 pub mod Merging
+pub mod Shares
 pub mod Plain
 pub mod Faults

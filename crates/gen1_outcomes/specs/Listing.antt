@@ -1,15 +1,20 @@
 -- A list of the battles that can follow from a pair of choices, with their weights.
-use Rattle.std.specs.Prelude.{List, take, slice_index_or, ℕ, ◌*◌, ◌+◌, ◌<◌, ◌≡◌, ◌≤◌, ◌⊎◌}
+use Rattle.std.specs.Prelude.{List, take, slice_index, slice_index_or, ℕ, ◌*◌, ◌+◌, ◌<◌, ◌≡◌, ◌≤◌, ◌⊎◌}
 use Rattle.std.specs.List.{sum_by}
+use Rattle.gen1_rolls.specs.Draws.{stream_of}
 use Rattle.gen1_machine.specs.declared.choice.Choice.{Choice}
 use Rattle.gen1_machine.specs.State.{State}
 use Rattle.gen1_layout.specs.Parts.{Parts}
 use Rattle.gen1_layout.specs.Shows.{Telling}
+use Rattle.gen1_outcomes.specs.declared.nodes.Node.{Node}
+use Rattle.gen1_outcomes.specs.declared.nodes.Nodes.{Nodes}
+use Rattle.gen1_outcomes.specs.declared.options.OutcomeOptions.{OutcomeOptions}
 use Rattle.gen1_outcomes.specs.declared.outcomes.Outcomes.{Outcomes}
 use Rattle.gen1_outcomes.specs.declared.successor.Successor.{Successor}
 use Rattle.gen1_layout.specs.Within.{Stands}
 use Rattle.gen1_engine.specs.Update.{AreOffered}
-use Rattle.gen1_outcomes.specs.Following.{CanFollow, Walk}
+use Rattle.gen1_outcomes.specs.Following.{CanFollow, Follows, Walk}
+use Rattle.gen1_outcomes.specs.Script.{script_of, scripted}
 
 abbrev pub weight_of : Successor → ℕ
 weight_of x = x.low + x.high * 18446744073709551616
@@ -26,10 +31,23 @@ battle_at xs k past = (slice_index_or xs k past).battle
 abbrev pub untold : Telling
 untold = λ _. Unit {0}
 
--- Each of the first battles can follow.
-abbrev pub EachFollows : State → Choice → Choice → ℕ → List Successor → Type 0
-EachFollows s one two count xs =
-    (k : ℕ) → (past : Successor) → k < count → CanFollow s one two (battle_at xs k past) untold
+-- A battle follows with the bytes of a way, which are noted by these options after those of a first part.
+pub record IsPlayed (s : State) (one two : Choice) (form : OutcomeOptions) (parts : Parts) : Type 0 where
+  pub nodes : Nodes
+  pub options : nodes.options ≡ form
+  pub first : ℕ
+  pub path : List ℕ
+  pub bytes : (k : ℕ) → (past : Node) → k < nodes.len → first + k < 24 → slice_index path (first + k) ≡ (slice_index_or nodes.list k past).byte
+  pub follows : Follows s one two (stream_of scripted (script_of path)) parts untold
+
+-- A battle can follow, by a way that is noted by these options.
+abbrev pub FollowsBy : State → Choice → Choice → OutcomeOptions → Parts → Type 0
+FollowsBy s one two options parts = CanFollow s one two parts untold × IsPlayed s one two options parts
+
+-- Each of the first battles does.
+abbrev pub EachFollows : State → Choice → Choice → OutcomeOptions → ℕ → List Successor → Type 0
+EachFollows s one two options count xs =
+    (k : ℕ) → (past : Successor) → k < count → FollowsBy s one two options (battle_at xs k past)
 
 -- Each of the first battles is the old one at its place, or this one.
 abbrev pub AreThoseOr : Parts → ℕ → List Successor → ℕ → List Successor → Type 0
@@ -45,7 +63,7 @@ AreThose old new = (k : ℕ) → (past : Successor) → battle_at new k past ≡
 abbrev pub StillFollow : Walk → ℕ → List Successor → ℕ → List Successor → Type 0
 StillFollow w before old count new =
     (s : State) → Stands w.start s → AreOffered s w.one w.two
-    → EachFollows s w.one w.two before old → EachFollows s w.one w.two count new
+    → EachFollows s w.one w.two w.options before old → EachFollows s w.one w.two w.options count new
 
 -- The probabilities have a denominator. If nothing is left out, an outcome is listed.
 pub record HasSome (list : Outcomes) : Type 0 where

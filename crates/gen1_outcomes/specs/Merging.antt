@@ -1,5 +1,5 @@
 -- Where a battle is in a list, which array is too short for it, and what a list leaves out.
-use Rattle.std.specs.Prelude.{List, drop, length, min, slice_index, take, ℕ, ◌%◌, ◌*◌, ◌+◌, ◌-◌, ◌/◌, ◌<◌, ◌≡◌, ◌≢◌}
+use Rattle.std.specs.Prelude.{List, drop, length, min, slice_index, take, ℕ, ◌%◌, ◌*◌, ◌+◌, ◌-◌, ◌/◌, ◌<◌, ◌≡◌, ◌≢◌, ◌≤◌}
 use Rattle.std.specs.Int.{from_le_bytes, w64}
 use Rattle.gen1_layout.specs.Parts.{Parts, joined}
 use Rattle.gen1_outcomes.specs.declared.fault.OutcomesFault.{OutcomesFault}
@@ -17,12 +17,16 @@ HasFree table = (slot : ℕ) × (slot < length table) × (slice_index table slot
 abbrev pub IsFull : List ℕ → Type 0
 IsFull table = (slot : ℕ) → slot < length table → slice_index table slot ≢ 0
 
+-- A list of so many battles is full, at the latest where 32 bits hold no further number, and a place of the table is free.
+abbrev pub LacksPlaces : ℕ → ℕ → List ℕ → Type 0
+LacksPlaces count places table = (min places 4294967295 ≤ count) × HasFree table
+
 -- The array that a fault names is too short: the table is full, or if it has a free place, the list is.
-abbrev pub IsShort : OutcomesFault → List ℕ → Type 0
-IsShort (faults.Refused why) table = Unit {0}
-IsShort faults.Places table = HasFree table
-IsShort faults.Table table = IsFull table
-IsShort faults.Size table = Unit {0}
+abbrev pub IsShort : OutcomesFault → ℕ → ℕ → List ℕ → Type 0
+IsShort (faults.Refused why) count places table = Unit {0}
+IsShort faults.Places count places table = LacksPlaces count places table
+IsShort faults.Table count places table = IsFull table
+IsShort faults.Size count places table = Unit {0}
 
 -- A place of the list whose battle has the same bytes, or a free place of the table, if it has one.
 abbrev pub IsPlace : List Successor → List ℕ → Parts → Place → Type 0

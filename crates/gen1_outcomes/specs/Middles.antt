@@ -18,7 +18,8 @@ use Rattle.gen1_outcomes.specs.declared.script.Script.{Script}
 use Rattle.gen1_outcomes.specs.Beginning.{Begins, unflinched}
 use Rattle.gen1_outcomes.specs.Following.{Follows, Walk}
 use Rattle.gen1_outcomes.specs.Listing.{untold}
-use Rattle.gen1_outcomes.specs.Script.{scripted}
+use Rattle.gen1_outcomes.specs.Nodes.{IsTooLarge}
+use Rattle.gen1_outcomes.specs.Script.{script_of, scripted}
 use Rattle.gen1_outcomes.specs.declared.middles.Middle.{Middle}
 use Rattle.gen1_outcomes.specs.declared.middles.Middles.{Middles}
 use Rattle.gen1_outcomes.specs.Chances.{IsSum}
@@ -59,10 +60,6 @@ pub record IsPut (added : Middle) (old new : Middles) : Type 0 where
 abbrev pub IsAdded : Middle → Middles → Middles → Type 0
 IsAdded added old new = Joins added old new ⊎ IsPut added old new
 
--- The generator of a path, before its first draw.
-abbrev pub script_of : List ℕ → Script
-script_of path = record { path = path; at = 0; number = 0 }
-
 -- A path has the bytes of these draws first.
 abbrev pub IsPathOf : Nodes → List ℕ → Type 0
 IsPathOf nodes path = (k : ℕ) → (past : Node) → k < nodes.len → slice_index path k ≡ (slice_index_or nodes.list k past).byte
@@ -72,6 +69,10 @@ pub record LeadsTo (middle : Middle) (nodes : Nodes) (path : List ℕ) : Type 0 
   pub first : (k : ℕ) → k < middle.draws → slice_index path k ≡ slice_index middle.path k
   pub further : (k : ℕ) → (past : Node) → k < nodes.len → middle.draws + k < 24
       → slice_index path (middle.draws + k) ≡ (slice_index_or nodes.list k past).byte
+
+-- A way has too many draws after those to a position, or 128 bits do not hold its probability.
+abbrev pub IsTooLong : Middle → Nodes → Type 0
+IsTooLong middle nodes = (24 < middle.draws + nodes.len) ⊎ IsTooLarge nodes
 
 -- The parts follow from the pair of a walk, with the draws of such a path.
 pub record PlaysOn (w : Walk) (middle : Middle) (nodes : Nodes) (parts : Parts) : Type 0 where

@@ -1,8 +1,12 @@
 -- A generator whose first bytes are given (docs/MECHANICS.md, "Link numbers").
-use Rattle.std.specs.Prelude.{ℕ, ◌+◌, nat_lt, slice_index, if◌then◌else◌}
+use Rattle.std.specs.Prelude.{List, ℕ, ◌+◌, nat_lt, slice_index, if◌then◌else◌}
 use Rattle.gen1_rolls.specs.Draws.{Drawing}
 use Rattle.gen1_rolls.specs.Sweep.{one_up}
 use Rattle.gen1_outcomes.specs.declared.script.Script.{Script}
+
+-- The generator of a path, before its first draw.
+abbrev pub script_of : List ℕ → Script
+script_of path = record { path = path; at = 0; number = 0 }
 
 -- The byte that it draws next: the next given one, and after 24 of them the number.
 abbrev pub next_byte : Script → ℕ

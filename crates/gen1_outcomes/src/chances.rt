@@ -1,5 +1,5 @@
 //! Sums of probabilities, and which are below the least one (docs/MECHANICS.md, "Link numbers").
-ghost use Rattle.std.specs.Prelude.{IfSome, IsFalse, IsTrue, ◌^◌, ◌<◌, ◌≡◌};
+ghost use Rattle.std.specs.Prelude.{IfSome, IsFalse, IsTrue};
 ghost use Rattle.gen1_outcomes.specs.Chances.{IsAtLeast, IsBelow, IsSum};
 
 use crate::merging::common_divisor;
@@ -24,20 +24,17 @@ pub fn plus(one: Chance, other: Chance) -> Option<Chance>
     Some(Chance { num, whole })
 }
 
-/// Whether a probability is below `least` / 2^32. One whose numerator has more than 96 bits is not.
+/// Whether a probability is below `least` / 2^32.
 pub fn is_below(chance: Chance, least: u32) -> bool
     ensures below { IsTrue result → IsBelow least chance }
-    ensures kept { IsFalse result → chance.num < 2 ^ 96 → IsAtLeast least chance }
+    ensures kept { IsFalse result → IsAtLeast least chance }
 {
     if least == 0 {
         return false;
     }
-    match chance.num.checked_mul(0x1_0000_0000) {
-        None => false,
-        Some(num) => match chance.whole.checked_mul(least as u128) {
-            Some(bound) => num < bound,
-            // Then it is more than 128 bits hold.
-            None => true,
-        },
-    }
+    let high = chance.whole / 0x1_0000_0000;
+    let low = chance.whole % 0x1_0000_0000;
+    // The least numerator that is not below, in parts that 128 bits hold.
+    let bound = least as u128 * high + (least as u128 * low + 0xffff_ffff) / 0x1_0000_0000;
+    chance.num < bound
 }

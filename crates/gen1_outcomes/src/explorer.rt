@@ -1,8 +1,10 @@
 //! A generator that takes an update through all its ways, one after the other (docs/MECHANICS.md, "Link numbers").
-ghost use Rattle.std.specs.Prelude.{Bool, IsFalse, IsTrue, ℕ, ◌≡◌, ◌≢◌, ◌⊎◌};
+ghost use Rattle.std.specs.Prelude.{Bool, IfNone, IfSome, IsFalse, IsTrue, ℕ, ◌≡◌, ◌≢◌, ◌⊎◌};
 ghost use Rattle.gen1_outcomes.specs.Script.{after_draw, next_byte, scripted};
-ghost use Rattle.gen1_outcomes.specs.Bytes.{ArePassing, IsNone};
-ghost use Rattle.gen1_rolls.specs.Draws.{Settles, stream_of};
+ghost use Rattle.gen1_outcomes.specs.Bytes.{ArePassing, IsAll, IsNone};
+ghost use Rattle.gen1_outcomes.specs.declared.byte_set.ByteSet.{ByteSet};
+ghost use Rattle.gen1_rolls.specs.Draws.{FindsAlike, FindsNoDraw, Settles, stream_of};
+ghost use Rattle.gen1_rolls.specs.Looks.{sees};
 ghost use Rattle.gen1_rolls.specs.Streams.{IsStream};
 
 use crate::byte_set::ByteSet;
@@ -109,17 +111,6 @@ impl<N: Notes> Explorer<N> {
     {
         self.script.draws_a_stream();
     }
-
-    // Draws a byte, and notes it.
-    fn draw_noted(&mut self, look: Look) -> u8
-        ensures drawn { result ≡ next_byte self.old }
-        ensures left { self.new ≡ after_draw self.old }
-        ensures stream { IsStream (stream_of scripted self.old) }
-    {
-        let byte = self.script.draw();
-        self.notes.note(byte, look, &ByteSet::all());
-        byte
-    }
 }
 
 impl<N: Notes> Rolls for Explorer<N> {
@@ -131,22 +122,15 @@ impl<N: Notes> Rolls for Explorer<N> {
 
     // A draw of which all is looked at.
     fn draw(&mut self) -> u8 {
-        self.draw_noted(Look::Remainder(256))
+        draw_noted(&mut self.script, &mut self.notes, Look::Remainder(256))
     }
 
     fn draw_as(&mut self, look: Look) -> u8 {
-        self.draw_noted(look)
+        draw_noted(&mut self.script, &mut self.notes, look)
     }
 
     fn until_as<F: Fn(u8) -> bool>(&mut self, test: F, look: Look) -> Option<u8> {
-        let bytes = may_have(&self.notes, &test);
-        match self.script.until_as(test, look) {
-            Some(byte) => {
-                self.notes.note(byte, look, &bytes);
-                Some(byte)
-            }
-            None => None,
-        }
+        search_noted(&mut self.script, &mut self.notes, test, look)
     }
 
     ghost use Rattle.std.proofs.Common.{lit<, refl};
@@ -154,6 +138,45 @@ impl<N: Notes> Rolls for Explorer<N> {
     ghost positive = { lit< tt };
 
     ghost spans = { refl };
+}
+
+// Draws a byte, and notes it with its look. Like `Rolls`, it promises of the byte only what the look sees, so a caller is proved only
+// if it passes the look that it was given.
+fn draw_noted<N: Notes>(script: &mut Script, notes: &mut N, look: Look) -> u8
+    ensures drawn { sees look result ≡ sees look (next_byte script.old) }
+    ensures left { script.new ≡ after_draw script.old }
+    ensures stream { IsStream (stream_of scripted script.old) }
+    ensures noted { (all : ByteSet) × IsAll all × N.noted result look all notes.old notes.new }
+{
+    let byte = script.draw();
+    notes.note(byte, look, &ByteSet::all());
+    byte
+}
+
+// Searches a byte, and notes it with its look and the bytes that pass the test.
+fn search_noted<N: Notes, F: Fn(u8) -> bool>(
+    script: &mut Script,
+    notes: &mut N,
+    test: F,
+    look: Look,
+) -> Option<u8>
+    requires callable { F.IsAlwaysCallable test }
+    ensures found { (p : ℕ → Bool) → Settles (F.post test) p
+        → IfSome result (FindsAlike scripted p look script) }
+    ensures none { (p : ℕ → Bool) → Settles (F.post test) p
+        → IfNone result (FindsNoDraw scripted p script) }
+    ensures noted { (p : ℕ → Bool) → Settles (F.post test) p → IfSome result (λ byte. (may : ByteSet)
+        × (ArePassing p may ⊎ (N.settled notes.old × IsNone may))
+        × N.noted byte look may notes.old notes.new) }
+{
+    let bytes = may_have(&*notes, &test);
+    match script.until_as(test, look) {
+        Some(byte) => {
+            notes.note(byte, look, &bytes);
+            Some(byte)
+        }
+        None => None,
+    }
 }
 
 // The bytes that a search may find, if they are to be noted.

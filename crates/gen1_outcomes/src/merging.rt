@@ -1,10 +1,13 @@
 //! Battles that are equal become one (docs/MECHANICS.md, "Link numbers").
-ghost use Rattle.std.specs.Prelude.{IfErr, IfOk, IsOkUnless, IsTrue, OnOk, length, slice_index, ◌+◌, ◌<◌, ◌≡◌, ◌≤◌};
+ghost use Rattle.std.specs.Prelude.{IfErr, IfOk, IsOkUnless, IsTrue, OnErr, OnOk, length, slice_index, slice_index_or, slice_set, ℕ, ◌*◌, ◌+◌, ◌^◌, ◌<◌, ◌≡◌, ◌≢◌, ◌≤◌};
+ghost use Rattle.std.specs.Int.{IsGcd};
 ghost use Rattle.gen1_layout.specs.Parts.{joined};
 ghost use Rattle.gen1_outcomes.specs.Chances.{IsBelow};
 ghost use Rattle.gen1_outcomes.specs.Listing.{AreThose, AreThoseOr};
 ghost use Rattle.gen1_outcomes.specs.declared.fault.OutcomesFault.TheVariants.{Size};
 ghost use Rattle.gen1_outcomes.specs.Merging.{IsPlace, IsShort, LeavesOut, hash_of, mixed, with_block, with_member, with_side, word_at};
+ghost use Rattle.gen1_outcomes.specs.Shares.{Adds, IsLeft, KeepsShares, TakesEach, weight_at};
+ghost use Rattle.gen1_outcomes.specs.declared.successor.Successor.{Successor};
 
 use crate::chances::is_below;
 use crate::fault::OutcomesFault;
@@ -35,9 +38,10 @@ impl Tally {
     ///
     /// `Size`, if 32 bits do not hold the sum.
     pub fn count_ways(&mut self, ways: u32) -> Result<(), OutcomesFault>
+        ensures counts { OnOk result (self.new ≡ record self.old { ways = self.old.ways + ways }) }
         ensures count { self.new.count ≡ self.old.count }
-        ensures ways { OnOk result (self.new.ways ≡ self.old.ways + ways) }
         ensures size { IsOkUnless result Size }
+        ensures large { OnErr result (2 ^ 32 ≤ self.old.ways + ways) }
         ensures left_out { LeavesOut self.old self.new }
     {
         match self.ways.checked_add(ways) {
@@ -75,7 +79,11 @@ pub fn add(
     ensures battles { OnOk result (AreThoseOr battle.now tally.old.count successors.old
         tally.new.count successors.new) }
     ensures left_out { OnOk result (LeavesOut tally.old tally.new) }
-    ensures short { IfErr result (λ why. IsShort why table.new) }
+    ensures adds { OnOk result (Adds battle.now chance tally.old tally.new successors.old
+        successors.new) }
+    ensures takes { TakesEach tally.old tally.new table.old table.new }
+    ensures short { IfErr result (λ why.
+        IsShort why tally.new.count (length successors.new) table.new) }
 {
     if is_below(chance, tally.least) {
         return leave_out(successors, tally, chance);
@@ -105,6 +113,7 @@ pub fn leave_out(
     ensures count { tally.new.count ≡ tally.old.count }
     ensures battles { AreThose successors.old successors.new }
     ensures left_out { OnOk result (LeavesOut tally.old tally.new) }
+    ensures left { OnOk result (IsLeft chance tally.old tally.new successors.old successors.new) }
     ensures size { IsOkUnless result Size }
 {
     let weight = scaled_weight(successors, tally, chance)?;
@@ -132,7 +141,13 @@ fn append(
     ensures battles { OnOk result (AreThoseOr successor.battle tally.old.count successors.old
         tally.new.count successors.new) }
     ensures left_out { OnOk result (LeavesOut tally.old tally.new) }
-    ensures short { IfErr result (λ why. IsShort why table.new) }
+    ensures counts { OnOk result (tally.new ≡ record tally.old { count = tally.old.count + 1 }) }
+    ensures list { OnOk result (successors.new
+        ≡ slice_set successors.old tally.old.count successor) }
+    ensures table { OnOk result (table.new ≡ slice_set table.old slot (tally.old.count + 1)) }
+    ensures kept { OnErr result ((tally.new ≡ tally.old) × (table.new ≡ table.old)) }
+    ensures short { IfErr result (λ why.
+        IsShort why tally.new.count (length successors.new) table.new) }
 {
     if tally.count >= successors.len() {
         return Err(OutcomesFault::Places);
@@ -149,7 +164,13 @@ fn append(
 fn add_weight(successors: &mut [Successor], place: usize, weight: u128) -> Result<(), OutcomesFault>
     requires { place < length successors.old }
     ensures battles { AreThose successors.old successors.new }
+    ensures here { OnOk result ((past : Successor) → weight_at successors.new place past
+        ≡ weight_at successors.old place past + weight) }
+    ensures others { (k : ℕ) → (past : Successor) → k ≢ place
+        → slice_index_or successors.new k past ≡ slice_index_or successors.old k past }
     ensures size { IsOkUnless result Size }
+    ensures large { (past : Successor) → OnErr result (2 ^ 128 ≤ weight_at successors.old place past
+        + weight) }
 {
     match successors[place].weight().checked_add(weight) {
         Some(sum) => {
@@ -260,6 +281,10 @@ fn scaled_weight(
     ensures count { tally.new.count ≡ tally.old.count }
     ensures battles { AreThose successors.old successors.new }
     ensures left_out { IfOk result (λ _. LeavesOut tally.old tally.new) }
+    ensures keeps { IfOk result (λ _.
+        KeepsShares tally.old tally.new successors.old successors.new) }
+    ensures weight { IfOk result (λ weight.
+        weight * chance.whole ≡ chance.num * tally.new.whole) }
     ensures size { IsOkUnless result Size }
 {
     if tally.whole == chance.whole {
@@ -278,9 +303,12 @@ fn scaled_weight(
 // Multiplies the weights, those that are left out too, and their denominator.
 fn scale(successors: &mut [Successor], tally: &mut Tally, more: u128) -> Result<(), OutcomesFault>
     requires within { tally.old.count ≤ length successors.old }
+    requires some { 0 < more }
     ensures count { tally.new.count ≡ tally.old.count }
     ensures battles { AreThose successors.old successors.new }
     ensures left_out { OnOk result (LeavesOut tally.old tally.new) }
+    ensures keeps { OnOk result (KeepsShares tally.old tally.new successors.old successors.new) }
+    ensures whole { OnOk result (tally.new.whole ≡ tally.old.whole * more) }
     ensures size { IsOkUnless result Size }
 {
     match (
@@ -302,7 +330,13 @@ fn scale(successors: &mut [Successor], tally: &mut Tally, more: u128) -> Result<
 fn multiply(successors: &mut [Successor], place: usize, more: u128) -> Result<(), OutcomesFault>
     requires { place < length successors.old }
     ensures battles { AreThose successors.old successors.new }
+    ensures here { OnOk result ((past : Successor) → weight_at successors.new place past
+        ≡ weight_at successors.old place past * more) }
+    ensures others { (k : ℕ) → (past : Successor) → k ≢ place
+        → slice_index_or successors.new k past ≡ slice_index_or successors.old k past }
     ensures size { IsOkUnless result Size }
+    ensures large { (past : Successor) → OnErr result (2 ^ 128 ≤ weight_at successors.old place past
+        * more) }
 {
     match successors[place].weight().checked_mul(more) {
         Some(weight) => {
@@ -316,7 +350,8 @@ fn multiply(successors: &mut [Successor], place: usize, more: u128) -> Result<()
 /// The greatest number that divides both.
 pub(crate) fn common_divisor(one: u128, other: u128) -> u128
     requires { 0 < other }
-    ensures { 0 < result }
+    ensures positive { 0 < result }
+    ensures greatest { IsGcd one other result }
 {
     let mut left = one;
     let mut right = other;

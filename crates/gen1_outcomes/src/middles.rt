@@ -1,5 +1,5 @@
 //! Positions between the two actions of a turn. Positions that agree are merged (docs/MECHANICS.md, "Link numbers").
-ghost use Rattle.std.specs.Prelude.{IfOk, IfSome, IsFalse, IsOkUnless, IsTrue, OnOk, slice_index, slice_index_or, ℕ, ◌+◌, ◌-◌, ◌<◌, ◌≡◌, ◌≤◌};
+ghost use Rattle.std.specs.Prelude.{IfErr, IfOk, IfSome, IsFalse, IsOkUnless, IsTrue, OnOk, slice_index, slice_index_or, ℕ, ◌+◌, ◌-◌, ◌<◌, ◌≡◌, ◌≤◌};
 ghost use Rattle.gen1_layout.specs.Parts.{joined};
 ghost use Rattle.gen1_outcomes.specs.declared.fault.OutcomesFault.TheVariants.{Size};
 
@@ -32,10 +32,11 @@ pub struct Middle {
     /// How many ways lead there.
     pub ways: u32,
     ghost few: { draws ≤ 24 },
+    ghost some: { 1 ≤ ways },
 }
 
 impl Middle {
-    ghost use Rattle.gen1_outcomes.specs.Middles.{Gets, GoOnAlike};
+    ghost use Rattle.gen1_outcomes.specs.Middles.{Gets, GoOnAlike, IsTooLong};
     ghost use Rattle.gen1_outcomes.specs.Nodes.{IsChance};
 
     /// Where one way leads, which has these draws.
@@ -98,6 +99,7 @@ impl Middle {
         ensures few { IfOk result (λ _. self.now.draws + nodes.now.len ≤ 24) }
         ensures chance { IfOk result (λ c. IsChance nodes.now c) }
         ensures size { IsOkUnless result Size }
+        ensures large { IfErr result (λ _. IsTooLong self.now nodes.now) }
     {
         if self.draws + nodes.len > DEPTH {
             return Err(OutcomesFault::Size);

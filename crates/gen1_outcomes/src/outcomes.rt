@@ -1,11 +1,12 @@
 //! All battles that an update can lead to (docs/MECHANICS.md, "Link numbers").
-ghost use Rattle.std.specs.Prelude.{IfErr, IfOk, IsOkUnless, IsTrue, OnOk, length, replicate, ◌+◌, ◌<◌, ◌≡◌, ◌≤◌};
+ghost use Rattle.std.specs.Prelude.{IfErr, IfOk, IsFalse, IsOkUnless, IsTrue, OnOk, length, replicate, ◌*◌, ◌+◌, ◌^◌, ◌<◌, ◌≡◌, ◌≢◌, ◌≤◌, ◌⊎◌};
 ghost use Rattle.gen1_machine.specs.State.{State};
 ghost use Rattle.gen1_layout.specs.Within.{Stands};
 ghost use Rattle.gen1_engine.specs.Update.{AreOffered};
 ghost use Rattle.gen1_outcomes.specs.declared.fault.OutcomesFault.TheVariants.{Size};
 ghost use Rattle.gen1_outcomes.specs.Listing.{AreThose, EachFollows, HasSome, StillFollow, sum_of};
 ghost use Rattle.gen1_outcomes.specs.Merging.{IsShort, LeavesOut};
+ghost use Rattle.gen1_outcomes.specs.Shares.{CountsEach, EachIsProbable, StayProbable, TakesEach, taken};
 
 use crate::chances::is_below;
 use crate::fault::OutcomesFault;
@@ -40,7 +41,8 @@ pub struct Outcomes {
 ///
 /// With `damage_classes` above 0 the battles are some of those, and a weight is that of a whole class. With `least` above 0
 /// branches of the draws are left out, and a weight is that of the ways that are not. The weights and `left_out` sum to
-/// `whole`. An update that makes a draw may have no outcome left.
+/// `whole`. Each listed battle has at least the probability `least` / 2^32, and `left_out` is at most that for each of the
+/// `ways`. An update that makes a draw may have no outcome left.
 ///
 /// # Errors
 ///
@@ -54,12 +56,16 @@ pub fn list_outcomes(
     table: &mut [u32],
 ) -> Result<Outcomes, OutcomesFault>
     ensures follow { (s : State) → Stands battle.now s
-        → IfOk result (λ o. EachFollows s pair.0 pair.1 o.count successors.new) }
+        → IfOk result (λ o. EachFollows s pair.0 pair.1 options o.count successors.new) }
     ensures sum { IfOk result (λ o. sum_of o.count successors.new + o.left_out ≡ o.whole) }
     ensures within { IfOk result (λ o. o.count ≤ length successors.new) }
     ensures all { options.least ≡ 0 → IfOk result (λ o. o.left_out ≡ 0) }
     ensures some { IfOk result (λ o. HasSome o) }
-    ensures short { IfErr result (λ why. IsShort why table.new) }
+    ensures probable { IfOk result (λ o. EachIsProbable options.least o successors.new) }
+    ensures left { IfOk result (λ o.
+        o.left_out * 4294967296 ≤ o.ways * (options.least * o.whole)) }
+    ensures short { IfErr result (λ why.
+        IsShort why (taken table.new) (length successors.new) table.new) }
 {
     match Ways::new(battle, pair.0, pair.1, options) {
         Err(why) => Err(OutcomesFault::Refused(why)),
@@ -82,14 +88,20 @@ fn list_ways(
     successors: &mut [Successor],
     table: &mut [u32],
 ) -> Result<Outcomes, OutcomesFault>
+    requires empty { taken table.old ≡ 0 }
     ensures follow { (s : State) → Stands ways.now.start s
         → AreOffered s ways.now.one ways.now.two
-        → IfOk result (λ o. EachFollows s ways.now.one ways.now.two o.count successors.new) }
+        → IfOk result (λ o.
+        EachFollows s ways.now.one ways.now.two ways.now.options o.count successors.new) }
     ensures sum { IfOk result (λ o. sum_of o.count successors.new + o.left_out ≡ o.whole) }
     ensures within { IfOk result (λ o. o.count ≤ length successors.new) }
     ensures all { ways.now.options.least ≡ 0 → IfOk result (λ o. o.left_out ≡ 0) }
     ensures some { IfOk result (λ o. HasSome o) }
-    ensures short { IfErr result (λ why. IsShort why table.new) }
+    ensures probable { IfOk result (λ o. EachIsProbable ways.now.options.least o successors.new) }
+    ensures left { IfOk result (λ o.
+        o.left_out * 4294967296 ≤ o.ways * (ways.now.options.least * o.whole)) }
+    ensures short { IfErr result (λ why.
+        IsShort why (taken table.new) (length successors.new) table.new) }
 {
     let mut tally = Tally {
         count: 0,
@@ -114,7 +126,11 @@ fn add_all(
     ensures follow { OnOk result (StillFollow ways.now tally.old.count successors.old
         tally.new.count successors.new) }
     ensures left_out { OnOk result (LeavesOut tally.old tally.new) }
-    ensures short { IfErr result (λ why. IsShort why table.new) }
+    ensures probable { OnOk result (StayProbable tally.old successors.old tally.new
+        successors.new) }
+    ensures takes { TakesEach tally.old tally.new table.old table.new }
+    ensures short { IfErr result (λ why.
+        IsShort why tally.new.count (length successors.new) table.new) }
 {
     if ways.has_two_actions() {
         return add_in_parts(ways, successors, table, tally);
@@ -134,7 +150,11 @@ fn add_in_parts(
     ensures follow { OnOk result (StillFollow ways.now tally.old.count successors.old
         tally.new.count successors.new) }
     ensures left_out { OnOk result (LeavesOut tally.old tally.new) }
-    ensures short { IfErr result (λ why. IsShort why table.new) }
+    ensures probable { OnOk result (StayProbable tally.old successors.old tally.new
+        successors.new) }
+    ensures takes { TakesEach tally.old tally.new table.old table.new }
+    ensures short { IfErr result (λ why.
+        IsShort why tally.new.count (length successors.new) table.new) }
 {
     let mut nodes = Nodes::new(ways.options());
     let mut middles = Middles::new();
@@ -163,6 +183,8 @@ fn keep(
     ensures count { tally.new.count ≡ tally.old.count }
     ensures battles { AreThose successors.old successors.new }
     ensures left_out { OnOk result (LeavesOut tally.old tally.new) }
+    ensures probable { OnOk result (StayProbable tally.old successors.old tally.new
+        successors.new) }
     ensures size { IsOkUnless result Size }
 {
     if is_below(middle.chance, tally.least) {
@@ -186,7 +208,11 @@ fn make_room(
     ensures follow { OnOk result (StillFollow ways.now tally.old.count successors.old
         tally.new.count successors.new) }
     ensures left_out { OnOk result (LeavesOut tally.old tally.new) }
-    ensures short { IfErr result (λ why. IsShort why table.new) }
+    ensures probable { OnOk result (StayProbable tally.old successors.old tally.new
+        successors.new) }
+    ensures takes { TakesEach tally.old tally.new table.old table.new }
+    ensures short { IfErr result (λ why.
+        IsShort why tally.new.count (length successors.new) table.new) }
 {
     if middles.is_full() {
         go_on_from(ways, middles, successors, table, tally)?;
@@ -208,7 +234,11 @@ fn go_on_from(
     ensures follow { OnOk result (StillFollow ways.now tally.old.count successors.old
         tally.new.count successors.new) }
     ensures left_out { OnOk result (LeavesOut tally.old tally.new) }
-    ensures short { IfErr result (λ why. IsShort why table.new) }
+    ensures probable { OnOk result (StayProbable tally.old successors.old tally.new
+        successors.new) }
+    ensures takes { TakesEach tally.old tally.new table.old table.new }
+    ensures short { IfErr result (λ why.
+        IsShort why tally.new.count (length successors.new) table.new) }
 {
     'places: for place in 0..middles.len {
         finish(ways, &middles.list[place], successors, table, tally)?;
@@ -229,7 +259,12 @@ fn finish(
     ensures follow { OnOk result (StillFollow ways.now tally.old.count successors.old
         tally.new.count successors.new) }
     ensures left_out { OnOk result (LeavesOut tally.old tally.new) }
-    ensures short { IfErr result (λ why. IsShort why table.new) }
+    ensures probable { OnOk result (StayProbable tally.old successors.old tally.new
+        successors.new) }
+    ensures ways { OnOk result (CountsEach middle.now.ways tally.old tally.new) }
+    ensures takes { TakesEach tally.old tally.new table.old table.new }
+    ensures short { IfErr result (λ why.
+        IsShort why tally.new.count (length successors.new) table.new) }
 {
     let mut nodes = ways.restart(middle);
     let mut next = copy_of(ways.start());
@@ -249,10 +284,14 @@ fn finished(successors: &[Successor], tally: Tally) -> Result<Outcomes, Outcomes
     requires within { tally.count ≤ length successors.now }
     ensures count { IfOk result (λ o. o.count ≡ tally.count) }
     ensures left_out { IfOk result (λ o. o.left_out ≡ tally.left_out) }
+    ensures whole { IfOk result (λ o. o.whole ≡ tally.whole) }
+    ensures ways { IfOk result (λ o. o.ways ≡ tally.ways) }
     ensures within { IfOk result (λ o. o.count ≤ length successors.now) }
     ensures sum { IfOk result (λ o. sum_of o.count successors.now + o.left_out ≡ o.whole) }
     ensures some { IfOk result (λ o. HasSome o) }
     ensures size { IsOkUnless result Size }
+    ensures differ { IfErr result (λ _. (tally.whole ≡ 0)
+        ⊎ (sum_of tally.count successors.now + tally.left_out ≢ tally.whole)) }
 {
     if tally.whole > 0 && sums_to(&successors[..tally.count], tally.left_out, tally.whole) {
         Ok(Outcomes {
@@ -267,7 +306,9 @@ fn finished(successors: &[Successor], tally: Tally) -> Result<Outcomes, Outcomes
 }
 
 fn sums_to(successors: &[Successor], left_out: u128, whole: u128) -> bool
-    ensures { IsTrue result → sum_of (length successors.now) successors.now + left_out ≡ whole }
+    ensures same { IsTrue result → sum_of (length successors.now) successors.now + left_out ≡ whole }
+    ensures differ { IsFalse result
+        → sum_of (length successors.now) successors.now + left_out ≢ whole }
 {
     let mut sum = left_out;
     for successor in successors {

@@ -1,5 +1,5 @@
 //! Each way of an update apart (docs/MECHANICS.md, "Link numbers").
-ghost use Rattle.std.specs.Prelude.{IfErr, IfOk, IfSome, IsOk, IsOkUnless, Some, [], ◌≡◌};
+ghost use Rattle.std.specs.Prelude.{IfErr, IfNone, IfOk, IfSome, IsOk, IsOkUnless, Some, [], ◌≡◌};
 ghost use Rattle.gen1_machine.specs.State.{State};
 ghost use Rattle.gen1_layout.specs.Within.{Stands};
 ghost use Rattle.gen1_layout.specs.Words.{AddsAtMost, HasRoom, Reads};
@@ -7,10 +7,10 @@ ghost use Rattle.gen1_engine.specs.Update.{AreOffered, Tests};
 ghost use Rattle.gen1_outcomes.specs.Beginning.{have_two_actions};
 ghost use Rattle.gen1_rolls.specs.Draws.{stream_of};
 ghost use Rattle.gen1_outcomes.specs.declared.fault.OutcomesFault.TheVariants.{Size};
-ghost use Rattle.gen1_outcomes.specs.Following.{CanFollow, Follows};
-ghost use Rattle.gen1_outcomes.specs.Listing.{untold};
-ghost use Rattle.gen1_outcomes.specs.Nodes.{IsChance};
-ghost use Rattle.gen1_outcomes.specs.Middles.{PlaysOn, Reaches};
+ghost use Rattle.gen1_outcomes.specs.Following.{CanFollow, Follows, IsBegun, PlaysNext};
+ghost use Rattle.gen1_outcomes.specs.Listing.{FollowsBy};
+ghost use Rattle.gen1_outcomes.specs.Nodes.{IsChance, IsTooLarge};
+ghost use Rattle.gen1_outcomes.specs.Middles.{IsTooLong, PlaysOn, Reaches};
 ghost use Rattle.gen1_outcomes.specs.Script.{scripted};
 
 use crate::beginning::{begin, have_two_actions};
@@ -46,7 +46,7 @@ impl Model for Ways {
 
     ghost Value = { Walk };
 
-    ghost view = { λ w. record { start = w.start; one = w.one; two = w.two; options = w.options } };
+    ghost view = { λ w. record { start = w.start; one = w.one; two = w.two; options = w.options; nodes = w.nodes; over = w.over } };
 }
 
 impl Ways {
@@ -64,8 +64,7 @@ impl Ways {
         two: Choice,
         options: OutcomeOptions,
     ) -> Result<Ways, Refusal>
-        ensures walk { IfOk result (λ w. w
-            ≡ record { start = battle.now; one = one; two = two; options = options }) }
+        ensures walk { IfOk result (IsBegun battle.now one two options) }
         ensures offered { (s : State) → Stands battle.now s
             → IfOk result (λ _. AreOffered s one two) }
         ensures refused { (s : State) → Stands battle.now s
@@ -102,7 +101,7 @@ impl Ways {
         ensures follows { (s : State) → Stands self.old.start s
             → AreOffered s self.old.one self.old.two → IfOk result (λ way. IfSome way (λ _.
             CanFollow s self.old.one self.old.two battle.new (S.tells events.new))) }
-        ensures same { self.new ≡ self.old }
+        ensures next { IfOk result (λ way. PlaysNext way self.old self.new) }
     {
         if self.over {
             return Ok(None);
@@ -129,10 +128,13 @@ impl Ways {
 impl Ways {
     /// Plays the update up to its second action, in the way that the nodes are at. `None` if that way is too large.
     pub(crate) fn begin(&self, nodes: &mut Nodes) -> Option<Middle>
+        requires options { nodes.old.options ≡ self.now.options }
+        ensures options { nodes.new.options ≡ self.now.options }
         ensures draws { IfSome result (λ middle. middle.draws ≡ nodes.new.len) }
         ensures chance { IfSome result (λ middle. IsChance nodes.new middle.chance) }
         ensures one { IfSome result (λ middle. middle.ways ≡ 1) }
         ensures reaches { IfSome result (λ middle. Reaches self.now nodes.old middle) }
+        ensures large { IfNone result (IsTooLarge nodes.new) }
     {
         let mut battle = copy_of(&self.start);
         let path = nodes.path();
@@ -141,6 +143,7 @@ impl Ways {
         let two = copied(&self.two);
         explorer.draws_a_stream();
         let rest = begin(&mut battle, one, two, &mut explorer);
+        nodes.options = self.options;
         match nodes.chance() {
             Some(chance) => Some(Middle::new(&battle, rest, nodes, chance)),
             None => None,
@@ -169,12 +172,15 @@ impl Ways {
         middle: &Middle,
         battle: &mut Packed,
     ) -> Result<Chance, OutcomesFault>
+        requires options { nodes.old.options ≡ self.now.options }
+        ensures options { nodes.new.options ≡ self.now.options }
         ensures plays { PlaysOn self.now middle.now nodes.old battle.new }
         ensures follows { (s : State) → Stands self.now.start s
             → AreOffered s self.now.one self.now.two
-            → CanFollow s self.now.one self.now.two battle.new untold }
+            → FollowsBy s self.now.one self.now.two self.now.options battle.new }
         ensures chance { IfOk result (λ c. IsChance nodes.new c) }
         ensures size { IsOkUnless result Size }
+        ensures large { IfErr result (λ _. IsTooLong middle.now nodes.new) }
     {
         *battle = copy_of(&self.start);
         let path = middle.path_to(&nodes.path());
@@ -186,6 +192,7 @@ impl Ways {
         let one = copied(&self.one);
         let two = copied(&self.two);
         play_way(battle, one, two, explorer, &mut Silent);
+        nodes.options = self.options;
         middle.chance_with(nodes)
     }
 

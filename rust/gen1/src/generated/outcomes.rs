@@ -346,19 +346,16 @@ mod chances {
         Some(Chance { num, whole })
     }
 
-    /// Whether a probability is below `least` / 2^32. One whose numerator has more than 96 bits is not.
+    /// Whether a probability is below `least` / 2^32.
     pub fn is_below(chance: Chance, least: u32) -> bool {
         if least == 0 {
             return false;
         }
-        match chance.num.checked_mul(0x1_0000_0000) {
-            None => false,
-            Some(num) => match chance.whole.checked_mul(least as u128) {
-                Some(bound) => num < bound,
-                // Then it is more than 128 bits hold.
-                None => true,
-            },
-        }
+        let high = chance.whole / 0x1_0000_0000;
+        let low = chance.whole % 0x1_0000_0000;
+        // The least numerator that is not below, in parts that 128 bits hold.
+        let bound = least as u128 * high + (least as u128 * low + 0xffff_ffff) / 0x1_0000_0000;
+        chance.num < bound
     }
 }
 
@@ -472,13 +469,6 @@ mod explorer {
         pub(crate) fn draws_a_stream(&self) {
             self.script.draws_a_stream();
         }
-
-        // Draws a byte, and notes it.
-        fn draw_noted(&mut self, look: Look) -> u8 {
-            let byte = self.script.draw();
-            self.notes.note(byte, look, &ByteSet::all());
-            byte
-        }
     }
 
     impl<N: Notes> Rolls for Explorer<N> {
@@ -486,22 +476,40 @@ mod explorer {
 
         // A draw of which all is looked at.
         fn draw(&mut self) -> u8 {
-            self.draw_noted(Look::Remainder(256))
+            draw_noted(&mut self.script, &mut self.notes, Look::Remainder(256))
         }
 
         fn draw_as(&mut self, look: Look) -> u8 {
-            self.draw_noted(look)
+            draw_noted(&mut self.script, &mut self.notes, look)
         }
 
         fn until_as<F: Fn(u8) -> bool>(&mut self, test: F, look: Look) -> Option<u8> {
-            let bytes = may_have(&self.notes, &test);
-            match self.script.until_as(test, look) {
-                Some(byte) => {
-                    self.notes.note(byte, look, &bytes);
-                    Some(byte)
-                }
-                None => None,
+            search_noted(&mut self.script, &mut self.notes, test, look)
+        }
+    }
+
+    // Draws a byte, and notes it with its look. Like `Rolls`, it promises of the byte only what the look sees, so a caller is proved only
+    // if it passes the look that it was given.
+    fn draw_noted<N: Notes>(script: &mut Script, notes: &mut N, look: Look) -> u8 {
+        let byte = script.draw();
+        notes.note(byte, look, &ByteSet::all());
+        byte
+    }
+
+    // Searches a byte, and notes it with its look and the bytes that pass the test.
+    fn search_noted<N: Notes, F: Fn(u8) -> bool>(
+        script: &mut Script,
+        notes: &mut N,
+        test: F,
+        look: Look,
+    ) -> Option<u8> {
+        let bytes = may_have(&*notes, &test);
+        match script.until_as(test, look) {
+            Some(byte) => {
+                notes.note(byte, look, &bytes);
+                Some(byte)
             }
+            None => None,
         }
     }
 
@@ -1360,7 +1368,8 @@ mod outcomes {
     ///
     /// With `damage_classes` above 0 the battles are some of those, and a weight is that of a whole class. With `least` above 0
     /// branches of the draws are left out, and a weight is that of the ways that are not. The weights and `left_out` sum to
-    /// `whole`. An update that makes a draw may have no outcome left.
+    /// `whole`. Each listed battle has at least the probability `least` / 2^32, and `left_out` is at most that for each of the
+    /// `ways`. An update that makes a draw may have no outcome left.
     ///
     /// # Errors
     ///
@@ -2018,6 +2027,7 @@ mod ways {
             let two = copied(&self.two);
             explorer.draws_a_stream();
             let rest = begin(&mut battle, one, two, &mut explorer);
+            nodes.options = self.options;
             match nodes.chance() {
                 Some(chance) => Some(Middle::new(&battle, rest, nodes, chance)),
                 None => None,
@@ -2052,6 +2062,7 @@ mod ways {
             let one = copied(&self.one);
             let two = copied(&self.two);
             play_way(battle, one, two, explorer, &mut Silent);
+            nodes.options = self.options;
             middle.chance_with(nodes)
         }
 

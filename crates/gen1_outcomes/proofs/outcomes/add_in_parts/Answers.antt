@@ -1,15 +1,30 @@
-use Rattle.std.proofs.Common.{arith, refl}
+use Rattle.std.proofs.Common.{arith, refl, ◌∙◌}
 use Rattle.gen1_outcomes.proofs.Leaving.{leaves_then, on_ok_leaves}
 use Rattle.gen1_outcomes.proofs.Lists.{on_ok_then, still_then, still_those}
+use Rattle.gen1_outcomes.proofs.Shares.{on_ok_stay, stay_then}
 use Rattle.gen1_outcomes.proofs.outcomes.add_in_parts.Goals as goal
 
 pub walk-init : goal.walk-init
-walk-init c = record { within = omega arith; left_out = record { least = refl; none = λ l z. z }; follow = λ s h o each. each }
+walk-init c =
+    record {
+      within = omega arith;
+      options = c.new-nodes.ensures.options ∙ c.options.ensures;
+      left_out = record { least = refl; none = λ l z. z };
+      probable = λ are. are;
+      takes = refl;
+      follow = λ s h o each. each;
+    }
 
 pub walk-preserved : goal.walk-preserved
 walk-preserved c =
     record {
       within = omega arith;
+      options = (c.if-not-advance.ensures.on refl).options ∙ c.in-Some.ensures.options;
+      probable = stay_then c.args.tally.now c.make_room.new.tally c.keep.new.tally c.args.successors.now c.make_room.new.successors c.keep.new.successors
+          (stay_then c.args.tally.now c.walk.tally c.make_room.new.tally c.args.successors.now c.walk.successors c.make_room.new.successors
+          c.walk.invariant.probable c.in_ok-make_room.ensures.probable)
+          c.in_ok-keep.ensures.probable;
+      takes = omega (arith, c.walk.invariant.takes, c.make_room.ensures.takes, c.keep.ensures.count);
       left_out = leaves_then _ _ _ (leaves_then _ _ _ c.walk.invariant.left_out c.in_ok-make_room.ensures.left_out) c.in_ok-keep.ensures.left_out;
       follow = still_those c.args.ways.now c.args.tally.now.count c.make_room.new.tally.count c.keep.new.tally.count
           c.args.successors.now c.make_room.new.successors c.keep.new.successors
@@ -34,3 +49,12 @@ returns-then-not-advance-clause-left_out c =
     on_ok_leaves _ _ _ c.go_on_from.result
     (leaves_then _ _ _ (leaves_then _ _ _ c.walk.invariant.left_out c.in_ok-make_room.ensures.left_out) c.in_ok-keep.ensures.left_out)
     c.go_on_from.ensures.left_out
+
+pub returns-then-not-advance-clause-probable : goal.returns-then-not-advance-clause-probable
+returns-then-not-advance-clause-probable c =
+    on_ok_stay c.args.tally.now c.keep.new.tally c.go_on_from.new.tally c.args.successors.now c.keep.new.successors c.go_on_from.new.successors c.go_on_from.result
+    (stay_then c.args.tally.now c.make_room.new.tally c.keep.new.tally c.args.successors.now c.make_room.new.successors c.keep.new.successors
+    (stay_then c.args.tally.now c.walk.tally c.make_room.new.tally c.args.successors.now c.walk.successors c.make_room.new.successors
+    c.walk.invariant.probable c.in_ok-make_room.ensures.probable)
+    c.in_ok-keep.ensures.probable)
+    c.go_on_from.ensures.probable

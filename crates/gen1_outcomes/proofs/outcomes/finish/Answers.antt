@@ -1,15 +1,32 @@
-use Rattle.std.proofs.Common.{arith, refl}
+use Rattle.std.proofs.Common.{arith, refl, ◌∙◌}
 use Rattle.gen1_outcomes.proofs.Leaving.{leaves_then}
 use Rattle.gen1_outcomes.proofs.Lists.{still_more}
+use Rattle.gen1_outcomes.proofs.Shares.{counts_more, stay_more}
 use Rattle.gen1_outcomes.proofs.outcomes.finish.Goals as goal
 
 pub walk-init : goal.walk-init
-walk-init c = record { within = omega arith; left_out = record { least = refl; none = λ l z. z }; follow = λ s h o each. each }
+walk-init c =
+    record {
+      within = omega arith;
+      options = c.restart-nodes.ensures.options;
+      left_out = record { least = refl; none = λ l z. z };
+      probable = λ are. are;
+      ways = (0, omega arith);
+      takes = refl;
+      follow = λ s h o each. each;
+    }
 
 pub walk-preserved : goal.walk-preserved
 walk-preserved c =
     record {
       within = omega arith;
+      options = (c.if-not-advance.ensures.on refl).options ∙ c.in_ok-chance.ensures.options;
+      probable = stay_more c.go_on.new.battle c.in_ok-chance.chance c.args.tally.now c.walk.tally c.add.new.tally c.count_ways.new.self
+          c.args.successors.now c.walk.successors c.add.new.successors c.args.middle.now.ways c.walk.invariant.probable c.args.middle.now.some
+          c.in_ok-add.ensures.adds c.in_ok-count_ways.ensures.counts;
+      ways = counts_more c.go_on.new.battle c.in_ok-chance.chance c.args.tally.now c.walk.tally c.add.new.tally c.count_ways.new.self
+          c.walk.successors c.add.new.successors c.args.middle.now.ways c.walk.invariant.ways c.in_ok-add.ensures.adds c.in_ok-count_ways.ensures.counts;
+      takes = omega (arith, c.walk.invariant.takes, c.add.ensures.takes, c.count_ways.ensures.count);
       left_out = leaves_then _ _ _ (leaves_then _ _ _ c.walk.invariant.left_out c.in_ok-add.ensures.left_out) c.in_ok-count_ways.ensures.left_out;
       follow = still_more c.args.ways.now c.args.ways.now c.go_on.new.battle c.args.tally.now.count c.walk.tally.count c.add.new.tally.count c.count_ways.new.self.count
           c.args.successors.now c.walk.successors c.add.new.successors refl c.walk.invariant.follow c.in_ok-chance.ensures.follows
@@ -25,3 +42,14 @@ returns-then-not-advance-clause-follow c =
 pub returns-then-not-advance-clause-left_out : goal.returns-then-not-advance-clause-left_out
 returns-then-not-advance-clause-left_out c =
     leaves_then _ _ _ (leaves_then _ _ _ c.walk.invariant.left_out c.in_ok-add.ensures.left_out) c.in_ok-count_ways.ensures.left_out
+
+pub returns-then-not-advance-clause-probable : goal.returns-then-not-advance-clause-probable
+returns-then-not-advance-clause-probable c =
+    stay_more c.go_on.new.battle c.in_ok-chance.chance c.args.tally.now c.walk.tally c.add.new.tally c.count_ways.new.self
+    c.args.successors.now c.walk.successors c.add.new.successors c.args.middle.now.ways c.walk.invariant.probable c.args.middle.now.some
+    c.in_ok-add.ensures.adds c.in_ok-count_ways.ensures.counts
+
+pub returns-then-not-advance-clause-ways : goal.returns-then-not-advance-clause-ways
+returns-then-not-advance-clause-ways c =
+    counts_more c.go_on.new.battle c.in_ok-chance.chance c.args.tally.now c.walk.tally c.add.new.tally c.count_ways.new.self
+    c.walk.successors c.add.new.successors c.args.middle.now.ways c.walk.invariant.ways c.in_ok-add.ensures.adds c.in_ok-count_ways.ensures.counts

@@ -1,12 +1,17 @@
-use Rattle.std.proofs.Common.{length, ◌≤◌}
+use Rattle.std.proofs.Common.{length, ◌≡◌, ◌≤◌}
 use Rattle.gen1_outcomes.specs.Listing.{StillFollow}
 use Rattle.gen1_outcomes.specs.Merging.{LeavesOut}
+use Rattle.gen1_outcomes.specs.Shares.{CountsEach, StayProbable, TakesEach}
 use Rattle.gen1_outcomes.proofs.outcomes.finish.Given as goal
 
 abbrev pub invariant-walk : goal.invariant-walk
 invariant-walk l =
     record {
       within : l.tally.count ≤ length l.successors;
+      options : l.nodes.options ≡ l.ways.options;
       left_out : LeavesOut l.fn.tally l.tally;
+      probable : StayProbable l.fn.tally l.fn.successors l.tally l.successors;
+      ways : CountsEach l.middle.ways l.fn.tally l.tally;
+      takes : TakesEach l.fn.tally l.tally l.fn.table l.table;
       follow : StillFollow l.ways l.fn.tally.count l.fn.successors l.tally.count l.successors;
     }

@@ -1,6 +1,7 @@
 use Rattle.std.proofs.Common.{length, ◌≤◌}
 use Rattle.gen1_outcomes.specs.Listing.{StillFollow}
 use Rattle.gen1_outcomes.specs.Merging.{LeavesOut}
+use Rattle.gen1_outcomes.specs.Shares.{StayProbable, TakesEach}
 use Rattle.gen1_outcomes.proofs.outcomes.go_on_from.Given as goal
 
 abbrev pub invariant-places : goal.invariant-places
@@ -8,5 +9,7 @@ invariant-places l =
     record {
       within : l.tally.count ≤ length l.successors;
       left_out : LeavesOut l.fn.tally l.tally;
+      probable : StayProbable l.fn.tally l.fn.successors l.tally l.successors;
+      takes : TakesEach l.fn.tally l.tally l.fn.table l.table;
       follow : StillFollow l.ways l.fn.tally.count l.fn.successors l.tally.count l.successors;
     }

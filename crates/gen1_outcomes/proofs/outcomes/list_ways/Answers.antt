@@ -2,13 +2,26 @@ use Rattle.std.proofs.Common.{ap, arith, refl, ◌∙◌}
 use Rattle.gen1_outcomes.specs.declared.options.OutcomeOptions.{OutcomeOptions}
 use Rattle.gen1_outcomes.proofs.Leaving.{finished_all}
 use Rattle.gen1_outcomes.proofs.Lists.{finished_follows}
+use Rattle.gen1_outcomes.proofs.Shares.{finished_left, finished_probable, none_probable}
 use Rattle.gen1_outcomes.proofs.outcomes.list_ways.Goals as goal
 
 pub returns-clause-follow : goal.returns-clause-follow
 returns-clause-follow c s h o =
-    finished_follows s c.args.ways.now.one c.args.ways.now.two c.add_all.new.tally.count c.add_all.new.successors c.finished.result
+    finished_follows s c.args.ways.now.one c.args.ways.now.two c.args.ways.now.options c.add_all.new.tally.count c.add_all.new.successors c.finished.result
     (c.in_ok-add_all.ensures.follow s h o (λ k none lt. absurd (omega (arith, lt)))) c.finished.ensures.count
 
 pub returns-clause-all : goal.returns-clause-all
 returns-clause-all c least =
     finished_all _ _ c.finished.result c.in_ok-add_all.ensures.left_out (ap (λ (o : OutcomeOptions). o.least) c.options.ensures ∙ least) refl c.finished.ensures.left_out
+
+pub returns-clause-probable : goal.returns-clause-probable
+returns-clause-probable c =
+    finished_probable c.args.ways.now.options.least c.add_all.new.tally c.add_all.new.successors c.finished.result
+    (c.in_ok-add_all.ensures.probable (none_probable _ _ refl refl refl))
+    (c.in_ok-add_all.ensures.left_out.least ∙ ap (λ (o : OutcomeOptions). o.least) c.options.ensures) c.finished.ensures.count c.finished.ensures.whole
+
+pub returns-clause-left : goal.returns-clause-left
+returns-clause-left c =
+    finished_left c.args.ways.now.options.least c.add_all.new.tally c.add_all.new.successors c.finished.result
+    (c.in_ok-add_all.ensures.probable (none_probable _ _ refl refl refl))
+    (c.in_ok-add_all.ensures.left_out.least ∙ ap (λ (o : OutcomeOptions). o.least) c.options.ensures) c.finished.ensures.left_out c.finished.ensures.whole c.finished.ensures.ways

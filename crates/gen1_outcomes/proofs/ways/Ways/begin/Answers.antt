@@ -11,8 +11,7 @@ use Rattle.gen1_layout.specs.Within.{Stands, setting_of}
 use Rattle.gen1_switching.specs.Updates.{Plays, drawing_on}
 use Rattle.gen1_outcomes.specs.Beginning.{Begins, unflinched}
 use Rattle.gen1_outcomes.specs.Following.{Walk}
-use Rattle.gen1_outcomes.specs.Middles.{script_of}
-use Rattle.gen1_outcomes.specs.Script.{scripted}
+use Rattle.gen1_outcomes.specs.Script.{script_of, scripted}
 use Rattle.gen1_outcomes.proofs.ways.Ways.begin.Goals as goal
 
 pub returns-in-Some-clause-reaches : goal.returns-in-Some-clause-reaches
