@@ -94,6 +94,7 @@ most_grown ways least a w num whole y now b some has is below most =
   where
     part : (c d : ℕ) → now * (c * d * b) ≡ now * d * (c * b)
     part c d = ap (λ (z : ℕ). now * z) (ap (λ (z : ℕ). z * b) (mul_comm c d) ∙ mul_assoc d c b) ∙ sym (mul_assoc now d (c * b))
+
     over : (c d : ℕ) → now * c * (least * d) ≡ d * c * (least * now)
     over c d = mul_comm (now * c) (least * d) ∙ mul_assoc least d (now * c) ∙ ap (λ (z : ℕ). least * z) (turned d now c ∙ ap (λ (z : ℕ). c * z) (mul_comm now d) ∙ moved c d now ∙ sym (mul_assoc d c now)) ∙ moved least (d * c) now
 

@@ -33,19 +33,18 @@ returns-clause-plays c =
 
 pub returns-clause-follows : goal.returns-clause-follows
 returns-clause-follows c s h o =
-    let played = returns-clause-plays c in
-    (
-    subst (λ (w : Walk). Stands w.start s → AreOffered s w.one w.two → CanFollow s w.one w.two c.play_way.new.battle untold) c.self.view_is
-    (λ stands offered.
-    follows_as s c.copied-one.result c.copied-two.result c.self.inside.one c.self.inside.two c.play_way.new.battle untold c.copied-one.ensures c.copied-two.ensures
-    (c.play_way.ensures.follows s (subst (λ (p : Parts). Stands p s) (sym c.copy_of.ensures) stands)) offered)
-    h o,
-    record {
-      nodes = c.args.nodes.now;
-      options = c.requires.options;
-      first = c.args.middle.now.draws;
-      path = played.path;
-      bytes = played.leads.further;
-      follows = played.follows s h o;
-    }
+    let played = returns-clause-plays c in (
+      subst (λ (w : Walk). Stands w.start s → AreOffered s w.one w.two → CanFollow s w.one w.two c.play_way.new.battle untold) c.self.view_is
+          (λ stands offered.
+          follows_as s c.copied-one.result c.copied-two.result c.self.inside.one c.self.inside.two c.play_way.new.battle untold c.copied-one.ensures c.copied-two.ensures
+          (c.play_way.ensures.follows s (subst (λ (p : Parts). Stands p s) (sym c.copy_of.ensures) stands)) offered)
+          h o,
+      record {
+        nodes = c.args.nodes.now;
+        options = c.requires.options;
+        first = c.args.middle.now.draws;
+        path = played.path;
+        bytes = played.leads.further;
+        follows = played.follows s h o;
+      },
     )
