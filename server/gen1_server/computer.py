@@ -4,9 +4,9 @@ import asyncio
 import json
 import logging
 import secrets
-from typing import Any
+from functools import partial
 
-from gen1 import Choice, Error, LibraryMissing, Message, Player, Team
+from gen1 import Choice, Error, LibraryMissing, Message, Player, Row, Team
 from gen1_server.accounts import Account
 from gen1_server.core import View
 from gen1_server.formats import FORMATS, LIMIT
@@ -26,7 +26,6 @@ class Computer(Watcher):
         self._rooms, self._account, self._level = rooms, account, level
         self._players: dict[int, Player] = {}
         self._turn = asyncio.Semaphore(SEARCHES)
-        self._tasks: set[asyncio.Task[Any]] = set()
 
     def joined(self, view: View) -> None:
         """Takes a room in, from its start or from its logs."""
@@ -55,11 +54,7 @@ class Computer(Watcher):
         player = self._players[view.room]
         player.receive(view.sent)
         if view.awaited:
-            task = asyncio.get_running_loop().create_task(
-                self._choose(view.room, view.format, view.number, player.copy())
-            )
-            self._tasks.add(task)
-            task.add_done_callback(self._tasks.discard)
+            self._rooms.later(self._choose(view.room, view.format, view.number, player.copy()))
 
     async def _choose(self, room: int, format: str, number: int, player: Player) -> None:
         try:
@@ -68,7 +63,7 @@ class Computer(Watcher):
         except Error:
             LOG.exception("room %d: the computer's search failed", room)
             choice = player.choices[0]
-        self._rooms.choose(room, self._account.id, number, choice, ignored)
+        self._rooms.ask(room, self._account.id, partial(Row.submit, number=number, choice=choice), ignored)
 
 
 def best(player: Player, level: int, rules: int) -> Choice:

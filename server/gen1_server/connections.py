@@ -11,15 +11,18 @@ from collections import deque
 from collections.abc import Callable
 from hashlib import sha1
 from struct import Struct
-from typing import TYPE_CHECKING, ClassVar
+from typing import TYPE_CHECKING, Any, ClassVar
 
 from aiohttp import WSCloseCode, WSMessage, WSMsgType, web
 from aiohttp.http import WebSocketError, WebSocketReader
+from gen1 import Row, Side
 from gen1_server import metrics
 from gen1_server.accounts import Account
 from gen1_server.core import Refused
+from gen1_server.formats import format_named, team_for
 from gen1_server.limits import Bucket
-from gen1_server.rooms import Watcher
+from gen1_server.lobby import Seeker
+from gen1_server.rooms import Reply, Watcher
 
 if TYPE_CHECKING:
     from gen1_server.services import Services
@@ -138,6 +141,27 @@ class Connection(Watcher, asyncio.Protocol):
             self.services.rooms.depart(self.account.id, self)
             self.account = None
 
+    @property
+    def known(self) -> Account:
+        """The account, after a login."""
+        assert self.account is not None
+        return self.account
+
+    def seeker(self, format: str, team: Any) -> Seeker:
+        """The account with a team for a format. Raises `Refused`."""
+        found = format_named(format)
+        return Seeker(self.known, found, team_for(found, team), self)
+
+    def ask(self, room: int, row: Callable[[Side], Row], reply: Reply) -> None:
+        """Asks for a row of the account's side in a room."""
+        self.services.rooms.ask(room, self.known.id, row, reply)
+
+    async def watch(self, room: int) -> None:
+        """Has a room shown. Raises `Refused`."""
+        if not self.services.rooms.is_open(room):
+            self.charge(REPLAY)
+        await self.services.rooms.watch(room, self.known.id, self)
+
     def may_login(self) -> None:
         """Counts a login of the address. Raises `Refused`."""
         if not self.services.limits.login(self.address):
@@ -239,7 +263,7 @@ class Connection(Watcher, asyncio.Protocol):
             self.services.limits.failed(self.address)
         self.refused(fault)
 
-    def reply(self, committed: Callable[[], None]) -> Callable[[Refused | None], None]:
+    def reply(self, committed: Callable[[], None]) -> Reply:
         """A reply for `Rooms`: `committed` is called, or the refusal is sent."""
 
         def replied(fault: Refused | None) -> None:

@@ -52,6 +52,10 @@ class Start:
     season: str
     created: int
 
+    def side_of(self, account: int) -> Side | None:
+        """The side that an account plays; None for the audience."""
+        return Side(self.accounts.index(account) + 1) if account in self.accounts else None
+
 
 class Entry(NamedTuple):
     """A row, when it was made (milliseconds), and its cause."""

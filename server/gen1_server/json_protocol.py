@@ -6,12 +6,11 @@ from functools import partial
 from typing import Any
 
 import gen1
-from gen1 import Side
+from gen1 import Row, Side
 from gen1_server.accounts import Account
 from gen1_server.connections import REPLAY, Connection
 from gen1_server.core import Refused, View
-from gen1_server.formats import FORMATS, LIMIT, format_named, team_for
-from gen1_server.lobby import Seeker
+from gen1_server.formats import FORMATS, LIMIT
 from gen1_server.rooms import now
 
 PROTOCOL = 1
@@ -97,74 +96,60 @@ class JsonConnection(Connection):
 
     async def on_logout(self, given: dict[str, Any]) -> None:
         token = given.get("token")
-        await self.services.accounts.revoke(self._account, _field(given, "token", str) if token is not None else None)
+        await self.services.accounts.revoke(self.known, _field(given, "token", str) if token is not None else None)
         self.exit()
         self._say("goodbye")
 
     # ---- the lobby ----
 
     async def on_search(self, given: dict[str, Any]) -> None:
-        await self.services.lobby.search(self._seeker(_field(given, "format", str), given.get("team")))
+        await self.services.lobby.search(self.seeker(_field(given, "format", str), given.get("team")))
 
     async def on_cancel_search(self, given: dict[str, Any]) -> None:
-        self.services.lobby.cancel(self._account)
+        self.services.lobby.cancel(self.known)
 
     async def on_challenge(self, given: dict[str, Any]) -> None:
         to = _field(given, "to", str) if "to" in given else ""
-        seeker = self._seeker(_field(given, "format", str), given.get("team"))
+        seeker = self.seeker(_field(given, "format", str), given.get("team"))
         code = await self.services.lobby.challenge(to, seeker)
         self._say("challenging", code=code, to=to, format=seeker.format.id)
 
     async def on_accept(self, given: dict[str, Any]) -> None:
-        found = self.services.lobby.challenge_of(_field(given, "code", str), self._account)
-        await self.services.lobby.accept(found, self._seeker(found.seeker.format.id, given.get("team")))
+        found = self.services.lobby.challenge_of(_field(given, "code", str), self.known)
+        await self.services.lobby.accept(found, self.seeker(found.seeker.format.id, given.get("team")))
 
     async def on_withdraw(self, given: dict[str, Any]) -> None:
-        self.services.lobby.withdraw(_field(given, "code", str), self._account)
+        self.services.lobby.withdraw(_field(given, "code", str), self.known)
 
     async def on_rematch(self, given: dict[str, Any]) -> None:
         self.charge(REPLAY)
-        start, team = await self.services.rooms.over(_field(given, "room", int), self._account.id)
+        start, team = await self.services.rooms.over(_field(given, "room", int), self.known.id)
         given_team = given["team"] if "team" in given else json.loads(team)
-        await self.services.lobby.rematch(start, self._seeker(start.format, given_team))
+        await self.services.lobby.rematch(start, self.seeker(start.format, given_team))
 
     # ---- rooms ----
 
     async def on_join(self, given: dict[str, Any]) -> None:
-        room = _field(given, "room", int)
-        if not self.services.rooms.is_open(room):
-            self.charge(REPLAY)
-        await self.services.rooms.watch(room, self._account.id, self)
+        await self.watch(_field(given, "room", int))
 
     async def on_leave(self, given: dict[str, Any]) -> None:
         self.services.rooms.leave(_field(given, "room", int), self)
 
     async def on_choose(self, given: dict[str, Any]) -> None:
         room, number, choice = (_field(given, it, int) for it in ("room", "number", "choice"))
-        committed = partial(self._say, "taken", room=room, number=number)
-        self.services.rooms.choose(room, self._account.id, number, choice, self.reply(committed))
+        committed = self.reply(partial(self._say, "taken", room=room, number=number))
+        self.ask(room, partial(Row.submit, number=number, choice=choice), committed)
 
     async def on_cancel_choice(self, given: dict[str, Any]) -> None:
         room, number = (_field(given, it, int) for it in ("room", "number"))
-        committed = partial(self._say, "cancelled", room=room, number=number)
-        self.services.rooms.cancel(room, self._account.id, number, self.reply(committed))
+        committed = self.reply(partial(self._say, "cancelled", room=room, number=number))
+        self.ask(room, partial(Row.cancel, number=number), committed)
 
     async def on_offer_draw(self, given: dict[str, Any]) -> None:
-        room = _field(given, "room", int)
-        self.services.rooms.offer_draw(room, self._account.id, self.reply(_nothing))
+        self.ask(_field(given, "room", int), Row.offer_draw, self.reply(_nothing))
 
     async def on_forfeit(self, given: dict[str, Any]) -> None:
-        room = _field(given, "room", int)
-        self.services.rooms.forfeit(room, self._account.id, self.reply(_nothing))
-
-    @property
-    def _account(self) -> Account:
-        assert self.account is not None
-        return self.account
-
-    def _seeker(self, format: str, team: Any) -> Seeker:
-        known = format_named(format)
-        return Seeker(self._account, known, team_for(known, team), self)
+        self.ask(_field(given, "room", int), Row.forfeit, self.reply(_nothing))
 
     async def _enter(self, account: Account) -> None:
         self._welcome(account, await self.services.accounts.new_token(account))

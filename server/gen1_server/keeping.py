@@ -3,6 +3,7 @@
 import os
 import sqlite3
 import subprocess
+from contextlib import closing
 from functools import partial
 from multiprocessing import get_context
 from pathlib import Path
@@ -63,15 +64,7 @@ def backup(config: Config, path: Path) -> str:
     if not config.url.startswith("sqlite"):
         _run("pg_dump", "--format=custom", f"--file={path}", _libpq(config))
         return f"{path} is an archive for pg_restore"
-    source = sqlite3.connect(f"file:{config.database}?mode=ro", uri=True)
-    into = sqlite3.connect(path)
-    try:
-        source.backup(into)
-        if into.execute("PRAGMA integrity_check").fetchone()[0] != "ok":
-            raise Failed(f"{path} is damaged")
-    finally:
-        into.close()
-        source.close()
+    _copy(Path(config.database), path)
     return f"{path} is a SQLite file"
 
 
@@ -88,12 +81,7 @@ def restore(config: Config, path: Path) -> str:
     if into.exists():
         raise Failed(f"{into} exists; move it away first")
     part = into.with_name(f"{into.name}.part")
-    source, made = sqlite3.connect(f"file:{path}?mode=ro", uri=True), sqlite3.connect(part)
-    try:
-        source.backup(made)
-    finally:
-        made.close()
-        source.close()
+    _copy(path, part)
     os.chmod(part, 0o600)
     part.rename(into)
     return f"restored {into}"
@@ -118,6 +106,14 @@ def verify(config: Config) -> str:
             count += 1
         last = numbers[-1]
     return f"{count} finished battles end as they were stored"
+
+
+def _copy(path: Path, to: Path) -> None:
+    """Copies a SQLite file that may be used."""
+    with closing(sqlite3.connect(f"file:{path}?mode=ro", uri=True)) as source, closing(sqlite3.connect(to)) as made:
+        source.backup(made)
+        if made.execute("PRAGMA integrity_check").fetchone()[0] != "ok":
+            raise Failed(f"{to} is damaged")
 
 
 def _libpq(config: Config) -> str:

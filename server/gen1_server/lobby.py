@@ -168,13 +168,11 @@ class Lobby:
 
     def depart(self, watcher: Watcher) -> None:
         """Forgets what a connection that is gone has asked for."""
-        for waiting in self._searches.values():
-            for key in [key for key, it in waiting.items() if it.watcher is watcher]:
-                del waiting[key]
+        for held in (*self._searches.values(), self._rematches):
+            for key in [key for key, it in held.items() if it.watcher is watcher]:
+                del held[key]
         for code in [code for code, it in self._challenges.items() if it.seeker.watcher is watcher]:
             del self._challenges[code]
-        for room in [room for room, it in self._rematches.items() if it.watcher is watcher]:
-            del self._rematches[room]
 
     def _is_from(self, name: str, challenge: Challenge) -> bool:
         return bool(challenge.to) and folded(name) == folded(challenge.seeker.account.name)

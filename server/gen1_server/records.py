@@ -10,7 +10,7 @@ from gen1_server import schema
 from gen1_server.core import Ending, Entry, Options, Start
 from gen1_server.ratings import Rating, rated
 from gen1_server.schema import process, rating, rating_change, room, room_row
-from sqlalchemy import delete, func, insert, select, update
+from sqlalchemy import delete, insert, select, update
 
 OPEN = room.c.outcome == 0
 # The columns of a start, besides its number.
@@ -168,9 +168,3 @@ def prune(before: int, connection: Any) -> int:
     old = room.c.ended < before, room.c.outcome != 0
     connection.execute(delete(room_row).where(room_row.c.room.in_(select(room.c.id).where(*old).scalar_subquery())))
     return int(connection.execute(delete(room).where(*old)).rowcount)
-
-
-def count_rooms(connection: Any) -> dict[int, int]:
-    """How many rooms there are of each outcome; 0 for open ones."""
-    of = select(room.c.outcome, func.count()).group_by(room.c.outcome)
-    return {int(outcome): int(count) for outcome, count in connection.execute(of)}

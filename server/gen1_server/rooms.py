@@ -2,7 +2,7 @@
 
 import asyncio
 import logging
-from collections import defaultdict
+from collections import Counter, defaultdict
 from collections.abc import Callable
 from dataclasses import dataclass, field, replace
 from functools import partial
@@ -10,7 +10,7 @@ from time import perf_counter, time
 from typing import Any
 
 import gen1
-from gen1 import Choice, HostRefused, Row, Side
+from gen1 import HostRefused, Row, Side
 from gen1_server import metrics, records
 from gen1_server.config import Config
 from gen1_server.core import CLOCK, PLAYER, Ending, Entry, Match, Refused, Start, View, replayed
@@ -80,11 +80,6 @@ class OpenRoom:
     def id(self) -> int:
         return self.match.start.id
 
-    def side_of(self, account: int) -> Side | None:
-        """The side that an account plays; None for the audience."""
-        accounts = self.match.start.accounts
-        return Side(accounts.index(account) + 1) if account in accounts else None
-
 
 class Rooms:
     """All open rooms, and the requests to them."""
@@ -98,7 +93,7 @@ class Rooms:
         self._rooms_of: dict[int, set[int]] = defaultdict(set)
         self._watched: dict[Watcher, set[int]] = defaultdict(set)
         self._kept: dict[int, Match] = {}
-        self._begun: dict[int, int] = defaultdict(int)
+        self._begun: Counter[int] = Counter()
         self._tasks: set[asyncio.Task[Any]] = set()
         self.stops = False
 
@@ -162,7 +157,7 @@ class Rooms:
             raise Refused("closing", "the server is about to stop")
         if len(self.open) + len(self._begun) >= self._config.most_rooms:
             raise Refused("full", "the server has no room left")
-        count = len(self._rooms_of.get(account, ())) + self._begun.get(account, 0)
+        count = len(self._rooms_of.get(account, ())) + self._begun[account]
         if count >= self._config.most_rooms_of_account and account != self.computer:
             raise Refused("rooms", f"an account has at most {self._config.most_rooms_of_account} open rooms")
 
@@ -172,15 +167,12 @@ class Rooms:
         """
         for account in start.accounts:
             self.room_for(account)
-        for account in start.accounts:
-            self._begun[account] += 1
+        self._begun.update(start.accounts)
         try:
             number = await self._store.run(partial(records.add_room, start, gen1.library_build, self.process))
         finally:
-            for account in start.accounts:
-                self._begun[account] -= 1
-                if not self._begun[account]:
-                    del self._begun[account]
+            # Keeps no zeros.
+            self._begun -= Counter(start.accounts)
         if number not in self.open:
             self._show_whole(self._seat(Match(replace(start, id=number))))
         return number
@@ -192,7 +184,7 @@ class Rooms:
         for account in match.start.accounts:
             self._rooms_of[account].add(room.id)
             for watcher in self.online.get(account, ()):
-                self._watch(room, watcher, room.side_of(account))
+                self._watch(room, watcher, room.match.start.side_of(account))
         return room
 
     def _close(self, room: OpenRoom) -> None:
@@ -220,44 +212,20 @@ class Rooms:
 
     # ---- requests ----
 
-    def choose(self, room: int, account: int, number: int | None, choice: Choice | int, reply: Reply) -> None:
-        """Submits a player's choice for the pair with this number; None: the
-        current one.
-        """
-
-        def row(side: Side, match: Match) -> Row:
-            return Row.submit(side, match.host.number if number is None else number, choice)
-
-        self._ask(room, account, row, reply)
-
-    def cancel(self, room: int, account: int, number: int | None, reply: Reply) -> None:
-        """Takes a player's choice back, where the room's options allow it."""
-
-        def row(side: Side, match: Match) -> Row:
-            return Row.cancel(side, match.host.number if number is None else number)
-
-        self._ask(room, account, row, reply)
-
-    def offer_draw(self, room: int, account: int, reply: Reply) -> None:
-        """Offers a draw, or accepts one."""
-        self._ask(room, account, lambda side, match: Row.offer_draw(side), reply)
-
-    def forfeit(self, room: int, account: int, reply: Reply) -> None:
-        """Ends the battle: the other side wins."""
-        self._ask(room, account, lambda side, match: Row.forfeit(side), reply)
-
-    def _ask(self, number: int, account: int, row: Callable[[Side, Match], Row], reply: Reply) -> None:
+    def ask(self, number: int, account: int, row: Callable[[Side], Row], reply: Reply) -> None:
+        """Asks for a row of the side that an account plays in a room."""
         room = self.open.get(number)
         if room is None:
             reply(Refused("no room", "there is no such open room here; join it to learn where it is"))
             return
-        side = room.side_of(account)
+        side = room.match.start.side_of(account)
         if side is None:
             reply(Refused("not yours", "you do not play in this room"))
         elif self.stops or len(room.waiting) >= WAITING:
             reply(Refused("busy", "the room takes no further request now"))
         else:
-            self._put(room, Request(partial(row, side), PLAYER, reply))
+            asked = partial(row, side)
+            self._put(room, Request(lambda _: asked(), PLAYER, reply))
 
     def expire(self) -> None:
         """Makes the rows of sides whose time has run out: their first choices, or
@@ -280,14 +248,8 @@ class Rooms:
             try:
                 entry = Entry(request.row(match), now(), request.cause)
                 end = match.reason_after(entry)
-            except HostRefused as fault:
-                request.reply(Refused(fault.code.name.lower().replace("_", " "), str(fault)))
-                continue
-            except (gen1.BadArgument, gen1.BadType) as fault:
-                request.reply(Refused("field", str(fault)))
-                continue
-            except Refused as fault:
-                request.reply(fault)
+            except (HostRefused, gen1.BadArgument, gen1.BadType, Refused) as fault:
+                request.reply(_refusal(fault))
                 continue
             room.is_busy = True
             row = StoredRow(room.id, match.count, bytes(entry.row), entry.at, entry.cause, self.process)
@@ -309,7 +271,7 @@ class Rooms:
             LOG.warning("room %d: a row was not committed: %s", room.id, type(fault).__name__)
             metrics.FAILED.inc()
             request.reply(Refused("again", "the request may not have been stored; look at the room again"))
-            self._later(self._reread(room))
+            self.later(self._reread(room))
             return
         room.is_busy = False
         metrics.ROWS.labels(entry.row.kind.name.lower()).inc()
@@ -351,7 +313,7 @@ class Rooms:
         self._show_whole(room)
         self._next(room)
 
-    def _later(self, work: Any) -> None:
+    def later(self, work: Any) -> None:
         """Runs a coroutine on its own."""
         task = asyncio.get_running_loop().create_task(work)
         self._tasks.add(task)
@@ -368,8 +330,8 @@ class Rooms:
         if rooms:
             metrics.RECONNECTS.inc()
         for room in rooms:
-            self._watch(room, watcher, room.side_of(account))
-            watcher.joined(room.match.view(room.side_of(account)))
+            self._watch(room, watcher, room.match.start.side_of(account))
+            watcher.joined(room.match.view(room.match.start.side_of(account)))
 
     def depart(self, account: int, watcher: Watcher) -> None:
         """Forgets a connection that is gone."""
@@ -390,13 +352,11 @@ class Rooms:
         audience. One that is over is read back. Raises `Refused`.
         """
         room = self.open.get(number)
-        if room is None:
-            match = await self._recalled(number)
-            accounts = match.start.accounts
-            watcher.joined(match.view(Side(accounts.index(account) + 1) if account in accounts else None))
-        else:
-            self._watch(room, watcher, room.side_of(account))
-            watcher.joined(room.match.view(room.side_of(account)))
+        match = room.match if room else await self._recalled(number)
+        side = match.start.side_of(account)
+        if room:
+            self._watch(room, watcher, side)
+        watcher.joined(match.view(side))
 
     def is_open(self, number: int) -> bool:
         """Whether a room is open here, so that showing it costs little."""
@@ -461,6 +421,12 @@ class Rooms:
     def _show_whole(self, room: OpenRoom) -> None:
         for watcher, side in list(room.watchers.items()):
             watcher.joined(room.match.view(side))
+
+
+def _refusal(fault: Exception) -> Refused:
+    if isinstance(fault, HostRefused):
+        return Refused(fault.code.name.lower().replace("_", " "), str(fault))
+    return fault if isinstance(fault, Refused) else Refused("field", str(fault))
 
 
 def _overdue(side: Side, number: int, match: Match) -> Row:

@@ -10,16 +10,16 @@ import json
 import secrets
 from collections.abc import Awaitable, Callable, Mapping
 from dataclasses import dataclass
+from functools import partial
 from time import time
 from typing import Any
 
-from gen1 import Error, Message, Side
+from gen1 import Error, Message, Row, Side
 from gen1.showdown import ChoiceRefused, Formats, Hp, Lines, Members, Seat, Viewer
 from gen1_server.accounts import LONGEST_NAME, Account, folded
-from gen1_server.connections import REPLAY, Connection
+from gen1_server.connections import Connection
 from gen1_server.core import Refused, View
-from gen1_server.formats import FORMATS, format_named, team_for
-from gen1_server.lobby import Seeker
+from gen1_server.formats import FORMATS, format_named
 from gen1_server.rooms import Reply
 from gen1_server.services import Services
 
@@ -224,7 +224,7 @@ class ShowdownConnection(Connection):
         self._say("", f"|updatesearch|{json.dumps({'searching': formats, 'games': games or None})}")
 
     def _search_again(self) -> None:
-        self.searches(self.services.lobby.searching(self._account.id))
+        self.searches(self.services.lobby.searching(self.known.id))
 
     async def do_trn(self, rest: str) -> None:
         name, _, more = rest.partition(",")
@@ -250,28 +250,28 @@ class ShowdownConnection(Connection):
         self._team = "" if rest == "null" else rest
 
     async def do_search(self, rest: str) -> None:
-        await self.services.lobby.search(self._seeker(rest.partition(",")[0]))
+        await self.services.lobby.search(self.seeker(rest.partition(",")[0].strip(), self._team))
 
     async def do_cancelsearch(self, rest: str) -> None:
-        self.services.lobby.cancel(self._account)
+        self.services.lobby.cancel(self.known)
 
     async def do_challenge(self, rest: str) -> None:
         to, _, format = rest.partition(",")
-        seeker = self._seeker(format.partition(",")[0])
+        seeker = self.seeker(format.partition(",")[0].strip(), self._team)
         if await self.services.lobby.challenge(to.strip(), seeker):
             format = seeker.format.id
             self._say("", f"|pm| {self._name}| {_line(to.strip())}|/challenge {format}|{format}|||")
 
     async def do_accept(self, rest: str) -> None:
-        found = self.services.lobby.challenge_of(rest, self._account)
-        await self.services.lobby.accept(found, self._seeker(found.seeker.format.id))
+        found = self.services.lobby.challenge_of(rest, self.known)
+        await self.services.lobby.accept(found, self.seeker(found.seeker.format.id, self._team))
 
     async def do_reject(self, rest: str) -> None:
-        found = self.services.lobby.challenge_of(rest, self._account)
-        self.services.lobby.withdraw(found.code, self._account)
+        found = self.services.lobby.challenge_of(rest, self.known)
+        self.services.lobby.withdraw(found.code, self.known)
 
     async def do_cancelchallenge(self, rest: str) -> None:
-        self.services.lobby.withdraw("", self._account)
+        self.services.lobby.withdraw("", self.known)
 
     async def do_logout(self, rest: str) -> None:
         self._rooms.clear()
@@ -283,9 +283,7 @@ class ShowdownConnection(Connection):
         if number is None:
             self._say(_line(rest), f'|noinit|nonexistent|The room "{_line(rest)}" does not exist.')
             return
-        if not self.services.rooms.is_open(number):
-            self.charge(REPLAY)
-        await self.services.rooms.watch(number, self._account.id, self)
+        await self.watch(number)
 
     async def do_leave(self, rest: str) -> None:
         name = rest or self._where
@@ -308,33 +306,25 @@ class ShowdownConnection(Connection):
             choice = room.seat.choice_in(text)
         except ChoiceRefused as fault:
             raise Refused("choice", str(fault)) from None
-        self.services.rooms.choose(room.number, self._account.id, room.pair, choice, self._reply(room))
+        self._ask(partial(Row.submit, number=room.pair, choice=choice))
 
     async def do_undo(self, rest: str) -> None:
-        room = self._here()
-        self.services.rooms.cancel(room.number, self._account.id, room.pair, self._reply(room))
+        self._ask(partial(Row.cancel, number=self._here().pair))
 
     async def do_forfeit(self, rest: str) -> None:
-        room = self._here()
-        self.services.rooms.forfeit(room.number, self._account.id, self._reply(room))
+        self._ask(Row.forfeit)
 
     async def do_offertie(self, rest: str) -> None:
-        room = self._here()
-        self.services.rooms.offer_draw(room.number, self._account.id, self._reply(room))
+        self._ask(Row.offer_draw)
 
     async def do_timer(self, rest: str) -> None:
         room = self._here()
         left = max(0, room.due // 1000 - int(time()))
         self._say(room.id, f"|inactive|Battle timer is ON, always: {left} seconds left for this choice.")
 
-    @property
-    def _account(self) -> Account:
-        assert self.account is not None
-        return self.account
-
-    def _seeker(self, format: str) -> Seeker:
-        known = format_named(format.strip())
-        return Seeker(self._account, known, team_for(known, self._team), self)
+    def _ask(self, row: Callable[[Side], Row]) -> None:
+        room = self._here()
+        self.ask(room.number, row, self._reply(room))
 
     def _say(self, room: str, *lines: str) -> None:
         self.send("\n".join((f">{room}", *lines) if room else lines))

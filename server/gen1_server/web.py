@@ -53,15 +53,13 @@ class Server:
     def application(self) -> web.Application:
         """The application, with its routes."""
         app = web.Application(client_max_size=self.config.message_bytes, middlewares=[self._headers])
-        app.router.add_get("/", self._page)
-        app.router.add_get("/socket", partial(self._socket, JsonConnection))
+        routes: dict[str, Any] = {
+            **{"/": self._page, "/socket": partial(self._socket, JsonConnection), "/rooms": self._rooms},
+            **{"/ladder/{format}": self._ladder, "/player/{name}": self._player},
+            **{"/metrics": self._metrics, "/health": self._health, "/ready": self._is_ready},
+        }
+        app.router.add_routes([web.get(path, it) for path, it in routes.items()])
         self._add_showdown(app)
-        app.router.add_get("/rooms", self._rooms)
-        app.router.add_get("/ladder/{format}", self._ladder)
-        app.router.add_get("/player/{name}", self._player)
-        app.router.add_get("/metrics", self._metrics)
-        app.router.add_get("/health", self._health)
-        app.router.add_get("/ready", self._is_ready)
         app.on_startup.append(self._start)
         app.on_shutdown.append(self._stop)
         app.on_cleanup.append(self._clean)
@@ -97,12 +95,9 @@ class Server:
         # The memory that the start has freed goes back to the system, where the C library can do that.
         getattr(CDLL(None), "malloc_trim", int)(0)
         gc.set_threshold(10_000, 20, 1000)
-        self._tasks = [
-            asyncio.create_task(self._every(0.5, rooms.expire)),
-            asyncio.create_task(self._every(config.heartbeat_seconds / 2, self._check_alive)),
-            asyncio.create_task(self._every(1.0, lobby.pair_all)),
-            asyncio.create_task(self._every(config.lease_seconds / 3, rooms.renew)),
-        ]
+        beat, lease = config.heartbeat_seconds / 2, config.lease_seconds / 3
+        acts = (0.5, rooms.expire), (1.0, lobby.pair_all), (beat, self._check_alive), (lease, rooms.renew)
+        self._tasks = [asyncio.create_task(self._every(*it)) for it in acts]
         self._ready = True
 
     async def _seat_computer(self, rooms: Rooms, accounts: Accounts, lobby: Lobby) -> None:
@@ -218,9 +213,7 @@ class Server:
     async def _page(self, _: web.Request) -> web.StreamResponse:
         path = page_of(self.config)
         if path is None:
-            raise web.HTTPNotFound(
-                text="The page was not built: run web/build --online, or name one by the option page.\n"
-            )
+            raise web.HTTPNotFound(text="There is no page: run web/build --online, or name one by the option page.\n")
         return web.FileResponse(path, headers=HEADERS)
 
     async def _rooms(self, _: web.Request) -> web.Response:
@@ -255,8 +248,7 @@ class Server:
 
     async def _health(self, _: web.Request) -> web.Response:
         rooms = len(self.services.rooms.open) if self._ready else 0
-        found = {"name": self.config.name, "rooms": rooms, "connections": len(self._connections)}
-        return web.json_response(found)
+        return web.json_response({"name": self.config.name, "rooms": rooms, "connections": len(self._connections)})
 
     async def _is_ready(self, _: web.Request) -> web.Response:
         """Whether the process takes requests, and its database answers."""

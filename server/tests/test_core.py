@@ -4,6 +4,7 @@ import asyncio
 import itertools
 import json
 import random
+from functools import partial
 from types import SimpleNamespace
 
 import gen1.hosts
@@ -194,12 +195,13 @@ async def leak_game(seed, variant, monkeypatch):
             break
         choices[Side.ONE] = chance.choice(host.message(Side.ONE).choices)
         for side in asked:
-            services.rooms.choose(room.id, start.accounts[side - 1], None, choices[side], rooms.ignored)
+            row = partial(Row.submit, number=host.number, choice=choices[side])
+            services.rooms.ask(room.id, start.accounts[side - 1], row, rooms.ignored)
         pairs += 1
     if room.id in services.rooms.open:
         await services.rooms.watch(room.id, 11, one)
         await services.rooms.watch(room.id, 99, audience)
-        services.rooms.forfeit(room.id, 12, rooms.ignored)
+        services.rooms.ask(room.id, 12, Row.forfeit, rooms.ignored)
     return pairs, one._transport.written, audience._transport.written
 
 

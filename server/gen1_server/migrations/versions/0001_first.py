@@ -22,84 +22,67 @@ def account_of(name: str) -> sa.Column:
     return sa.Column(name, BIG, sa.ForeignKey("account.id"), nullable=False)
 
 
-def needed(name: str, kind: object, **options: object) -> sa.Column:
-    return sa.Column(name, kind, nullable=False, **options)
+def needed(kind: object, *names: str, **options: object) -> list[sa.Column]:
+    return [sa.Column(it, kind, nullable=False, **options) for it in names]
+
+
+def key(*names: str, kind: object = BIG, **options: object) -> list[sa.Column]:
+    return [sa.Column(it, kind, primary_key=True, **options) for it in names]
 
 
 def upgrade() -> None:
+    outcome = sa.text("outcome = 0")
     op.create_table(
         "account",
-        sa.Column("id", BIG, primary_key=True),
-        needed("name", sa.Text),
-        needed("folded", sa.Text, unique=True),
-        needed("secret", sa.LargeBinary),
-        needed("created", sa.BigInteger),
+        *key("id"),
+        *needed(sa.Text, "name"),
+        *needed(sa.Text, "folded", unique=True),
+        *needed(sa.LargeBinary, "secret"),
+        *needed(sa.BigInteger, "created"),
     )
     op.create_table(
-        "session",
-        sa.Column("hash", sa.LargeBinary, primary_key=True),
-        account_of("account"),
-        needed("until", sa.BigInteger),
+        "session", *key("hash", kind=sa.LargeBinary), account_of("account"), *needed(sa.BigInteger, "until")
     )
     op.create_index("session_account", "session", ["account"])
-    op.create_table(
-        "process",
-        sa.Column("id", BIG, primary_key=True),
-        needed("name", sa.Text),
-        needed("address", sa.Text),
-        needed("until", sa.BigInteger),
-    )
+    op.create_table("process", *key("id"), *needed(sa.Text, "name", "address"), *needed(sa.BigInteger, "until"))
     op.create_table(
         "room",
-        sa.Column("id", BIG, primary_key=True),
-        needed("format", sa.Text),
-        needed("rated", sa.Integer),
+        *key("id"),
+        *needed(sa.Text, "format", "name_one", "name_two", "team_one", "team_two", "options", "season", "build"),
         account_of("account_one"),
         account_of("account_two"),
-        needed("name_one", sa.Text),
-        needed("name_two", sa.Text),
-        needed("team_one", sa.Text),
-        needed("team_two", sa.Text),
-        needed("battle", sa.LargeBinary),
-        needed("options", sa.Text),
-        needed("season", sa.Text),
-        needed("build", sa.Text),
-        needed("created", sa.BigInteger),
-        needed("process", BIG),
-        needed("outcome", sa.Integer, server_default="0"),
-        needed("reason", sa.Text, server_default=""),
-        needed("ended", sa.BigInteger, server_default="0"),
+        *needed(sa.LargeBinary, "battle"),
+        *needed(sa.Integer, "rated"),
+        *needed(sa.BigInteger, "created"),
+        *needed(BIG, "process"),
+        *needed(sa.Integer, "outcome", server_default="0"),
+        *needed(sa.Text, "reason", server_default=""),
+        *needed(sa.BigInteger, "ended", server_default="0"),
     )
-    op.create_index(
-        "room_open", "room", ["process"], sqlite_where=sa.text("outcome = 0"), postgresql_where=sa.text("outcome = 0")
-    )
+    op.create_index("room_open", "room", ["process"], sqlite_where=outcome, postgresql_where=outcome)
     op.create_index("room_ended", "room", ["ended"])
     op.create_table(
         "room_row",
         sa.Column("room", BIG, sa.ForeignKey("room.id", ondelete="CASCADE"), primary_key=True),
-        sa.Column("sequence", sa.Integer, primary_key=True, autoincrement=False),
-        needed("bytes", sa.LargeBinary),
-        needed("at", sa.BigInteger),
-        needed("cause", sa.Text),
+        *key("sequence", kind=sa.Integer, autoincrement=False),
+        *needed(sa.LargeBinary, "bytes"),
+        *needed(sa.BigInteger, "at"),
+        *needed(sa.Text, "cause"),
         sqlite_with_rowid=False,
     )
-    numbers = [needed(it, sa.Float(53)) for it in ("rating", "deviation", "volatility")]
     op.create_table(
         "rating",
         sa.Column("account", BIG, sa.ForeignKey("account.id"), primary_key=True),
-        sa.Column("format", sa.Text, primary_key=True),
-        sa.Column("season", sa.Text, primary_key=True),
-        *numbers,
-        *[needed(it, sa.Integer) for it in ("wins", "losses", "ties")],
+        *key("format", "season", kind=sa.Text),
+        *needed(sa.Float(53), "rating", "deviation", "volatility"),
+        *needed(sa.Integer, "wins", "losses", "ties"),
     )
     op.create_index("rating_table", "rating", ["format", "season", "rating"])
     op.create_table(
         "rating_change",
         sa.Column("account", BIG, sa.ForeignKey("account.id"), primary_key=True),
-        sa.Column("room", BIG, primary_key=True),
-        needed("format", sa.Text),
-        needed("season", sa.Text),
-        *[needed(it, sa.Float(53)) for it in ("before", "after", "deviation")],
-        needed("score", sa.Float(53)),
-        needed("at", sa.BigInteger),
+        *key("room"),
+        *needed(sa.Text, "format", "season"),
+        *needed(sa.Float(53), "before", "after", "deviation", "score"),
+        *needed(sa.BigInteger, "at"),
     )
