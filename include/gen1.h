@@ -321,7 +321,20 @@ enum {
     GEN1_ERROR_TEXT_FIFTH_MOVE = 74, /* at most four moves */
     GEN1_ERROR_TEXT_LINE = 75,      /* a line of a member, such as "Level: 50", "EVs: 252 HP", "IVs: 0 Atk" or "- Body Slam" */
     GEN1_ERROR_TEXT_FIELDS = 76,    /* packed: twelve fields separated by `|` */
-    GEN1_ERROR_TEXT_TEAM = 77       /* members that form a valid team: `rule` has the code of the error, `member` the member */
+    GEN1_ERROR_TEXT_TEAM = 77,      /* members that form a valid team: `rule` has the code of the error, `member` the member */
+
+    /* Hosts that were stored: the first test that the bytes fail, after those of the battle. */
+    GEN1_ERROR_HOST_NUMBER = 80,    /* the number leaves no place for the pairs that may still come */
+    GEN1_ERROR_HOST_LOG = 81,       /* the log has more than 512 bytes, or is no log */
+    GEN1_ERROR_HOST_CHOICE_ONE = 82, /* side 1's choice is not offered, or is missing though nothing is asked */
+    GEN1_ERROR_HOST_CHOICE_TWO = 83, /* side 2's choice is not offered, or is missing though nothing is asked */
+    GEN1_ERROR_HOST_CHOICES = 84,   /* both choices are there while the battle goes on */
+    GEN1_ERROR_HOST_TELLER_ONE = 85, /* the teller of side 1 is another's, or its places are out of order */
+    GEN1_ERROR_HOST_TELLER_TWO = 86, /* the teller of side 2 is another's, its places are out of order, or its form of HP differs */
+    GEN1_ERROR_HOST_ENDING = 87,    /* the ending is above 3 */
+    GEN1_ERROR_HOST_DRAW = 88,      /* the side that offers a draw is above 2 */
+    GEN1_ERROR_HOST_RULES = 89,     /* an option is above 1 */
+    GEN1_ERROR_HOST_UNUSED = 90     /* an unused byte, or the forfeit of the room, is not 0 */
 };
 
 /* The size of a buffer that holds any sentence of gen1_error_text and its NUL. */
@@ -1567,6 +1580,16 @@ typedef struct gen1_notice {
  * `pixels`, each side and the audience are told a foe's HP in 48ths. The three options count as set if they are not 0.
  */
 void gen1_host_begin(gen1_host *host, uint8_t pixels, uint8_t may_cancel, uint8_t late_forfeits);
+
+/*
+ * Reads a host from the bytes in it, which may be any, such as those of a file. They are accepted exactly if they are those of a host.
+ * What gen1_host_begin and gen1_host_apply leave is accepted and does not change. If only the battle is of an older layout version, it
+ * becomes one of version 3.
+ *
+ * Returns 0, or the first test that the bytes fail: an error of the battle as gen1_load returns it, or GEN1_ERROR_HOST_NUMBER to
+ * GEN1_ERROR_HOST_UNUSED. Then nothing has changed.
+ */
+uint8_t gen1_host_load(gen1_host *host);
 
 /*
  * Applies a row to a host.

@@ -106,6 +106,14 @@ CODES = (
         "ERROR_",
         {},
     ),
+    (
+        "HostFault",
+        "The first test that bytes of a host fail, of `BadHost.code`.",
+        "ERROR_HOST_NUMBER",
+        "ERROR_HOST_UNUSED",
+        "ERROR_HOST_",
+        {},
+    ),
     ("RowKind", "What happens at a host, of `Row.kind`.", "ROW_SUBMIT", "ROW_FORFEIT", "ROW_", {}),
     (
         "EventKind",

@@ -276,5 +276,65 @@ static void try_host_result(void) {
     tell("gen1_host_result", got == want && is_listed && unchanged(), got, want);
 }
 
-try_call *const tries_of_hosts[] = {try_host_begin,  try_host_apply,   try_host_message, try_host_notice,
-                                    try_host_number, try_host_awaited, try_host_result,  NULL};
+/* ---- from bytes ---- */
+
+/* Changes one field of a lawful host. Returns the code that it is due. */
+static uint8_t damage(gen1_host *host) {
+    uint8_t at = (uint8_t)draw(2);
+    switch (draw(9)) {
+    case 0:
+        host->room.battle.bytes[0] = (uint8_t)(4 + draw(252));
+        return GEN1_ERROR_LOAD_VERSION;
+    case 1:
+        host->room.number = UINT32_MAX - draw(1000);
+        return GEN1_ERROR_HOST_NUMBER;
+    case 2:
+        host->room.log_length = (uint16_t)(GEN1_LOG_ROOM + 1 + draw(1000));
+        return GEN1_ERROR_HOST_LOG;
+    case 3:
+        host->room.chosen[at] = (uint8_t)(1 + draw(15));
+        return at == 0 ? GEN1_ERROR_HOST_CHOICE_ONE : GEN1_ERROR_HOST_CHOICE_TWO;
+    case 4:
+        *(at == 0 ? &host->one.side : &host->two.side) = (uint8_t)(2 - at);
+        return at == 0 ? GEN1_ERROR_HOST_TELLER_ONE : GEN1_ERROR_HOST_TELLER_TWO;
+    case 5:
+        host->ending = (uint8_t)(4 + draw(252));
+        return GEN1_ERROR_HOST_ENDING;
+    case 6:
+        host->draw = (uint8_t)(3 + draw(253));
+        return GEN1_ERROR_HOST_DRAW;
+    case 7:
+        *(at == 0 ? &host->may_cancel : &host->late_forfeits) = (uint8_t)(2 + draw(254));
+        return GEN1_ERROR_HOST_RULES;
+    default:
+        *(at == 0 ? &host->room.forfeit : &host->room.unused[draw(3)]) = (uint8_t)(1 + draw(255));
+        return GEN1_ERROR_HOST_UNUSED;
+    }
+}
+
+static bool is_load_code(uint8_t code) {
+    return code == 0 || (code >= GEN1_ERROR_LOAD_VERSION && code <= GEN1_ERROR_LOAD_REQUEST) ||
+           (code >= GEN1_ERROR_HOST_NUMBER && code <= GEN1_ERROR_HOST_UNUSED);
+}
+
+static void try_host_load(void) {
+    bool is_valid;
+    gen1_host from = some_host(&is_valid);
+    bool is_damaged = is_valid && one_in(2);
+    uint8_t due = is_damaged ? damage(&from) : 0;
+    gen1_host *host = block_of(0, &from, sizeof from);
+    note();
+    uint8_t got = gen1_host_load(host), want = is_valid ? due : got;
+    bool is_right = is_load_code(got) && (got != 0 || is_valid ? unchanged() : changed_only(0, sizeof *host));
+    if (got == 0) {
+        const uint8_t *now = (const uint8_t *)host, *old = (const uint8_t *)&from;
+        is_right &=
+            memcmp(now + sizeof(gen1_battle), old + sizeof(gen1_battle), sizeof from - sizeof(gen1_battle)) == 0;
+        is_right &= gen1_host_load(host) == 0;
+    }
+    tell("gen1_host_load", got == want && is_right, got, want);
+}
+
+try_call *const tries_of_hosts[] = {try_host_begin,  try_host_apply,  try_host_message,
+                                    try_host_notice, try_host_number, try_host_awaited,
+                                    try_host_result, try_host_load,   NULL};

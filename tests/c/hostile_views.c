@@ -151,6 +151,7 @@ static void try_error_text(void) {
         {GEN1_ERROR_UNUSUAL, GEN1_ERROR_NOBODY_OUT},
         {GEN1_ERROR_STALE, GEN1_ERROR_ROW},
         {GEN1_ERROR_TEXT_SPECIES, GEN1_ERROR_TEXT_TEAM},
+        {GEN1_ERROR_HOST_NUMBER, GEN1_ERROR_HOST_UNUSED},
     };
     size_t room = draw(140);
     uint8_t code = any_byte();

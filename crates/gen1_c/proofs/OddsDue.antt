@@ -5,15 +5,15 @@ use Rattle.gen1_machine.specs.declared.choice.Choice.TheVariants.{Pass}
 use Rattle.gen1_machine.specs.Moves.{Move}
 use Rattle.gen1_machine.specs.Rules.{Rules}
 use Rattle.gen1_machine.specs.State.{Field, State}
-use Rattle.gen1_machine.specs.Step.{step, Stepped}
+use Rattle.gen1_machine.specs.Step.{Accepted, Answer, Refused, step, Stepped}
 use Rattle.gen1_machine.proofs.FallenFaint.{Standing}
 use Rattle.gen1_layout.specs.Parts.{Parts}
 use Rattle.gen1_layout.specs.Within.{Stands}
 use Rattle.gen1_engine.specs.declared.result.BattleResult.{BattleResult}
 use Rattle.gen1_engine.specs.declared.result.Refusal.{Refusal}
-use Rattle.gen1_engine.specs.Update.{Answers}
+use Rattle.gen1_engine.specs.Update.{Answers, AnswersAs}
 use Rattle.gen1_room.proofs.Ending.{next_standing, not_refused, unbegun_offers}
-use Rattle.gen1_room.proofs.Steps.{answers_ok, step_accepts}
+use Rattle.gen1_room.proofs.Steps.{step_accepts}
 use Rattle.gen1_c.specs.Odds.{due_of, use_due, Tells}
 use Rattle.gen1_c.proofs.Hits.{not_zero}
 
@@ -53,7 +53,11 @@ tells read r f used old new code e h = subst (λ (d : Result (Side × ℕ) ℕ).
 
 pub sends : (s : State) (old new : Parts) (result : Result BattleResult Refusal) → Stands old s → (s.field.turn == 0) ≡ true
     → Answers s Pass Pass old new result → Stands new (step s Pass Pass).state
-sends s old new (Ok r) h zero answers = (answers_ok (step s Pass Pass).answer (step s Pass Pass).state old new r answers).2
+sends s old new (Ok r) h zero answers = accepted (step s Pass Pass).answer (step s Pass Pass).state answers
+  where
+    accepted : (answer : Answer) (next : State) → AnswersAs answer next old new (Ok r) → Stands new next
+    accepted (Refused reason) next a = absurd (let e = a.0 in cc)
+    accepted (Accepted events) next a = a.1
 sends s old new (Err why) h zero answers = absurd (not_refused s Pass Pass old new why (unbegun_offers s h zero) answers)
 
 pub is_out : (s : State) (p : Parts) → Stands p s → (s.field.turn == 0) ≡ true → (step s Pass Pass).state.field.turn ≡ 0 → ⊥

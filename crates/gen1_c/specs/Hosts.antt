@@ -1,12 +1,18 @@
 -- The rows that a host takes, its replies as codes, and its result (include/gen1.h, "hosts").
-use Rattle.std.specs.Prelude.{Bool, None, Option, Some, if◌then◌else◌, not, ℕ, ◌*◌, ◌+◌, ◌==◌}
+use Rattle.std.specs.Prelude.{Bool, None, Option, Some, if◌then◌else◌, not, ℕ, ◌*◌, ◌+◌, ◌==◌, ◌≡◌}
 use Rattle.gen1_rolls.specs.Link.{Ring, ring_of}
 use Rattle.gen1_machine.specs.declared.side.Side.{Side}
+use Rattle.gen1_machine.specs.declared.side.Side.TheVariants.{One, Two}
 use Rattle.gen1_machine.specs.Layout.{outcome_byte, request_byte}
 use Rattle.gen1_engine.specs.declared.result.BattleResult.{BattleResult}
 use Rattle.gen1_room.specs.Rooms.{submission_of}
+use Rattle.gen1_host.specs.declared.host.Host.{Host}
 use Rattle.gen1_host.specs.declared.host.HouseRules.{HouseRules}
+use Rattle.gen1_host.specs.declared.loading.HostFault.{HostFault}
+use Rattle.gen1_host.specs.declared.loading.HostFault.TheVariants as faults
+use Rattle.gen1_host.specs.Loading.{FailsTest}
 use Rattle.gen1_host.specs.Table.{Cancel, Ended, Expire, Forfeit, HasChosen, HostRefusal, HostReply, Kept, NotAllowed, NothingChosen, NotOffered, OfferDraw, OtherPair, Refused, Row, Submit, TableOver}
+use Rattle.gen1_c.specs.Codes.{load_code}
 use Rattle.gen1_c.specs.declared.hosts.RowForm.{RowForm}
 
 -- an option counts as set if it is not 0
@@ -38,6 +44,27 @@ why_code HasChosen = 53
 why_code NotOffered = 54
 why_code NotAllowed = 55
 why_code NothingChosen = 56
+
+-- the codes of the tests that stored bytes fail, those of a battle among them
+abbrev pub fault_code : HostFault → ℕ
+fault_code (faults.Battle why) = load_code why
+fault_code faults.Number = 80
+fault_code faults.Log = 81
+fault_code (faults.Choice One) = 82
+fault_code (faults.Choice Two) = 83
+fault_code faults.Choices = 84
+fault_code (faults.Teller One) = 85
+fault_code (faults.Teller Two) = 86
+fault_code faults.Ending = 87
+fault_code faults.Draw = 88
+fault_code faults.Rules = 89
+fault_code faults.Unused = 90
+
+-- the code of a test that the bytes fail
+pub record Refuses (code : ℕ) (h : Host) : Type 0 where
+  pub fault : HostFault
+  pub is : code ≡ fault_code fault
+  pub fails : FailsTest fault h
 
 -- 0 for a row that the host takes, whether it ends the pair or not; otherwise the code of the refusal
 abbrev pub reply_code : HostReply → ℕ

@@ -111,6 +111,22 @@ text_sentences =
     codes "expected: members that are a team" ∷
     []
 
+-- hosts out of bytes: the test that fails, from 80 on
+abbrev pub host_sentences : List (List ℕ)
+host_sentences =
+    codes "the number of the current pair leaves no place for the pairs that may still come" ∷
+    codes "the bytes of the last pair are no log" ∷
+    codes "the choice of side 1 is not offered, or is missing though nothing is asked" ∷
+    codes "the choice of side 2 is not offered, or is missing though nothing is asked" ∷
+    codes "both choices are there, and the battle goes on" ∷
+    codes "the teller of side 1 is another's, or its places are out of order" ∷
+    codes "the teller of side 2 is another's, or its places are out of order" ∷
+    codes "the ending is above 3" ∷
+    codes "the side that offers a draw is above 2" ∷
+    codes "an option is above 1" ∷
+    codes "an unused byte, or the forfeit of the room, is not 0" ∷
+    []
+
 -- the sentence of a code, if the code exists
 abbrev pub sentence_at : ℕ → Option (List ℕ)
 sentence_at code =
@@ -121,7 +137,8 @@ sentence_at code =
     else (if nat_lt code 48 then slice_get argument_sentences (code - 40)
     else (if nat_lt code 52 then slice_get damage_sentences (code - 48)
     else (if nat_lt code 64 then slice_get room_sentences (code - 52)
-    else slice_get text_sentences (code - 64)))))))
+    else (if nat_lt code 80 then slice_get text_sentences (code - 64)
+    else slice_get host_sentences (code - 80))))))))
 
 -- the sentence of a code; the code 42 if there is none
 abbrev pub sentence_due : ℕ → Result (List ℕ) ℕ

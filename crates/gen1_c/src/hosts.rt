@@ -1,18 +1,19 @@
 //! Hosts, who tell two players and an audience what they may know (include/gen1.h, "hosts"; docs/MECHANICS.md, "Hosts").
-ghost use Rattle.std.specs.Prelude.{None, Some, drop, option_map, replicate, ◌≡◌, ◌≢◌, ◌≤◌};
+ghost use Rattle.std.specs.Prelude.{None, Some, drop, option_map, replicate, ◌↔◌, ◌≡◌, ◌≢◌, ◌≤◌};
 ghost use Rattle.gen1_machine.specs.Numbers.{side_number};
 ghost use Rattle.gen1_machine.specs.State.{State};
 ghost use Rattle.gen1_machine.specs.declared.side.Side.{Side};
 ghost use Rattle.gen1_layout.specs.Within.{Stands};
 ghost use Rattle.gen1_host.specs.Hosts.{Hosts, IsNotice, IsSent, IsWithin, awaited_mask, first_table, result_at, row_at};
+ghost use Rattle.gen1_host.specs.Loading.{IsHost, IsStored, in_version_three};
 ghost use Rattle.gen1_host.specs.Messages.{message as message_at, notice as notice_at};
 ghost use Rattle.gen1_host.specs.Replies.{why_of};
 ghost use Rattle.gen1_host.specs.Table.{Row as TableRow, Table, after_row, current_pair, reply_to_row};
-ghost use Rattle.gen1_c.specs.Hosts.{byte_of_result, is_set, numbers_of, reply_code, row_of, rules_of, why_code};
+ghost use Rattle.gen1_c.specs.Hosts.{Refuses, byte_of_result, fault_code, is_set, numbers_of, reply_code, row_of, rules_of, why_code};
 ghost use Rattle.gen1_c.specs.Update.{IsNoSide, IsResult};
 
-use crate::codes::SIDE;
-use gen1_host::{Host, HostRefusal, HouseRules, Message, Notice, Row};
+use crate::codes::{SIDE, of_load};
+use gen1_host::{Host, HostFault, HostRefusal, HouseRules, Message, Notice, Row};
 use gen1_layout::{byte_of_outcome, byte_of_request};
 use gen1_machine::Side;
 use gen1_rolls::LinkRandom;
@@ -64,6 +65,43 @@ pub extern "C" fn gen1_host_begin(host: &mut Host, pixels: u8, may_cancel: u8, l
         late_forfeits: late_forfeits != 0,
     };
     gen1_host::begin(host, pixels != 0, rules);
+}
+
+/// Reads a host from the bytes in it, which may be any (include/gen1.h, "hosts"). Returns 0, or the code of the first test that they
+/// fail; then nothing has changed.
+#[unsafe(no_mangle)]
+pub extern "C" fn gen1_host_load(host: &mut Host) -> u8
+    // Exactly the bytes of hosts are accepted.
+    ensures stored { result ≡ 0 ↔ IsStored host.old }
+    ensures loaded { result ≡ 0 → host.new ≡ in_version_three host.old }
+    ensures same { IsHost host.old → (result ≡ 0) × (host.new ≡ host.old) }
+    ensures fault { result ≢ 0 → Refuses result host.old }
+    ensures kept { result ≢ 0 → host.new ≡ host.old }
+{
+    match gen1_host::load(host) {
+        Ok(()) => 0,
+        Err(fault) => code_of_fault(fault),
+    }
+}
+
+fn code_of_fault(fault: HostFault) -> u8
+    ensures value { result ≡ fault_code fault }
+    ensures some { 1 ≤ result }
+{
+    match fault {
+        HostFault::Battle(why) => of_load(why),
+        HostFault::Number => 80,
+        HostFault::Log => 81,
+        HostFault::Choice(Side::One) => 82,
+        HostFault::Choice(Side::Two) => 83,
+        HostFault::Choices => 84,
+        HostFault::Teller(Side::One) => 85,
+        HostFault::Teller(Side::Two) => 86,
+        HostFault::Ending => 87,
+        HostFault::Draw => 88,
+        HostFault::Rules => 89,
+        HostFault::Unused => 90,
+    }
 }
 
 /// Applies a row. Returns 0 if the host takes it, else the code of the refusal.

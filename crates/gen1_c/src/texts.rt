@@ -100,6 +100,20 @@ static TEXT_TEXTS: [&str; 14] = [
     "expected: members that are a team",
 ];
 
+static HOST_TEXTS: [&str; 11] = [
+    "the number of the current pair leaves no place for the pairs that may still come",
+    "the bytes of the last pair are no log",
+    "the choice of side 1 is not offered, or is missing though nothing is asked",
+    "the choice of side 2 is not offered, or is missing though nothing is asked",
+    "both choices are there, and the battle goes on",
+    "the teller of side 1 is another's, or its places are out of order",
+    "the teller of side 2 is another's, or its places are out of order",
+    "the ending is above 3",
+    "the side that offers a draw is above 2",
+    "an option is above 1",
+    "an unused byte, or the forfeit of the room, is not 0",
+];
+
 /// Writes what a code means, as one sentence with the valid range. Returns 0, or the code of an unknown number, or of a text that is
 /// too small; then nothing has changed.
 #[unsafe(no_mangle)]
@@ -130,8 +144,10 @@ fn sentence_at(code: u8) -> Option<&'static str>
         text_at(&DAMAGE_TEXTS, code - 48)
     } else if code < 64 {
         text_at(&ROOM_TEXTS, code - 52)
-    } else {
+    } else if code < 80 {
         text_at(&TEXT_TEXTS, code - 64)
+    } else {
+        text_at(&HOST_TEXTS, code - 80)
     }
 }
 

@@ -93,12 +93,12 @@ one_back {h = h} {t = t} k asked =
         holds = record {
           stands = k.keeps.holds.stands;
           counted = k.keeps.holds.counted;
+          counts = k.keeps.holds.counts;
           logged = k.keeps.holds.logged;
           one = sym gone;
           two = k.keeps.holds.two ∙ sym two;
           waits = λ going. inl refl;
         };
-        counts = k.keeps.counts;
         unforfeited = k.keeps.unforfeited;
       };
       short = k.short;
@@ -121,12 +121,12 @@ two_back {h = h} {t = t} k asked =
         holds = record {
           stands = k.keeps.holds.stands;
           counted = k.keeps.holds.counted;
+          counts = k.keeps.holds.counts;
           logged = k.keeps.holds.logged;
           one = k.keeps.holds.one ∙ sym one;
           two = sym gone;
           waits = λ going. inr refl;
         };
-        counts = k.keeps.counts;
         unforfeited = k.keeps.unforfeited;
       };
       short = k.short;

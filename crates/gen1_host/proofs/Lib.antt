@@ -10,6 +10,8 @@ pub mod Cancels
 pub mod Sending
 -- Rows one after the other.
 pub mod Rows
+-- The bytes of a host.
+pub mod LoadedHosts
 -- Worked examples.
 pub mod WorkedTables
 -- What a side and the audience see after each row.

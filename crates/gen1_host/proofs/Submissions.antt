@@ -1,17 +1,19 @@
 -- A submission at a table, and what its tellers make of the last log.
 use Rattle.arrayvec.specs.ArrayVec.{ArrayVec}
-use Rattle.std.proofs.Common.{Bool, Err, IfErr, IfOk, List, None, Ok, Result, ap, arith, false, refl, subst, sym, true, ℕ, ◌==◌, ◌≡◌, ◌≢◌, ◌≤◌, ◌∙◌}
+use Rattle.std.proofs.Common.{Bool, Err, IfErr, IfOk, List, None, Ok, OnErr, Result, ap, arith, false, refl, subst, sym, true, ℕ, ◌==◌, ◌≡◌, ◌≢◌, ◌≤◌, ◌∙◌}
 use Rattle.std.specs.Prelude.{if◌then◌else◌, take}
 use Rattle.std.proofs.lemmas.Bool.Decides.{nat_tests}
 use Rattle.gen1_machine.specs.declared.event.Event.{Event}
+use Rattle.gen1_machine.specs.declared.side.Side.{Side}
 use Rattle.gen1_machine.specs.Room.{Course, Reply, TurnedAway}
 use Rattle.gen1_events.specs.declared.fault.LogFault.{LogFault}
 use Rattle.gen1_events.specs.Splits.{IsReading}
 use Rattle.gen1_events.proofs.Readings.{one_reading}
 use Rattle.gen1_player.specs.declared.teller.Teller.{Teller}
 use Rattle.gen1_player.specs.Retelling.{HasFault}
-use Rattle.gen1_player.specs.Telling.{meets_all, told_all}
+use Rattle.gen1_player.specs.Telling.{meets_all, told_all, IsTeller}
 use Rattle.gen1_player.proofs.Retellings.{not_read}
+use Rattle.gen1_player.proofs.Slots.{meets_all-of, meets_all-pixels}
 use Rattle.gen1_room.specs.declared.plain.PlainRoom.{PlainRoom}
 use Rattle.gen1_room.specs.declared.reply.Submitted.{Submitted}
 use Rattle.gen1_room.specs.declared.reply.Submitted.TheVariants as submitted
@@ -102,6 +104,18 @@ pub met : (log : List ℕ) (old new : Teller) (result : Result (ArrayVec ℕ) Lo
 met log old new (Ok bytes) told fault events r =
     told.3 ∙ ap (λ (l : List Event). meets_all l old) (one_reading log told.0 events told.1 r)
 met log old new (Err why) told fault events r = absurd (not_read log why fault events r)
+
+pub met_of : (side : Side) (log : List ℕ) (old new : Teller) (result : Result (ArrayVec ℕ) LogFault)
+    → IfOk result (λ (bytes : ArrayVec ℕ). (events : List Event) × IsReading log events × IsReading bytes.items (told_all events old) × (new ≡ meets_all events old))
+    → OnErr result (new ≡ old) → IsTeller side old → IsTeller side new
+met_of side log old new (Ok bytes) told kept k = subst (IsTeller side) (sym told.3) (meets_all-of side told.0 old told.1.ranges k)
+met_of side log old new (Err why) told kept k = subst (IsTeller side) (sym kept) k
+
+pub met_pixels : (log : List ℕ) (old new : Teller) (result : Result (ArrayVec ℕ) LogFault)
+    → IfOk result (λ (bytes : ArrayVec ℕ). (events : List Event) × IsReading log events × IsReading bytes.items (told_all events old) × (new ≡ meets_all events old))
+    → OnErr result (new ≡ old) → new.pixels ≡ old.pixels
+met_pixels log old new (Ok bytes) told kept = ap (λ (t : Teller). t.pixels) told.3 ∙ meets_all-pixels told.0 old
+met_pixels log old new (Err why) told kept = ap (λ (t : Teller). t.pixels) kept
 
 pub told_as : (log : List ℕ) (old new : Teller) (bytes : ArrayVec ℕ)
     → (events : List Event) × IsReading log events × IsReading bytes.items (told_all events old) × (new ≡ meets_all events old)

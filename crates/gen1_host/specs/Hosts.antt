@@ -1,5 +1,6 @@
 -- A table as a plain struct, and what it sends (docs/MECHANICS.md, "Hosts").
 use Rattle.std.specs.Prelude.{Bool, None, Option, Result, Some, replicate, take, ℕ, ◌*◌, ◌+◌, ◌≡◌, ◌≤◌}
+use Rattle.std.specs.List.{All}
 use Rattle.gen1_machine.specs.declared.side.Side.{Side}
 use Rattle.gen1_machine.specs.declared.side.Side.TheVariants.{One, Two}
 use Rattle.gen1_machine.specs.declared.terms.Request.TheVariants as requests
@@ -13,7 +14,9 @@ use Rattle.gen1_engine.specs.Update.{result_of}
 use Rattle.gen1_offers.specs.OfferedMask.{mask_of}
 use Rattle.gen1_player.specs.declared.teller.Teller.{Teller}
 use Rattle.gen1_player.specs.PlainOwnSide.{plain_side}
-use Rattle.gen1_room.specs.Plain.{Keeps}
+use Rattle.gen1_player.specs.Telling.{IsTeller}
+use Rattle.gen1_room.specs.declared.plain.PlainRoom.{PlainRoom}
+use Rattle.gen1_room.specs.Plain.{IsMarked, Keeps}
 use Rattle.gen1_room.specs.Rooms.{submission_of}
 use Rattle.gen1_host.specs.declared.host.Host.{Host}
 use Rattle.gen1_host.specs.declared.host.HouseRules.{HouseRules as PlainRules}
@@ -51,9 +54,18 @@ pub record Hosts (h : Host) (t : Table) : Type 0 where
   pub may_cancel : h.may_cancel ≡ bit_of t.rules.may_cancel
   pub late_forfeits : h.late_forfeits ≡ bit_of t.rules.late_forfeits
 
--- What holds for any bytes.
+-- What holds after each call besides, for any bytes.
+
+pub record IsRoomWithin (r : PlainRoom) : Type 0 where
+  pub short : r.log_length ≤ 512
+  pub marked : IsMarked r
+  pub unused : All (λ (byte : ℕ). byte ≡ 0) r.unused
+
 pub record IsWithin (h : Host) : Type 0 where
-  pub short : h.room.log_length ≤ 512
+  pub room : IsRoomWithin h.room
+  pub one : IsTeller One h.one
+  pub two : IsTeller Two h.two
+  pub pixels : h.one.pixels ≡ h.two.pixels
   pub ending : h.ending ≤ 3
   pub draw : h.draw ≤ 2
 

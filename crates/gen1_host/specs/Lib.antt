@@ -6,5 +6,7 @@ pub mod Messages
 pub mod Replies
 -- A table as a plain struct.
 pub mod Hosts
+-- The bytes of a host.
+pub mod Loading
 -- What no message and no reply reveals.
 pub mod Secrecy

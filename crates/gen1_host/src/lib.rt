@@ -7,12 +7,14 @@
 //! - `row`: [`Row`], what is written down of a table
 //! - `message`: what each side and the audience are sent
 //! - `room`: what a table reads of its room
+//! - `loading`: a table from bytes
 //! - `laws`: what no message and no reply reveals
 #![tactic(auto)]
 
 mod ending;
 mod host;
 mod laws;
+mod loading;
 mod message;
 mod reply;
 mod room;
@@ -22,6 +24,7 @@ mod submission;
 pub use ending::{forfeit, offer_draw};
 pub use host::{Host, HouseRules, awaited, begin, is_closed, number, result};
 pub use laws::{keeps_secrets, keeps_secrets_from_all};
+pub use loading::{HostFault, load};
 pub use message::{Message, Notice, message_to, notice_to_all};
 pub use reply::{HostRefusal, HostReply, Replied};
 pub use row::{Row, apply, run};

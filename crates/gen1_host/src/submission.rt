@@ -3,11 +3,12 @@ ghost use Rattle.std.specs.Prelude.{List, None, OnErr, false, length, ◌≡◌,
 ghost use Rattle.gen1_machine.specs.declared.event.Event.{Event};
 ghost use Rattle.gen1_machine.specs.Room.{Course, is_asked_to_pass};
 ghost use Rattle.gen1_events.specs.Splits.{IsReading};
-ghost use Rattle.gen1_player.specs.Telling.{meets_all};
+ghost use Rattle.gen1_machine.specs.declared.side.Side.{Side};
+ghost use Rattle.gen1_player.specs.Telling.{IsTeller, meets_all};
 ghost use Rattle.gen1_room.specs.Plain.{Keeps};
 ghost use Rattle.gen1_room.specs.Rooms.{submission_of};
 ghost use Rattle.gen1_host.specs.Table.{Cancel, Expire, Submit, Table, goes_on, has_none_to_cancel, reply_to_submission, submitted, taken_back};
-ghost use Rattle.gen1_host.specs.Hosts.{Follows, Hosts, IsWithin, Takes};
+ghost use Rattle.gen1_host.specs.Hosts.{Follows, Hosts, IsRoomWithin, IsWithin, Takes};
 
 use crate::host::{Host, is_closed};
 use crate::reply::{HostRefusal, HostReply, Replied, refusal_of, reply_to};
@@ -67,7 +68,7 @@ fn submit_now(
 fn go_on(host: &mut Host, next: PlainRoom)
     ensures hosts { (t : Table) (c : Course) → Hosts host.old t → Keeps next c → next.log_length ≤ 512
         → Hosts host.new (goes_on t c) }
-    ensures within { next.log_length ≤ 512 → IsWithin host.old → IsWithin host.new }
+    ensures within { IsRoomWithin next → IsWithin host.old → IsWithin host.new }
 {
     if next.number == host.room.number {
         host.room = next;
@@ -92,7 +93,9 @@ fn meet_last(host: &mut Host)
 // Bytes that are not a log leave the teller as it was.
 fn meet(teller: &mut Teller, log: &[u8])
     requires few { length log.now ≤ 512 }
-    ensures { (events : List Event) → IsReading log.now events → teller.new ≡ meets_all events teller.old }
+    ensures met { (events : List Event) → IsReading log.now events → teller.new ≡ meets_all events teller.old }
+    ensures within { (side : Side) → IsTeller side teller.old → IsTeller side teller.new }
+    ensures pixels { teller.new.pixels ≡ teller.old.pixels }
 {
     let _ = teller.tell_log(log);
 }

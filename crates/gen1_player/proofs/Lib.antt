@@ -27,6 +27,8 @@ pub mod Placing
 -- What is public of types and conditions agrees with the battle.
 pub mod HeardSides
 pub mod Conditions
+-- The slots of places that have appeared.
+pub mod Slots
 -- What a side hears of what it is told is what is public, as the side knows it.
 pub mod Lenses
 pub mod ToldPublic

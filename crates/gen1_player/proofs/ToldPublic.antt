@@ -37,116 +37,8 @@ use Rattle.gen1_player.specs.True.{as_known, events_in, first_teller, foe_as_tol
 use Rattle.gen1_player.proofs.Facts.{side_out}
 use Rattle.gen1_player.proofs.Hearing.{both, hears_named}
 use Rattle.gen1_player.proofs.HeardSides.{hears-in}
+use Rattle.gen1_player.proofs.Slots.{Slot, crowded, find-slot, kept-slot, opened-each, opened-here, opened-kept, opened-none}
 use Rattle.gen1_player.proofs.Lenses.{not-zero, is-zero, is-some, taken, left, other-seen, out-eye, hears-eye, overhears-eye, damage-eye, heal-eye, stays, touches-out, hears-touches, overhears-touches, own-same, own-sees, own-touched, comes-is, comes-eye, own-comes, Tellable, AllTellable, eye, is_plain, Rises, TouchesTo, is_switch, own_lens, shown_as, Lens, Out, Sees, Touches, OwnKept}
-
--- Places of the foe that have appeared
-
-differ : (a b : ℕ) → a ≢ b → (a == b) ≡ false
-differ a b z = by (eqb_tells a b)
-  where
-    by : (((a == b) ≡ true) × (a ≡ b)) ⊎ (((a == b) ≡ false) × (a ≢ b)) → (a == b) ≡ false
-    by (inl e) = absurd (z e.1)
-    by (inr e) = e.0
-
-alike : (a b : ℕ) → a ≡ b → (a == b) ≡ true
-alike a b z = by (eqb_tells a b)
-  where
-    by : (((a == b) ≡ true) × (a ≡ b)) ⊎ (((a == b) ≡ false) × (a ≢ b)) → (a == b) ≡ true
-    by (inl e) = e.0
-    by (inr e) = absurd (e.1 z)
-
-or-true : (a : Bool) → (a || true) ≡ true
-or-true true = refl
-or-true false = refl
-
-is_place-same : (p q : ℕ) → q ≡ p → is_place p q ≡ true
-is_place-same p q e = ap (λ (b : Bool). b || (q == 0)) (alike q p e)
-
-is_place-other : (p q : ℕ) → q ≢ p → q ≢ 0 → is_place p q ≡ false
-is_place-other p q a b = ap (λ (c : Bool). c || (q == 0)) (differ q p a) ∙ differ q 0 b
-
-is_place-true : (p q : ℕ) → is_place p q ≡ true → (q ≡ p) ⊎ (q ≡ 0)
-is_place-true p q h = by (eqb_tells q p) (eqb_tells q 0)
-  where
-    by : (((q == p) ≡ true) × (q ≡ p)) ⊎ (((q == p) ≡ false) × (q ≢ p)) → (((q == 0) ≡ true) × (q ≡ 0)) ⊎ (((q == 0) ≡ false) × (q ≢ 0)) → (q ≡ p) ⊎ (q ≡ 0)
-    by (inl e) f = inl e.1
-    by (inr e) (inl f) = inr f.1
-    by (inr e) (inr f) = absurd (true≢false (sym h ∙ is_place-other p q e.1 f.1))
-
-is_place-false : (p q : ℕ) → is_place p q ≡ false → (q ≢ p) × (q ≢ 0)
-is_place-false p q h =
-    (λ e. true≢false (sym (is_place-same p q e) ∙ h), λ e. true≢false (sym (ap (λ (b : Bool). (q == p) || b) (alike q 0 e) ∙ or-true (q == p)) ∙ h))
-
--- A slot that is the first with a place, or free.
-record Slot (p : ℕ) (ps : List ℕ) (k : ℕ) : Type 0 where
-  few : k < 6
-  is : slot_of p ps ≡ k
-  here : (get_or ps k 0 ≡ p) ⊎ (get_or ps k 0 ≡ 0)
-  before : (j : ℕ) → j < k → (get_or ps j 0 ≢ p) × (get_or ps j 0 ≢ 0)
-
-slot-is : (p : ℕ) (ps : List ℕ) (k : ℕ) → length ps ≡ 6 → k < 6 → is_place p (get_or ps k 0) ≡ true → ((j : ℕ) → j < k → is_place p (get_or ps j 0) ≡ false)
-    → slot_of p ps ≡ k
-slot-is p ps k full low here before =
-    let first : position_or_len (is_place p) ps ≡ k = position_or_len_is (is_place p) ps k 0 (omega (arith, full, low)) before (λ q. here) in
-    ap (λ (n : ℕ). unwrap_or (if nat_lt n (length ps) then Some n else None) 5) first
-    ∙ ap (λ (b : Bool). unwrap_or (if b then Some k else None) 5) (lt-ltb k (length ps) (omega (arith, full, low)))
-
-find-slot : (p : ℕ) (ps : List ℕ) → length ps ≡ 6 → ((k : ℕ) × Slot p ps k) ⊎ ((j : ℕ) → j < 6 → (get_or ps j 0 ≢ p) × (get_or ps j 0 ≢ 0))
-find-slot p ps full = by (leb_tells (suc (position_or_len (is_place p) ps)) (length ps))
-  where
-    n : ℕ
-    n = position_or_len (is_place p) ps
-
-    by : ((nat_le (suc n) (length ps) ≡ true) × (suc n ≤ length ps)) ⊎ ((nat_le (suc n) (length ps) ≡ false) × (length ps < suc n))
-        → ((k : ℕ) × Slot p ps k) ⊎ ((j : ℕ) → j < 6 → (get_or ps j 0 ≢ p) × (get_or ps j 0 ≢ 0))
-    by (inl e) =
-        let found : position (is_place p) ps ≡ Some n = ap (λ (b : Bool). if b then Some n else None) e.0 in
-        let at = position-Some (is_place p) ps n 0 found in
-        let low = e.1 in
-        inl (
-          n,
-          record {
-            few = omega (arith, low, full);
-            is = slot-is p ps n full (omega (arith, low, full)) at.1 at.2;
-            here = is_place-true p (get_or ps n 0) at.1;
-            before = λ j q. is_place-false p (get_or ps j 0) (at.2 j q);
-          },
-        )
-    by (inr e) = inr (λ j q. let high = e.1 in is_place-false p (get_or ps j 0) (fails_before_first (is_place p) ps j 0 (omega (arith, high, full, q))))
-
--- Six places are not seven.
-
-any-below : (xs : List ℕ) (n : ℕ) → ((i : ℕ) → i < length xs → get_or xs i 0 < n) → (q : ℕ) → list_any (λ x. q == x) xs ≡ true → q < n
-any-below [] n h q e = absurd (true≢false (sym e))
-any-below (x ∷ xs) n h q e = by (any-below xs n (λ i low. h (suc i) (omega (arith, low))) q) (eqb_tells q x)
-  where
-    by : (list_any (λ y. q == y) xs ≡ true → q < n) → (((q == x) ≡ true) × (q ≡ x)) ⊎ (((q == x) ≡ false) × (q ≢ x)) → q < n
-    by more (inl z) = let low = h zero (omega arith) in let same = z.1 in omega (arith, low, same)
-    by more (inr z) = more (ap (λ (b : Bool). b || list_any (λ y. q == y) xs) (sym z.0) ∙ e)
-
-crowded : (p : ℕ) (ps : List ℕ) → length ps ≡ 6 → 1 ≤ p → p ≤ 6 → ((i : ℕ) → get_or ps i 0 ≤ 6)
-    → ((i j : ℕ) → j < i → get_or ps i 0 ≢ 0 → (get_or ps j 0 ≢ 0) × (get_or ps j 0 ≢ get_or ps i 0))
-    → ((j : ℕ) → j < 6 → (get_or ps j 0 ≢ p) × (get_or ps j 0 ≢ 0)) → ⊥
-crowded p ps full low high each kept none =
-    let all : length (0 ∷ p ∷ ps) ≤ 7 = length-le_from_distinct_below (0 ∷ p ∷ ps) 7
-    (IsDistinct-from_apart (λ x y. x == y) (0 ∷ p ∷ ps) (λ i j d a b.
-    subst (λ (x : ℕ). (x == get_or (0 ∷ p ∷ ps) j d) ≡ false) (sym (get_or_default_zero (0 ∷ p ∷ ps) i d (omega (arith, a, b))))
-    (subst (λ (y : ℕ). (get_or (0 ∷ p ∷ ps) i 0 == y) ≡ false) (sym (get_or_default_zero (0 ∷ p ∷ ps) j d b)) (differ _ _ (apart i j a b)))))
-    (any-below (0 ∷ p ∷ ps) 7 below) in
-    omega (arith, all, full)
-  where
-    apart : (i j : ℕ) → i < j → j < length (0 ∷ p ∷ ps) → get_or (0 ∷ p ∷ ps) i 0 ≢ get_or (0 ∷ p ∷ ps) j 0
-    apart i zero a b = absurd (omega (arith, a))
-    apart zero (suc zero) a b = λ e. omega (arith, e, low)
-    apart (suc i) (suc zero) a b = absurd (omega (arith, a))
-    apart zero (suc (suc j)) a b = λ e. (none j (omega (arith, b, full))).1 (sym e)
-    apart (suc zero) (suc (suc j)) a b = λ e. (none j (omega (arith, b, full))).0 (sym e)
-    apart (suc (suc i)) (suc (suc j)) a b = (kept j i (omega (arith, a)) (none j (omega (arith, b, full))).1).1
-
-    below : (i : ℕ) → i < length (0 ∷ p ∷ ps) → get_or (0 ∷ p ∷ ps) i 0 < 7
-    below zero b = omega arith
-    below (suc zero) b = omega (arith, high)
-    below (suc (suc i)) b = let few = each i in omega (arith, few)
 
 -- The foe
 
@@ -158,11 +50,6 @@ record FoeKept (ps : List ℕ) (place : ℕ) (members : List Seen) : Type 0 wher
   kept : (i j : ℕ) → j < i → get_or ps i 0 ≢ 0 → (get_or ps j 0 ≢ 0) × (get_or ps j 0 ≢ get_or ps i 0)
   out : place ≢ 0 → (i : ℕ) × (i < 6) × (get_or ps i 0 ≡ place)
   hidden : (q : ℕ) → 1 ≤ q → ((i : ℕ) → i < 6 → get_or ps i 0 ≢ q) → get_or members (q - 1) not_seen ≡ not_seen
-
-kept-slot : (p : ℕ) (ps : List ℕ) (i : ℕ) → length ps ≡ 6 → ((i j : ℕ) → j < i → get_or ps i 0 ≢ 0 → (get_or ps j 0 ≢ 0) × (get_or ps j 0 ≢ get_or ps i 0))
-    → i < 6 → get_or ps i 0 ≡ p → p ≢ 0 → slot_of p ps ≡ i
-kept-slot p ps i full kept low e z = slot-is p ps i full low (is_place-same p (get_or ps i 0) e)
-    (λ j q. let k = kept i j q (λ y. z (sym e ∙ y)) in is_place-other p (get_or ps j 0) (λ y. k.1 (y ∙ sym e)) k.0)
 
 abbrev foe_number : List ℕ → ℕ → ℕ
 foe_number ps place = if place == 0 then 0 else slot_of place ps + 1
@@ -316,63 +203,6 @@ opens p place ps ms low high k = by (find-slot p ps k.full)
           hides = λ e. k.hidden p low (after s.0 s.1 (ap (λ (n : ℕ). get_or ps n 0) (sym is) ∙ e));
         }
     by (inr none) = absurd (crowded p ps k.full low high k.each k.kept none)
-
--- The places with one more
-opened-each : (p n : ℕ) (ps : List ℕ) → p ≤ 6 → n < length ps → ((i : ℕ) → get_or ps i 0 ≤ 6) → (i : ℕ) → get_or (slice_set ps n p) i 0 ≤ 6
-opened-each p n ps high low each i = by (eqb_tells i n)
-  where
-    by : (((i == n) ≡ true) × (i ≡ n)) ⊎ (((i == n) ≡ false) × (i ≢ n)) → get_or (slice_set ps n p) i 0 ≤ 6
-    by (inl e) = subst (λ (j : ℕ). j ≤ 6) (sym (ap (λ (j : ℕ). get_or (slice_set ps n p) j 0) e.1 ∙ get_or-set_same ps n p 0 low)) high
-    by (inr e) = subst (λ (j : ℕ). j ≤ 6) (sym (get_or-set_other ps n i p 0 e.1)) (each i)
-
-module _ {p n : ℕ} {ps : List ℕ} (s : Slot p ps n) (full : length ps ≡ 6) (low : 1 ≤ p)
-    (kept : (i j : ℕ) → j < i → get_or ps i 0 ≢ 0 → (get_or ps j 0 ≢ 0) × (get_or ps j 0 ≢ get_or ps i 0)) where
-  opened-here : get_or (slice_set ps n p) n 0 ≡ p
-  opened-here = get_or-set_same ps n p 0 (let few = s.few in omega (arith, few, full))
-
-  opened-other : (i : ℕ) → i ≢ n → get_or (slice_set ps n p) i 0 ≡ get_or ps i 0
-  opened-other i z = get_or-set_other ps n i p 0 z
-
-  opened-kept : (i j : ℕ) → j < i → get_or (slice_set ps n p) i 0 ≢ 0
-      → (get_or (slice_set ps n p) j 0 ≢ 0) × (get_or (slice_set ps n p) j 0 ≢ get_or (slice_set ps n p) i 0)
-  opened-kept i j q z = by (eqb_tells i n) (eqb_tells j n)
-    where
-      held_of : (get_or ps n 0 ≡ p) ⊎ (get_or ps n 0 ≡ 0) → get_or ps n 0 ≢ 0 → get_or ps n 0 ≡ p
-      held_of (inl e) y = e
-      held_of (inr e) y = absurd (y e)
-
-      by : (((i == n) ≡ true) × (i ≡ n)) ⊎ (((i == n) ≡ false) × (i ≢ n)) → (((j == n) ≡ true) × (j ≡ n)) ⊎ (((j == n) ≡ false) × (j ≢ n))
-          → (get_or (slice_set ps n p) j 0 ≢ 0) × (get_or (slice_set ps n p) j 0 ≢ get_or (slice_set ps n p) i 0)
-      by (inl e) (inl f) = let a = e.1 in let b = f.1 in absurd (omega (arith, q, a, b))
-      by (inl e) (inr f) =
-          let a = e.1 in
-          let b = s.before j (omega (arith, q, a)) in
-          let old = opened-other j f.1 in
-          let new : get_or (slice_set ps n p) i 0 ≡ p = ap (λ (l : ℕ). get_or (slice_set ps n p) l 0) a ∙ opened-here in
-          (λ y. b.1 (sym old ∙ y), λ y. b.0 (sym old ∙ y ∙ new))
-      by (inr e) (inl f) =
-          let a = f.1 in
-          let old = opened-other i e.1 in
-          let k = kept i n (omega (arith, q, a)) (λ y. z (old ∙ y)) in
-          let new : get_or (slice_set ps n p) j 0 ≡ p = ap (λ (l : ℕ). get_or (slice_set ps n p) l 0) a ∙ opened-here in
-          let held : get_or ps n 0 ≡ p = held_of s.here k.0 in
-          (λ y. k.0 (held ∙ sym new ∙ y), λ y. k.1 (held ∙ sym new ∙ y ∙ old))
-      by (inr e) (inr f) =
-          let one = opened-other i e.1 in
-          let two = opened-other j f.1 in
-          let k = kept i j q (λ y. z (one ∙ y)) in
-          (λ y. k.0 (sym two ∙ y), λ y. k.1 (sym two ∙ y ∙ one))
-
-  -- A place that is not among those with one more was not there before, and is another.
-  opened-none : (q : ℕ) → 1 ≤ q → ((i : ℕ) → i < 6 → get_or (slice_set ps n p) i 0 ≢ q) → (q ≢ p) × ((i : ℕ) → i < 6 → get_or ps i 0 ≢ q)
-  opened-none q one none =
-      let apart : q ≢ p = λ e. none n s.few (opened-here ∙ sym e) in
-      (apart, λ i few e. by i few e apart s.here (eqb_tells i n))
-    where
-      by : (i : ℕ) → i < 6 → get_or ps i 0 ≡ q → q ≢ p → (get_or ps n 0 ≡ p) ⊎ (get_or ps n 0 ≡ 0) → (((i == n) ≡ true) × (i ≡ n)) ⊎ (((i == n) ≡ false) × (i ≢ n)) → ⊥
-      by i few e apart (inl h) (inl f) = apart (sym e ∙ ap (λ (l : ℕ). get_or ps l 0) f.1 ∙ h)
-      by i few e apart (inr h) (inl f) = let zero_is : get_or ps i 0 ≡ 0 = ap (λ (l : ℕ). get_or ps l 0) f.1 ∙ h in omega (arith, e, zero_is, one)
-      by i few e apart h (inr f) = none i few (opened-other i f.1 ∙ e)
 
 foe-opened : (p place n : ℕ) (ps : List ℕ) (ms : List Seen) (new : Seen) → 1 ≤ p → p ≤ 6 → FoeKept ps place ms → Slot p ps n
     → FoeKept (slice_set ps n p) p (slice_set ms (p - 1) new)

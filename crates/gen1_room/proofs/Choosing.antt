@@ -69,7 +69,7 @@ waits_one {r = r} {c = c} x side choice is h going missing made waiting =
     let one = there One c x choice missing' made' in
     let two = two_stays c x choice made' in
     still (record r { one = Some choice }) c x
-    (record { stands = h.stands; counted = h.counted; logged = h.logged; one = sym one; two = h.two ∙ sym two; waits = λ g. inr waiting })
+    (record { stands = h.stands; counted = h.counted; counts = h.counts; logged = h.logged; one = sym one; two = h.two ∙ sym two; waits = λ g. inr waiting })
     (ended_none d (chosen One d) (chosen Two d) (inr (two ∙ sym h.two ∙ waiting))) going
 
 pub waits_two : {r : Held} {c : Course} (x : Submission) (side : Side) (choice : Choice) → side ≡ Two → Holds r c → is_over c.state.field.outcome ≡ false
@@ -82,7 +82,7 @@ waits_two {r = r} {c = c} x side choice is h going missing made waiting =
     let two = there Two c x choice missing' made' in
     let one = one_stays c x choice made' in
     still (record r { two = Some choice }) c x
-    (record { stands = h.stands; counted = h.counted; logged = h.logged; one = h.one ∙ sym one; two = sym two; waits = λ g. inl waiting })
+    (record { stands = h.stands; counted = h.counted; counts = h.counts; logged = h.logged; one = h.one ∙ sym one; two = sym two; waits = λ g. inl waiting })
     (ended_none d (chosen One d) (chosen Two d) (inl (one ∙ sym h.one ∙ waiting))) going
 
 -- the other choice is there: the pair ends

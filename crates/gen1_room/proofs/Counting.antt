@@ -1,21 +1,91 @@
--- The number of pairs: it is in range, since what is left of a battle falls with each.
-use Rattle.std.proofs.Common.{Bool, List, [], ap, arith, false, inl, inr, length, refl, true, ℕ, ◌+◌, ◌-◌, ◌<◌, ◌≡◌, ◌≤◌, ◌∷◌}
-use Rattle.gen1_rolls.specs.Link.{Ring}
+-- The number of pairs: it is in range, since fewer are left with each.
+use Rattle.std.proofs.Common.{Bool, List, [], ap, arith, false, inl, inr, length, not, refl, subst, suc, sym, true, zero, ℕ, ◌&&◌, ◌+◌, ◌-◌, ◌<◌, ◌==◌, ◌≡◌, ◌≢◌, ◌≤◌, ◌∙◌, ◌∷◌}
+use Rattle.std.specs.Prelude.{if◌then◌else◌, max}
+use Rattle.std.proofs.lemmas.Bool.Decides.{nat_tests}
+use Rattle.gen1_stats.specs.Members.{is_living, Member}
+use Rattle.gen1_machine.specs.declared.side.Side.{Side}
+use Rattle.gen1_machine.specs.declared.side.Side.TheVariants.{One, Two}
 use Rattle.gen1_machine.specs.declared.choice.Choice.{Choice}
-use Rattle.gen1_machine.specs.declared.event.Event.{Event}
+use Rattle.gen1_machine.specs.declared.choice.Choice.TheVariants as choices
 use Rattle.gen1_machine.specs.declared.terms.Request.{Request}
 use Rattle.gen1_machine.specs.declared.terms.Request.TheVariants as requests
-use Rattle.gen1_machine.specs.State.{Active, Party, State, is_over}
-use Rattle.gen1_machine.specs.Step.{Accepted, step}
+use Rattle.gen1_machine.specs.OfferedChoices.{others_living_from}
+use Rattle.gen1_machine.specs.Room.{Course}
+use Rattle.gen1_machine.specs.State.{Active, Party, State, is_over, party}
+use Rattle.gen1_machine.specs.Step.{step, Stepped}
 use Rattle.gen1_machine.specs.Valid.{IsStarted, IsState, IsUnstarted}
-use Rattle.gen1_machine.proofs.Bench.{bench, bench-most}
-use Rattle.gen1_machine.proofs.RunsEnd.{due, left, left_by, state-ready, step-lower, Ready}
+use Rattle.gen1_machine.proofs.Bench.{alive, bench, bench-most, living, living_but}
+use Rattle.gen1_machine.proofs.RunsEnd.{due, left, left_by, state-ready, step-lower, Lower}
 use Rattle.gen1_layout.specs.Parts.{Parts}
 use Rattle.gen1_layout.specs.Within.{Stands}
-use Rattle.gen1_engine.specs.Reseed.{reseeded}
-use Rattle.gen1_room.specs.Rooms.{Counts, Happening, Numbers, Pair, happened, pairs_of}
+use Rattle.gen1_engine.specs.Update.{AreOffered}
+use Rattle.gen1_room.specs.declared.held.Held.{Held}
+use Rattle.gen1_room.specs.Rooms.{Counts, ended, Holds, is_replaced, on_bench, pairs_left}
+use Rattle.gen1_room.proofs.Steps.{made, step_accepts}
 
--- What is left of a valid state, of which a reseeded one has as much
+-- What is left of a battle, in the words of the machine's own proof
+
+apart : (k out : ℕ) → k ≢ out → (k == out) ≡ false
+apart k out h = grind (arith, nat_tests)
+
+same : (k out : ℕ) → k ≡ out → (k == out) ≡ true
+same k out h = grind (arith, nat_tests)
+
+and_true : (b : Bool) → (b && true) ≡ b
+and_true true = refl
+and_true false = refl
+
+and_false : (b : Bool) → (b && false) ≡ false
+and_false true = refl
+and_false false = refl
+
+one_longer : (b : Bool) (c : Choice) (l : List Choice) (n : ℕ) → length l ≡ n → length (if b then c ∷ l else l) ≡ alive b + n
+unfolding alive
+one_longer true c l n h = omega (arith, h)
+one_longer false c l n h = omega (arith, h)
+
+past-out : (k out : ℕ) (ms : List Member) → out < k → length (others_living_from k out ms) ≡ living ms
+unfolding living
+past-out k out [] h = refl
+past-out k out (m ∷ ms) h =
+    rw (apart k out (λ e. omega (arith, e)), and_true (is_living m))
+    (one_longer (is_living m) (choices.Switch k) (others_living_from (k + 1) out ms) (living ms) (past-out (k + 1) out ms (omega arith)))
+
+from-out : (k j out : ℕ) (ms : List Member) → out ≡ k + j → length (others_living_from k out ms) ≡ living_but j ms
+unfolding living_but
+from-out k j out [] at = refl
+from-out k zero out (m ∷ ms) at =
+    rw (same k out (omega (arith, at)), and_false (is_living m)) (past-out (k + 1) out ms (omega (arith, at)))
+from-out k (suc j) out (m ∷ ms) at =
+    rw (apart k out (λ e. omega (arith, e, at)), and_true (is_living m))
+    (one_longer (is_living m) (choices.Switch k) (others_living_from (k + 1) out ms) (living_but j ms) (from-out (k + 1) j out ms (omega (arith, at))))
+
+first-or : (n : ℕ) → max 1 n ≡ 1 + (n - 1)
+first-or n = grind arith
+
+bench-is : (t : Party) → length (others_living_from 1 (max 1 t.active.place) t.members) ≡ bench t
+bench-is t = from-out 1 (t.active.place - 1) (max 1 t.active.place) t.members (first-or t.active.place)
+
+due-is : (a b : Request) → (if is_replaced a b then 0 else 1) ≡ due a b
+due-is requests.Switch b = refl
+due-is requests.Pass requests.Switch = refl
+due-is requests.Move requests.Switch = refl
+due-is requests.Pass requests.Pass = refl
+due-is requests.Pass requests.Move = refl
+due-is requests.Move requests.Pass = refl
+due-is requests.Move requests.Move = refl
+
+left-is : (s : State) → pairs_left s ≡ left s
+left-is s = by (is_over s.field.outcome)
+  where
+    by : (b : Bool)
+        → (if b then 0
+        else (if is_replaced s.field.request_one s.field.request_two then 0 else 1) + (s.terms.limit - s.field.turn)
+        + (length (on_bench One s.field) + length (on_bench Two s.field))) ≡ left_by b s.terms.limit s.field
+    by true = refl
+    by false = omega (arith, due-is s.field.request_one s.field.request_two, bench-is s.field.one, bench-is s.field.two)
+
+-- What is left of a valid state
 
 party-bench : (t : Party) → t.active.place - 1 < length t.members → length t.members ≤ 6 → bench t ≤ 5
 party-bench t place size = omega (arith, bench-most (t.active.place - 1) t.members place, size)
@@ -39,57 +109,49 @@ left-most s one two = by (is_over s.field.outcome)
     by true = omega arith
     by false = omega (arith, asked, one, two)
 
-state-left : (s : State) → IsState s → left s ≤ s.terms.limit + 11
-state-left s h = elim h.field [ inl f ↦ unstarted f | inr f ↦ started f ]
+pub counts_none : (s : State) → IsState s → Counts 0 s
+counts_none s h = elim h.field [ inl f ↦ unstarted f | inr f ↦ started f ]
   where
-    unstarted : IsUnstarted s.terms s.field → left s ≤ s.terms.limit + 11
+    unstarted : IsUnstarted s.terms s.field → Counts 0 s
     unstarted f =
         let one : s.field.one.active.place ≡ 0 = ap (λ (a : Active). a.place) f.nobody_one in
         let two : s.field.two.active.place ≡ 0 = ap (λ (a : Active). a.place) f.nobody_two in
-        left-most s (party-bench s.field.one (omega (arith, one, f.members_one.size)) (omega (arith, f.members_one.size)))
-        (party-bench s.field.two (omega (arith, two, f.members_two.size)) (omega (arith, f.members_two.size)))
+        omega (
+          arith,
+          left-is s,
+          left-most s (party-bench s.field.one (omega (arith, one, f.members_one.size)) (omega (arith, f.members_one.size)))
+              (party-bench s.field.two (omega (arith, two, f.members_two.size)) (omega (arith, f.members_two.size))),
+        )
 
-    started : IsStarted s.terms s.field → left s ≤ s.terms.limit + 11
+    started : IsStarted s.terms s.field → Counts 0 s
     started f =
         let one = f.field.one in
         let two = f.field.two in
-        left-most s (party-bench s.field.one (omega (arith, one.place, one.members.size)) (omega (arith, one.members.size)))
-        (party-bench s.field.two (omega (arith, two.place, two.members.size)) (omega (arith, two.members.size)))
+        omega (
+          arith,
+          left-is s,
+          left-most s (party-bench s.field.one (omega (arith, one.place, one.members.size)) (omega (arith, one.members.size)))
+              (party-bench s.field.two (omega (arith, two.place, two.members.size)) (omega (arith, two.members.size))),
+        )
 
 -- It falls with each pair
 
-record Falls (s : State) (all : List Happening) : Type 0 where
-  pub ready : Ready (happened s all).terms.limit (happened s all).field
-  pub lower : pairs_of s all + left (happened s all) ≤ left s
+pub counts_pair : (c : Course) (one two : Choice) → IsState c.state → Counts c.number c.state → AreOffered c.state one two
+    → Counts (ended c one two).number (ended c one two).state
+counts_pair c one two valid counts h =
+    let s = c.state in
+    let is = step_accepts s one two h in
+    let low = subst (λ (t : Stepped). Lower s t) is (step-lower s one two (state-ready s valid)) in
+    let next : State = record s { field = (made s one two).field; drawn = (made s one two).drawn } in
+    subst (λ (t : Stepped). Counts (c.number + 1) t.state) (sym is) (omega (arith, counts, left-is s, left-is next, low.lower))
 
-falls : (s : State) (all : List Happening) → Ready s.terms.limit s.field → Falls s all
-falls s [] ready = record { ready = ready; lower = omega arith }
-falls s (Numbers ring ∷ before) ready = let rest = falls s before ready in record { ready = rest.ready; lower = omega (arith, rest.lower) }
-falls s (Pair one two ∷ before) ready =
-    let rest = falls s before ready in
-    let it = step-lower (happened s before) one two rest.ready in
-    record { ready = it.ready; lower = omega (arith, it.lower, rest.lower) }
+-- The number is in range
 
-pub counts_fit : {battle : Parts} {number : ℕ} → Counts battle number → number ≤ 10010
-counts_fit k =
-    let most = falls k.start k.all (state-ready k.start k.valid) in
-    let all = state-left k.start k.valid in
-    omega (arith, most.lower, all, k.counted, k.valid.terms.limit.1)
+pub number_fits : {battle : Parts} {number : ℕ} {s : State} → Stands battle s → Counts number s → number ≤ 10010
+number_fits h counts = omega (arith, counts, h.valid.terms.limit.1)
 
--- A pair more, and other numbers
+pub counts_fit : {r : Held} {c : Course} → Holds r c → r.number ≤ 10010
+counts_fit h = let fit = number_fits h.stands h.counts in omega (arith, fit, h.counted)
 
-pub counts_pair : {old new : Parts} {number : ℕ} (k : Counts old number) (one two : Choice) (events : List Event)
-    → (step (happened k.start k.all) one two).answer ≡ Accepted events → Stands new (step (happened k.start k.all) one two).state → Counts new (number + 1)
-counts_pair {number = number} k one two events accepted stands = record {
-  start = k.start;
-  all = Pair one two ∷ k.all;
-  valid = k.valid;
-  stands = stands;
-  counted = rw accepted (omega (arith, k.counted));
-}
-
-pub counts_numbers : {old new : Parts} {number : ℕ} (k : Counts old number) (ring : Ring) → Stands new (reseeded ring (happened k.start k.all)) → Counts new number
-counts_numbers k ring stands = record { start = k.start; all = Numbers ring ∷ k.all; valid = k.valid; stands = stands; counted = omega (arith, k.counted) }
-
-pub counts_none : {battle : Parts} (s : State) → IsState s → Stands battle s → Counts battle 0
-counts_none s valid stands = record { start = s; all = []; valid = valid; stands = stands; counted = refl }
+pub counts_held : {r : Held} {c : Course} → Holds r c → Counts r.number c.state
+counts_held {c = c} h = subst (λ (n : ℕ). Counts n c.state) (sym h.counted) h.counts

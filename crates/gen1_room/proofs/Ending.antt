@@ -28,10 +28,10 @@ use Rattle.gen1_engine.specs.declared.result.Refusal.{Refusal}
 use Rattle.gen1_engine.specs.Reseed.{reseeded}
 use Rattle.gen1_engine.specs.Update.{Answers, AnswersAs, AreOffered, result_of, Tells, TellsAs}
 use Rattle.gen1_room.specs.declared.held.Held.{Held}
-use Rattle.gen1_room.specs.Rooms.{Counts, ended, happened, Holds, IsRoom, Opens, reseeded_in}
+use Rattle.gen1_room.specs.Rooms.{Counts, ended, Holds, IsRoom, Opens, reseeded_in}
 use Rattle.gen1_room.proofs.Counting.{counts_none, counts_pair}
 use Rattle.gen1_engine.proofs.Making.{goes_on, unstarted_at}
-use Rattle.gen1_room.proofs.Steps.{answers_ok, made, step_accepts}
+use Rattle.gen1_room.proofs.Steps.{made, step_accepts}
 use Rattle.gen1_room.proofs.Choosing.{and_false}
 
 abbrev pub pass_for : Request → Option Choice
@@ -84,13 +84,14 @@ waits_new terms f h going = by (asks_going terms f h going)
 
 -- a course with no submission yet
 
-pub holds_fresh : (t : State) (number : ℕ) (events : List Event) (r : Held) → Stands r.battle t → r.number ≡ number → IsReading r.log.items events
+pub holds_fresh : (t : State) (number : ℕ) (events : List Event) (r : Held) → Stands r.battle t → r.number ≡ number → Counts number t → IsReading r.log.items events
     → r.one ≡ pass_for t.field.request_one → r.two ≡ pass_for t.field.request_two
     → (is_over t.field.outcome ≡ false → (pass_for t.field.request_one ≡ None) ⊎ (pass_for t.field.request_two ≡ None))
     → Holds r (record { state = t; number = number; events = events; since = [] })
-holds_fresh t number events r stands counted logged one two waits = record {
+holds_fresh t number events r stands counted counts logged one two waits = record {
   stands = stands;
   counted = counted;
+  counts = counts;
   logged = logged;
   one = one;
   two = two;
@@ -119,35 +120,26 @@ not_refused s one two old new why h answers =
     let e = a.0 in cc
 
 pub end_holds : (c : Course) (one two : Choice) (number : ℕ) (a b : Option Choice) (old new : Parts) (old_list list : ArrayVec Event) (log : ArrayVec ℕ) (res : BattleResult)
-    → Stands old c.state → number ≡ c.number → AreOffered c.state one two
+    → Stands old c.state → number ≡ c.number → Counts c.number c.state → AreOffered c.state one two
     → Answers c.state one two old new (Ok res) → Tells c.state one two old_list list → IsReading log.items list.items
     → a ≡ pass_for res.request_one → b ≡ pass_for res.request_two
     → Holds (record { battle = new; number = number + 1; events = list; log = log; one = a; two = b }) (ended c one two) × (res ≡ result_of (ended c one two).state)
-end_holds c one two number a b old new old_list list log res stands counted h answers tells reads e f =
+end_holds c one two number a b old new old_list list log res stands counted counts h answers tells reads e f =
     let left = left_of c.state one two old new old_list list log res h answers tells reads in
     let t = (step c.state one two).state in
     let is : res ≡ result_of t = let o = left.0 in cc in
     let standing : Standing c.state.terms t.field = subst (λ (x : Stepped). Standing c.state.terms x.state.field) (sym (step_accepts c.state one two h)) (next_standing c.state one two stands.valid h) in (
       holds_fresh t (c.number + 1) (events_of (step c.state one two).answer) (record { battle = new; number = number + 1; events = list; log = log; one = a; two = b })
-          left.1 (ap (λ (n : ℕ). n + 1) counted) left.2 (e ∙ ap (λ (r : BattleResult). pass_for r.request_one) is) (f ∙ ap (λ (r : BattleResult). pass_for r.request_two) is)
+          left.1 (ap (λ (n : ℕ). n + 1) counted) (counts_pair c one two stands.valid counts h) left.2 (e ∙ ap (λ (r : BattleResult). pass_for r.request_one) is) (f ∙ ap (λ (r : BattleResult). pass_for r.request_two) is)
           (waits_new c.state.terms t.field standing.requests),
       is,
     )
-
--- the pairs so far, and one more
-
-pub counts_more : (old new : Parts) (res : BattleResult) (number : ℕ) (k : Counts old number) (one two : Choice)
-    → Answers (happened k.start k.all) one two old new (Ok res) → Counts new (number + 1)
-counts_more old new res number k one two answers =
-    let s = happened k.start k.all in
-    let found = answers_ok (step s one two).answer (step s one two).state old new res answers in
-    counts_pair k one two found.0 found.1 found.2
 
 -- other numbers to draw
 
 pub holds_numbers : {r : Held} {c : Course} {new : Parts} (ring : Ring) → Stands new (reseeded ring c.state) → Holds r c
     → Holds (record r { battle = new }) (reseeded_in ring c)
-holds_numbers ring stands h = record { stands = stands; counted = h.counted; logged = h.logged; one = h.one; two = h.two; waits = h.waits }
+holds_numbers ring stands h = record { stands = stands; counted = h.counted; counts = h.counts; logged = h.logged; one = h.one; two = h.two; waits = h.waits }
 
 -- a room over a battle
 
@@ -211,7 +203,7 @@ unfolding room_of
 begin_holds s new list log res a b o is e f =
     let t = (begun s).state in
     let now = is t o.stands in
-    holds_fresh t 0 (events_of (begun s).answer) (record { battle = new; number = 0; events = list; log = log; one = a; two = b }) o.stands refl o.logged
+    holds_fresh t 0 (events_of (begun s).answer) (record { battle = new; number = 0; events = list; log = log; one = a; two = b }) o.stands refl (counts_none t o.stands.valid) o.logged
     (e ∙ ap (λ (r : BattleResult). pass_for r.request_one) now) (f ∙ ap (λ (r : BattleResult). pass_for r.request_two) now)
     (waits_new s.terms t.field o.requests)
 
@@ -219,4 +211,4 @@ pub begin_valid : (s : State) (new : Parts) (list : ArrayVec Event) (log : Array
     → ((t : State) → Stands new t → res ≡ result_of t) → a ≡ pass_for res.request_one → b ≡ pass_for res.request_two
     → IsRoom (record { battle = new; number = 0; events = list; log = log; one = a; two = b })
 begin_valid s new list log res a b o is e f =
-    record { course = room_of s; holds = begin_holds s new list log res a b o is e f; counts = counts_none (begun s).state o.stands.valid o.stands }
+    record { course = room_of s; holds = begin_holds s new list log res a b o is e f }

@@ -23,10 +23,3 @@ unfolding step step_by answered
 step_accepts s one two h =
     let going : is_over s.field.outcome ≡ false = ap is_over (goes_on s One one h.first) in
     rw (going, h.first, h.second) refl
-
--- what an accepted update returned
-
-pub answers_ok : (answer : Answer) (next : State) (old new : Parts) (result : BattleResult)
-    → AnswersAs answer next old new (Ok result) → (events : List Event) × (answer ≡ Accepted events) × Stands new next
-answers_ok (Refused reason) next old new result h = absurd (let e = h.0 in cc)
-answers_ok (Accepted events) next old new result h = (events, refl, h.1)

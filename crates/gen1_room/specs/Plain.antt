@@ -7,7 +7,7 @@ use Rattle.gen1_machine.specs.OfferedChoices.{offered}
 use Rattle.gen1_machine.specs.Room.{chosen, Course}
 use Rattle.gen1_room.specs.declared.held.Held.{Held}
 use Rattle.gen1_room.specs.declared.plain.PlainRoom.{PlainRoom}
-use Rattle.gen1_room.specs.Rooms.{Counts, Holds}
+use Rattle.gen1_room.specs.Rooms.{Holds}
 
 -- what it holds: the log is the prefix of its buffer, and a byte that is not a choice is a choice that is missing
 abbrev pub held_of : PlainRoom → Held
@@ -20,10 +20,9 @@ held_of r = record {
   two = choice_at r.two;
 }
 
--- it holds a course, as a room does, its number counts the accepted pairs, and no side has forfeited
+-- it holds a course, as a room does, and no side has forfeited
 pub record Keeps (r : PlainRoom) (c : Course) : Type 0 where
   pub holds : Holds (held_of r) c
-  pub counts : Counts r.battle r.number
   pub unforfeited : r.forfeit ≡ 0
 
 -- a missing choice is 255, and not another byte that is not a choice

@@ -1,14 +1,16 @@
 -- What a room holds and replies, in the machine's terms (docs/MECHANICS.md, "Rooms").
-use Rattle.std.specs.Prelude.{Err, List, None, Ok, Option, Result, Some, [], false, if◌then◌else◌, ℕ, ◌+◌, ◌≡◌, ◌∷◌, ◌⊎◌}
+use Rattle.std.specs.Prelude.{Bool, Err, List, None, Ok, Option, Result, Some, false, if◌then◌else◌, length, max, true, ℕ, ◌+◌, ◌-◌, ◌≡◌, ◌≤◌, ◌⊎◌}
 use Rattle.gen1_rolls.specs.Link.{Ring}
 use Rattle.gen1_machine.specs.declared.side.Side.{Side}
 use Rattle.gen1_machine.specs.declared.side.Side.TheVariants.{One, Two}
 use Rattle.gen1_machine.specs.declared.choice.Choice.{Choice}
-use Rattle.gen1_machine.specs.Laws.{is_accepted}
+use Rattle.gen1_machine.specs.declared.terms.Request.{Request}
+use Rattle.gen1_machine.specs.declared.terms.Request.TheVariants.{Switch}
+use Rattle.gen1_machine.specs.OfferedChoices.{others_living_from}
 use Rattle.gen1_machine.specs.Room.{after, AlreadyChosen, Advanced, begun, choice_made, ChoiceNotOffered, chosen, Course, ended_by, Reply, reply_to, RoomOver, RoomRefusal, Stale, Submission, TurnedAway, Waiting}
-use Rattle.gen1_machine.specs.State.{is_over, State}
-use Rattle.gen1_machine.specs.Step.{events_of, step}
-use Rattle.gen1_machine.specs.Valid.{IsState, StandsAs}
+use Rattle.gen1_machine.specs.State.{active_in, Field, is_over, party, State}
+use Rattle.gen1_machine.specs.Step.{events_of}
+use Rattle.gen1_machine.specs.Valid.{StandsAs}
 use Rattle.gen1_events.specs.Splits.{IsReading}
 use Rattle.gen1_layout.specs.Parts.{Parts}
 use Rattle.gen1_layout.specs.Within.{Stands}
@@ -20,52 +22,43 @@ use Rattle.gen1_room.specs.declared.reply.Submitted.TheVariants as submitted
 use Rattle.gen1_room.specs.declared.reply.RoomRefusal.{RoomRefusal as Why}
 use Rattle.gen1_room.specs.declared.reply.RoomRefusal.TheVariants as whys
 
+-- Switches to the living members of a side that are not out. Before the start the first one counts as out, since it comes out first.
+abbrev pub on_bench : Side → Field → List Choice
+on_bench s f = others_living_from 1 (max 1 (active_in s f).place) (party s f).members
+
+-- Whether a side is asked to replace a fallen member. The pair of the current turn has ended then.
+abbrev pub is_replaced : Request → Request → Bool
+is_replaced Switch two = true
+is_replaced one Switch = true
+is_replaced one two = false
+
+-- At most this many pairs are still accepted: one in each turn that may come, one in the current turn unless it has ended, and one for
+-- each member that may replace another.
+abbrev pub pairs_left : State → ℕ
+pairs_left s =
+    if is_over s.field.outcome then 0
+    else (if is_replaced s.field.request_one s.field.request_two then 0 else 1) + (s.terms.limit - s.field.turn)
+    + (length (on_bench One s.field) + length (on_bench Two s.field))
+
+-- A number of pairs that leaves place for those to come. No battle accepts more than its turn limit, plus eleven.
+abbrev pub Counts : ℕ → State → Type 0
+Counts number s = number + pairs_left s ≤ s.terms.limit + 11
+
 -- A room holds a course: the battle represents its state, the log is the code of its last events, and the choices are those made
 -- for the current pair. While the battle goes on, one of them is missing.
 pub record Holds (r : Held) (c : Course) : Type 0 where
   pub stands : Stands r.battle c.state
   pub counted : r.number ≡ c.number
+  pub counts : Counts c.number c.state
   pub logged : IsReading r.log.items c.events
   pub one : r.one ≡ chosen One c
   pub two : r.two ≡ chosen Two c
   pub waits : is_over c.state.field.outcome ≡ false → (r.one ≡ None) ⊎ (r.two ≡ None)
 
--- What happens to the battle of a room: a pair of choices, or other numbers to draw.
-pub data Happening : Type 0 where
-  Pair : (one two : Choice) → Happening
-  Numbers : (ring : Ring) → Happening
-
-abbrev pub then_happens : State → Happening → State
-then_happens s (Pair one two) = (step s one two).state
-then_happens s (Numbers ring) = reseeded ring s
-
-abbrev pub pairs_in : State → Happening → ℕ
-pairs_in s (Pair one two) = if is_accepted (step s one two).answer then 1 else 0
-pairs_in s (Numbers ring) = 0
-
--- A battle after this has happened, the latest first, and how many pairs it has accepted.
-abbrev pub happened : State → List Happening → State
-happened s [] = s
-happened s (it ∷ before) = then_happens (happened s before) it
-
-abbrev pub pairs_of : State → List Happening → ℕ
-pairs_of s [] = 0
-pairs_of s (it ∷ before) = pairs_in (happened s before) it + pairs_of s before
-
--- The number counts accepted pairs from some valid state. There are at most as many as the turn limit, plus eleven, so it is in
--- range.
-pub record Counts (battle : Parts) (number : ℕ) : Type 0 where
-  pub start : State
-  pub all : List Happening
-  pub valid : IsState start
-  pub stands : Stands battle (happened start all)
-  pub counted : number ≡ pairs_of start all
-
 -- what holds for every room
 pub record IsRoom (r : Held) : Type 0 where
   pub course : Course
   pub holds : Holds r course
-  pub counts : Counts r.battle r.number
 
 abbrev pub chosen_in : Side → Held → Option Choice
 chosen_in One r = r.one
@@ -76,7 +69,6 @@ pub record MayChoose (r : Held) (side : Side) (choice : Choice) : Type 0 where
   pub course : Course
   pub submission : Submission
   pub holds : Holds r course
-  pub counts : Counts r.battle r.number
   pub going : is_over course.state.field.outcome ≡ false
   pub missing : chosen side course ≡ None
   pub made : choice_made side course submission ≡ Some choice
@@ -86,7 +78,7 @@ pub record EndsPair (r : Held) (one two : Choice) : Type 0 where
   pub state : State
   pub stands : Stands r.battle state
   pub offered : AreOffered state one two
-  pub counts : Counts r.battle r.number
+  pub counts : Counts r.number state
 
 -- the battle and the log of a state, which was started if it was before its start
 pub record Opens (s : State) (new : Parts) (log : List ℕ) : Type 0 where

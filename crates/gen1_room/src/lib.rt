@@ -20,3 +20,4 @@ mod submission;
 pub use laws::{pairs_are_answered, replies_hide_choices};
 pub use reply::{Reply, RoomRefusal, Submitted};
 pub use room::Room;
+pub use submission::choice_by_byte;

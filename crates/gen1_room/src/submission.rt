@@ -1,5 +1,5 @@
 //! A submission to a room (docs/MECHANICS.md, "Rooms").
-ghost use Rattle.std.specs.Prelude.{None, Some, false, is_some, ◌≡◌};
+ghost use Rattle.std.specs.Prelude.{None, Some, false, is_some, ◌+◌, ◌≡◌};
 ghost use Rattle.std.specs.Result.{OnErr};
 ghost use Rattle.gen1_machine.specs.Room.{Course, Submission, after, choice_by_byte, choice_made, chosen, reply_to_choice};
 ghost use Rattle.gen1_machine.specs.State.{is_over};
@@ -45,7 +45,7 @@ fn has_chosen(held: &Held, side: Side) -> bool
 }
 
 /// The first of these choices that has this byte.
-pub(crate) fn choice_by_byte(byte: u8, choices: &[Choice]) -> Option<Choice>
+pub fn choice_by_byte(byte: u8, choices: &[Choice]) -> Option<Choice>
     ensures { result ≡ choice_by_byte byte choices.now }
 {
     for choice in choices {
@@ -88,9 +88,9 @@ fn choose(held: &mut Held, side: Side, choice: Choice) -> Submitted
 fn end_pair(held: &mut Held, one: Choice, two: Choice) -> BattleResult
     requires valid { EndsPair held.old one two }
     ensures holds { (c : Course) → Stands held.old.battle c.state → held.old.number ≡ c.number
-        → AreOffered c.state one two
+        → Counts c.number c.state → AreOffered c.state one two
         → Holds held.new (ended c one two) × (result ≡ result_of (ended c one two).state) }
-    ensures counts { Counts held.new.battle held.new.number }
+    ensures counted { held.new.number ≡ held.old.number + 1 }
 {
     match held.battle.update_events(one, two, &mut held.events) {
         Ok(result) => {

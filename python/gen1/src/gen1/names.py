@@ -549,6 +549,22 @@ class HostRefusal(Named):
     NOTHING_CHOSEN = 56, "the side has made no choice that it could take back"
 
 
+class HostFault(Named):
+    """The first test that bytes of a host fail, of `BadHost.code`."""
+
+    NUMBER = 80, "the number leaves no place for the pairs that may still come"
+    LOG = 81, "the log has more than 512 bytes, or is no log"
+    CHOICE_ONE = 82, "side 1's choice is not offered, or is missing though nothing is asked"
+    CHOICE_TWO = 83, "side 2's choice is not offered, or is missing though nothing is asked"
+    CHOICES = 84, "both choices are there while the battle goes on"
+    TELLER_ONE = 85, "the teller of side 1 is another's, or its places are out of order"
+    TELLER_TWO = 86, "the teller of side 2 is another's, its places are out of order, or its form of HP differs"
+    ENDING = 87, "the ending is above 3"
+    DRAW = 88, "the side that offers a draw is above 2"
+    RULES = 89, "an option is above 1"
+    UNUSED = 90, "an unused byte, or the forfeit of the room, is not 0"
+
+
 class RowKind(Named):
     """What happens at a host, of `Row.kind`."""
 

@@ -1,24 +1,17 @@
 use Rattle.std.proofs.Common.{arith}
-use Rattle.gen1_room.specs.Rooms.{happened}
-use Rattle.gen1_room.proofs.Counting.{counts_fit}
-use Rattle.gen1_room.proofs.Ending.{counts_more, end_holds, not_refused}
+use Rattle.gen1_room.proofs.Counting.{number_fits}
+use Rattle.gen1_room.proofs.Ending.{end_holds, not_refused}
 use Rattle.gen1_room.proofs.submission.end_pair.Goals as goal
 
 pub overflow_add-held : goal.overflow_add-held
-overflow_add-held c = let most = counts_fit c.requires.valid.counts in omega (arith, most)
+overflow_add-held c = let m = c.requires.valid in let most = number_fits m.stands m.counts in omega (arith, most)
 
 pub returns-clause-holds : goal.returns-clause-holds
-returns-clause-holds c course stands counted offered =
+returns-clause-holds c course stands counted counts offered =
     end_holds course c.args.one c.args.two c.args.held.now.number c.choice_if_none_is_asked-held.result c.choice_if_none_is_asked-held-in-Ok.result
-    c.args.held.now.battle c.update_events.new.self c.args.held.now.events c.update_events.new.events c.write_log.new.log c.in-Ok.result stands counted offered
+    c.args.held.now.battle c.update_events.new.self c.args.held.now.events c.update_events.new.events c.write_log.new.log c.in-Ok.result stands counted counts offered
     (c.in-Ok.ensures.answers course.state stands) (c.in-Ok.ensures.tells course.state stands) c.write_log.ensures
     c.choice_if_none_is_asked-held.ensures c.choice_if_none_is_asked-held-in-Ok.ensures
-
-pub returns-clause-counts : goal.returns-clause-counts
-returns-clause-counts c =
-    let k = c.requires.valid.counts in
-    counts_more c.args.held.now.battle c.update_events.new.self c.in-Ok.result c.args.held.now.number k c.args.one c.args.two
-    (c.in-Ok.ensures.answers (happened k.start k.all) k.stands)
 
 pub unreachable-requires : goal.unreachable-requires
 unreachable-requires c =

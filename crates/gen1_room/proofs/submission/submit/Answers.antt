@@ -31,7 +31,6 @@ choose-requires c =
         course = m.course;
         submission = submission_of c.args.side c.args.number c.args.byte;
         holds = m.holds;
-        counts = m.counts;
         going = going;
         missing = missing_of c.args.side m.holds (sym c.has_chosen.ensures ∙ c.if-has_chosen.false);
         made = taken c.args.side c.args.number c.args.byte c.in-Some.choice m.holds c.if-number-held.false some;

@@ -1,18 +1,15 @@
 use Rattle.std.proofs.Common.{subst, sym}
 use Rattle.gen1_room.specs.declared.held.Held.{Held}
-use Rattle.gen1_room.proofs.Counting.{counts_numbers}
 use Rattle.gen1_room.proofs.Ending.{holds_numbers}
-use Rattle.gen1_room.specs.Rooms.{happened, Holds, reseeded_in}
+use Rattle.gen1_room.specs.Rooms.{Holds, reseeded_in}
 use Rattle.gen1_room.proofs.room.Room.reseed.Goals as goal
 
 pub invariant_of-self : goal.invariant_of-self
 invariant_of-self c =
     let room = c.self.invariant in
-    let counts = room.counts in
     record {
       course = reseeded_in c.args.numbers.now room.course;
       holds = holds_numbers c.args.numbers.now (c.reseed.ensures room.course.state room.holds.stands) room.holds;
-      counts = counts_numbers counts c.args.numbers.now (c.reseed.ensures (happened counts.start counts.all) counts.stands);
     }
 
 pub returns : goal.returns
