@@ -54,7 +54,7 @@ pub struct HostOptions {
 /// # What to store
 ///
 /// Store the battle that the host began with, its options, and each [`Row`] that it took. [`Host::apply`] of the same rows leads to the
-/// same host, so a server that was stopped continues where it was.
+/// same host, so a server that was stopped continues where it was. [`Host::to_bytes`] is a host without its rows.
 #[derive(Clone, Debug, PartialEq, Eq)]
 pub struct Host {
     inner: plain::Host,
@@ -222,6 +222,14 @@ impl Host {
     /// Those of that call. Nothing has changed.
     pub fn apply(&mut self, row: &Row) -> HostReply {
         plain::apply(&mut self.inner, &row.plain())
+    }
+
+    pub(crate) fn plain(&self) -> &plain::Host {
+        &self.inner
+    }
+
+    pub(crate) fn from_plain(inner: plain::Host) -> Self {
+        Host { inner }
     }
 }
 

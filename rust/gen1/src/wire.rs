@@ -1,13 +1,15 @@
 //! What crosses a network as bytes: the structs of include/gen1.h, with the lowest byte of each number first.
-use crate::generated::host as plain;
-use crate::generated::player::OwnMember;
-use crate::{Message, Notice, OwnSide, events_of};
+use crate::generated::host::{self as plain, HostFault};
+use crate::generated::layout::Packed;
+use crate::generated::player::{OwnMember, Teller};
+use crate::generated::room::plain::PlainRoom;
+use crate::{Host, Message, Notice, OwnSide, Side, events_of};
 use core::error::Error;
 use core::fmt;
 
 const CHOICES: u32 = 12;
 
-/// Why bytes are no [`Message`], [`Notice`] or [`OwnSide`]: the first field that is out of its range.
+/// Why bytes are no [`Host`], [`Message`], [`Notice`] or [`OwnSide`]: the first field that is out of its range.
 #[derive(Clone, Copy, Debug, PartialEq, Eq)]
 pub struct WireFault {
     kind: &'static str,
@@ -134,6 +136,89 @@ impl Notice {
         within(kind, "draw", inner.draw <= 2)?;
         within(kind, "log", log_in(&inner.log, inner.log_length))?;
         Ok(Notice { inner })
+    }
+}
+
+impl Host {
+    /// How many bytes a host has.
+    pub const LENGTH: usize = 928;
+
+    /// The bytes of the `gen1_host`, to be stored. They have everything, also choices that are secret.
+    #[must_use]
+    pub fn to_bytes(&self) -> [u8; Self::LENGTH] {
+        let it = self.plain();
+        written(|to| {
+            to.put(it.room.battle.as_bytes());
+            to.put(&it.room.number.to_le_bytes());
+            to.put(&it.room.log_length.to_le_bytes());
+            to.put(&[it.room.one, it.room.two, it.room.forfeit]);
+            to.put(&it.room.unused);
+            to.put(&it.room.log);
+            for teller in [&it.one, &it.two] {
+                to.put(&[teller.side, teller.pixels]);
+                to.put(&teller.places);
+            }
+            to.put(&[it.ending, it.draw, it.may_cancel, it.late_forfeits]);
+        })
+    }
+
+    /// The host with these bytes. Exactly those of hosts are accepted; this is proved of the library. A battle of an older layout version
+    /// becomes one of version 3.
+    ///
+    /// # Errors
+    ///
+    /// The bytes are not those of a host: no battle, a number that leaves no place for the pairs that may still come, no log, a choice
+    /// that isn't offered, or a field that is out of its range.
+    pub fn from_bytes(bytes: &[u8; Self::LENGTH]) -> Result<Self, WireFault> {
+        let from = &mut Reader(bytes);
+        let fault = |field| WireFault {
+            kind: "a host",
+            field,
+        };
+        let battle = Packed::read(&from.take::<384>()).map_err(|_| fault("battle"))?;
+        let room = PlainRoom {
+            battle,
+            number: u32::from_le_bytes(from.take()),
+            log_length: from.number(),
+            one: from.byte(),
+            two: from.byte(),
+            forfeit: from.byte(),
+            unused: from.take(),
+            log: from.take(),
+        };
+        let [one, two] = [(); 2].map(|()| Teller {
+            side: from.byte(),
+            pixels: from.byte(),
+            places: from.take(),
+        });
+        let mut host = plain::Host {
+            room,
+            one,
+            two,
+            ending: from.byte(),
+            draw: from.byte(),
+            may_cancel: from.byte(),
+            late_forfeits: from.byte(),
+        };
+        match plain::load(&mut host) {
+            Ok(()) => Ok(Host::from_plain(host)),
+            Err(why) => Err(fault(field_of(why))),
+        }
+    }
+}
+
+fn field_of(why: HostFault) -> &'static str {
+    match why {
+        HostFault::Battle(_) => "battle",
+        HostFault::Number => "number",
+        HostFault::Log => "log",
+        HostFault::Choice(_) | HostFault::Choices => "chosen",
+        HostFault::Teller(Side::One) => "one",
+        HostFault::Teller(Side::Two) => "two",
+        HostFault::Ending => "ending",
+        HostFault::Draw => "draw",
+        HostFault::Rules => "may_cancel or late_forfeits",
+        HostFault::Unused => "forfeit or unused",
     }
 }
 

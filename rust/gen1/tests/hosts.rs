@@ -584,3 +584,115 @@ fn bytes_that_nobody_sends_are_refused() {
         assert_eq!(Notice::from_bytes(&wrong).unwrap_err().field(), field);
     }
 }
+
+#[test]
+fn a_host_from_its_bytes_goes_on_as_the_one_that_was_stored() {
+    for seed in 0..40 {
+        let mut dice = Dice(2000 + seed);
+        let battle = Battle::new(&dice.team(), &dice.team(), dice.numbers());
+        let options = HostOptions {
+            exact_hp: seed % 2 == 0,
+            may_cancel: seed % 3 > 0,
+            late_forfeits: seed % 5 == 0,
+        };
+        let mut host = Host::with_options(battle, options);
+        for _ in 0..150 {
+            let mut loaded = Host::from_bytes(&host.to_bytes()).unwrap();
+            assert_eq!(loaded, host);
+            let (side, number) = (dice.side(), host.number());
+            let numbers = (dice.below(2) == 0).then(|| dice.numbers());
+            let row = match dice.below(40) {
+                0 => Row::OfferDraw { side },
+                1..4 => Row::Cancel { side, number },
+                4 if number > 20 => Row::Expire {
+                    side,
+                    number,
+                    numbers,
+                },
+                5 if number > 30 => Row::Forfeit { side },
+                _ => Row::Submit {
+                    side,
+                    number,
+                    byte: if host.is_closed() {
+                        0
+                    } else {
+                        dice.choice(&host, side).byte()
+                    },
+                    numbers,
+                },
+            };
+            assert_eq!(loaded.apply(&row), host.apply(&row));
+            for side in Side::BOTH {
+                assert_eq!(sight(&loaded, side), sight(&host, side));
+            }
+            assert_eq!(loaded.notice().log(), host.notice().log());
+        }
+    }
+}
+
+/// What becomes of the bytes of a host at its first pair, with some of them replaced.
+fn damaged(edits: &[(usize, u8)]) -> Result<(), String> {
+    let (host, _) = table(HostOptions::default());
+    let mut bytes = host.to_bytes();
+    for (at, byte) in edits {
+        bytes[*at] = *byte;
+    }
+    match Host::from_bytes(&bytes) {
+        Ok(host) => {
+            assert_eq!(host.to_bytes(), bytes);
+            Ok(())
+        }
+        Err(fault) => Err(fault.field().to_string()),
+    }
+}
+
+#[test]
+fn bytes_of_no_host_are_refused_by_their_field() {
+    // The offsets are those of the fields of gen1_host.
+    let (number, length, one, two, forfeit, log) = (384, 388, 390, 391, 392, 396);
+    let (teller_one, teller_two, ending) = (908, 916, 924);
+    let refused: [(&[(usize, u8)], &str); 25] = [
+        (&[(0, 9)], "battle"),
+        (&[(1, 255), (2, 255)], "battle"),
+        // At turn 1 of 1,000, with one member on each bench, 1 + 999 + 2 pairs may come, of 1,011.
+        (&[(number, 10)], "number"),
+        (&[(number + 3, 255)], "number"),
+        (&[(length + 1, 3)], "log"),
+        (&[(log, 0x1d)], "log"),
+        (&[(length, 1), (length + 1, 0)], "log"),
+        (&[(one, 0)], "chosen"),
+        (&[(one, 0x12)], "chosen"),
+        (&[(two, 0x21)], "chosen"),
+        (&[(two, 7)], "chosen"),
+        (&[(one, 0x11), (two, 0x11)], "chosen"),
+        (&[(teller_one, 2)], "one"),
+        (&[(teller_one + 1, 2)], "one"),
+        (&[(teller_one + 2, 7)], "one"),
+        (&[(teller_one + 3, 2)], "one"),
+        (&[(teller_one + 2, 2), (teller_one + 3, 2)], "one"),
+        (&[(teller_two, 1)], "two"),
+        (&[(teller_two + 1, 0)], "two"),
+        (&[(ending, 4)], "ending"),
+        (&[(ending + 1, 3)], "draw"),
+        (&[(ending + 2, 2)], "may_cancel or late_forfeits"),
+        (&[(ending + 3, 2)], "may_cancel or late_forfeits"),
+        (&[(forfeit, 1)], "forfeit or unused"),
+        (&[(forfeit + 2, 1)], "forfeit or unused"),
+    ];
+    for (edits, field) in refused {
+        assert_eq!(damaged(edits), Err(field.to_string()), "{edits:?}");
+    }
+    let accepted: [&[(usize, u8)]; 8] = [
+        &[],
+        &[(number, 9)],
+        &[(one, 0x11)],
+        &[(two, 0x22)],
+        &[(teller_one + 2, 2), (teller_one + 3, 1)],
+        &[(ending, 3)],
+        &[(ending + 1, 2), (ending + 2, 1)],
+        &[(log + 511, 200)],
+    ];
+    for edits in accepted {
+        assert_eq!(damaged(edits), Ok(()), "{edits:?}");
+    }
+}
