@@ -11,11 +11,14 @@ import pytest
 from conftest import BIG, NO_NUMBERS, random_team
 from gen1 import (
     BadArgument,
+    BadBytes,
+    BadHost,
     BadType,
     Battle,
     Choice,
     Error,
     Host,
+    HostFault,
     HostRefusal,
     HostRefused,
     Member,
@@ -249,6 +252,77 @@ def test_bytes_of_rows():
             Row.submit(1, 0, value)
     with pytest.raises(BadArgument, match="seed must be 10 bytes"):
         Row.submit(1, 0, 0x11, bytes(9))
+
+
+@pytest.mark.parametrize("seed", range(20))
+def test_a_host_from_its_bytes_goes_on(seed):
+    dice = random.Random(seed)
+    battle = Battle(random_team(dice), random_team(dice), dice.randbytes(10))
+    host = Host(battle, exact_hp=seed % 2 == 0, may_cancel=seed % 3 == 0, late_forfeits=seed % 5 == 0)
+    for _ in range(120):
+        loaded = Host.from_bytes(bytes(host))
+        assert loaded == host == pickle.loads(pickle.dumps(host)) and len(bytes(host)) == 928
+        side, number = Side(1 + dice.randrange(2)), host.number
+        choices = host.message(side).choices or (Choice.PASS,)
+        rows = [Row.offer_draw(side), Row.cancel(side, number), Row.expire(side, number), Row.forfeit(side)]
+        row = Row.submit(side, number, dice.choice(choices)) if dice.randrange(12) else rows[dice.randrange(len(rows))]
+        if row.kind in (RowKind.FORFEIT, RowKind.EXPIRE) and number < 15:
+            continue
+        assert code_of(lambda: loaded.apply(row)) is code_of(lambda: host.apply(row))
+        assert [loaded.message(it) for it in Side] == [host.message(it) for it in Side]
+        assert loaded.notice() == host.notice()
+
+
+# The offsets of a gen1_host, what is put there, and the fault. At turn 1 of 1,000, with one member on each bench, 1,002 of 1,011 pairs may
+# come.
+DAMAGES = (
+    ({384: 10}, HostFault.NUMBER),
+    ({387: 255}, HostFault.NUMBER),
+    ({389: 3}, HostFault.LOG),
+    ({396: 29}, HostFault.LOG),
+    ({390: 0x15}, HostFault.CHOICE_ONE),
+    ({390: 0}, HostFault.CHOICE_ONE),
+    ({391: 0x21}, HostFault.CHOICE_TWO),
+    ({390: 0x11, 391: 0x11}, HostFault.CHOICES),
+    ({908: 2}, HostFault.TELLER_ONE),
+    ({910: 7}, HostFault.TELLER_ONE),
+    ({911: 1}, HostFault.TELLER_ONE),
+    ({918: 1, 919: 1}, HostFault.TELLER_TWO),
+    ({917: 0}, HostFault.TELLER_TWO),
+    ({924: 4}, HostFault.ENDING),
+    ({925: 3}, HostFault.DRAW),
+    ({926: 2}, HostFault.RULES),
+    ({927: 2}, HostFault.RULES),
+    ({392: 2}, HostFault.UNUSED),
+    ({394: 1}, HostFault.UNUSED),
+)
+
+
+@pytest.mark.parametrize(("edits", "code"), DAMAGES)
+def test_bytes_of_no_host(edits, code):
+    data = bytearray(bytes(a_host()))
+    for at, byte in edits.items():
+        data[at] = byte
+    with pytest.raises(BadHost) as fault:
+        Host.from_bytes(data)
+    assert fault.value.code is code and pickle.loads(pickle.dumps(fault.value)).code is code
+
+
+def test_bytes_of_a_host_without_its_battle():
+    data = bytearray(bytes(a_host()))
+    for edits in {384: 9}, {390: 0x11}, {918: 2, 919: 1}, {924: 3}, {925: 1}:
+        other = bytearray(data)
+        for at, byte in edits.items():
+            other[at] = byte
+        assert bytes(Host.from_bytes(other)) == other
+    data[0] = 9
+    with pytest.raises(BadBytes):
+        Host.from_bytes(data)
+    for wrong in (b"", bytes(927), bytes(929)):
+        with pytest.raises(BadArgument, match="928 bytes of a host"):
+            Host.from_bytes(wrong)
+    with pytest.raises(BadType):
+        Host.from_bytes("host")
 
 
 def test_bytes_of_messages():

@@ -8,6 +8,7 @@ from typing import Any
 
 from gen1.names import (
     DamageFault,
+    HostFault,
     HostRefusal,
     LoadFault,
     LogFault,
@@ -96,6 +97,16 @@ class BadBytes(BadArgument):
 
     def __init__(self, code: LoadFault, said: str) -> None:
         super().__init__(said)
+        self.code = code
+
+
+class BadHost(BadArgument):
+    """The bytes are not a host's. `code` is the first test that they fail,
+    after those of the battle.
+    """
+
+    def __init__(self, code: HostFault) -> None:
+        super().__init__(f"data is not a host: {code.label}")
         self.code = code
 
 

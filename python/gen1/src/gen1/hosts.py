@@ -6,7 +6,7 @@ from __future__ import annotations
 
 import os
 from collections.abc import Mapping
-from ctypes import byref
+from ctypes import byref, sizeof
 from dataclasses import dataclass
 from struct import Struct
 from threading import RLock
@@ -14,12 +14,12 @@ from typing import TYPE_CHECKING, Any, Literal, TypeAlias
 
 from gen1 import _library
 from gen1._check import octets, seed_bytes, shown, ten_bytes, truth, within
-from gen1._structs import HostStruct, MessageStruct, NoticeStruct, RowStruct
+from gen1._structs import BattleBytes, HostStruct, MessageStruct, NoticeStruct, RowStruct
 from gen1.battle import RESULTS, Battle, Result, SeedLike, battle_of
 from gen1.choices import Choice, Side, a_choice, a_side, not_offered
-from gen1.errors import BadArgument, BadType, HostRefused
+from gen1.errors import BadArgument, BadHost, BadType, HostRefused
 from gen1.messages import Message, Notice, message_of, notice_of, record
-from gen1.names import HostRefusal, RowKind
+from gen1.names import HostFault, HostRefusal, RowKind
 
 if TYPE_CHECKING:
     from _typeshed import ReadableBuffer
@@ -166,7 +166,9 @@ class Host:
     chosen, or on whether it has; this is proved of the library.
 
     Store the battle that the host began with, its options, and each `Row`
-    that it took: `apply` of the same rows leads to the same host.
+    that it took: `apply` of the same rows leads to the same host. `bytes`
+    of a host are the 928 bytes of a `gen1_host`, and `from_bytes` is the
+    way back. They have everything, also secret choices.
 
     Two hosts are equal if all of their bytes are equal; a host has no hash.
     Several threads may use one host.
@@ -197,6 +199,32 @@ class Host:
         self._held, self._lock = HostStruct(), RLock()
         self._held.room.battle[:] = battle.bytes
         _library.host_begin(byref(self._held), not exact, cancels, late)
+
+    @classmethod
+    def from_bytes(cls, data: ReadableBuffer) -> Host:
+        """The host with these bytes. Exactly those of hosts are accepted; this
+        is proved of the library.
+
+        Raises `BadBytes` if the battle in them is none, `BadHost` if
+        another test fails, `BadArgument` for another number of bytes, and
+        `BadType`.
+        """
+        given = octets(data, "data")
+        if len(given) != sizeof(HostStruct):
+            raise BadArgument(f"data must be the {sizeof(HostStruct)} bytes of a host, not {len(given):,}")
+        made = cls.__new__(cls)
+        made._held, made._lock = HostStruct.from_buffer_copy(given), RLock()
+        code = _library.host_load(byref(made._held))
+        if code:
+            Battle.load(given[: sizeof(BattleBytes)])
+            raise BadHost(HostFault(code))
+        return made
+
+    def __bytes__(self) -> bytes:
+        return bytes(self._held)
+
+    def __reduce__(self) -> tuple[Any, ...]:
+        return type(self).from_bytes, (bytes(self),)
 
     @property
     def number(self) -> int:
