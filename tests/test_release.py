@@ -164,7 +164,7 @@ def test_page(release, program):
     release.want("page")
     page = release.out / f"gen1-{version()}.html"
     assert page.read_text().count(PLACEHOLDER) == 1
-    assert page.stat().st_size < 450_000
+    assert page.stat().st_size < 600_000
     text = run(program, "replay", "--page", page, STORED, cwd=release.room)
     assert PLACEHOLDER not in text and '"Tauros"' in text
 

@@ -1,4 +1,4 @@
-"""Bundling the page's scripts, with the JavaScript package that they import as `gen1` (js)."""
+"""Bundling the page's scripts, with the JavaScript package that they import as `gen1` and `gen1/search` (js)."""
 import shutil
 import subprocess
 import sys
@@ -14,7 +14,7 @@ PACKAGE = ROOT / "js"
 def javascript_package():
     """A folder with the package's modules, and with those that are generated."""
     with tempfile.TemporaryDirectory() as made:
-        for path in PACKAGE.glob("*.mjs"):
+        for path in (*PACKAGE.glob("*.mjs"), PACKAGE / "package.json"):
             shutil.copy(path, made)
         if subprocess.run([ROOT / "tools" / "plain_wasm", "--tables", made]).returncode:
             sys.exit("web: tools/plain_wasm failed")
@@ -27,7 +27,9 @@ def bundle(script, package, *options):
         "esbuild",
         script,
         "--bundle",
-        f"--alias:gen1={package / 'gen1.mjs'}",
+        # The module `gen1/search` is search.mjs of the folder.
+        f"--alias:gen1={package}",
+        "--resolve-extensions=.mjs,.js",
         "--external:node:*",
         "--log-override:empty-import-meta=silent",
         "--target=es2022",

@@ -94,7 +94,7 @@ def taking_back_and_playing_again_is_the_same(browser):
 
 
 def battles_against_the_computer_go_on(browser):
-    for foe in ("random", "greedy", "playouts", "cheating"):
+    for foe in ("random", "greedy", "playouts", "level1", "cheating"):
         browser.open("#play")
         browser.run(
             "const Own = Worker; window.Worker = class extends Own { constructor(...words) { super(...words); window.began = true; } }"
@@ -112,6 +112,77 @@ def battles_against_the_computer_go_on(browser):
             browser.wait(f"{UPDATES} > {before}")
         assert press > 3 and browser.run("return window.began"), (foe, press)
         assert "Turn" in browser.text("#play-now") and not browser.notice()
+
+
+# A worker that notes when each question was asked and answered, and the longest time in which the page did nothing else.
+WATCHED = """
+const Own = Worker, asked = {};
+[window.took, window.gap] = [[], 0];
+window.Worker = class extends Own {
+  constructor(...words) {
+    super(...words);
+    this.addEventListener('message', ({data}) => window.took.push(performance.now() - asked[data.id]));
+  }
+  postMessage(it) { if (it.id) asked[it.id] = performance.now(); super.postMessage(it); }
+};
+let last = performance.now();
+setInterval(() => { const now = performance.now(); window.gap = Math.max(window.gap, now - last); last = now; }, 10);
+const decode = window.atob;
+window.decoded = 0;
+window.atob = (text) => { window.decoded += text.length; return decode(text); };
+"""
+
+
+def begin_watched(browser, foe):
+    browser.open("#play")
+    browser.run(WATCHED)
+    browser.fill("#play-who-2", foe)
+    browser.click("#play-start")
+
+
+def a_level_thinks_in_time(browser):
+    """At level 3 in the middle at most 300 ms a turn, twice that where the machine is busy."""
+    begin_watched(browser, "level3")
+    for _ in range(8):
+        if not choose_first(browser):
+            break
+    took = sorted(browser.run("return window.took"))
+    most = 300 if os.getloadavg()[0] <= os.cpu_count() else 600
+    print(f"    level 3 thinks for {took[len(took) // 2]:.0f} ms, at most {took[-1]:.0f} ms")
+    assert len(took) > 3 and took[len(took) // 2] < most, took
+    assert not browser.notice()
+
+
+def the_page_responds_while_a_level_thinks(browser):
+    """Level 5 thinks for longer than the page ever waits; what is drawn meanwhile is the page's own work."""
+    begin_watched(browser, "level5")
+    browser.run("window.gap = 0")
+    browser.wait("return window.took.length", 120)
+    took, gap = browser.run("return [window.took[0], window.gap]")
+    print(f"    level 5 thinks for {took:.0f} ms, and the page waits for at most {gap:.0f} ms")
+    assert took > 500 and gap < took / 2, (took, gap)
+
+
+def the_search_is_unpacked_when_it_is_needed(browser):
+    begin_watched(browser, "greedy")
+    assert choose_first(browser) and not browser.run("return window.decoded")
+    browser.click("#play-hint")
+    browser.wait("return document.querySelectorAll('#play-hinted li').length === 2", 60)
+    assert browser.run("return window.decoded === document.getElementById('search').text.trim().length")
+
+
+def a_hint_has_its_reasons(browser):
+    """Explosion loses the only member, and Thunderbolt does damage twice as high as that of Water Gun's foe."""
+    begin(browser, "Gengar\n- Explosion\n- Thunderbolt", "Starmie\n- Water Gun\n\nSnorlax\n- Rest")
+    browser.click("#play-hint")
+    browser.wait("return document.querySelectorAll('#play-hinted li').length === 2", 60)
+    found = browser.text("#play-hinted")
+    assert found.startswith("You are expected to win ") and "Thunderbolt: chosen " in found, found
+    first = browser.text("#play-hinted li")
+    assert first.startswith("Thunderbolt: chosen ") and "(foe: " in first and " wins " in first, first
+    browser.click("#play-choices-1 [data-choice='18']")
+    browser.wait("return document.getElementById('play-now').textContent.startsWith('Turn 2')")
+    assert not browser.text("#play-hinted")
 
 
 def two_computers_play_to_the_end(browser):
@@ -679,6 +750,10 @@ CHECKS = [
     only_what_is_offered_can_be_pressed,
     taking_back_and_playing_again_is_the_same,
     battles_against_the_computer_go_on,
+    a_level_thinks_in_time,
+    the_page_responds_while_a_level_thinks,
+    the_search_is_unpacked_when_it_is_needed,
+    a_hint_has_its_reasons,
     two_computers_play_to_the_end,
     a_battle_that_was_played_is_watched,
 ]

@@ -1,4 +1,4 @@
-// The computer's choices: at random, by expected damage, or by random battles played to their end.
+// The computer's choices: at random, by expected damage, by random battles played to their end, or by a search.
 import {choiceOf} from "gen1";
 
 import {guessed, playerOf} from "./guesses.js";
@@ -7,8 +7,10 @@ import {guessed, playerOf} from "./guesses.js";
  * @typedef {import("gen1").Battle} Battle
  * @typedef {import("gen1").ChoiceName} ChoiceName
  * @typedef {import("./engine.js").Engine} Engine
+ * @typedef {import("gen1/search").Search} Search
+ * @typedef {import("gen1/search").Thought} Thought
  * @typedef {{ side: 1 | 2, player: string, seed: number, offered: number[], rules: number, limit: number, sight: import("./guesses.js").Sight | null,
- *   battle: Uint8Array | null }} Asked a question: the player ("random", "greedy", "playouts" or "cheating"), the bytes of the offered choices, and
+ *   battle: Uint8Array | null }} Asked a question: the player ("random", "greedy", "playouts", "level1" to "level5", or "cheating"), the bytes of the offered choices, and
  *   the computer's knowledge: that of its side, or for cheating the battle itself
  */
 
@@ -133,13 +135,46 @@ function placeOfBest(values) {
 }
 
 /**
+ * The level of a player that searches; 0 for others.
+ * @param {string} player
+ */
+export function levelOf(player) {
+  return /^level[1-5]$/.test(player) ? Number(player.slice(5)) : 0;
+}
+
+/**
+ * A search from the knowledge of a side.
+ * @param {Engine} engine @param {Search} search @param {Asked} asked
+ */
+export function think(engine, search, {sight, player, seed, rules, limit}) {
+  if (!sight) throw new Error("nothing is known of the battle");
+  const level = /** @type {1 | 2 | 3 | 4 | 5} */ (levelOf(player));
+  return search.think(playerOf(engine, sight), {level, seed, rules, limit});
+}
+
+/**
+ * One of the choices of a search, by their chances. Those with less than half of the highest are mostly its noise.
+ * @param {Thought} thought @param {Random} random
+ */
+function drawn({choices}, random) {
+  const likely = choices.filter(({probability}) => 2 * probability >= choices[0].probability);
+  let left = random.draw() / (1 << 24) * likely.reduce((sum, {probability}) => sum + probability, 0);
+  return likely.find(({probability}) => (left -= probability) < 0) ?? likely[0];
+}
+
+/**
  * A choice of the computer, as its byte.
  * @param {Engine} engine
  * @param {Asked} asked
+ * @param {Search | null} [search] is there for a level
  */
-export function choose(engine, asked) {
+export function choose(engine, asked, search) {
   const {side, player, seed, offered, battle} = asked;
   if (player === "random" || offered.length < 2) return offered[seed % offered.length];
+  if (search && levelOf(player)) {
+    const {choice} = drawn(think(engine, search, asked), new Random(seed));
+    return offered[offered.map(choiceOf).indexOf(choice)];
+  }
   const [random, choices] = [new Random(seed), offered.map(choiceOf)];
   if (battle) return offered[placeOfBest(scoresOf(engine.gen1.load(battle), side, ROUNDS, random, choices))];
   if (player === "greedy")

@@ -6,7 +6,7 @@ import {Engine} from "./engine.js";
 import {drawHome} from "./home.js";
 import {Inputs} from "./inputs.js";
 import {Play} from "./play.js";
-import {Players} from "./players.js";
+import {moduleOf, Players} from "./players.js";
 import {Replay} from "./replay.js";
 import {heldBattle} from "./share.js";
 import {Teams} from "./teams.js";
@@ -141,19 +141,8 @@ function listenDrops(replay, open) {
   });
 }
 
-/** The bytes of the module, which the page has compressed by gzip and in base64. */
-async function moduleOfPage() {
-  const text = find("module", HTMLScriptElement).text.trim();
-  const packed = Uint8Array.from(atob(text), (letter) => letter.charCodeAt(0));
-  // TypeScript 4.8 has no type for it.
-  /** @type {{ new (format: string): ReadableWritablePair<Uint8Array, Uint8Array> }} */
-  const DecompressionStream = Reflect.get(globalThis, "DecompressionStream");
-  const stream = new Blob([packed]).stream().pipeThrough(new DecompressionStream("gzip"));
-  return new Uint8Array(await new Response(stream).arrayBuffer());
-}
-
 async function begin() {
-  const module = await moduleOfPage();
+  const module = await moduleOf("module");
   const engine = await Engine.of(module);
   const inputs = new Inputs(engine);
   const calculate = (/** @type {import("./carried.js").Scene} */ scene) => {

@@ -5,6 +5,7 @@ import {areOut, sceneOf, standingIn} from "./carried.js";
 import {choiceButtons, damageOf, detail, forecast, keyOf} from "./choices.js";
 import {find, guarded, keepForTab, keepingFocus, kept, make, Problem} from "./dom.js";
 import {Field} from "./field.js";
+import {Hint} from "./hint.js";
 import {ofAddress, toAddress} from "./inputs.js";
 import {Log} from "./log.js";
 import {LocalMatch, SIDES} from "./match.js";
@@ -23,7 +24,8 @@ import {OUTCOMES} from "./words.js";
 /** The conditions during which a member is in the middle of its current move (docs/LAYOUT.md, "Condition bits"). */
 const GOING = ["bide", "thrash", "trapping", "charging", "rage"];
 const KEYS = ["123456789", "qwertyuio"];
-const PLAYERS = ["person", "random", "greedy", "playouts", "cheating"];
+const PLAYERS =
+    ["person", "random", "greedy", "playouts", "level1", "level2", "level3", "level4", "level5", "cheating"];
 const SAVED = "battle";
 const GUESSED = "The foe has its highest possible stats, and moves of a usual set where it has not shown them.";
 
@@ -51,6 +53,7 @@ export class Play {
     this.motion = new Motion(this.field, find("speed", HTMLSelectElement), find("sounds", HTMLInputElement));
     /** @type {import("./match.js").Match<any> | null} */
     this.match = null;
+    this.hint = new Hint(players, () => this.asking);
     this.isOpen = false;
     /** How many updates of a battle at a server were shown. */
     this.shown = 0;
@@ -519,8 +522,15 @@ export class Play {
     return SIDES.filter((side) => side === this.revealed);
   }
 
+  /** The battle and the side that chooses, where the page plays and one side's choices are shown. */
+  get asking() {
+    const {match, showing} = this;
+    return match instanceof LocalMatch && showing.length === 1 ? {match, side: showing[0]} : null;
+  }
+
   drawChoices() {
     const {game} = this;
+    this.hint.draw();
     find("play-skip", HTMLElement).hidden = !this.isMoving || !this.motion.share;
     for (const side of SIDES) {
       const place = find(`play-choices-${side}`, HTMLElement);

@@ -1,16 +1,21 @@
-// The worker: a second engine, which returns the computer's choices, or an error.
-import {choose} from "./computer.js";
+// The worker: a second engine, which returns the computer's choices and hints, or an error.
+import {loadSearch} from "gen1/search";
+
+import {choose, think} from "./computer.js";
 import {Engine} from "./engine.js";
 
 /** @type {Promise<Engine> | null} */
 let engine = null;
+/** @type {Promise<import("gen1/search").Search> | null} comes with the first question that needs it */
+let search = null;
 
-/** @param {{ id: number, asked: import("./computer.js").Asked }} question */
-async function answer({id, asked}) {
+/** @param {{ id: number, asked: import("./computer.js").Asked, isHint: boolean }} question */
+async function answer({id, asked, isHint}) {
   try {
-    const ready = await engine;
+    const [ready, searching] = [await engine, await search];
     if (!ready) throw new Error("there is no module");
-    self.postMessage({id, choice: choose(ready, asked)});
+    const choice = isHint && searching ? think(ready, searching, asked) : choose(ready, asked, searching);
+    self.postMessage({id, choice});
   } catch (error) {
     // The package's error about a module has the browser's own as its cause.
     self.postMessage({id, fault: String((error instanceof Error && error.cause) || error)});
@@ -18,8 +23,9 @@ async function answer({id, asked}) {
 }
 
 self.onmessage = ({data}) => {
-  if (!data.module) return void answer(data);
-  engine = Engine.of(data.module);
-  // The error is sent to the page when it asks for a choice.
-  engine.catch(() => {});
+  if (data.module) engine = Engine.of(data.module);
+  if (data.search) search = loadSearch(data.search);
+  // An error is sent to the page when it asks for a choice.
+  for (const loading of [engine, search]) loading?.catch(() => {});
+  if (data.id) void answer(data);
 };
