@@ -60,8 +60,8 @@ export class Hint {
     const question = {...match.question(side, randomSeed()[0]), player: LEVEL, sight: match.sight(side), battle: null};
     const {value, deviation, choices} = await this.players.thought(question);
     if (mine !== this.count) return;
-    this.place.replaceChildren(
-        make("p", {}, `You are expected to win ${percent(value)} of such battles, give or take ${percent(2 * deviation)}.`),
+    const [wins, error] = [value, 2 * deviation].map(percent);
+    this.place.replaceChildren(make("p", {}, `You are expected to win ${wins} of such battles, give or take ${error}.`),
         make("ul", {}, ...choices.slice(0, LINES).map(considered)));
   }
 }

@@ -9,6 +9,7 @@ from dataclasses import dataclass
 
 import numpy as np
 from gen1 import Battle, BattleArray, Choice, Member, NoDamage, Side, Team
+from gen1.search import league_battle
 
 TEAMS = (
     Team(
@@ -80,13 +81,18 @@ PLAYERS = {"random": random_player, "greedy": greedy_player, "playouts": playout
 
 @dataclass(frozen=True)
 class Job:
-    """Battles of two players: the number of the pair, their names, the first battle, the number of battles, and the seed."""
+    """Battles of two players: the number of the pair, their names, the first battle, the number of battles, the seed, and the teams of a league."""
 
     pair: int
     names: tuple
     first: int
     count: int
     seed: int
+    league: str = ""
+
+    @property
+    def numbers(self):
+        return range(self.first, self.first + self.count)
 
 
 @dataclass(frozen=True)
@@ -111,8 +117,10 @@ def drawn(job, number, what, count):
 
 
 def play_job(job):
-    """Plays a job, and returns the records of its battles, which are the same each time and on each machine."""
-    return [play_battle(job, number) for number in range(job.first, job.first + job.count)]
+    """Plays a job, and returns the records of its battles, or their lines in a league. They are the same each time and on each machine."""
+    if job.league:
+        return [league_battle(*job.names, number, teams=job.league, seed=job.seed) for number in job.numbers]
+    return [play_battle(job, number) for number in job.numbers]
 
 
 def play_battle(job, number):

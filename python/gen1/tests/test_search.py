@@ -146,3 +146,34 @@ def test_a_missing_library_is_named(tmp_path):
     env = {**os.environ, "GEN1_EXTRAS_LIBRARY": str(tmp_path / "none.so")}
     done = subprocess.run([sys.executable, "-c", words], env=env, capture_output=True, text=True)
     assert "LibraryMissing" in done.stderr and "tools/python_wheel" in done.stderr, done.stderr
+
+
+@there
+def test_a_league_has_the_table_of_its_lines():
+    lines = [search.league_battle("greedy", "random", number, seed=3) for number in range(6)]
+    assert lines[4] == search.league_battle("greedy", "random", 4, seed=3)
+    assert [line.rpartition("\t")[0] for line in lines] == [f"samples:3\tgreedy\trandom\t{it}" for it in range(6)]
+    won = sum(float(line.rpartition("\t")[2]) for line in lines) / 6
+    table = search.league_table(["greedy", "random"], reversed(lines), seed=3)
+    assert (
+        f"| `greedy` | `random` | 6 | {won:.1%} | ".replace("%", " %") in table and "| `greedy` | 0 | 0 to 0 |" in table
+    )
+    assert " 6 |" not in search.league_table(["greedy", "random"], lines, seed=4)
+    assert search.league_battle("greedy", "random", 0, teams="drawn").startswith("drawn:1\t")
+
+
+@there
+def test_a_wrong_name_or_line_of_a_league():
+    with pytest.raises(SearchFailed, match="level:6: a bot is random, greedy, "):
+        search.league_battle("level:6", "random", 0)
+    with pytest.raises(SearchFailed, match="line 1 is not a result"):
+        search.league_table(["greedy", "random"], ["samples:1\tgreedy"])
+    for words, fault in (
+        ({"teams": "mine"}, BadArgument),
+        ({"seed": 1 << 31}, BadArgument),
+        ({"number": -1}, BadArgument),
+        ({"one": 7}, BadType),
+        ({"one": "greedy\n"}, BadType),
+    ):
+        with pytest.raises(fault):
+            search.league_battle(**{"one": "greedy", "two": "random", "number": 0} | words)

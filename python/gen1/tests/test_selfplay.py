@@ -103,6 +103,23 @@ def test_dask(alone, tmp_path):
     assert killed and (contents(tmp_path), out) == alone
 
 
+def test_a_league(tmp_path):
+    """Its tables are the same for any number of workers, and after half of its results and a part of a line were lost."""
+    pytest.importorskip("gen1.search")
+    words = ["--league", "samples", "--players", "greedy", "random", "nodes:40", "--battles", "6", "--job", "2"]
+    ran = lambda *more: subprocess.run(
+        [sys.executable, str(SELFPLAY), *words, *more], capture_output=True, text=True, check=True
+    ).stdout
+    table, out = ran(), tmp_path / "out"
+    assert "| `greedy` | `random` | 6 | " in table and "| `greedy` | 0 | 0 to 0 |" in table
+    assert ran("--workers", "3", "--out", str(out)) == table
+    lines = (out / "league.tsv").read_text().splitlines(keepends=True)
+    assert len(lines) == 18
+    (out / "league.tsv").write_text("".join(lines[:9]) + lines[9][:12])
+    assert ran("--out", str(out)) == table
+    assert sorted((out / "league.tsv").read_text().splitlines(keepends=True)) == sorted(lines)
+
+
 def test_the_data_set(alone, tmp_path):
     """Each log is of the battle in its row, a spectator of it knows that battle's end, and the table counts the rows."""
     arena = example("arena")
@@ -143,7 +160,14 @@ def test_better_players_win(alone):
 
 
 @pytest.mark.parametrize(
-    "words", [["--players", "random"], ["--players", "random", "random"], ["--battles", "0"], ["--workers", "x"]]
+    "words",
+    [
+        ["--players", "random"],
+        ["--players", "random", "random"],
+        ["--players", "random", "level:1"],
+        ["--battles", "0"],
+        ["--workers", "x"],
+    ],
 )
 def test_wrong_words(words):
     done = subprocess.run([sys.executable, str(SELFPLAY), *words], capture_output=True, text=True)

@@ -1,5 +1,5 @@
 //! The searches of gen1-search behind three functions, and the protocol of gen1-showdown behind one, which the packages for Python and
-//! JavaScript call.
+//! JavaScript call; and for Python its league behind two.
 //!
 //! A result is a JSON text, so its layout is stated nowhere else. `gen1_player`, `gen1_battle` and `gen1_team` are those of include/gen1.h.
 #![cfg_attr(all(target_family = "wasm", not(feature = "showdown")), no_std)]

@@ -4,6 +4,8 @@ use crate::texts;
 use alloc::string::{String, ToString};
 use gen1::generated::player::Player as PlainPlayer;
 use gen1::{Battle, Player};
+#[cfg(feature = "threads")]
+use gen1_search::league::{Bot, League, Results};
 use gen1_search::{LEVELS, Solver, think};
 
 /// The nodes of a level of play, 1 to 5; 0 if there is no such level.
@@ -64,6 +66,82 @@ pub unsafe extern "C" fn gen1_search_solve(
     });
     // SAFETY: the caller says so.
     unsafe { put(&texts::or_error(found), text, room) }
+}
+
+/// The league and the bots of a line such as `samples:7 think:100 greedy`, with tabs between them.
+#[cfg(feature = "threads")]
+fn league_in(line: &str) -> Result<(League, alloc::vec::Vec<Bot>), String> {
+    let mut words = line.split('\t');
+    let name = words.next().unwrap_or_default();
+    let league = name.parse::<League>().map_err(|why| why.to_string())?;
+    let bot = |word: &str| word.parse().map_err(|why| alloc::format!("{word}: {why}"));
+    Ok((league, words.map(bot).collect::<Result<_, _>>()?))
+}
+
+/// Plays a battle of the league and the two bots of a line. Writes its line of results as JSON, or an object with a key `error`.
+///
+/// Returns the length of the text. A longer one than `room` is not written.
+///
+/// # Safety
+///
+/// `names` has `length` bytes, and `text` has `room` bytes.
+#[cfg(feature = "threads")]
+#[unsafe(no_mangle)]
+pub unsafe extern "C" fn gen1_search_battle(
+    names: *const u8,
+    length: usize,
+    number: u64,
+    text: *mut u8,
+    room: usize,
+) -> usize {
+    // SAFETY: the caller says so.
+    let names = unsafe { core::slice::from_raw_parts(names, length) };
+    let played = || {
+        let (league, bots) =
+            league_in(core::str::from_utf8(names).map_err(|why| why.to_string())?)?;
+        let [one, two] =
+            <[Bot; 2]>::try_from(bots).map_err(|_| String::from("a battle has two bots"))?;
+        let score = league.score(one, two, number);
+        Ok(alloc::format!(
+            "{{\"line\":{}}}",
+            texts::quoted(league.line([one, two], number, score).trim_end())
+        ))
+    };
+    // SAFETY: the caller says so.
+    unsafe { put(&texts::or_error(played()), text, room) }
+}
+
+/// Writes the tables of a league as JSON, or an object with a key `error`. The first line of `lines` has the league and the bots, and
+/// the others are lines of results.
+///
+/// Returns the length of the text. A longer one than `room` is not written.
+///
+/// # Safety
+///
+/// `lines` has `length` bytes, and `text` has `room` bytes.
+#[cfg(feature = "threads")]
+#[unsafe(no_mangle)]
+pub unsafe extern "C" fn gen1_search_table(
+    lines: *const u8,
+    length: usize,
+    text: *mut u8,
+    room: usize,
+) -> usize {
+    // SAFETY: the caller says so.
+    let lines = unsafe { core::slice::from_raw_parts(lines, length) };
+    let made = || {
+        let lines = core::str::from_utf8(lines).map_err(|why| why.to_string())?;
+        let (first, lines) = lines.split_once('\n').unwrap_or((lines, ""));
+        let (league, bots) = league_in(first)?;
+        let mut results = Results::new(&bots);
+        results
+            .read(&league, lines)
+            .map_err(|line| alloc::format!("line {line} is not a result"))?;
+        let table = results.table().replace('\n', "\\n");
+        Ok(alloc::format!("{{\"table\":\"{table}\"}}"))
+    };
+    // SAFETY: the caller says so.
+    unsafe { put(&texts::or_error(made()), text, room) }
 }
 
 /// Runs a search on threads of its own, so that a process may be forked between two searches.

@@ -281,6 +281,32 @@ pub struct League {
     samples: Vec<Team>,
 }
 
+/// A word that names no league.
+#[derive(Clone, Copy, Debug, PartialEq, Eq)]
+pub struct NoLeague;
+
+impl fmt::Display for NoLeague {
+    fn fmt(&self, f: &mut fmt::Formatter<'_>) -> fmt::Result {
+        f.write_str("a league is samples:SEED or drawn:SEED")
+    }
+}
+
+impl core::error::Error for NoLeague {}
+
+impl FromStr for League {
+    type Err = NoLeague;
+
+    fn from_str(name: &str) -> Result<League, NoLeague> {
+        let (teams, seed) = name.split_once(':').ok_or(NoLeague)?;
+        let teams = match teams {
+            "samples" => Teams::Samples,
+            "drawn" => Teams::Drawn,
+            _ => return Err(NoLeague),
+        };
+        Ok(League::new(teams, seed.parse().map_err(|_| NoLeague)?))
+    }
+}
+
 impl League {
     /// A league whose battles depend on its teams, its seed and the bots. Only the low 31 bits of the seed count.
     #[must_use]

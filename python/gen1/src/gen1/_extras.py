@@ -29,6 +29,9 @@ def extras() -> ctypes.CDLL:
         found.gen1_search_think.restype = found.gen1_search_solve.restype = c_size_t
         # The options are structs of gen1.search.
         found.gen1_search_think.argtypes = found.gen1_search_solve.argtypes = (ctypes.c_void_p, ctypes.c_void_p, *text)
+        found.gen1_search_battle.restype = found.gen1_search_table.restype = c_size_t
+        found.gen1_search_battle.argtypes = (c_char_p, c_size_t, c_uint64, *text)
+        found.gen1_search_table.argtypes = (c_char_p, c_size_t, *text)
         found.gen1_showdown_call.restype = POINTER(c_char)
         found.gen1_showdown_call.argtypes = (c_char_p, c_size_t, POINTER(c_size_t))
         found.gen1_showdown_free.restype, found.gen1_showdown_free.argtypes = None, text

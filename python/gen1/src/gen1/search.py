@@ -1,4 +1,5 @@
-"""Searches: a choice from what one side knows, and bounds of a battle's value.
+"""Searches: a choice from what one side knows, bounds of a battle's value, and
+battles between bots.
 
 They are those of the crate gen1-search, whose README says how they work. Of
 it nothing is proved. They need libgen1_extras.so beside libgen1.so, or
@@ -198,7 +199,7 @@ def think(
         weights=each,
         count=len(each),
     )
-    found = _said(extras().gen1_search_think, player._held, asked)
+    found = _said(extras().gen1_search_think, byref(player._held), byref(asked))
     choices = tuple(
         Considered(
             Choice(it["choice"]),
@@ -249,17 +250,52 @@ def solve(
         classes=within(classes, "classes", 0, 39),
         endless=truth(endless, "endless"),
     )
-    found = _said(extras().gen1_search_solve, battle._held, asked)
+    found = _said(extras().gen1_search_solve, byref(battle._held), byref(asked))
     plays = tuple(
         tuple(Made(Choice(it["choice"]), it["words"], it["probability"]) for it in side) for side in found["plays"]
     )
     return Solved(found["low"], found["high"], found["stopped"], found["positions"], found["sweeps"], plays)
 
 
-def _said(call: Any, of: Any, asked: Structure) -> dict[str, Any]:
-    """The object that a search writes."""
+def league_battle(one: str, two: str, number: int, *, teams: str = "samples", seed: int = 1) -> str:
+    """Plays a battle of two bots, and returns its line of results: the
+    league, both bots, the number, and 1, 0 or 0.5, with tabs between them.
+
+    A bot is "random", "greedy", "monte:MS", "think:MS", "nodes:N" or
+    "level:N", as in `gen1 league`, which reads such lines too. Battles 2 n
+    and 2 n + 1 have the same teams, and the bots swap sides. `teams` are
+    "samples" or "drawn". Without MS the same arguments give the same line.
+    Raises `SearchFailed` for a name of no bot; `BadArgument`, `BadType`,
+    `LibraryMissing`.
+    """
+    names = _league(teams, seed, [one, two])
+    return str(_said(extras().gen1_search_battle, names, len(names), within(number, "number", 0, MOST_WORD))["line"])
+
+
+def league_table(bots: Iterable[str], lines: Iterable[str], *, teams: str = "samples", seed: int = 1) -> str:
+    """The tables of `gen1 league` in Markdown, of the lines of this league and
+    these bots, in any order. Raises `SearchFailed` for a line that is not one
+    of `league_battle`; `BadArgument`, `BadType`, `LibraryMissing`.
+    """
+    text = b"\n".join([_league(teams, seed, bots), *(line.encode() for line in lines)])
+    return str(_said(extras().gen1_search_table, text, len(text))["table"])
+
+
+def _league(teams: str, seed: int, bots: Iterable[str]) -> bytes:
+    """The first line of a text about a league."""
+    if teams not in ("samples", "drawn"):
+        raise BadArgument(f"teams must be 'samples' or 'drawn', not {shown(teams)}")
+    names = list(bots)
+    for name in names:
+        if not isinstance(name, str) or not name.isprintable():
+            raise BadType(f"a bot must be a name, not {shown(name)}")
+    return "\t".join([f"{teams}:{within(seed, 'seed', 0, 0x7FFFFFFF)}", *names]).encode()
+
+
+def _said(call: Any, *words: Any) -> dict[str, Any]:
+    """The object that a call writes."""
     text = ctypes.create_string_buffer(ROOM)
-    length = call(byref(of), byref(asked), text, ROOM)
+    length = call(*words, text, ROOM)
     found: dict[str, Any] = json.loads(text.raw[:length])
     if "error" in found:
         raise SearchFailed(found["error"])
