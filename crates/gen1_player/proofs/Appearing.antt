@@ -17,6 +17,7 @@ use Rattle.gen1_machine.specs.declared.event.Event.{Event}
 use Rattle.gen1_machine.specs.declared.event.Event.TheVariants as events
 use Rattle.gen1_machine.specs.declared.picks.UsedMove.{UsedMove}
 use Rattle.gen1_machine.specs.declared.picks.UsedMove.TheVariants.{Nothing, Slot, Struggle}
+use Rattle.gen1_machine.specs.declared.health.Who.{Who}
 use Rattle.gen1_machine.specs.Health.{Health}
 use Rattle.gen1_machine.specs.LogBytes.{kind_or_0}
 use Rattle.gen1_machine.specs.Moves.{move_at}
@@ -87,11 +88,15 @@ noise-faces (events.Start w what) h u p = absurd (true≢false (sym h))
 noise-faces (events.End w what) h u p = absurd (true≢false (sym h))
 noise-faces (events.Prepare w move) h u p = absurd (true≢false (sym h))
 noise-faces (events.Activate w what) h u p = same-sides faces u (activates w.side what p) p refl refl
-noise-faces (events.MustRecharge w) h u p = quiet-side faces w.side u (on_announced (λ a. record a { recharging = 1 })) p (λ x. refl)
+noise-faces (events.MustRecharge w) h u p = absurd (true≢false (sym h))
 noise-faces (events.Win s) h u p = same-sides faces u (takes_in (events.Win s) p) p refl refl
 noise-faces events.Tie h u p = same-sides faces u (takes_in events.Tie p) p refl refl
 noise-faces (events.Fault i) h u p = same-sides faces u (takes_in (events.Fault i) p) p refl refl
 noise-faces _ h u p = refl
+
+pub rest-faces : (w : Who) (u : Side) (p : Public) → faces (public_side u (takes_in (events.MustRecharge w) p)) ≡ faces (public_side u p)
+unfolding takes_in
+rest-faces w u p = quiet-side faces w.side u (on_announced (λ a. record a { recharging = 1 })) p (λ x. refl)
 
 pub start-faces : (s : Side) (what : Volatile) (u : Side) (p : Public) → faces (public_side u (begins s what p)) ≡ faces (public_side u p)
 start-faces s volatiles.TypeChange u p = quiet-side faces s u (takes_types (public_side (other s) p)) p (λ x. refl)

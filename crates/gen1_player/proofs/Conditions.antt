@@ -14,7 +14,7 @@ use Rattle.gen1_machine.specs.declared.picks.UsedMove.{UsedMove}
 use Rattle.gen1_machine.specs.Moves.{toxic, Move}
 use Rattle.gen1_machine.specs.Rules.{bit_of}
 use Rattle.gen1_machine.specs.Sides.{other}
-use Rattle.gen1_machine.specs.Conditions.{after_haze, with_bad_poison, without_seed, without_trapping, ActiveConditions}
+use Rattle.gen1_machine.specs.Conditions.{after_haze, with_bad_poison, with_recharge, without_seed, without_trapping, ActiveConditions}
 use Rattle.gen1_machine.specs.State.{active_in, changed_active, changed_conditions, changed_member, fallen, has_fallen_in, health_in, member_at, member_in, party, who_in, with_current_move, with_member, with_types_of, Active, Field, Party}
 use Rattle.gen1_machine.specs.EarlyEffects.{with_levelled_stats}
 use Rattle.gen1_machine.specs.SwitchingIn.{switch_event, with_sent_out}
@@ -29,7 +29,7 @@ use Rattle.gen1_machine.specs.Ruling.{ruling_of}
 use Rattle.gen1_player.proofs.ToldEffects.{ruling_of-tells}
 use Rattle.gen1_player.proofs.ToldActions.{says-any}
 use Rattle.gen1_player.proofs.ToldRuns.{story-runs}
-use Rattle.gen1_player.proofs.HeardSides.{clear-hears, come_out, comes-heard, end-hears, foe-side, heard, hears-in, hears_all-last, held, known_of, marked-known, move-hears, moves-heard, noise-heard, out-side, prepare-hears, prepares-heard, set-heard, settled-heard, start-hears, switch-hears, types-hears, with_mark, with_types, without_most, Begins, Known}
+use Rattle.gen1_player.proofs.HeardSides.{clear-hears, come_out, comes-heard, end-hears, foe-side, heard, hears-in, hears_all-last, held, known_of, marked-known, move-hears, moves-heard, noise-heard, rest-heard, out-side, prepare-hears, prepares-heard, set-heard, settled-heard, start-hears, switch-hears, types-hears, with_mark, with_types, without_most, Begins, Known}
 
 -- One side
 
@@ -415,6 +415,15 @@ noise-both e h f es m =
     let p : Public = settled e (told_by es) in
     next Both f es e (both-heard f p (takes_in e p) (λ u. noise-heard e h u p) (both-settled e f (told_by es) m))
 
+rests-both : (s : Side) (f : Field) (es : List Event) → Both f (told_by es)
+    → let g : Field = changed_conditions s with_recharge f in Both g (told_by (es ++ events.MustRecharge (who_in s g) ∷ []))
+unfolding with_recharge
+rests-both s f es m =
+    let g : Field = changed_conditions s with_recharge f in
+    let e : Event = events.MustRecharge (who_in s g) in
+    let p : Public = settled e (told_by es) in
+    next Both g es e (both-conditions s with_recharge (λ c. refl) f _ (both-heard f p (takes_in e p) (λ u. rest-heard (who_in s g) u p) (both-settled e f (told_by es) m)))
+
 noise-either : (e : Event) → is_noise e ≡ true → (f : Field) (es : List Event) → Either f (told_by es) → Either f (told_by (es ++ e ∷ []))
 noise-either e h f es m =
     let p : Public = settled e (told_by es) in
@@ -430,6 +439,7 @@ telling = record {
   loose = λ f es. Either f (told_by es);
   said = λ s move. Unit {0};
   acted = λ s move. Unit {0};
+  knows = λ s move. Unit {0};
   loosen = λ f es m. record { one = loosened _ _ m.one; two = loosened _ _ m.two };
   tighten = λ f es m a b. record { one = tightened _ _ (none-fallen One f a) m.one; two = tightened _ _ (none-fallen Two f b) m.two };
   member = λ s change h f es m. both-member s change f (told_by es) m;
@@ -445,6 +455,7 @@ telling = record {
   moves = λ s move k f es o m. moves-both s move f es m;
   prepares = λ s move k f es o m. prepares-both s move f es m;
   explodes = λ s f es o m. exploded s f (told_by es) o m;
+  rests = λ s move k e f es o m. rests-both s f es m;
   loose_active = λ s change h f es m. either-active s change h f (told_by es) m;
   loose_apart = λ f g es a b m. either-apart f g (told_by es) a b m;
   loose_noise = λ e f h es m. noise-either e (noise-is f e (dull-noise f e h)) f es m;
@@ -458,6 +469,7 @@ telling-outline = record {
   mild = λ s change h f es m. both-conditions s change h f (told_by es) m;
   noise = λ e f h es m. noise-both e (noise-is f e h) f es m;
   acts = λ s move. tt;
+  knows = λ s move k. tt;
 }
 
 telling-switches : Switching telling

@@ -43,7 +43,7 @@ use Rattle.gen1_player.proofs.HeardSides.{end-hears, foe-side, out-side, prepare
 use Rattle.gen1_player.proofs.ToldEffects.{early_effect-tells, late_effect-tells, may_poison_by, not-toxic, ruling_of-tells}
 use Rattle.gen1_player.proofs.ToldActions.{damage_of-tells, prelude-tells, spent-tame, strike-tells}
 use Rattle.gen1_player.proofs.Deeds.{calm-bland, core, current_of, deeds, deeds_of, even-active, even-conditions, even-member, pending-out, with_active, with_conditions, Deeds, Does, Even, IsLast}
-use Rattle.gen1_player.proofs.DeedStory.{deeding, does-marked, told_by, Tale}
+use Rattle.gen1_player.proofs.DeedStory.{deeding, does-marked, told_by, Tale, Lasts}
 use Rattle.gen1_player.proofs.DeedGate.{acted-tale, at-conditions, at-draw, at-field, at-member, at-note, at-stop, at-told, at-weak, dull-tale, out-tale, tale-past, In, Near, Nothing_more, Opens, Over, Past}
 use Rattle.gen1_player.proofs.DeedActs.{bide-power, due-uses, ending-due, gate_or_held-deeds, is-bide, nothing-lasts, off-due, off-ending, rests-leads, tie-of, used-lasts, uses-spent, uses-tale, with-keeps, foe_of, own_of, taken_up, Due, Ending, IdleIsQuiet, Off, Ready, Tie, UsedBy, Uses}
 
@@ -268,6 +268,10 @@ acted-use : (s : Side) (move : Move) → (after_use s move).acted s move
 unfolding deeding UsedBy
 acted-use s move p u = u
 
+knows-any : (U : Public → Type 0) (l : Lasts U) (s : Side) (move : Move) → (deeding U l).knows s move
+unfolding deeding
+knows-any U l s move = tt
+
 used-over : {n : Sizes} {pre : List Event} (b : Bool) (s : Side) (move : Move) (p : Progress) → MayFall (after_use s move) n pre p → In n pre (Over b s) p
 unfolding deeding
 used-over b s move p m = record { begun = m.begun; is = inl (tale-past b s p.field _ m.loose) }
@@ -309,7 +313,7 @@ module _ (t : Terms) {n : Sizes} {pre : List Event} (b : Bool) (s : Side) (pick 
       ⊳ rests-leads (used-over b s move) (choose-tells _ stay-tells (damage_of-tells s move move.effect))
       ⊳ rests-leads (used-over b s move) (choose-tells _ stay-tells (choose-tells _ (late_effect-tells (ruling_of t) (ruling_of-tells t) s move move.effect ⊳ stop-tells) stay-tells))
       ⊳ after-leads (used-over b s move) (rests-leads (used-over b s move) (strike-tells (ruling_of t) (ruling_of-tells t) s move
-      (λ e. record { acts = acted-use s move; plain = not-toxic move.number (ap (λ (m : Move). may_poison_by m.effect) (sym same) ∙ e) })))
+      (λ e. record { acts = acted-use s move; plain = not-toxic move.number (ap (λ (m : Move). may_poison_by m.effect) (sym same) ∙ e) }) (λ e. knows-any _ _ s move)))
 
 -- Bide
 
@@ -412,7 +416,7 @@ module _ (t : Terms) {n : Sizes} {pre : List Event} (b : Bool) (s : Side) (pick 
   carry-bide : Leads (Readies n pre b s pick move) (In n pre (Over b s)) (In n pre (Over b s)) (carry_out (ruling_of t) s pick move)
   unfolding carry_out
   carry-bide = bide-goes ⊳ bide-leads ⊳ choose-tells _ stay-tells (bide-damage move.effect h) ⊳ bide-late
-      ⊳ after-leads (plain-over b s) (rests-leads (plain-over b s) (strike-tells (ruling_of t) (ruling_of-tells t) s move (λ c. absurd (true≢false (sym c ∙ of-bide move h may_poison_by)))))
+      ⊳ after-leads (plain-over b s) (rests-leads (plain-over b s) (strike-tells (ruling_of t) (ruling_of-tells t) s move (λ c. absurd (true≢false (sym c ∙ of-bide move h may_poison_by))) (λ c. knows-any _ _ s move)))
 
 carry-deeds : (t : Terms) {n : Sizes} {pre : List Event} (b : Bool) (s : Side) (pick : Pick) (move : Move) → move ≡ move_at move.number
     → Leads (Readies n pre b s pick move) (In n pre (Over b s)) (In n pre (Over b s)) (carry_out (ruling_of t) s pick move)

@@ -30,7 +30,7 @@ use Rattle.gen1_machine.proofs.Watching.{after-leads, before-leads, choose-tells
 use Rattle.gen1_machine.proofs.Watching as watching
 use Rattle.gen1_player.specs.declared.public_side.PublicSide.{PublicSide}
 use Rattle.gen1_player.specs.Public.{acting, hears_all, settled_by}
-use Rattle.gen1_player.specs.True.{is_fault, DeedsAgree, SideDoes}
+use Rattle.gen1_player.specs.True.{is_fault, DeedsAgree, SideDoes, BothDo}
 use Rattle.gen1_player.proofs.Facts.{is_dull, Fits, Sizes}
 use Rattle.gen1_player.proofs.Stories.{begun-member, Begun, MayFall, Now}
 use Rattle.gen1_player.proofs.ToldTurns.{replace-falls, send_out-tells, ChoiceFits}
@@ -362,14 +362,14 @@ side-does x t m = record {
   last_move = m.last;
 }
 
-tale-does : (f : Field) (es : List Event) → Tale Nothing_more f es → SideDoes (told_by es).one f.one × SideDoes (told_by es).two f.two
-tale-does f es m = (side-does _ f.one m.even.one, side-does _ f.two m.even.two)
+tale-does : (f : Field) (es : List Event) → Tale Nothing_more f es → BothDo (told_by es) f
+tale-does f es m = record { one = side-does _ f.one m.even.one; two = side-does _ f.two m.even.two; may_hit_itself = m.quiet }
 
-ready-does : {n : Sizes} (pre : List Event) (f : Field) → Ready n pre f → is_fault f.outcome ≡ false → SideDoes (told_by pre).one f.one × SideDoes (told_by pre).two f.two
+ready-does : {n : Sizes} (pre : List Event) (f : Field) → Ready n pre f → is_fault f.outcome ≡ false → BothDo (told_by pre) f
 unfolding deeding
-ready-does pre f (Goes b (inl m)) e = subst (λ (l : List Event). SideDoes (told_by l).one f.one × SideDoes (told_by l).two f.two) (append-nil pre) (tale-does f _ m)
+ready-does pre f (Goes b (inl m)) e = subst (λ (l : List Event). BothDo (told_by l) f) (append-nil pre) (tale-does f _ m)
 ready-does pre f (Goes b (inr m)) e = absurd (true≢false (sym m ∙ e))
-ready-does pre f (Opens m a c d k) e = subst (λ (l : List Event). SideDoes (told_by l).one f.one × SideDoes (told_by l).two f.two) (append-nil pre) (tale-does f _ m.exact)
+ready-does pre f (Opens m a c d k) e = subst (λ (l : List Event). BothDo (told_by l) f) (append-nil pre) (tale-does f _ m.exact)
 
 pub deeds_agree : DeedsAgree
 unfolding hears_all deeding

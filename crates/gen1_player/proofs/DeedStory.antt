@@ -14,7 +14,7 @@ use Rattle.gen1_machine.specs.Moves.{toxic, Move}
 use Rattle.gen1_machine.specs.Numbers.{kind_number}
 use Rattle.gen1_machine.specs.Rules.{bit_of}
 use Rattle.gen1_machine.specs.Sides.{other}
-use Rattle.gen1_machine.specs.Conditions.{after_haze, with_bad_poison, without_seed, ActiveConditions}
+use Rattle.gen1_machine.specs.Conditions.{after_haze, with_bad_poison, with_recharge, without_seed, ActiveConditions}
 use Rattle.gen1_machine.specs.State.{active_in, changed_active, changed_conditions, changed_member, fallen, party, who_in, with_party, with_types_of, Active, Field, Party}
 use Rattle.gen1_machine.specs.EarlyEffects.{with_levelled_stats}
 use Rattle.gen1_machine.proofs.Showing.{BothOut}
@@ -23,7 +23,7 @@ use Rattle.gen1_player.specs.declared.public_side.PublicSide.{PublicSide}
 use Rattle.gen1_player.specs.Public.{acting, first_public, gets_status, hears_all, is_cleared, on_announced, on_out, on_seen, public_side, set_volatile, settled, takes_in, takes_types}
 use Rattle.gen1_player.proofs.Facts.{followed, is_dull, noted, with_cleared, Dull, Followed, Marks, Placid, Tame}
 use Rattle.gen1_player.proofs.Stories.{sickened, Story}
-use Rattle.gen1_player.proofs.HeardSides.{clear-hears, end-hears, foe-side, hears-in, hears_all-last, out-side, quiet-side, settled-look, start-hears, types-hears, Begins}
+use Rattle.gen1_player.proofs.HeardSides.{clear-hears, end-hears, foe-side, hears-in, hears_all-last, out-side, quiet-side, settled-look, start-hears, types-hears, Begins, rest-hears}
 use Rattle.gen1_player.proofs.Deeds.{calm-bland, Bland, core_of, deeds, deeds_of, does-in, dull-fades, dull-quiet, even-active, even-apart, even-conditions, even-fades, even-member, even-party, even-quiet, pending-out, placed-in, with_active, with_conditions, Deeds, Does, Even}
 
 abbrev pub told_by : List Event → Public
@@ -274,6 +274,14 @@ module _ {U : Public → Type 0} (lasts : Lasts U) where
       tells-out s (takes_types (public_side (other s) p)) (with_active (with_types_of (active_in (other s) f) (active_in s f)) (party s f)) f es e
       (types-hears (who_in s g) p) (λ x. refl) o (does-typed (active_in (other s) f) (public_side (other s) p) (public_side s p) (party s f)) m
 
+  pub tale-rests : (s : Side) (f : Field) (es : List Event) → BothOut f → Tale U f es
+      → Tale U (changed_conditions s with_recharge f) (es ++ events.MustRecharge (who_in s (changed_conditions s with_recharge f)) ∷ [])
+  unfolding changed_active changed_conditions with_recharge
+  tale-rests s f es o m =
+      let g : Field = changed_conditions s with_recharge f in
+      tells-out s (on_announced (λ a. record a { recharging = 1 })) (with_conditions with_recharge (party s f)) f es (events.MustRecharge (who_in s g))
+      (rest-hears (who_in s g) _) (λ x. refl) o (λ d. record { same = d.same; reach = d.reach; last = d.last; few = d.few }) m
+
   pub tale-clears : (f : Field) (es : List Event) → BothOut f → Tale U f es → Tale U (with_cleared Two (with_cleared One f)) (es ++ events.ClearAll ∷ [])
   tale-clears f es o m =
       let e : Event = events.ClearAll in
@@ -323,6 +331,7 @@ deeding U l = record {
   loose = Tale U;
   said = λ s move. ⊥;
   acted = λ s move. (p : Public) → U p → (public_side s p).last_move ≡ move.number;
+  knows = λ s move. Unit {0};
   loosen = λ f es m. m;
   tighten = λ f es m a b. m;
   member = λ s change h f es m. tale-member l s change h f es m;
@@ -338,6 +347,7 @@ deeding U l = record {
   moves = λ s move k f es o m. absurd k;
   prepares = λ s move k f es o m. absurd k;
   explodes = λ s f es o m. tale-conditions l s without_seed seed-bland (changed_member s fallen f) es (tale-member l s fallen fallen-tame f es m);
+  rests = λ s move k e f es o m. tale-rests l s f es o m;
   loose_active = λ s change h f es m. tale-active l s change h f es m;
   loose_apart = λ f g es a b m. tale-apart l f g es a b m;
   loose_noise = λ e f h es m. tale-dull l e f (dull-is f e h) es m;

@@ -205,7 +205,7 @@ dull-fades (events.Start w what) h u p = absurd (true≢false (sym h))
 dull-fades (events.End w what) h u p = absurd (true≢false (sym h))
 dull-fades (events.Prepare w move) h u p = absurd (true≢false (sym h))
 dull-fades (events.Activate w what) h u p = fades-same u (activates w.side what p) p refl refl
-dull-fades (events.MustRecharge w) h u p = fades-side w.side u (on_announced (λ a. record a { recharging = 1 })) p (seen-fades _ (λ x. refl) (λ x. refl) (λ x. refl))
+dull-fades (events.MustRecharge w) h u p = absurd (true≢false (sym h))
 dull-fades (events.Win s) h u p = fades-same u (takes_in (events.Win s) p) p refl refl
 dull-fades events.Tie h u p = fades-same u (takes_in events.Tie p) p refl refl
 dull-fades (events.Fault i) h u p = fades-same u (takes_in (events.Fault i) p) p refl refl
@@ -251,7 +251,7 @@ dull-quiet (events.Start w what) h p q = absurd (true≢false (sym h))
 dull-quiet (events.End w what) h p q = absurd (true≢false (sym h))
 dull-quiet (events.Prepare w move) h p q = absurd (true≢false (sym h))
 dull-quiet (events.Activate w what) h p q = waits-not w what h w.side _
-dull-quiet (events.MustRecharge w) h p q = pending-out w.side _ p ∙ q
+dull-quiet (events.MustRecharge w) h p q = absurd (true≢false (sym h))
 dull-quiet (events.Win s) h p q = q
 dull-quiet events.Tie h p q = q
 dull-quiet (events.Fault i) h p q = q

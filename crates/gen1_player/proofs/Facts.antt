@@ -194,6 +194,7 @@ is_noise (events.Prepare w move) = false
 is_noise (events.Start w what) = false
 is_noise (events.End w what) = false
 is_noise events.ClearAll = false
+is_noise (events.MustRecharge w) = false
 is_noise _ = true
 
 abbrev pub is_own_damage : DamageSource → Bool
@@ -246,6 +247,7 @@ dull-noise f (events.Prepare w move) n = n
 dull-noise f (events.Start w what) n = n
 dull-noise f (events.End w what) n = n
 dull-noise f events.ClearAll n = n
+dull-noise f (events.MustRecharge w) n = n
 dull-noise f _ n = refl
 
 pub still-is : (f : Field) (e : Event) → is_still e ≡ true → Dull f e

@@ -1,5 +1,5 @@
 -- What the log tells of an active member's types and conditions, event by event.
-use Rattle.std.proofs.Common.{[], Bool, List, ap, arith, false, if◌then◌else◌, inl, inr, nat_le, refl, sym, true, true≢false, ℕ, ◌&&◌, ◌++◌, ◌==◌, ◌∙◌, ◌∷◌, ◌≡◌, ◌≢◌, ◌≤◌, ◌⊎◌}
+use Rattle.std.proofs.Common.{[], Bool, List, ap, arith, false, if◌then◌else◌, inl, inr, nat_le, refl, sym, true, true≢false, ℕ, ◌&&◌, ◌++◌, ◌==◌, ◌∙◌, ◌∷◌, ◌≡◌, ◌≢◌, ◌≤◌, ◌⊎◌, subst}
 use Rattle.std.proofs.lemmas.Bool.{le-leb}
 use Rattle.std.proofs.lemmas.Bool.Decides.{eqb_tells}
 use Rattle.gen1_tables.specs.Species.{species_row}
@@ -194,11 +194,19 @@ noise-heard (events.Start w what) h u p = absurd (true≢false (sym h))
 noise-heard (events.End w what) h u p = absurd (true≢false (sym h))
 noise-heard (events.Prepare w move) h u p = absurd (true≢false (sym h))
 noise-heard (events.Activate w what) h u p = same-sides heard u (activates w.side what p) p refl refl
-noise-heard (events.MustRecharge w) h u p = quiet-side heard w.side u (on_announced (λ a. record a { recharging = 1 })) p (λ x. refl)
+noise-heard (events.MustRecharge w) h u p = absurd (true≢false (sym h))
 noise-heard (events.Win s) h u p = same-sides heard u (takes_in (events.Win s) p) p refl refl
 noise-heard events.Tie h u p = same-sides heard u (takes_in events.Tie p) p refl refl
 noise-heard (events.Fault i) h u p = same-sides heard u (takes_in (events.Fault i) p) p refl refl
 noise-heard _ h u p = refl
+
+pub rest-hears : (w : Who) (p : Public) → takes_in (events.MustRecharge w) p ≡ on_out w.side (on_announced (λ a. record a { recharging = 1 })) p
+unfolding takes_in
+rest-hears w p = refl
+
+pub rest-heard : (w : Who) (u : Side) (p : Public) → heard (public_side u (takes_in (events.MustRecharge w) p)) ≡ heard (public_side u p)
+unfolding takes_in
+rest-heard w u p = quiet-side heard w.side u (on_announced (λ a. record a { recharging = 1 })) p (λ x. refl)
 
 -- Announcements of these
 
@@ -304,3 +312,120 @@ known-if false x y k e h = absurd (true≢false (sym e))
 pub comes-heard : (species place level : ℕ) (h : Health) (x : PublicSide) → 1 ≤ place → place ≤ 6 → heard (comes_out species place level h x) ≡ come_out species place
 comes-heard species place level h x low high = known-if (nat_le 1 place && nat_le place 6) (side_out species place level h x) x (come_out species place)
     (and-true (nat_le 1 place) (nat_le place 6) (le-leb 1 place low) (le-leb place 6 high)) refl
+
+-- Sides of which recharging is told, or not any more
+
+abbrev pub Less : PublicSide → PublicSide → Type 0
+Less y x = y.announced.recharging ≢ 0 → x.announced.recharging ≢ 0
+
+less-out : (h : PublicSide → PublicSide) (x : PublicSide) → Less (h x) x → Less (if_seen_out h x) x
+less-out h x q = elim (x.place == 0) as (λ b. Less (if b then x else h x) x) [ true ↦ λ e. e | false ↦ q ]
+
+pub less-side : (s u : Side) (h : PublicSide → PublicSide) (p : Public) → ((x : PublicSide) → Less (h x) x) → Less (public_side u (on_out s h p)) (public_side u p)
+unfolding on_out
+less-side One One h p q = less-out h p.one (q p.one)
+less-side One Two h p q = λ e. e
+less-side Two One h p q = λ e. e
+less-side Two Two h p q = less-out h p.two (q p.two)
+
+pub less-path : (u : Side) (p : Public) {q r : Public} → q ≡ r → Less (public_side u r) (public_side u p) → Less (public_side u q) (public_side u p)
+less-path u p {q} {r} e h = subst (λ (x : Public). Less (public_side u x) (public_side u p)) (sym e) h
+
+less-same : (u : Side) (p q : Public) → p.one ≡ q.one → p.two ≡ q.two → Less (public_side u p) (public_side u q)
+less-same u p q a b e = subst (λ (i : ℕ). i ≢ 0) (same-sides (λ (x : PublicSide). x.announced.recharging) u p q a b) e
+
+pub settled-less : (e : Event) (u : Side) (p : Public) → Less (public_side u (settled e p)) (public_side u p)
+settled-less e u p h = subst (λ (i : ℕ). i ≢ 0) (settled-look (λ (x : PublicSide). x.announced.recharging) e u p (λ x. refl)) h
+
+kept-less : (why : CantReason) (x : PublicSide) → Less (on_announced (is_kept_by why) x) x
+kept-less reasons.Flinched x e = absurd (e refl)
+kept-less reasons.Recharging x e = absurd (e refl)
+kept-less reasons.Disabled x e = e
+kept-less reasons.Paralysed x e = e
+kept-less _ x e = e
+
+hurt-less : (source : DamageSource) (x : PublicSide) → Less (takes_damage source x) x
+hurt-less sources.Confusion x e = e
+hurt-less _ x e = e
+
+poison-less : (b : Bool) (x : PublicSide) → Less (on_announced (λ a. if b then record a { toxic = 1 } else a) x) x
+poison-less true x e = e
+poison-less false x e = e
+
+status-less : (kind : Kind) (move : ℕ) (x : PublicSide) → Less (on_announced (gets_status kind move) x) x
+status-less kinds.Poison move x = poison-less (move == toxic) x
+status-less kinds.Freeze move x = λ e. absurd (e refl)
+status-less _ move x = λ e. e
+
+pub noise-less : (e : Event) → is_noise e ≡ true → (u : Side) (p : Public) → Less (public_side u (takes_in e p)) (public_side u p)
+unfolding takes_in
+noise-less (events.Turn i) h u p = less-same u (record p { turn = i }) p refl refl
+noise-less (events.Switch w place level k) h u p = absurd (true≢false (sym h))
+noise-less (events.Move w move foe) h u p = absurd (true≢false (sym h))
+noise-less (events.Cant w why) h u p = less-side w.side u (on_announced (is_kept_by why)) p (kept-less why)
+noise-less (events.Damage w k source) h u p = less-side w.side u (λ x. takes_damage source (on_seen (λ m. record m { hp = k.hp }) x)) p (λ x. hurt-less source (on_seen (λ m. record m { hp = k.hp }) x))
+noise-less (events.Heal w k) h u p = less-side w.side u (on_seen (λ m. record m { hp = k.hp })) p (λ x e. e)
+noise-less (events.Status w kind) h u p = less-side w.side u
+    (λ x. on_announced (gets_status kind (public_side (other w.side) p).last_move) (on_seen (λ m. record m { status = kind_number kind }) x)) p
+    (λ x. status-less kind (public_side (other w.side) p).last_move (on_seen (λ m. record m { status = kind_number kind }) x))
+noise-less (events.Cure w kind) h u p = less-side w.side u (on_seen (λ m. record m { status = 0 })) p (λ x e. e)
+noise-less (events.Faint w) h u p = less-side w.side u (on_seen (λ m. record m { hp = 0; status = 0 })) p (λ x e. e)
+noise-less (events.Boost w stat i) h u p = less-side w.side u _ p (λ x e. e)
+noise-less (events.Unboost w stat i) h u p = less-side w.side u _ p (λ x e. e)
+noise-less events.ClearAll h u p = absurd (true≢false (sym h))
+noise-less (events.Start w what) h u p = absurd (true≢false (sym h))
+noise-less (events.End w what) h u p = absurd (true≢false (sym h))
+noise-less (events.Prepare w move) h u p = absurd (true≢false (sym h))
+noise-less (events.Activate w what) h u p = less-same u (activates w.side what p) p refl refl
+noise-less (events.MustRecharge w) h u p = absurd (true≢false (sym h))
+noise-less (events.Win s) h u p = less-same u (takes_in (events.Win s) p) p refl refl
+noise-less events.Tie h u p = less-same u (takes_in events.Tie p) p refl refl
+noise-less (events.Fault i) h u p = less-same u (takes_in (events.Fault i) p) p refl refl
+noise-less _ h u p = λ e. e
+
+set-less : (what : Volatile) (on : ℕ) (x : PublicSide) → Less (on_announced (set_volatile what on) x) x
+set-less volatiles.Mist on x e = e
+set-less volatiles.FocusEnergy on x e = e
+set-less volatiles.Disable on x e = e
+set-less volatiles.Rage on x e = e
+set-less volatiles.LeechSeed on x e = e
+set-less volatiles.Confusion on x e = e
+set-less volatiles.Bide on x e = e
+set-less volatiles.Substitute on x e = e
+set-less volatiles.LightScreen on x e = e
+set-less volatiles.Reflect on x e = e
+set-less volatiles.TypeChange on x e = e
+set-less volatiles.Trapped on x e = e
+set-less volatiles.Splash on x e = e
+
+pub end-less : (s : Side) (what : Volatile) (u : Side) (p : Public) → Less (public_side u (on_out s (on_announced (set_volatile what 0)) p)) (public_side u p)
+end-less s what u p = less-side s u (on_announced (set_volatile what 0)) p (set-less what 0)
+
+pub start-less : (s : Side) (what : Volatile) (u : Side) (p : Public) → Less (public_side u (begins s what p)) (public_side u p)
+start-less s volatiles.TypeChange u p = less-side s u (takes_types (public_side (other s) p)) p (λ x e. e)
+start-less s volatiles.Mist u p = less-side s u _ p (set-less volatiles.Mist 1)
+start-less s volatiles.FocusEnergy u p = less-side s u _ p (set-less volatiles.FocusEnergy 1)
+start-less s volatiles.Disable u p = less-side s u _ p (set-less volatiles.Disable 1)
+start-less s volatiles.Rage u p = less-side s u _ p (set-less volatiles.Rage 1)
+start-less s volatiles.LeechSeed u p = less-side s u _ p (set-less volatiles.LeechSeed 1)
+start-less s volatiles.Confusion u p = less-side s u _ p (set-less volatiles.Confusion 1)
+start-less s volatiles.Bide u p = less-side s u _ p (set-less volatiles.Bide 1)
+start-less s volatiles.Substitute u p = less-side s u _ p (set-less volatiles.Substitute 1)
+start-less s volatiles.LightScreen u p = less-side s u _ p (set-less volatiles.LightScreen 1)
+start-less s volatiles.Reflect u p = less-side s u _ p (set-less volatiles.Reflect 1)
+start-less s volatiles.Trapped u p = less-side s u _ p (set-less volatiles.Trapped 1)
+start-less s volatiles.Splash u p = less-side s u _ p (set-less volatiles.Splash 1)
+
+pub clear-less : (u : Side) (p : Public) → Less (public_side u (on_out Two is_cleared (on_out One is_cleared p))) (public_side u p)
+clear-less u p e = less-side One u is_cleared p (λ x h. h) (less-side Two u is_cleared (on_out One is_cleared p) (λ x h. h) e)
+
+suffer-less : (b : Bool) (x : PublicSide) → Less (if b then on_announced (λ a. record a { recharging = 0 }) x else x) x
+suffer-less true x e = absurd (e refl)
+suffer-less false x e = e
+
+pub move-less : (s u : Side) (move : ℕ) (p : Public) → Less (public_side u (on_out (other s) (suffers_move move) (on_out s (uses_move move) p))) (public_side u p)
+move-less s u move p e = less-side s u (uses_move move) p (λ x h. absurd (h refl))
+    (less-side (other s) u (suffers_move move) (on_out s (uses_move move) p) (suffer-less (ends_recharging (move_at move).effect)) e)
+
+pub prepare-less : (s u : Side) (move : ℕ) (p : Public) → Less (public_side u (on_out s (prepares move) p)) (public_side u p)
+prepare-less s u move p = less-side s u (prepares move) p (λ x e. e)

@@ -1,8 +1,9 @@
 -- After any run, a member that has appeared is the member at its place, and it was seen to use its own moves or Struggle.
-use Rattle.std.proofs.Common.{[], Bool, List, ap, if◌then◌else◌, arith, get_or, false, length, length-set, map, refl, subst, sym, true, ℕ, true≢false, ◌++◌, ◌-◌, ◌==◌, ◌∙◌, ◌∷◌, ◌≡◌, ◌≢◌, ◌<◌, ◌≤◌}
+use Rattle.std.proofs.Common.{[], Bool, List, ap, if◌then◌else◌, arith, get_or, false, inl, inr, length, length-set, map, nat_le, refl, subst, sym, true, ℕ, true≢false, ◌&&◌, ◌⊎◌, ◌||◌, ◌++◌, ◌-◌, ◌==◌, ◌∙◌, ◌∷◌, ◌≡◌, ◌≢◌, ◌<◌, ◌≤◌}
 use Rattle.std.proofs.lemmas.List.{length-map}
 use Rattle.std.proofs.Math.ListN.{get_or-map}
 use Rattle.std.proofs.Math.Seq.{map-set_same}
+use Rattle.gen1_stats.specs.declared.known_move.KnownMove.{KnownMove}
 use Rattle.gen1_stats.specs.Members.{nobody, IsFresh, IsTeam, Member}
 use Rattle.gen1_machine.specs.declared.side.Side.{Side}
 use Rattle.gen1_machine.specs.declared.side.Side.TheVariants.{One, Two}
@@ -14,9 +15,14 @@ use Rattle.gen1_machine.specs.declared.health.Who.{Who}
 use Rattle.gen1_machine.specs.declared.picks.Pick.{Pick}
 use Rattle.gen1_machine.specs.Health.{Health}
 use Rattle.gen1_machine.specs.declared.health.Kind.TheVariants as kinds
-use Rattle.gen1_machine.specs.Moves.{toxic, Move}
+use Rattle.std.proofs.lemmas.Bool.{le-leb}
+use Rattle.std.proofs.lemmas.Bool.Decides.{eqb_tells}
+use Rattle.gen1_tables.specs.Effects.{recharges}
+use Rattle.gen1_tables.specs.Moves.{move_row, move_rows, struggle}
+use Rattle.gen1_tables.specs.Types.{any}
+use Rattle.gen1_machine.specs.Moves.{move_at, toxic, Move}
 use Rattle.gen1_machine.specs.Sides.{other}
-use Rattle.gen1_machine.specs.Conditions.{after_haze, with_bad_poison, without_seed, ActiveConditions}
+use Rattle.gen1_machine.specs.Conditions.{after_haze, with_bad_poison, with_recharge, without_seed, ActiveConditions}
 use Rattle.gen1_machine.specs.State.{first_state, active_in, changed_active, changed_conditions, changed_member, fallen, health_in, member_at, member_in, party, who_in, with_current_move, with_types_of, Active, Field, Party, Terms}
 use Rattle.gen1_machine.specs.EarlyEffects.{with_levelled_stats}
 use Rattle.gen1_machine.specs.Picks.{number_in, used_by}
@@ -29,16 +35,16 @@ use Rattle.gen1_machine.proofs.Showing.{BothOut, IsOut}
 use Rattle.gen1_machine.proofs.Watching.{Lands, Rests, Runs}
 use Rattle.gen1_player.specs.declared.public.Public.{Public}
 use Rattle.gen1_player.specs.declared.public_side.PublicSide.{PublicSide}
-use Rattle.gen1_player.specs.Public.{begins, comes_out, first_public, hears_all, not_seen, seen_at, on_out, prepares, public_side, settled, takes_in, uses_move}
+use Rattle.gen1_player.specs.Public.{begins, comes_out, first_public, hears_all, not_seen, on_announced, seen_at, on_out, prepares, public_side, settled, takes_in, uses_move}
 use Rattle.gen1_player.specs.True.{events_in, public_of, MembersAgree, OfRuns, SideHasAppeared}
-use Rattle.gen1_player.proofs.Facts.{dull-noise, noise-is, sent-place, sent, traits, with_cleared, Noise, Sizes, Standing, Tame, Traits}
+use Rattle.gen1_player.proofs.Facts.{side_out, dull-noise, noise-is, sent-place, sent, traits, with_cleared, Noise, Sizes, Standing, Tame, Traits}
 use Rattle.gen1_player.proofs.Stories.{sickened, MayFall, Outline, Story, Switching}
 use Rattle.gen1_player.proofs.ToldEffects.{ruling_of-tells}
 use Rattle.gen1_player.proofs.ToldActions.{carry_out-tells, Says}
 use Rattle.gen1_player.proofs.ToldRuns.{sizes_of, story-runs}
 use Rattle.gen1_player.proofs.Lenses.{tellable-last, AllTellable, Tellable}
-use Rattle.gen1_player.proofs.HeardSides.{clear-hears, end-hears, foe-side, hears-in, hears_all-last, move-hears, out-side, prepare-hears, switch-hears}
-use Rattle.gen1_player.proofs.Appearing.{allowed-is, AllShow, Allowed, Face, Faces, Shows, clear-faces, comes-face, comes-faces, comes-shows, end-faces, face, faces, no_face, no_traits, noise-faces, none-show, settled-faces, shows-seen, shows_use, start-faces, suffers-same, used-is-allowed, uses-face, uses-shows}
+use Rattle.gen1_player.proofs.HeardSides.{clear-hears, clear-less, end-hears, end-less, less-path, move-less, noise-less, prepare-less, rest-hears, settled-less, start-less, Less, foe-side, hears-in, hears_all-last, move-hears, out-side, prepare-hears, switch-hears}
+use Rattle.gen1_player.proofs.Appearing.{allowed-is, rest-faces, AllShow, Allowed, Face, Faces, Shows, clear-faces, comes-face, comes-faces, comes-shows, end-faces, face, faces, no_face, no_traits, noise-faces, none-show, settled-faces, shows-seen, shows_use, start-faces, suffers-same, used-is-allowed, uses-face, uses-shows}
 
 -- The members of two teams, as no battle changes them.
 record Teams : Type 0 where
@@ -258,14 +264,127 @@ sent-tellable k Two place f p low high m =
     let is = place-tellable k.two p.two f.two place m.two low high in
     (low, is.0, subst (λ (x : Member). x.species ≢ 0) (sym (member-out place f.two)) is.1)
 
--- The stories: of a whole battle, and of an action whose move is settled
-
 abbrev told_by : List Event → Public
 told_by es = hears_all es first_public
+
+-- The stories: of a whole battle, and of an action whose move is settled
 
 start-begins : (w : Who) (what : Volatile) (p : Public) → takes_in (events.Start w what) p ≡ begins w.side what p
 unfolding takes_in
 start-begins w what p = refl
+
+-- What a member that recharges knows
+
+abbrev rests_by : List ℕ → Bool
+rests_by ids = any (λ (j : ℕ). recharges (move_at j).effect) ids
+
+abbrev ids_of : List Traits → Party → List ℕ
+ids_of ts t = (get_or ts (t.active.place - 1) no_traits).moves
+
+record Rest (k : Teams) (f : Field) (p : Public) : Type 0 where
+  one : p.one.announced.recharging ≢ 0 → rests_by (ids_of k.one f.one) ≡ true
+  two : p.two.announced.recharging ≢ 0 → rests_by (ids_of k.two f.two) ≡ true
+
+module _ {k : Teams} where
+  rest-active : (s : Side) (change : Active → Active) → ((a : Active) → (change a).place ≡ a.place) → (f : Field) (p : Public) → Rest k f p → Rest k (changed_active s change f) p
+  unfolding changed_active
+  rest-active One change h f p m = record { one = λ e. ap (λ (i : ℕ). rests_by (get_or k.one (i - 1) no_traits).moves) (h f.one.active) ∙ m.one e; two = m.two }
+  rest-active Two change h f p m = record { one = m.one; two = λ e. ap (λ (i : ℕ). rests_by (get_or k.two (i - 1) no_traits).moves) (h f.two.active) ∙ m.two e }
+
+  rest-member : (s : Side) (change : Member → Member) (f : Field) (p : Public) → Rest k f p → Rest k (changed_member s change f) p
+  unfolding changed_member
+  rest-member One change f p m = record { one = m.one; two = m.two }
+  rest-member Two change f p m = record { one = m.one; two = m.two }
+
+  rest-apart : (f g : Field) (p : Public) → f.one ≡ g.one → f.two ≡ g.two → Rest k f p → Rest k g p
+  rest-apart f g p a b m = record {
+    one = λ e. sym (ap (λ (t : Party). rests_by (ids_of k.one t)) a) ∙ m.one e;
+    two = λ e. sym (ap (λ (t : Party). rests_by (ids_of k.two t)) b) ∙ m.two e;
+  }
+
+  rest-less : (f : Field) (p q : Public) → ((u : Side) → Less (public_side u q) (public_side u p)) → Rest k f p → Rest k f q
+  rest-less f p q h m = record { one = λ e. m.one (h One e); two = λ e. m.two (h Two e) }
+
+-- A member that is told to recharge
+rest-raised : {k : Teams} (s : Side) (f : Field) (p : Public) → rests_by (ids_of (team_of s k) (party s f)) ≡ true → Rest k f p
+    → Rest k f (on_out s (on_announced (λ a. record a { recharging = 1 })) p)
+unfolding on_out
+rest-raised One f p h m = record { one = λ e. h; two = m.two }
+rest-raised Two f p h m = record { one = m.one; two = λ e. h }
+
+any-rests : (n : ℕ) (ids : List ℕ) → recharges (move_at n).effect ≡ true → any (λ (j : ℕ). j == n) ids ≡ true → rests_by ids ≡ true
+any-rests n [] c e = e
+any-rests n (j ∷ ids) c e = rests-or (eqb_tells j n) (any-rests n ids c)
+  where
+    later : (a b : Bool) → b ≡ true → (a || b) ≡ true
+    later true b h = refl
+    later false b h = h
+
+    rest : (a b : Bool) → a ≡ false → (a || b) ≡ true → b ≡ true
+    rest true b h k = absurd (true≢false h)
+    rest false b h k = k
+
+    rests-or : (((j == n) ≡ true) × (j ≡ n)) ⊎ (((j == n) ≡ false) × (j ≢ n)) → (any (λ (i : ℕ). i == n) ids ≡ true → rests_by ids ≡ true) → rests_by (j ∷ ids) ≡ true
+    rests-or (inl x) k = ap (λ (b : Bool). b || rests_by ids) (ap (λ (i : ℕ). recharges (move_at i).effect) x.1 ∙ c)
+    rests-or (inr x) k = later (recharges (move_at j).effect) (rests_by ids) (k (rest (j == n) (any (λ (i : ℕ). i == n) ids) x.0 e))
+
+struggles-on : recharges (move_at struggle).effect ≡ false
+unfolding move_rows move_row
+struggles-on = refl
+
+nothing-rests : recharges (move_at 0).effect ≡ false
+unfolding move_rows move_row
+nothing-rests = refl
+
+allowed-rests : (n : ℕ) (ids : List ℕ) → Allowed ids n → recharges (move_at n).effect ≡ true → rests_by ids ≡ true
+allowed-rests n ids h c = by (eqb_tells n 0)
+  where
+    of : (n ≡ struggle) ⊎ (any (λ (j : ℕ). j == n) ids ≡ true) → rests_by ids ≡ true
+    of (inl e) = absurd (true≢false (sym c ∙ ap (λ (i : ℕ). recharges (move_at i).effect) e ∙ struggles-on))
+    of (inr e) = any-rests n ids c e
+
+    by : (((n == 0) ≡ true) × (n ≡ 0)) ⊎ (((n == 0) ≡ false) × (n ≢ 0)) → rests_by ids ≡ true
+    by (inl e) = absurd (true≢false (sym c ∙ ap (λ (i : ℕ). recharges (move_at i).effect) e.1 ∙ nothing-rests))
+    by (inr e) = of (h e.1)
+
+usable-rests : (k : Teams) (s : Side) (n : ℕ) (f : Field) → Usable k s n f → recharges (move_at n).effect ≡ true → rests_by (ids_of (team_of s k) (party s f)) ≡ true
+usable-rests k One n f h c = allowed-rests n _ h c
+usable-rests k Two n f h c = allowed-rests n _ h c
+
+-- A member that comes out
+
+both-true : (a b : Bool) → a ≡ true → b ≡ true → (a && b) ≡ true
+both-true a b e h = ap (λ (x : Bool). x && b) e ∙ h
+
+out-rests : (species place level : ℕ) (h : Health) (x : PublicSide) → 1 ≤ place → place ≤ 6 → (comes_out species place level h x).announced.recharging ≡ 0
+out-rests species place level h x low high = ap (λ (d : Bool). (if d then side_out species place level h x else x).announced.recharging) (both-true (nat_le 1 place) (nat_le place 6) (le-leb 1 place low) (le-leb place 6 high))
+
+rest-comes : (k : Teams) (s : Side) (place : ℕ) (f : Field) (p : Public) → 1 ≤ place → place ≤ 6 → Rest k f p → Rest k (sent s place f) (takes_in (switch_event s place (sent s place f)) p)
+unfolding changed_active changed_conditions
+rest-comes k One place f p low high m =
+    let g : Field = sent One place f in
+    subst (Rest k g) (sym (switch-hears (who_in One g) place (member_in One g).level (health_in One g) p)) (record {
+      one = λ e. absurd (e (out-rests (member_in One g).species place (member_in One g).level (health_in One g) p.one low high));
+      two = m.two;
+    })
+rest-comes k Two place f p low high m =
+    let g : Field = sent Two place f in
+    subst (Rest k g) (sym (switch-hears (who_in Two g) place (member_in Two g).level (health_in Two g) p)) (record {
+      one = m.one;
+      two = λ e. absurd (e (out-rests (member_in Two g).species place (member_in Two g).level (health_in Two g) p.two low high));
+    })
+
+place-six : (k : Teams) (s : Side) (place : ℕ) (f : Field) (p : Public) → place ≤ length (party s f).members → Appears k f p → place ≤ 6
+place-six k One place f p high m = let few = counted k.one (faces p.one) f.one m.one in omega (arith, high, few)
+place-six k Two place f p high m = let few = counted k.two (faces p.two) f.two m.two in omega (arith, high, few)
+
+rest-sent : (k : Teams) (s : Side) (place : ℕ) (f : Field) (es : List Event) → 1 ≤ place → place ≤ length (party s f).members → Appears k f (told_by es) → Rest k f (told_by es)
+    → Rest k (sent s place f) (told_by (es ++ switch_event s place (sent s place f) ∷ []))
+rest-sent k s place f es low high a m =
+    let e : Event = switch_event s place (sent s place f) in
+    let p : Public = settled e (told_by es) in
+    subst (Rest k (sent s place f)) (sym (hears_all-last es e first_public ∙ hears-in e (told_by es)))
+    (rest-comes k s place f p low (place-six k s place f (told_by es) high a) (rest-less f (told_by es) p (λ u. settled-less e u (told_by es)) m))
 
 -- A further fact about the places of active members.
 record Further (U : Field → Type 0) : Type 0 where
@@ -277,6 +396,7 @@ record With (k : Teams) (U : Field → Type 0) (f : Field) (es : List Event) : T
   appears : Appears k f (told_by es)
   more : U f
   each : AllTellable es first_public
+  rest : Rest k f (told_by es)
 
 fallen-tame : Tame fallen
 unfolding fallen
@@ -286,9 +406,16 @@ module _ {k : Teams} {U : Field → Type 0} (u : Further U) where
   with-settled : (f : Field) (es : List Event) (e : Event) → With k U f es → Appears k f (settled e (told_by es))
   with-settled f es e m = appears-heard f (told_by es) (settled e (told_by es)) (λ s. settled-faces e s (told_by es)) m.appears
 
+  rest-before : (f : Field) (es : List Event) (e : Event) → With k U f es → Rest k f (settled e (told_by es))
+  rest-before f es e m = rest-less f (told_by es) (settled e (told_by es)) (λ s. settled-less e s (told_by es)) m.rest
+
+  rest-next : (f : Field) (es : List Event) (e : Event) → Rest k f (takes_in e (settled e (told_by es))) → Rest k f (told_by (es ++ e ∷ []))
+  rest-next f es e m = subst (Rest k f) (sym (hears_all-last es e first_public ∙ hears-in e (told_by es))) m
+
   with-last : (f : Field) (es : List Event) (e : Event) → ((s : Side) (p : Public) → faces (public_side s (takes_in e p)) ≡ faces (public_side s p))
-      → Tellable e (told_by es) → With k U f es → With k U f (es ++ e ∷ [])
-  with-last f es e h fits m = record {
+      → ((s : Side) (p : Public) → Less (public_side s (takes_in e p)) (public_side s p)) → Tellable e (told_by es) → With k U f es → With k U f (es ++ e ∷ [])
+  with-last f es e h l fits m = record {
+    rest = rest-next f es e (rest-less f (settled e (told_by es)) _ (λ s. l s (settled e (told_by es))) (rest-before f es e m));
     appears = let p : Public = settled e (told_by es) in
         subst (Appears k f) (sym (hears_all-last es e first_public ∙ hears-in e (told_by es))) (appears-heard f p (takes_in e p) (λ s. h s p) (with-settled f es e m));
     more = m.more;
@@ -296,10 +423,10 @@ module _ {k : Teams} {U : Field → Type 0} (u : Further U) where
   }
 
   with-noise : (e : Event) (f : Field) → Noise f e → (es : List Event) → With k U f es → With k U f (es ++ e ∷ [])
-  with-noise e f h es m = with-last f es e (λ s p. noise-faces e (noise-is f e h) s p) (noise-tellable k e f h (told_by es) m.appears) m
+  with-noise e f h es m = with-last f es e (λ s p. noise-faces e (noise-is f e h) s p) (λ s p. noise-less e (noise-is f e h) s p) (noise-tellable k e f h (told_by es) m.appears) m
 
   with-active : (s : Side) (change : Active → Active) → ((a : Active) → (change a).place ≡ a.place) → (f : Field) (es : List Event) → With k U f es → With k U (changed_active s change f) es
-  with-active s change h f es m = record { appears = appears-active s change h f (told_by es) m.appears; more = u.active s change h f m.more; each = m.each }
+  with-active s change h f es m = record { appears = appears-active s change h f (told_by es) m.appears; more = u.active s change h f m.more; each = m.each; rest = rest-active s change h f (told_by es) m.rest }
 
   with-conditions : (s : Side) (change : ActiveConditions → ActiveConditions) (f : Field) (es : List Event) → With k U f es → With k U (changed_conditions s change f) es
   unfolding changed_conditions
@@ -313,23 +440,23 @@ module _ {k : Teams} {U : Field → Type 0} (u : Further U) where
       by false = m
 
   with-member : (s : Side) (change : Member → Member) → Tame change → (f : Field) (es : List Event) → With k U f es → With k U (changed_member s change f) es
-  with-member s change h f es m = record { appears = appears-member s change h f (told_by es) m.appears; more = u.member s change f m.more; each = m.each }
+  with-member s change h f es m = record { appears = appears-member s change h f (told_by es) m.appears; more = u.member s change f m.more; each = m.each; rest = rest-member s change f (told_by es) m.rest }
 
   with-apart : (f g : Field) (es : List Event) → f.one ≡ g.one → f.two ≡ g.two → With k U f es → With k U g es
-  with-apart f g es a b m = record { appears = appears-apart f g (told_by es) a b m.appears; more = u.apart f g a b m.more; each = m.each }
+  with-apart f g es a b m = record { appears = appears-apart f g (told_by es) a b m.appears; more = u.apart f g a b m.more; each = m.each; rest = rest-apart f g (told_by es) a b m.rest }
 
   with-start : (w : Who) (what : Volatile) (f : Field) (es : List Event) → With k U f es → With k U f (es ++ events.Start w what ∷ [])
   with-start w what f es m = with-last f es (events.Start w what)
-      (λ s p. ap (λ (q : Public). faces (public_side s q)) (start-begins w what p) ∙ start-faces w.side what s p) tt m
+      (λ s p. ap (λ (q : Public). faces (public_side s q)) (start-begins w what p) ∙ start-faces w.side what s p) (λ s p. less-path s p (start-begins w what p) (start-less w.side what s p)) tt m
 
   with-end : (w : Who) (what : Volatile) (f : Field) (es : List Event) → With k U f es → With k U f (es ++ events.End w what ∷ [])
   with-end w what f es m = with-last f es (events.End w what)
-      (λ s p. ap (λ (q : Public). faces (public_side s q)) (end-hears w what p) ∙ end-faces w.side what s p) tt m
+      (λ s p. ap (λ (q : Public). faces (public_side s q)) (end-hears w what p) ∙ end-faces w.side what s p) (λ s p. less-path s p (end-hears w what p) (end-less w.side what s p)) tt m
 
   with-clear : (f : Field) (es : List Event) → With k U f es → With k U (with_cleared Two (with_cleared One f)) (es ++ events.ClearAll ∷ [])
   unfolding with_levelled_stats
   with-clear f es m = with-last _ es events.ClearAll
-      (λ s p. ap (λ (q : Public). faces (public_side s q)) (clear-hears p) ∙ clear-faces s p) tt
+      (λ s p. ap (λ (q : Public). faces (public_side s q)) (clear-hears p) ∙ clear-faces s p) (λ s p. less-path s p (clear-hears p) (clear-less s p)) tt
       (with-conditions Two after_haze _ es (with-active Two with_levelled_stats (λ a. refl) _ es
       (with-conditions One after_haze _ es (with-active One with_levelled_stats (λ a. refl) f es m))))
 
@@ -350,6 +477,7 @@ module _ {k : Teams} {U : Field → Type 0} (u : Further U) where
             (acted k s 1 n (uses_move n) (λ x. refl) f p o (h f m.more) (with-settled f es e m)));
         more = m.more;
         each = tellable-last es e first_public m.each tt;
+        rest = rest-next f es e (rest-less f p _ (λ t. less-path t p (move-hears (who_in s f) (who_in (other s) f) n p) (move-less s t n p)) (rest-before f es e m));
       }
 
   with-prepare : (s : Side) (move : Move) → ((f : Field) → U f → Usable k s move.number f) → (f : Field) (es : List Event) → BothOut f → With k U f es
@@ -363,14 +491,30 @@ module _ {k : Teams} {U : Field → Type 0} (u : Further U) where
             (acted k s 0 n (prepares n) (λ x. refl) f p o (h f m.more) (with-settled f es e m));
         more = m.more;
         each = tellable-last es e first_public m.each tt;
+        rest = rest-next f es e (rest-less f p _ (λ t. less-path t p (prepare-hears (who_in s f) n p) (prepare-less s t n p)) (rest-before f es e m));
+      }
+
+  with-rest : (s : Side) (move : Move) → ((f : Field) → U f → Usable k s move.number f) → recharges (move_at move.number).effect ≡ true → (f : Field) (es : List Event) → With k U f es
+      → let g : Field = changed_conditions s with_recharge f in With k U g (es ++ events.MustRecharge (who_in s g) ∷ [])
+  with-rest s move h c f es m =
+      let g : Field = changed_conditions s with_recharge f in
+      let w : With k U g es = with-conditions s with_recharge f es m in
+      let e : Event = events.MustRecharge (who_in s g) in
+      let p : Public = settled e (told_by es) in
+      record {
+        appears = subst (Appears k g) (sym (hears_all-last es e first_public ∙ hears-in e (told_by es))) (appears-heard g p (takes_in e p) (λ t. rest-faces (who_in s g) t p) (with-settled g es e w));
+        more = w.more;
+        each = tellable-last es e first_public m.each tt;
+        rest = rest-next g es e (subst (Rest k g) (sym (rest-hears (who_in s g) p)) (rest-raised s g p (usable-rests k s move.number g (h g w.more) c) (rest-before g es e w)));
       }
 
 appearing : (k : Teams) (U : Field → Type 0) → Further U → Story
 appearing k U u = record {
   exact = With k U;
   loose = With k U;
-  said = λ s move. (f : Field) → U f → Usable k s move.number f;
+  said = λ s move. ((f : Field) → U f → Usable k s move.number f) × (move.effect ≡ (move_at move.number).effect);
   acted = λ s move. Unit {0};
+  knows = λ s move. ((f : Field) → U f → Usable k s move.number f) × (move.effect ≡ (move_at move.number).effect);
   loosen = λ f es m. m;
   tighten = λ f es m a b. m;
   member = λ s change h f es m. with-member u s change h f es m;
@@ -383,9 +527,10 @@ appearing k U u = record {
   ends = λ s what change h f es o m. with-end u _ what _ es (with-conditions u s change f es m);
   converts = λ s f es o m. with-convert u s f es m;
   clears = λ f es o m. with-clear u f es m;
-  moves = λ s move h f es o m. with-move u s move h f es o m;
-  prepares = λ s move h f es o m. with-prepare u s move h f es o m;
+  moves = λ s move h f es o m. with-move u s move h.0 f es o m;
+  prepares = λ s move h f es o m. with-prepare u s move h.0 f es o m;
   explodes = λ s f es o m. with-conditions u s without_seed _ es (with-member u s fallen fallen-tame f es m);
+  rests = λ s move h e f es o m. with-rest u s move h.0 (ap recharges (sym h.1) ∙ e) f es m;
   loose_active = λ s change h f es m. with-active u s change (λ a. ap (λ (x : Standing). x.place) (h a)) f es m;
   loose_apart = λ f g es a b m. with-apart u f g es a b m;
   loose_noise = λ e f h es m. with-noise u e f (dull-noise f e h) es m;
@@ -399,6 +544,7 @@ appearing-outline k U u = record {
   mild = λ s change h f es m. with-conditions u s change f es m;
   noise = λ e f h es m. with-noise u e f h es m;
   acts = λ s move. tt;
+  knows = λ s move h. h;
 }
 
 nothing-further : Further (λ f. Unit {0})
@@ -422,11 +568,13 @@ battle-switches k = record {
     appears = sent-last k s place f es low high m.appears;
     more = tt;
     each = tellable-last es _ first_public m.each (sent-tellable k s place f (told_by es) low high m.appears);
+    rest = rest-sent k s place f es low high m.appears m.rest;
   };
   loose_sends = λ s place f es low high m. record {
     appears = sent-last k s place f es low high m.appears;
     more = tt;
     each = tellable-last es _ first_public m.each (sent-tellable k s place f (told_by es) low high m.appears);
+    rest = rest-sent k s place f es low high m.appears m.rest;
   };
 }
 
@@ -472,22 +620,28 @@ taken-usable k Two pick f p m = subst (λ (q : Traits). Allowed q.moves (number_
 forget : (k : Teams) (s : Side) (i : ℕ) (n : Sizes) (pre : List Event) (q : Progress) → Lands (MayFall (of_action k s i) n pre) (MayFall (of_action k s i) n pre) q
     → Lands (MayFall (of_battle k) n pre) (MayFall (of_battle k) n pre) q
 unfolding appearing
-forget k s i n pre q (Runs r m) = Runs r (record { begun = m.begun; loose = record { appears = m.loose.appears; more = tt; each = m.loose.each } })
-forget k s i n pre q (Rests r m) = Rests r (record { begun = m.begun; loose = record { appears = m.loose.appears; more = tt; each = m.loose.each } })
+forget k s i n pre q (Runs r m) = Runs r (record { begun = m.begun; loose = record { appears = m.loose.appears; more = tt; each = m.loose.each; rest = m.loose.rest } })
+forget k s i n pre q (Rests r m) = Rests r (record { begun = m.begun; loose = record { appears = m.loose.appears; more = tt; each = m.loose.each; rest = m.loose.rest } })
 
 says : (k : Teams) (n : Sizes) (pre : List Event) (t : Terms) → Says (of_battle k) n pre (ruling_of t)
 unfolding given appearing
 says k n pre t s pick = record {
   leads = λ p r m.
       let i : ℕ = number_in (used_by pick (active s p).current_move) (member s p).moves in
-      forget k s i n pre _ ((carry_out-tells {v = of_action k s i} {z = n} {pre = pre} (appearing-outline k (Usable k s i) (usable-further k s i)) (ruling_of t) (ruling_of-tells t) s pick (move_taken_in s pick p.field) refl (λ f u. u)).leads p r
-      (record { begun = m.begun; exact = record { appears = m.exact.appears; more = taken-usable k s pick p.field (told_by (pre ++ p.events)) m.exact.appears; each = m.exact.each } }));
+      forget k s i n pre _ ((carry_out-tells {v = of_action k s i} {z = n} {pre = pre} (appearing-outline k (Usable k s i) (usable-further k s i)) (ruling_of t) (ruling_of-tells t) s pick (move_taken_in s pick p.field) refl (λ f u. u, refl)).leads p r
+      (record { begun = m.begun; exact = record { appears = m.exact.appears; more = taken-usable k s pick p.field (told_by (pre ++ p.events)) m.exact.appears; each = m.exact.each; rest = m.exact.rest } }));
 }
 
 -- What is left of it
 
-side-appeared : (ts : List Traits) (x : PublicSide) (t : Party) → Appeared ts (faces x) t → SideHasAppeared x t
-side-appeared ts x t m = record {
+any-known : (test : ℕ → Bool) (moves : List KnownMove) → any test (map (λ (k : KnownMove). k.id) moves) ≡ any (λ (k : KnownMove). test k.id) moves
+any-known test [] = refl
+any-known test (m ∷ ms) = ap (λ (b : Bool). test m.id || b) (any-known test ms)
+
+side-appeared : (ts : List Traits) (x : PublicSide) (t : Party) → (x.announced.recharging ≢ 0 → rests_by (ids_of ts t) ≡ true) → Appeared ts (faces x) t → SideHasAppeared x t
+side-appeared ts x t r m = record {
+  recharging = λ e. sym (any-known (λ (j : ℕ). recharges (move_at j).effect) (member_at t.active.place t).moves)
+      ∙ ap (λ (q : Traits). rests_by q.moves) (sym (get_or-map traits t.members (t.active.place - 1) nobody) ∙ ap (λ (qs : List Traits). get_or qs (t.active.place - 1) no_traits) m.same) ∙ r e;
   out = λ z. subst (λ (s : Face). s.species ≢ 0) (get_or-map face x.members (x.place - 1) not_seen) (m.out z);
   each = λ place e. shows-seen (seen_at place x) (member_at place t) e
       (subst (λ (s : Face). Shows s (traits (member_at place t))) (get_or-map face x.members (place - 1) not_seen)
@@ -527,13 +681,14 @@ ends t one two seed pairs a b =
       appears = record { one = first-appeared one a _ refl refl; two = first-appeared two b _ refl refl };
       more = tt;
       each = tt;
+      rest = record { one = λ e. absurd (e refl); two = λ e. absurd (e refl) };
     })
 
 pub members_agree : MembersAgree
 members_agree t one two seed pairs a b =
     let r : Ran = run (first_state t one two seed) pairs in
     let m : Ends one two r = ends t one two seed pairs a b in
-    (side-appeared (map traits one) (public_of r).one r.state.field.one m.appears.one, side-appeared (map traits two) (public_of r).two r.state.field.two m.appears.two)
+    (side-appeared (map traits one) (public_of r).one r.state.field.one m.rest.one m.appears.one, side-appeared (map traits two) (public_of r).two r.state.field.two m.rest.two m.appears.two)
 
 pub all-tellable : OfRuns (λ one two r. AllTellable (events_in r) first_public)
 all-tellable t one two seed pairs a b = (ends t one two seed pairs a b).each

@@ -79,6 +79,7 @@ placing n = record {
   loose = Placed n;
   said = λ s move. Unit {0};
   acted = λ s move. Unit {0};
+  knows = λ s move. Unit {0};
   loosen = λ f es m. m;
   tighten = λ f es m a b. m;
   member = λ s change h f es m. placed-member s change f es m;
@@ -94,6 +95,7 @@ placing n = record {
   moves = λ s move k f es o m. placed-last n f es _ tt m;
   prepares = λ s move k f es o m. placed-last n f es _ tt m;
   explodes = λ s f es o m. placed-active s _ _ es (placed-member s _ f es m);
+  rests = λ s move k e f es o m. placed-last n _ es _ tt (placed-active s _ f es m);
   loose_active = λ s change h f es m. placed-active s change f es m;
   loose_apart = λ f g es a b m. placed-same f g es a b m;
   loose_noise = λ e f h es m. placed-last n f es e (noise-fits n e (noise-is f e (dull-noise f e h))) m;
@@ -107,6 +109,7 @@ placing-outline n = record {
   mild = λ s change h f es m. placed-active s _ f es m;
   noise = λ e f h es m. placed-last n f es e (noise-fits n e (noise-is f e h)) m;
   acts = λ s move. tt;
+  knows = λ s move k. tt;
 }
 
 placing-switches : (n : Sizes) → Switching (placing n)

@@ -19,7 +19,8 @@ use Rattle.gen1_machine.specs.declared.event.Event.{Event}
 use Rattle.gen1_machine.specs.declared.event.Event.TheVariants as events
 use Rattle.gen1_machine.specs.Sides.{other}
 use Rattle.gen1_machine.specs.Moves.{toxic, Move}
-use Rattle.gen1_machine.specs.Conditions.{with_bad_poison, without_seed, ActiveConditions}
+use Rattle.gen1_tables.specs.Effects.{recharges}
+use Rattle.gen1_machine.specs.Conditions.{with_bad_poison, with_recharge, without_seed, ActiveConditions}
 use Rattle.gen1_machine.specs.State.{active_in, changed_active, changed_conditions, changed_member, fallen, has_fallen_in, healed_by, health_in, hurt_by, party, who_in, with_current_move, with_last_damage, with_outcome, with_status, with_types_of, Active, Field}
 use Rattle.gen1_machine.specs.CurrentStats.{with_penalty_of}
 use Rattle.gen1_machine.specs.Progress.{cure, stop, draw, draw_until, ends, fault, gain_hp, inflict, lasts, lose_hp, note, on_action, on_active, on_conditions, on_field, on_member, set_last_damage, starts, told, Action, Phase, Progress}
@@ -41,6 +42,7 @@ pub record Story : Type 1 where
   pub loose : Field → List Event → Type 0
   pub said : Side → Move → Type 0  -- that a side may use a move
   pub acted : Side → Move → Type 0  -- that it has used it
+  pub knows : Side → Move → Type 0  -- that its active member may use it
   pub loosen : (f : Field) (es : List Event) → exact f es → loose f es
   pub tighten : (f : Field) (es : List Event) → loose f es → has_fallen_in One f ≡ false → has_fallen_in Two f ≡ false → exact f es
   pub member : (s : Side) (change : Member → Member) → Tame change → (f : Field) (es : List Event) → exact f es → exact (changed_member s change f) es
@@ -63,6 +65,8 @@ pub record Story : Type 1 where
   pub prepares : (s : Side) (move : Move) → said s move → (f : Field) (es : List Event) → BothOut f → exact f es
       → exact f (es ++ events.Prepare (who_in s f) move.number ∷ [])
   pub explodes : (s : Side) (f : Field) (es : List Event) → BothOut f → exact f es → loose (changed_conditions s without_seed (changed_member s fallen f)) es
+  pub rests : (s : Side) (move : Move) → knows s move → recharges move.effect ≡ true → (f : Field) (es : List Event) → BothOut f → exact f es
+      → exact (changed_conditions s with_recharge f) (es ++ events.MustRecharge (who_in s (changed_conditions s with_recharge f)) ∷ [])
   pub loose_active : (s : Side) (change : Active → Active) → Placid change → (f : Field) (es : List Event) → loose f es → loose (changed_active s change f) es
   pub loose_apart : (f g : Field) (es : List Event) → f.one ≡ g.one → f.two ≡ g.two → loose f es → loose g es
   pub loose_noise : (e : Event) (f : Field) → Dull f e → (es : List Event) → loose f es → loose f (es ++ e ∷ [])
@@ -75,6 +79,7 @@ pub record Outline (v : Story) : Type 0 where
       → v.exact f es → v.exact (changed_conditions s change f) es
   pub noise : (e : Event) (f : Field) → Noise f e → (es : List Event) → v.exact f es → v.exact f (es ++ e ∷ [])
   pub acts : (s : Side) (move : Move) → v.acted s move
+  pub knows : (s : Side) (move : Move) → v.said s move → v.knows s move
 
 -- Why a member that comes out keeps a story true.
 pub record Switching (v : Story) : Type 0 where

@@ -17,7 +17,7 @@ use Rattle.gen1_machine.specs.Sides.{other}
 use Rattle.gen1_machine.specs.Conditions.{without_seed, Storing}
 use Rattle.gen1_machine.specs.State.{after_use, changed_active, changed_conditions, changed_member, fallen, known_in, with_kept_accuracy, with_less_pp, with_pp_spent, who_in, is_over, Field}
 use Rattle.gen1_stats.specs.Members.{nothing_known}
-use Rattle.gen1_tables.specs.Effects.{explodes, hits_more}
+use Rattle.gen1_tables.specs.Effects.{explodes, hits_more, recharges}
 use Rattle.gen1_machine.specs.Moves.{move_at, Move}
 use Rattle.gen1_machine.specs.Progress.{Phase, given, note, on_field, on_active, on_conditions, on_member, on_action, Progress}
 use Rattle.gen1_machine.specs.CriticalHits.{set_critical, critical_by, roll_critical}
@@ -411,13 +411,13 @@ module _ {v : Story} {z : Sizes} {pre : List Event} where
   side_effect-falls r s move _ h = absurd (true≢false (sym h))
 
   pub strike-tells : (r : Ruling) → RulingTells v z pre r → (s : Side) (move : Move) → (may_poison_by move.effect ≡ true → Poisons v s move)
-      → Leads (Now v z pre) (MayFall v z pre) (MayFall v z pre) (strike r s move)
+      → (recharges move.effect ≡ true → v.knows s move) → Leads (Now v z pre) (MayFall v z pre) (MayFall v z pre) (strike r s move)
   unfolding strike
-  strike-tells r h s move a = by (explodes move.effect) refl
+  strike-tells r h s move a k = by (explodes move.effect) refl
     where
       by : (b : Bool) → explodes move.effect ≡ b → Leads (Now v z pre) (MayFall v z pre) (MayFall v z pre) (strike r s move)
       by false e = choose-tells _ (missed_move-tells s move) stay-tells ⊳ hits-tells s move e
-          ⊳ after-leads loosened (choose-tells _ stay-tells (side_effect-tells r h s move move.effect a))
+          ⊳ after-leads loosened (choose-tells _ stay-tells (side_effect-tells r h s move move.effect a (λ x. record { knows = k x; effect = x })))
       by true e = choose-tells _ (missed_move-tells s move) stay-tells ⊳ hits-falls s move e
           ⊳ choose-tells _ stay-tells (side_effect-falls r s move move.effect e)
 
@@ -438,7 +438,7 @@ module _ {v : Story} {z : Sizes} {pre : List Event} (o : Outline v) where
       ⊳ choose-tells _ stay-tells (damage_of-tells s move move.effect)
       ⊳ choose-tells _ stay-tells (choose-tells _ (late_effect-tells r h s move move.effect ⊳ stop-tells) stay-tells)
       ⊳ strike-tells r h s move
-      (λ e. record { acts = o.acts s move; plain = not-toxic move.number (ap may_poison_by (sym same) ∙ e) })
+      (λ e. record { acts = o.acts s move; plain = not-toxic move.number (ap may_poison_by (sym same) ∙ e) }) (λ e. o.knows s move k)
 
   pub says-any : ((s : Side) (move : Move) → v.said s move) → (r : Ruling) → RulingTells v z pre r → Says v z pre r
   unfolding given

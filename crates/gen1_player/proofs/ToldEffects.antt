@@ -1,6 +1,7 @@
 -- A story stays true through what moves do in addition to damage.
 use Rattle.std.proofs.Common.{[], Bool, List, None, Option, Some, ap, false, if◌then◌else◌, inl, inr, refl, subst, sym, true, true≢false, ℕ, ◌++◌, ◌==◌, ◌∙◌, ◌∷◌, ◌≡◌, ◌≢◌, ◌⊎◌}
 use Rattle.std.proofs.lemmas.Bool.Decides.{eqb_tells}
+use Rattle.gen1_tables.specs.Effects.{recharges}
 use Rattle.gen1_tables.specs.Moves.{move_row, move_rows}
 use Rattle.gen1_tables.specs.declared.effect.Stat.{Stat}
 use Rattle.gen1_tables.specs.declared.effect.Stat.TheVariants.{Attack, Speed}
@@ -29,7 +30,7 @@ use Rattle.gen1_machine.specs.LateEffects.{ready_to_sleep, put_to_sleep, lower_f
 use Rattle.gen1_machine.specs.SideEffects.{happens_below, by_chance, thaw, may_inflict, may_poison, may_confuse, flinch, kept_away_effect, names_slot, disable_for, disable_slot, disable, must_recharge, side_effect}
 use Rattle.gen1_machine.proofs.Watching.{seeing, Runs, Leads, after-leads, before-leads, ◌⊳◌, choose-tells, if-sees, given-tells, given-sees, stay-tells}
 use Rattle.gen1_player.proofs.Facts.{penalty-placid, is_still, with_cleared, Placid, Sizes}
-use Rattle.gen1_player.proofs.Stories.{Begun, Story, Holds, Now, MayFall, Tells, at_end, begun-active, begun-conditions, holds-conditions, may-active, may-noise, draw-tells, until-tells, told-noise, note-tells, active-tells, conditions-tells, starts-tells, lose-tells, gain-tells, status-tells, inflict-tells, cure-tells, poison-told, sickened}
+use Rattle.gen1_player.proofs.Stories.{Begun, Story, Holds, Now, MayFall, Tells, at_end, begun-active, begun-conditions, holds-conditions, may-active, may-noise, draw-tells, until-tells, told-noise, told-tells, note-tells, active-tells, conditions-tells, starts-tells, lose-tells, gain-tells, status-tells, inflict-tells, cure-tells, poison-told, sickened}
 use Rattle.gen1_player.proofs.ToldGate.{fail-tells, fails_if-tells, must_hit-tells}
 
 pub record RulingTells (v : Story) (n : Sizes) (pre : List Event) (r : Ruling) : Type 0 where
@@ -46,6 +47,10 @@ may_poison_by _ = false
 pub record Poisons (v : Story) (s : Side) (move : Move) : Type 0 where
   pub acts : v.acted s move
   pub plain : (move.number == toxic) ≡ false
+
+pub record Rests (v : Story) (s : Side) (move : Move) : Type 0 where
+  pub knows : v.knows s move
+  pub effect : recharges move.effect ≡ true
 
 toxic-poisons : may_poison_by (move_at toxic).effect ≡ false
 unfolding move_rows move_row
@@ -421,14 +426,18 @@ module _ {v : Story} {n : Sizes} {pre : List Event} where
   unfolding disable seeing
   disable-tells s move = must_hit-tells s move ⊳ fails_if-tells s _ ⊳ given-tells _ (λ moves. until-tells (names_slot moves) (disable_slot-tells s moves))
 
-  pub must_recharge-tells : (s : Side) → Tells v n pre (must_recharge s)
-  unfolding must_recharge with_recharge
-  must_recharge-tells s = told-noise (changed_conditions s with_recharge) (λ f. events.MustRecharge (who_in s f)) (holds-conditions s with_recharge (λ c. refl)) (λ f. refl)
+  pub must_recharge-tells : (s : Side) (move : Move) → v.knows s move → recharges move.effect ≡ true → Tells v n pre (must_recharge s)
+  unfolding must_recharge
+  must_recharge-tells s move k e = told-tells (changed_conditions s with_recharge) (λ f. events.MustRecharge (who_in s f)) (λ f es m. record {
+    begun = begun-conditions s with_recharge f m.begun;
+    exact = at_end v.exact (changed_conditions s with_recharge f) pre es (events.MustRecharge (who_in s (changed_conditions s with_recharge f)))
+        (v.rests s move k e f (pre ++ es) m.begun.both m.exact);
+  })
 
   pub side_effect-tells : (r : Ruling) → RulingTells v n pre r → (s : Side) (move : Move) (e : Effect) → (may_poison_by e ≡ true → Poisons v s move)
-      → Tells v n pre (side_effect r s move e)
+      → (recharges e ≡ true → Rests v s move) → Tells v n pre (side_effect r s move e)
   unfolding side_effect seeing
-  side_effect-tells r h s move (effects.ConfusionChance n) a = may_confuse-tells s n
-  side_effect-tells r h s move effects.Disable a = disable-tells s move
-  side_effect-tells r h s move effects.Recharge a = must_recharge-tells s
-  side_effect-tells r h s move e a = choose-tells _ stay-tells (kept_away-tells r h s move e a)
+  side_effect-tells r h s move (effects.ConfusionChance n) a k = may_confuse-tells s n
+  side_effect-tells r h s move effects.Disable a k = disable-tells s move
+  side_effect-tells r h s move effects.Recharge a k = let q = k refl in must_recharge-tells s move q.knows q.effect
+  side_effect-tells r h s move e a k = choose-tells _ stay-tells (kept_away-tells r h s move e a)

@@ -1,7 +1,8 @@
 -- What holds of all that a log makes public, after any run of a battle from its start, and of what a player holds of it.
 use Rattle.std.specs.Prelude.{All, Bool, List, None, [], false, if◌then◌else◌, is_some, map, replicate, true, ℕ, ◌+◌, ◌-◌, ◌==◌, ◌≡◌, ◌≢◌, ◌⊎◌, ◌∷◌}
 use Rattle.std.specs.List.{flat_map}
-use Rattle.gen1_tables.specs.Effects.{bides}
+use Rattle.gen1_tables.specs.declared.effect.Effect.{Effect}
+use Rattle.gen1_tables.specs.Effects.{bides, recharges}
 use Rattle.gen1_tables.specs.Moves.{struggle}
 use Rattle.gen1_tables.specs.Types.{any, number_of}
 use Rattle.gen1_stats.specs.declared.known_move.KnownMove.{KnownMove}
@@ -117,8 +118,13 @@ is_fault (outcomes.Fault n) = true
 is_fault _ = false
 
 -- A fault may come between a change and its event. It ends the battle.
+pub record BothDo (p : Public) (f : Field) : Type 0 where
+  pub one : SideDoes p.one f.one
+  pub two : SideDoes p.two f.two
+  pub may_hit_itself : p.may_hit_itself ≡ 0
+
 abbrev pub DoesOrFaults : Ran → Type 0
-DoesOrFaults r = is_fault r.state.field.outcome ≡ false → SideDoes (public_of r).one r.state.field.one × SideDoes (public_of r).two r.state.field.two
+DoesOrFaults r = is_fault r.state.field.outcome ≡ false → BothDo (public_of r) r.state.field
 
 -- Of any battle with valid terms and seed bytes.
 abbrev pub DeedsAgree : Type 0
@@ -137,12 +143,17 @@ pub record IsSeen (s : Seen) (m : Member) : Type 0 where
   pub max : s.max ≡ m.max
   pub moves : All (λ (k : SeenMove). IsMoveOf m k.id) s.moves
 
+-- Whether a member knows a move with such an effect.
+abbrev pub knows : (Effect → Bool) → Member → Bool
+knows test m = any (λ (k : KnownMove). test (move_at k.id).effect) m.moves
+
 -- The member that is out has appeared, and each member that has appeared is the one at its place. The last move is one of the active
--- member's.
+-- member's. A member that is announced as recharging knows a move that makes it recharge.
 pub record SideHasAppeared (x : PublicSide) (t : Party) : Type 0 where
   pub out : x.place ≢ 0 → (seen_at x.place x).species ≢ 0
   pub each : (place : ℕ) → (seen_at place x).species ≢ 0 → IsSeen (seen_at place x) (member_at place t)
   pub last_move : IsMoveOf (member_at t.active.place t) x.last_move
+  pub recharging : x.announced.recharging ≢ 0 → knows recharges (member_at t.active.place t) ≡ true
 
 abbrev pub MembersAgree : Type 0
 MembersAgree = OfRuns λ one two r. SideHasAppeared (public_of r).one r.state.field.one × SideHasAppeared (public_of r).two r.state.field.two
