@@ -3,12 +3,19 @@
 A file of code with a function has to be reached from a section of a document. A section has to have a definition, code, a worked
 example, a test and an edit. Each edit has to be applicable. The first line of a file says what it is, and the head of a lib.rt names
 each of its modules. The table of docs/ARCHITECTURE.md from twelve rules to their files has to be right. `tools/rules` prints what was
-read.
+read. Each field that the log makes public has to stand in a law of crates/gen1_player/specs/True.antt.
 """
 
+import re
+
 import pytest
-from repository import crates, edits, named_bodies
+from repository import ROOT, crates, edits, named_bodies
 from rule_files import collected, unreached, without_a_line, wrong_walks
+
+
+PLAYER = ROOT / "crates" / "gen1_player"
+# Padding, and a count that only tests compare with the battle (docs/PROVED.md, "gen1_player").
+WITHOUT_A_LAW = {"unused", "uses"}
 
 
 @pytest.fixture(scope="module")
@@ -45,3 +52,12 @@ def test_every_named_wrong_body_is_an_edit_of_every_gate(compared):
         faults += [f"{place} is named twice" for place in places if place in seen or places.count(place) > 1]
         seen.update(places)
     compared(len(named_bodies()), faults)
+
+
+def test_every_public_field_has_a_law(compared):
+    structs = "".join((PLAYER / "src" / f"{name}.rt").read_text() for name in ("public", "public_side", "announced", "seen"))
+    fields = re.findall(r"^    pub (\w+): ", structs, re.MULTILINE)
+    laws = (PLAYER / "specs" / "True.antt").read_text().partition("-- What a player holds")[0]
+    named = set(re.findall(r"(?:^  pub |\.)(\w+)", re.sub(r"--.*", "", laws), re.MULTILINE))
+    assert WITHOUT_A_LAW <= set(fields) - named
+    compared(len(fields), [f"no law names {field}" for field in fields if field not in named | WITHOUT_A_LAW])

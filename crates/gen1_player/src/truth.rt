@@ -22,13 +22,14 @@ pub fn conditions_agree()
 {}
 
 /// After any run from the start, the member that is out has appeared. A member that has appeared has the species, level and maximum HP
-/// of the member at its place, and it was seen to prepare or use its own moves or Struggle. So is the last move of the active member.
+/// of the member at its place, and it was seen to prepare or use its own moves or Struggle. The last move is one of these. Only a member
+/// that knows a move for it is announced as recharging.
 pub fn members_agree()
     ensures { MembersAgree }
 {}
 
-/// After any run from the start that has not ended in a fault, Bide, charging and bad poison are announced exactly if they are on. A
-/// member that is announced as invulnerable is so. The last move is the current one, unless that is Bide.
+/// After any run with valid terms and seed bytes that ended in no fault, Bide, charging and bad poison are announced exactly if they are
+/// on, and invulnerability only if it is. The last move is the current one, unless that is Bide.
 pub fn deeds_agree()
     ensures { DeedsAgree }
 {}
