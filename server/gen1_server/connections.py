@@ -136,10 +136,9 @@ class Connection(Watcher, asyncio.Protocol):
 
     def exit(self) -> None:
         """From now on the connection is nobody's."""
-        if self.account:
-            self.services.lobby.depart(self)
-            self.services.rooms.depart(self.account.id, self)
-            self.account = None
+        self.services.lobby.depart(self)
+        self.services.rooms.depart(self.account.id if self.account else 0, self)
+        self.account = None
 
     @property
     def known(self) -> Account:
@@ -157,10 +156,12 @@ class Connection(Watcher, asyncio.Protocol):
         self.services.rooms.ask(room, self.known.id, row, reply)
 
     async def watch(self, room: int) -> None:
-        """Has a room shown. Raises `Refused`."""
+        """Has a room shown, without an account as one of the audience. Raises
+        `Refused`.
+        """
         if not self.services.rooms.is_open(room):
             self.charge(REPLAY)
-        await self.services.rooms.watch(room, self.known.id, self)
+        await self.services.rooms.watch(room, self.account.id if self.account else 0, self)
 
     def may_login(self) -> None:
         """Counts a login of the address. Raises `Refused`."""
@@ -192,7 +193,7 @@ class Connection(Watcher, asyncio.Protocol):
         self._ended(self)
 
     def _expect_login(self) -> None:
-        if self.account is None:
+        if self.account is None and not self.services.rooms.watches(self):
             self.drop("no login")
 
     def data_received(self, data: bytes) -> None:

@@ -38,9 +38,9 @@ class JsonConnection(Connection):
         kind = given.get("type")
         if kind not in TYPES:
             raise Refused("type", f"there is no such type; there are {', '.join(TYPES)}")
-        if self.account is None and kind not in LOGINS:
+        if self.account is None and kind not in (*LOGINS, "join", "leave"):
             raise Refused("account", "log in first")
-        if kind in LOGINS:
+        if self.account is None or kind in LOGINS:
             self.may_login()
         await getattr(self, f"on_{kind}")(given)
 

@@ -358,6 +358,10 @@ class Rooms:
             self._watch(room, watcher, side)
         watcher.joined(match.view(side))
 
+    def watches(self, watcher: Watcher) -> bool:
+        """Whether a connection is shown a room."""
+        return bool(self._watched.get(watcher))
+
     def is_open(self, number: int) -> bool:
         """Whether a room is open here, so that showing it costs little."""
         return number in self.open or number in self._kept

@@ -224,8 +224,7 @@ class Server:
 
     async def _ladder(self, request: web.Request) -> web.Response:
         """The players of a format and a season, the best first."""
-        format = request.match_info["format"]
-        season = request.query.get("season", self.config.season)
+        format, season = request.match_info["format"], request.query.get("season", self.config.season)
         rows = await self._read(request, partial(people.ladder, format, season, MOST_ROWS))
         return web.json_response({"format": format, "season": season, "players": rows})
 

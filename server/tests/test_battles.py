@@ -139,6 +139,35 @@ def test_the_audience_is_told_late(server, delay):
     run(test)
 
 
+def test_a_stranger_watches(server):
+    """Without an account a connection may be of the audience, until it logs in, and nothing else."""
+    it = server(login_seconds=1.0)
+
+    async def test(session):
+        one, two = await guest(session, it, "One"), await guest(session, it, "Two")
+        three = await guest(session, it, "Three")
+        first, second = await paired(one, two)
+        stranger, idle = [await Client(session, it.url).connect() for _ in range(2)]
+        shown = [await each.ask("room", type="join", room=first["room"]) for each in (stranger, three)]
+        assert shown[0] == shown[1] and shown[0]["side"] == 0 and "team" not in shown[0]
+        await asyncio.sleep(1.5)
+        with pytest.raises(ConnectionError):
+            await idle.until("nothing")
+        for kind in ("choose", "forfeit", "search", "challenge"):
+            given = {"room": first["room"], "number": 0, "choice": 17, "format": "gen1ou"}
+            assert (await stranger.ask("refused", type=kind, **given))["code"] == "account"
+        await play_pairs(one, two, first, second, 2)
+        told = [[await each.until("update") for _ in range(2)] for each in (stranger, three)]
+        assert told[0] == told[1]
+        await stranger.ask("welcome", type="guest", name="Four")
+        await one.say(type="forfeit", room=first["room"])
+        assert "ending" in await three.until("update")
+        with pytest.raises(TimeoutError):
+            await stranger.until("update", seconds=1)
+
+    run(test)
+
+
 def test_a_player_that_reconnects_knows_the_same(server):
     """Reconnects after each pair and compares the player with the one that heard everything."""
     it = server()
