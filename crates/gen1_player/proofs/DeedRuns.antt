@@ -30,7 +30,7 @@ use Rattle.gen1_machine.proofs.Watching.{after-leads, before-leads, choose-tells
 use Rattle.gen1_machine.proofs.Watching as watching
 use Rattle.gen1_player.specs.declared.public_side.PublicSide.{PublicSide}
 use Rattle.gen1_player.specs.Public.{acting, hears_all, settled_by}
-use Rattle.gen1_player.specs.True.{is_fault, DeedsAgree, SideDoes, BothDo}
+use Rattle.gen1_player.specs.True.{is_fault, ActivesAgree, SideDoes, BothDo}
 use Rattle.gen1_player.proofs.Facts.{is_dull, Fits, Sizes}
 use Rattle.gen1_player.proofs.Stories.{begun-member, Begun, MayFall, Now}
 use Rattle.gen1_player.proofs.ToldTurns.{replace-falls, send_out-tells, ChoiceFits}
@@ -371,9 +371,9 @@ ready-does pre f (Goes b (inl m)) e = subst (λ (l : List Event). BothDo (told_b
 ready-does pre f (Goes b (inr m)) e = absurd (true≢false (sym m ∙ e))
 ready-does pre f (Opens m a c d k) e = subst (λ (l : List Event). BothDo (told_by l) f) (append-nil pre) (tale-does f _ m.exact)
 
-pub deeds_agree : DeedsAgree
+pub actives_agree : ActivesAgree
 unfolding hears_all deeding
-deeds_agree t one two seed pairs limit stream a b over =
+actives_agree t one two seed pairs limit stream a b over =
     let s : State = first_state t one two seed in
     let start : Tale Nothing_more s.field [] = record {
       even = record {

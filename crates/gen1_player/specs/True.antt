@@ -127,8 +127,8 @@ abbrev pub DoesOrFaults : Ran → Type 0
 DoesOrFaults r = is_fault r.state.field.outcome ≡ false → BothDo (public_of r) r.state.field
 
 -- Of any battle with valid terms and seed bytes.
-abbrev pub DeedsAgree : Type 0
-DeedsAgree = (t : Terms) (one two : List Member) (seed : List ℕ) (pairs : List (Choice × Choice))
+abbrev pub ActivesAgree : Type 0
+ActivesAgree = (t : Terms) (one two : List Member) (seed : List ℕ) (pairs : List (Choice × Choice))
     → IsTerms t → IsStream (Link seed) → IsTeam one → IsTeam two → DoesOrFaults (run (first_state t one two seed) pairs)
 
 -- Members that have appeared

@@ -1,5 +1,5 @@
 //! What holds of all that a log makes public (docs/MECHANICS.md, "Player's view"), as functions that do nothing.
-ghost use Rattle.gen1_player.specs.True.{ConditionsAgree, DeedsAgree, MembersAgree, PlayersHoldThePublic, PublicAgrees, PublicAgreesWithView};
+ghost use Rattle.gen1_player.specs.True.{ConditionsAgree, ActivesAgree, MembersAgree, PlayersHoldThePublic, PublicAgrees, PublicAgreesWithView};
 
 /// After any run of a battle of two teams from its start, what its log made public agrees with the battle: active places, stages,
 /// Substitute, confusion, screens, turn, outcome, and HP and kind of status of each member that has appeared.
@@ -30,6 +30,6 @@ pub fn members_agree()
 
 /// After any run with valid terms and seed bytes that ended in no fault, Bide, charging and bad poison are announced exactly if they are
 /// on, and invulnerability only if it is. The last move is the current one, unless that is Bide.
-pub fn deeds_agree()
-    ensures { DeedsAgree }
+pub fn actives_agree()
+    ensures { ActivesAgree }
 {}
