@@ -58,7 +58,7 @@ export class TextError extends Gen1Error {
   }
 }
 
-/** The bytes are not a battle. `code`, 16 to 22, belongs to the first of the seven tests that they fail. */
+/** The bytes are not a battle or not a host. `code` belongs to the first test that they fail: 16 to 22 of the battle, 80 to 90 of the host. */
 export class LoadError extends Gen1Error {}
 
 /**

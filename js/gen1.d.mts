@@ -946,7 +946,7 @@ export class Gen1 {
   room(battle: Battle): Room;
   /** Creates a host with a copy of the battle, which is started at once if it has not begun. */
   host(battle: Battle, options?: HostOptions): Host;
-  /** The host whose `bytes` these are, from a store of yours. Throws ArgumentError for another number of bytes; no more is tested. */
+  /** The host whose `bytes` these are. Exactly those of hosts are accepted. Throws LoadError, and ArgumentError for another number of bytes. */
   hostOfBytes(bytes: Uint8Array | ArrayBuffer): Host;
   /** The message whose `bytes` these are. Throws ArgumentError for another number of bytes and a log above 512 bytes; no more is tested. */
   messageOfBytes(bytes: Uint8Array | ArrayBuffer): Message;

@@ -13,7 +13,7 @@ import {Battle, blockOfTerms, damageError, loadError} from "./battle.mjs";
 import {ModuleError} from "./errors.mjs";
 import {CANT_REASONS, DAMAGE_SOURCES, EVENT_KINDS, eventsOf, FAULTS, linesOf, VOLATILES} from "./events.mjs";
 import {CODES} from "./header.mjs";
-import {Host, hostOf, Message, messageBytes, Notice, noticeBytes, structBytes} from "./host.mjs";
+import {Host, hostOf, Message, messageBytes, Notice, noticeBytes, storedHost, structBytes} from "./host.mjs";
 import {instanceOf, Library} from "./memory.mjs";
 import {COLUMNS} from "./observing.mjs";
 import {Outcomes} from "./outcomes.mjs";
@@ -121,9 +121,9 @@ export class Gen1 {
     return new Host(this.#library, hostOf(this.#library, battle, options));
   }
 
-  /** The host whose `bytes` these are. Only their number is tested. */
+  /** The host whose `bytes` these are. Exactly those of hosts are accepted. */
   hostOfBytes(bytes) {
-    return new Host(this.#library, structBytes(this.#library, "gen1_host", bytes));
+    return new Host(this.#library, storedHost(this.#library, bytes));
   }
 
   /** The message whose `bytes` these are. Only their number and that of its log are tested. */

@@ -1,7 +1,7 @@
 // A battle of two players and an audience, each of whom is sent what it may know (docs/MECHANICS.md, "Hosts").
 import {choiceBytesIn, choicesIn, choiceText, list, maskOf, octets, record, sideOf, truth, wrongType} from "./arguments.mjs";
 import {Battle} from "./battle.mjs";
-import {ArgumentError, HostError} from "./errors.mjs";
+import {ArgumentError, HostError, LoadError} from "./errors.mjs";
 import {CODES} from "./header.mjs";
 import {inspected} from "./inspecting.mjs";
 import {Row} from "./row.mjs";
@@ -21,6 +21,19 @@ export function hostOf(library, battle, options) {
   library.write(host, battle.bytes);
   library.calls.gen1_host_begin(host, exactHp ? 0 : 1, mayCancel ? 1 : 0, lateForfeits ? 1 : 0);
   return library.read(host, layoutOf("gen1_host", library.isLong).size);
+}
+
+/** The bytes of a host that was stored, after the library's tests. */
+export function storedHost(library, bytes) {
+  const given = structBytes(library, "gen1_host", bytes);
+  library.begin();
+  const host = library.put(given);
+  const code = library.calls.gen1_host_load(host);
+  if (code) {
+    const sentence = library.sentence(code);
+    throw new LoadError(`the bytes are not a host: ${sentence}`, code, sentence);
+  }
+  return library.read(host, given.length);
 }
 
 /** A copy of bytes that have the length of a struct. */

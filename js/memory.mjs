@@ -17,7 +17,8 @@ const NEEDED = [
       "knock_out_in_three", "choice_words", "reseed", "room_begin", "room_choices", "room_forfeit", "room_result",
       "room_submit", "spectator_begin", "spectator_feed", "player_begin", "player_feed", "player_show", "get_own_side",
       "teller_begin", "tell", "offered_many", "update_many", "move_data", "effectiveness", "member_stats", "drained",
-      "recoil", "host_begin", "host_apply", "host_message", "host_notice", "host_number", "host_awaited", "host_result"]
+      "recoil", "host_begin", "host_load", "host_apply", "host_message", "host_notice", "host_number", "host_awaited",
+      "host_result"]
       .map((call) => `gen1_${call}`),
 ];
 

@@ -4,7 +4,7 @@ import * as library from "../gen1.mjs";
 import {bytesOfHex, equal, hexOf, holds, thrown} from "./holding.mjs";
 import {BIG, NO_NUMBERS, NO_OBJECTS, outside, wrong} from "./wrong_values.mjs";
 
-const {HostError, LogError, Row} = library;
+const {HostError, LoadError, LogError, Row} = library;
 const SEED = [1, 36, 255, 7, 31, 100, 179, 254, 127, 10];
 const STRONG = {
   species: "Tauros",
@@ -204,6 +204,17 @@ function storedHosts(gen1, check, begun) {
     for (const row of rows) again.apply(Row.ofBytes(row.bytes));
     equal([hexOf(again.bytes), hexOf(host.clone().bytes)], Array(2).fill(hexOf(host.bytes)));
     equal(gen1.hostOfBytes(host.bytes).message(2), host.message(2));
+    let stored = begun({});
+    const kept = begun({});
+    while (!kept.isClosed) {
+      for (const side of [1, 2]) {
+        stored = gen1.hostOfBytes(stored.bytes);
+        const row = Row.submit(side, kept.number, 17);
+        equal(stored.apply(row), kept.apply(row));
+        equal([hexOf(stored.bytes), stored.message(side)], [hexOf(kept.bytes), kept.message(side)]);
+        if (kept.isClosed) break;
+      }
+    }
   });
   check("what players receive is what their tellers report", () => {
     const [host, battle] = [begun({}), gen1.battle(BATTLE)];
@@ -248,6 +259,25 @@ export function badHosts(gen1, check) {
       bytes.set([1, 2], at);
       outside(() => load.call(gen1, bytes), /^bytes has a log of 513 bytes, not of at most 512$/);
     }
+  });
+  check("bytes of no host", () => {
+    // The offset in a gen1_host, the byte, and the code. At turn 1 of 1,000, with nobody on a bench, 1,000 of 1,011 pairs may come.
+    for (const [at, byte, code] of [[0, 9, 17], [384, 12, 80], [387, 255, 80], [389, 3, 81], [396, 29, 81],
+             [390, 18, 82], [391, 0, 83], [908, 2, 85], [909, 2, 85], [911, 1, 85], [916, 1, 86], [917, 0, 86],
+             [924, 4, 87], [925, 3, 88], [926, 2, 89], [927, 2, 89], [392, 1, 90], [395, 1, 90]]) {
+      const bytes = host.bytes;
+      bytes[at] = byte;
+      const fault = thrown(() => gen1.hostOfBytes(bytes), LoadError, /^the bytes are not a host: /);
+      equal([at, fault.code], [at, code]);
+    }
+    for (const [at, byte] of [[384, 11], [390, 17], [924, 3], [925, 2], [926, 1]]) {
+      const bytes = host.bytes;
+      bytes[at] = byte;
+      equal(hexOf(gen1.hostOfBytes(bytes).bytes), hexOf(bytes));
+    }
+    const bytes = host.bytes;
+    bytes.set([17, 17], 390);
+    equal(thrown(() => gen1.hostOfBytes(bytes), LoadError, /both choices are there/).code, 84);
   });
   check("rows that are none", () => {
     const bytes = Row.submit(1, 0, 17, SEED).bytes;
