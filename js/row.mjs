@@ -1,5 +1,5 @@
 // What happens at a host, as values of 18 bytes that can be stored (docs/MECHANICS.md, "Hosts").
-import {choiceByte, freshNumbers, octets, record, seedOf, shown, sideOf, within} from "./arguments.mjs";
+import {choiceByte, freshNumbers, octets, record, seedOf, shown, sideOf, whole, within, wrongType} from "./arguments.mjs";
 import {ArgumentError, ArgumentTypeError} from "./errors.mjs";
 import {inspected} from "./inspecting.mjs";
 
@@ -84,7 +84,9 @@ export class Row {
     const {kind, side, number, choice, numbers} = record(json, "json", "an object", FIELDS);
     if (!ROW_KINDS.includes(kind))
       throw new ArgumentError(`json.kind is ${shown(kind)}, not ${ROW_KINDS.join(", ")}`, "json.kind");
-    return Row.ofBytes(Row.#of(kind, side, number, within(choice, "json.choice", 0, 255), numbers).#bytes);
+    if (numbers === undefined) throw wrongType(numbers, "json.numbers", "ten numbers or null");
+    const byte = within(choice, "json.choice", 0, 255);
+    return Row.ofBytes(Row.#of(kind, side, whole(number, "json.number"), byte, numbers).#bytes);
   }
 
   /** A copy of its 18 bytes: kind, side, choice, 1 if it has numbers, the number of the pair in four, lowest first, and the ten numbers. */

@@ -46,7 +46,7 @@ const [gen1, examples] = [await load(readFileSync("gen1.wasm")), JSON.parse(read
 const of = {row: Row.ofJSON, message: (it) => gen1.messageOfJSON(it), notice: (it) => gen1.noticeOfJSON(it)};
 const said = (name, value) => console.log(JSON.stringify([name, value]));
 for (const [name, values] of Object.entries(examples)) for (const value of values) said(name, of[name](value));
-const team = ["Starmie", "Tauros", "Jynx"].map((species) => ({species, moves: ["Rest", "Surf"]}));
+const team = ["Starmie", "Tauros", "Jynx"].map((species) => ({species, moves: [["Rest", 3], ["Surf", 3]]}));
 for (let seed = 1; seed < 20; seed++) {
   const host = gen1.host(gen1.battle({one: team, two: team, seed}));
   for (let place = seed; !host.isClosed && host.number < 40;) {
