@@ -55,7 +55,9 @@ def test_every_named_wrong_body_is_an_edit_of_every_gate(compared):
 
 
 def test_every_public_field_has_a_law(compared):
-    structs = "".join((PLAYER / "src" / f"{name}.rt").read_text() for name in ("public", "public_side", "announced", "seen"))
+    structs = "".join(
+        (PLAYER / "src" / f"{name}.rt").read_text() for name in ("public", "public_side", "announced", "seen")
+    )
     fields = re.findall(r"^    pub (\w+): ", structs, re.MULTILINE)
     laws = (PLAYER / "specs" / "True.antt").read_text().partition("-- What a player holds")[0]
     named = set(re.findall(r"(?:^  pub |\.)(\w+)", re.sub(r"--.*", "", laws), re.MULTILINE))

@@ -30,7 +30,7 @@ use Rattle.gen1_machine.specs.LateEffects.{ready_to_sleep, put_to_sleep, lower_f
 use Rattle.gen1_machine.specs.SideEffects.{happens_below, by_chance, thaw, may_inflict, may_poison, may_confuse, flinch, kept_away_effect, names_slot, disable_for, disable_slot, disable, must_recharge, side_effect}
 use Rattle.gen1_machine.proofs.Watching.{seeing, Runs, Leads, after-leads, before-leads, ◌⊳◌, choose-tells, if-sees, given-tells, given-sees, stay-tells}
 use Rattle.gen1_player.proofs.Facts.{penalty-placid, is_still, with_cleared, Placid, Sizes}
-use Rattle.gen1_player.proofs.Stories.{Begun, Story, Holds, Now, MayFall, Tells, at_end, begun-active, begun-conditions, holds-conditions, may-active, may-noise, draw-tells, until-tells, told-noise, told-tells, note-tells, active-tells, conditions-tells, starts-tells, lose-tells, gain-tells, status-tells, inflict-tells, cure-tells, poison-told, sickened}
+use Rattle.gen1_player.proofs.Stories.{Begun, Story, Holds, Now, MayFall, Tells, at_end, begun-active, begun-conditions, may-active, may-noise, draw-tells, until-tells, told-tells, note-tells, active-tells, conditions-tells, starts-tells, lose-tells, gain-tells, status-tells, inflict-tells, cure-tells, poison-told, sickened}
 use Rattle.gen1_player.proofs.ToldGate.{fail-tells, fails_if-tells, must_hit-tells}
 
 pub record RulingTells (v : Story) (n : Sizes) (pre : List Event) (r : Ruling) : Type 0 where
