@@ -5,7 +5,7 @@ use crate::files::put;
 use clap::{Args, ValueEnum};
 use gen1_search::league::{Bot, League, Results, Teams};
 use std::fs::{File, OpenOptions};
-use std::io::{IsTerminal, Read, Seek, SeekFrom, Write};
+use std::io::{IsTerminal, Read, Write};
 use std::path::{Path, PathBuf};
 use std::sync::Mutex;
 use std::sync::atomic::{AtomicUsize, Ordering};
@@ -95,7 +95,7 @@ fn missing(results: &Results, battles: u64) -> Vec<Due> {
 fn opened(path: &Path, league: &League, results: &mut Results) -> Result<(PathBuf, File), Fault> {
     let name = path.display().to_string();
     let mut options = OpenOptions::new();
-    let file = options.read(true).write(true).create(true).truncate(false);
+    let file = options.read(true).append(true).create(true);
     let mut file = file.open(path).map_err(|why| Fault::write(&name, &why))?;
     let mut text = String::new();
     file.read_to_string(&mut text)
@@ -104,9 +104,10 @@ fn opened(path: &Path, league: &League, results: &mut Results) -> Result<(PathBu
     results
         .read(league, &text[..whole])
         .map_err(|line| Fault::search(&format!("{name}: line {line} is not a result")))?;
-    let done = file.set_len(whole as u64);
-    done.and_then(|()| file.seek(SeekFrom::End(0)))
-        .map_err(|why| Fault::write(&name, &why))?;
+    if whole < text.len() {
+        let cut = file.set_len(whole as u64);
+        cut.map_err(|why| Fault::write(&name, &why))?;
+    }
     Ok((path.into(), file))
 }
 
