@@ -1,4 +1,8 @@
 -- What active members do agrees with the battle after any run.
+use Rattle.gen1_machine.specs.Moves.{move_at}
+use Rattle.gen1_tables.specs.declared.effect.Effect.{Effect}
+use Rattle.gen1_tables.specs.declared.effect.Effect.TheVariants as effects
+use Rattle.gen1_tables.specs.Effects.{bides, recharges}
 use Rattle.std.proofs.Common.{[], Bool, List, ap, arith, false, flat_map, inl, inr, length, not, refl, subst, sym, true, true≢false, ℕ, ◌++◌, ◌∙◌, ◌∷◌, ◌≡◌, ◌≤◌, ◌⊎◌, ◌||◌}
 use Rattle.std.proofs.lemmas.List.{append-nil, append_assoc}
 use Rattle.gen1_stats.specs.Members.{is_living}
@@ -12,7 +16,7 @@ use Rattle.gen1_machine.specs.declared.terms.Request.TheVariants as requests
 use Rattle.gen1_machine.specs.declared.event.Event.{Event}
 use Rattle.gen1_machine.specs.declared.event.Event.TheVariants as events
 use Rattle.gen1_machine.specs.Sides.{other}
-use Rattle.gen1_machine.specs.State.{changed_member, fallen, first_state, has_fallen_in, is_over, member_in, who_in, with_next_turn, with_outcome, with_requests, Field, Party, State, Terms}
+use Rattle.gen1_machine.specs.State.{changed_member, fallen, first_state, has_fallen_in, is_over, member_in, who_in, with_next_turn, with_outcome, with_requests, Field, Party, State, Terms, active_in, nobody_out, party, Active}
 use Rattle.gen1_machine.specs.Progress.{has_fallen, note, on_field, ◌▸◌, Progress}
 use Rattle.gen1_machine.specs.Ruling.{ruling_of, Ruling}
 use Rattle.gen1_machine.specs.Falls.{ask_for_moves, ask_for_switches, ask_nothing, battle_ends, close, end_if_decided, faint_if_fallen, faint_in_order, settle, switch_if, the_fallen_faint}
@@ -36,7 +40,7 @@ use Rattle.gen1_player.proofs.Stories.{begun-member, Begun, MayFall, Now}
 use Rattle.gen1_player.proofs.ToldTurns.{replace-falls, send_out-tells, ChoiceFits}
 use Rattle.gen1_player.proofs.ToldEnds.{first-done, Fresh}
 use Rattle.gen1_player.proofs.ToldRuns.{choice-fits, sizes_of}
-use Rattle.gen1_player.proofs.Deeds.{even-apart, even-member, Deeds, Does, Even}
+use Rattle.gen1_player.proofs.Deeds.{even-apart, even-member, Deeds, Does, Even, current_of}
 use Rattle.gen1_player.proofs.DeedStory.{deeding, fallen-tame, tale-apart, tale-dull, tale-member, told_by, Tale}
 use Rattle.gen1_player.proofs.DeedGate.{at-field, at-note, at-stop, at-told, at-weak, dull-tale, tale-past, In, Nothing_more}
 use Rattle.gen1_player.proofs.DeedActs.{nothing-lasts}
@@ -353,8 +357,30 @@ module _ {n : Sizes} where
 
 -- What is left of it
 
-side-does : (x : PublicSide) (t : Party) → Does x t → SideDoes x t
-side-does x t m = record {
+-- Recharging belongs to the current move.
+abbrev Tied : Party → Type 0
+Tied t = t.active.conditions.underway.recharge ≡ true → recharges (move_at (current_of t)).effect ≡ true
+
+recharge-false : (f : Field) (u : Side) → (active_in u f ≡ nobody_out) → Tied (party u f)
+recharge-false f One e h = absurd (true≢false (sym h ∙ ap (λ (a : Active). a.conditions.underway.recharge) e))
+recharge-false f Two e h = absurd (true≢false (sym h ∙ ap (λ (a : Active). a.conditions.underway.recharge) e))
+
+tied-of : (s : State) → IsState s → (u : Side) → Tied (party u s.field)
+tied-of s h u = by u h.field
+  where
+    by : (u : Side) → IsUnstarted s.terms s.field ⊎ IsStarted s.terms s.field → Tied (party u s.field)
+    by One (inl k) = recharge-false s.field One k.nobody_one
+    by Two (inl k) = recharge-false s.field Two k.nobody_two
+    by One (inr k) = k.field.one.active.conditions.underway.recharge_tied
+    by Two (inr k) = k.field.two.active.conditions.underway.recharge_tied
+
+not-bide : (e : Effect) → recharges e ≡ true → bides e ≡ false
+not-bide effects.Recharge h = refl
+not-bide _ h = absurd (true≢false (sym h))
+
+side-does : (x : PublicSide) (t : Party) → Tied t → Does x t → SideDoes x t
+side-does x t r m = record {
+  recharge = λ e. let c = r e in subst (λ (k : ℕ). recharges (move_at k).effect ≡ true) (sym (m.last (not-bide _ c))) c;
   bide = ap (λ (k : Deeds). k.bide) m.same;
   charging = ap (λ (k : Deeds). k.charging) m.same;
   toxic = ap (λ (k : Deeds). k.toxic) m.same;
@@ -362,14 +388,14 @@ side-does x t m = record {
   last_move = m.last;
 }
 
-tale-does : (f : Field) (es : List Event) → Tale Nothing_more f es → BothDo (told_by es) f
-tale-does f es m = record { one = side-does _ f.one m.even.one; two = side-does _ f.two m.even.two; may_hit_itself = m.quiet }
+tale-does : (f : Field) (es : List Event) → ((u : Side) → Tied (party u f)) → Tale Nothing_more f es → BothDo (told_by es) f
+tale-does f es r m = record { one = side-does _ f.one (r One) m.even.one; two = side-does _ f.two (r Two) m.even.two; may_hit_itself = m.quiet }
 
-ready-does : {n : Sizes} (pre : List Event) (f : Field) → Ready n pre f → is_fault f.outcome ≡ false → BothDo (told_by pre) f
+ready-does : {n : Sizes} (pre : List Event) (f : Field) → ((u : Side) → Tied (party u f)) → Ready n pre f → is_fault f.outcome ≡ false → BothDo (told_by pre) f
 unfolding deeding
-ready-does pre f (Goes b (inl m)) e = subst (λ (l : List Event). BothDo (told_by l) f) (append-nil pre) (tale-does f _ m)
-ready-does pre f (Goes b (inr m)) e = absurd (true≢false (sym m ∙ e))
-ready-does pre f (Opens m a c d k) e = subst (λ (l : List Event). BothDo (told_by l) f) (append-nil pre) (tale-does f _ m.exact)
+ready-does pre f r (Goes b (inl m)) e = subst (λ (l : List Event). BothDo (told_by l) f) (append-nil pre) (tale-does f _ r m)
+ready-does pre f r (Goes b (inr m)) e = absurd (true≢false (sym m ∙ e))
+ready-does pre f r (Opens m a c d k) e = subst (λ (l : List Event). BothDo (told_by l) f) (append-nil pre) (tale-does f _ r m.exact)
 
 pub actives_agree : ActivesAgree
 unfolding hears_all deeding
@@ -383,6 +409,7 @@ actives_agree t one two seed pairs limit stream a b over =
       quiet = refl;
       more = tt;
     } in
-    ready-does (flat_map events_of (run s pairs).answers) (run s pairs).state.field
-    (run-deeds {n = sizes_of one two} [] s pairs (first_states_are_valid t one two seed limit a b stream)
+    let valid : IsState s = first_states_are_valid t one two seed limit a b stream in
+    ready-does (flat_map events_of (run s pairs).answers) (run s pairs).state.field (tied-of (run s pairs).state (states_stay_valid s pairs valid))
+    (run-deeds {n = sizes_of one two} [] s pairs valid
     (Opens (record { sized = record { one = refl; two = refl }; exact = start }) refl refl a.size.0 b.size.0)) over

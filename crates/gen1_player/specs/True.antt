@@ -105,13 +105,14 @@ abbrev pub current_move_of : Party → ℕ
 current_move_of t = number_in t.active.current_move (member_at t.active.place t).moves
 
 -- Bide, charging and bad poison are announced exactly if they are on. A member that is announced as invulnerable is so. The last move is
--- the current one; only Bide is not seen as it is used.
+-- the current one; only Bide is not seen as it is used. A member that has to recharge used a move for it last.
 pub record SideDoes (x : PublicSide) (t : Party) : Type 0 where
   pub bide : x.announced.bide ≡ bit_of (is_some t.active.conditions.underway.bide)
   pub charging : x.announced.charging ≡ bit_of t.active.conditions.underway.charging
   pub toxic : x.announced.toxic ≡ bit_of (is_some t.active.conditions.bad_poison)
   pub invulnerable : x.invulnerable ≢ 0 → t.active.conditions.invulnerable ≡ true
   pub last_move : bides (move_at (current_move_of t)).effect ≡ false → x.last_move ≡ current_move_of t
+  pub recharge : t.active.conditions.underway.recharge ≡ true → recharges (move_at x.last_move).effect ≡ true
 
 abbrev pub is_fault : Outcome → Bool
 is_fault (outcomes.Fault n) = true

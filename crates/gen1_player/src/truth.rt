@@ -22,14 +22,15 @@ pub fn conditions_agree()
 {}
 
 /// After any run from the start, the member that is out has appeared. A member that has appeared has the species, level and maximum HP
-/// of the member at its place, and it was seen to prepare or use its own moves or Struggle. The last move is one of these. Only a member
-/// that knows a move for it is announced as recharging.
+/// of the member at its place, and it was seen to prepare or use its own moves or Struggle. The last move is one of these. Recharging is
+/// announced only of one that knows a move for it.
 pub fn members_agree()
     ensures { MembersAgree }
 {}
 
 /// After any run with valid terms and seed bytes that ended in no fault, Bide, charging and bad poison are announced exactly if they are
-/// on, and invulnerability only if it is. The last move is the current one, unless that is Bide.
+/// on, and invulnerability only if it is. The last move is the current one, unless that is Bide; one that has to recharge used a move
+/// for it last.
 pub fn actives_agree()
     ensures { ActivesAgree }
 {}
