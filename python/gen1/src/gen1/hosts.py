@@ -125,8 +125,8 @@ class Row:
         return row
 
     def to_json(self) -> dict[str, Any]:
-        """The object that docs/HOST.schema.json describes, which `json.dumps`
-        takes: the same as in Rust and JavaScript. `from_json` is the way back.
+        """The object that docs/HOST.schema.json describes, for `json.dumps`:
+        the same as in Rust and JavaScript. `from_json` is the way back.
         """
         numbers = None if self.numbers is None else list(self.numbers)
         kind, side = _JSON_KINDS[self.kind - 1], int(self.side)

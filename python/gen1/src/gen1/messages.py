@@ -53,8 +53,8 @@ class _Sent:
         return Side(self._held.draw) if self._held.draw else None
 
     def to_json(self) -> dict[str, Any]:
-        """The object that docs/HOST.schema.json describes, which `json.dumps`
-        takes: the same as in Rust and JavaScript. `from_json` is the way back.
+        """The object that docs/HOST.schema.json describes, for `json.dumps`:
+        the same as in Rust and JavaScript. `from_json` is the way back.
         """
         return {"number": self.number, "log": list(self.log), **self._fields(), "draw": self._held.draw or None}
 
