@@ -11,4 +11,5 @@ pub mod Scripts
 pub mod Sets
 pub mod Shares
 pub mod Sums
+pub mod Table
 pub mod Walking

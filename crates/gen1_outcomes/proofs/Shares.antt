@@ -1,5 +1,5 @@
 -- Shares of a list: what keeps them, and how a battle gets one.
-use Rattle.std.proofs.Common.{◌≡◌, ◌≢◌, ℕ, Err, IfOk, Ok, OnOk, Result, ◌+◌, ◌*◌, ◌<◌, ◌≤◌, List, length, take, get_or, get_or-set_other, get_or-set_same, set, ◌⊎◌, inl, inr, ap, refl, subst, sym, ◌∙◌, arith}
+use Rattle.std.proofs.Common.{◌≡◌, ◌≢◌, ℕ, Err, IfOk, Ok, OnErr, OnOk, Result, ◌+◌, ◌*◌, ◌<◌, ◌≤◌, List, length, take, get_or, get_or-set_other, get_or-set_same, set, ◌⊎◌, inl, inr, ap, refl, subst, sym, ◌∙◌, arith}
 use Rattle.std.specs.Prelude.{Bool, false, true, nat_lt, slice_index, ◌==◌, if◌then◌else◌}
 use Rattle.std.proofs.Math.Nat.{add-mul, mul-le-mul_right}
 use Rattle.std.proofs.lemmas.List.{get_or-take, get_or_default, length-set, length-take}
@@ -190,6 +190,17 @@ more_ways : (a m n l k : ℕ) → k ≡ l → m ≤ n → a ≤ m * l → a ≤ 
 more_ways a m n l k e le most =
     let over : m * l ≤ n * l = mul-le-mul_right l le in
     subst (λ (x : ℕ). a ≤ n * x) (sym e) (omega (arith, over, most))
+
+-- The same of a result. With a fault nothing is taken.
+pub takes_or : (old mid new : Tally) (before table : List ℕ) (slot : ℕ) (r : Result (Unit {0}) OutcomesFault) → mid.count ≡ old.count → slot < length before
+    → slice_index before slot ≡ 0 → OnOk r (new ≡ record mid { count = mid.count + 1 }) → OnOk r (table ≡ set before slot (mid.count + 1))
+    → OnErr r ((new ≡ mid) × (table ≡ before)) → TakesEach old new before table
+takes_or old mid new before table slot (Ok done) same inside free counts put kept =
+    let one : new.count ≡ mid.count + 1 = ap (λ (t : Tally). t.count) counts in
+    subst (λ (l : List ℕ). TakesEach old new before l) (sym put) (takes_one old new before slot mid.count inside free (omega (arith, one, same)))
+takes_or old mid new before table slot (Err why) same inside free counts put kept =
+    let count : new.count ≡ old.count = ap (λ (t : Tally). t.count) kept.0 ∙ same in
+    subst (λ (l : List ℕ). TakesEach old new before l) (sym kept.1) (omega (arith, count))
 
 -- A list whose outcomes are probable enough, and that leaves out little enough, stays so where a branch is left out and ways are counted.
 pub probable_less : (c : Chance) (old new : Tally) (xs ys : List Successor) (ways : ℕ) → 1 ≤ ways → IsLeft c old new xs ys → AreProbable old xs

@@ -62,3 +62,41 @@ with_side hash bytes at = with_block (with_member hash bytes (at + 24 * min (sli
 -- The number of a battle, by its bytes alone.
 abbrev pub hash_of : List ℕ → ℕ
 hash_of bytes = mixed (with_side (with_side (mixed (word_at bytes 0) (word_at bytes 16)) bytes 24) bytes 204) 0 / 4294967296
+
+-- The slot of a table that is tried for a battle after so many others.
+abbrev pub slot_of : List ℕ → List ℕ → ℕ → ℕ
+slot_of table bytes steps = (hash_of bytes + steps) % length table
+
+-- A battle has a number in a table: it is found at a slot after taken ones only.
+pub record HasNumber (table bytes : List ℕ) (number : ℕ) : Type 0 where
+  pub steps : ℕ
+  pub few : steps < length table
+  pub here : slice_index table (slot_of table bytes steps) ≡ number
+  pub past : (j : ℕ) → j < steps → slice_index table (slot_of table bytes j) ≢ 0
+
+-- No two of the first battles have the same bytes.
+abbrev pub AreDistinct : ℕ → List Successor → Type 0
+AreDistinct count xs = (j k : ℕ) → (past : Successor) → j < k → k < count → joined (battle_at xs j past) ≢ joined (battle_at xs k past)
+
+-- They are distinct, and each has its number in the table, counted from one.
+pub record IsIndexed (table : List ℕ) (count : ℕ) (xs : List Successor) : Type 0 where
+  pub numbers : (k : ℕ) → (past : Successor) → k < count → HasNumber table (joined (battle_at xs k past)) (k + 1)
+  pub distinct : AreDistinct count xs
+
+-- A battle is none of the first ones, and its number goes into a slot that is found after taken ones only.
+pub record IsFreeFor (table : List ℕ) (count : ℕ) (xs : List Successor) (battle : Parts) (slot : ℕ) : Type 0 where
+  pub steps : ℕ
+  pub few : steps < length table
+  pub here : slot_of table (joined battle) steps ≡ slot
+  pub past : (j : ℕ) → j < steps → slice_index table (slot_of table (joined battle) j) ≢ 0
+  pub absent : (k : ℕ) → (other : Successor) → k < count → joined (battle_at xs k other) ≢ joined battle
+
+-- A free place is one for a battle that is not in the list.
+abbrev pub IsNew : List Successor → List ℕ → Parts → Place → Type 0
+IsNew xs table battle (places.Taken k) = Unit {0}
+IsNew xs table battle (places.Free slot) = IsFreeFor table (length xs) xs battle slot
+IsNew xs table battle places.Full = Unit {0}
+
+-- Where the first battles were indexed, they are so in another table and list.
+abbrev pub StayIndexed : Tally → List Successor → List ℕ → Tally → List Successor → List ℕ → Type 0
+StayIndexed old xs before new ys after = IsIndexed before old.count xs → IsIndexed after new.count ys

@@ -1,11 +1,11 @@
 //! Battles that are equal become one (docs/MECHANICS.md, "Link numbers").
-ghost use Rattle.std.specs.Prelude.{IfErr, IfOk, IsOkUnless, IsTrue, OnErr, OnOk, length, slice_index, slice_index_or, slice_set, ℕ, ◌*◌, ◌+◌, ◌^◌, ◌<◌, ◌≡◌, ◌≢◌, ◌≤◌};
+ghost use Rattle.std.specs.Prelude.{IfErr, IfOk, IsFalse, IsOkUnless, IsTrue, OnErr, OnOk, length, slice_index, slice_index_or, slice_set, ℕ, ◌*◌, ◌+◌, ◌^◌, ◌<◌, ◌≡◌, ◌≢◌, ◌≤◌};
 ghost use Rattle.std.specs.Int.{IsGcd};
 ghost use Rattle.gen1_layout.specs.Parts.{joined};
 ghost use Rattle.gen1_outcomes.specs.Chances.{IsBelow};
 ghost use Rattle.gen1_outcomes.specs.Listing.{AreThose, AreThoseOr};
 ghost use Rattle.gen1_outcomes.specs.declared.fault.OutcomesFault.TheVariants.{Size};
-ghost use Rattle.gen1_outcomes.specs.Merging.{IsPlace, IsShort, LeavesOut, hash_of, mixed, with_block, with_member, with_side, word_at};
+ghost use Rattle.gen1_outcomes.specs.Merging.{IsIndexed, IsNew, IsPlace, IsShort, LeavesOut, StayIndexed, hash_of, mixed, with_block, with_member, with_side, word_at};
 ghost use Rattle.gen1_outcomes.specs.Shares.{Adds, IsLeft, KeepsShares, TakesEach, weight_at};
 ghost use Rattle.gen1_outcomes.specs.declared.successor.Successor.{Successor};
 
@@ -82,6 +82,8 @@ pub fn add(
     ensures adds { OnOk result (Adds battle.now chance tally.old tally.new successors.old
         successors.new) }
     ensures takes { TakesEach tally.old tally.new table.old table.new }
+    ensures indexed { OnOk result (StayIndexed tally.old successors.old table.old tally.new
+        successors.new table.new) }
     ensures short { IfErr result (λ why.
         IsShort why tally.new.count (length successors.new) table.new) }
 {
@@ -183,7 +185,9 @@ fn add_weight(successors: &mut [Successor], place: usize, weight: u128) -> Resul
 
 // Where the battle is, or where its number goes in the table.
 fn find(successors: &[Successor], table: &[u32], battle: &Packed) -> Place
-    ensures { IsPlace successors.now table.now battle.now result }
+    ensures place { IsPlace successors.now table.now battle.now result }
+    ensures new { IsIndexed table.now (length successors.now) successors.now
+        → IsNew successors.now table.now battle.now result }
 {
     if table.is_empty() {
         return Place::Full;
@@ -206,7 +210,8 @@ fn find(successors: &[Successor], table: &[u32], battle: &Packed) -> Place
 }
 
 fn are_equal(one: &Packed, other: &Packed) -> bool
-    ensures { IsTrue result → joined one.now ≡ joined other.now }
+    ensures same { IsTrue result → joined one.now ≡ joined other.now }
+    ensures differ { IsFalse result → joined one.now ≢ joined other.now }
 {
     one.as_bytes() == other.as_bytes()
 }

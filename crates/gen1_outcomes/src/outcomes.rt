@@ -5,7 +5,7 @@ ghost use Rattle.gen1_layout.specs.Within.{Stands};
 ghost use Rattle.gen1_engine.specs.Update.{AreOffered};
 ghost use Rattle.gen1_outcomes.specs.declared.fault.OutcomesFault.TheVariants.{Size};
 ghost use Rattle.gen1_outcomes.specs.Listing.{AreThose, EachFollows, HasSome, StillFollow, sum_of};
-ghost use Rattle.gen1_outcomes.specs.Merging.{IsShort, LeavesOut};
+ghost use Rattle.gen1_outcomes.specs.Merging.{AreDistinct, IsShort, LeavesOut, StayIndexed};
 ghost use Rattle.gen1_outcomes.specs.Shares.{CountsEach, EachIsProbable, StayProbable, TakesEach, taken};
 
 use crate::chances::is_below;
@@ -61,6 +61,7 @@ pub fn list_outcomes(
     ensures within { IfOk result (λ o. o.count ≤ length successors.new) }
     ensures all { options.least ≡ 0 → IfOk result (λ o. o.left_out ≡ 0) }
     ensures some { IfOk result (λ o. HasSome o) }
+    ensures once { IfOk result (λ o. AreDistinct o.count successors.new) }
     ensures probable { IfOk result (λ o. EachIsProbable options.least o successors.new) }
     ensures left { IfOk result (λ o.
         o.left_out * 4294967296 ≤ o.ways * (options.least * o.whole)) }
@@ -97,6 +98,7 @@ fn list_ways(
     ensures within { IfOk result (λ o. o.count ≤ length successors.new) }
     ensures all { ways.now.options.least ≡ 0 → IfOk result (λ o. o.left_out ≡ 0) }
     ensures some { IfOk result (λ o. HasSome o) }
+    ensures once { IfOk result (λ o. AreDistinct o.count successors.new) }
     ensures probable { IfOk result (λ o. EachIsProbable ways.now.options.least o successors.new) }
     ensures left { IfOk result (λ o.
         o.left_out * 4294967296 ≤ o.ways * (ways.now.options.least * o.whole)) }
@@ -129,6 +131,8 @@ fn add_all(
     ensures probable { OnOk result (StayProbable tally.old successors.old tally.new
         successors.new) }
     ensures takes { TakesEach tally.old tally.new table.old table.new }
+    ensures indexed { OnOk result (StayIndexed tally.old successors.old table.old tally.new
+        successors.new table.new) }
     ensures short { IfErr result (λ why.
         IsShort why tally.new.count (length successors.new) table.new) }
 {
@@ -153,6 +157,8 @@ fn add_in_parts(
     ensures probable { OnOk result (StayProbable tally.old successors.old tally.new
         successors.new) }
     ensures takes { TakesEach tally.old tally.new table.old table.new }
+    ensures indexed { OnOk result (StayIndexed tally.old successors.old table.old tally.new
+        successors.new table.new) }
     ensures short { IfErr result (λ why.
         IsShort why tally.new.count (length successors.new) table.new) }
 {
@@ -211,6 +217,8 @@ fn make_room(
     ensures probable { OnOk result (StayProbable tally.old successors.old tally.new
         successors.new) }
     ensures takes { TakesEach tally.old tally.new table.old table.new }
+    ensures indexed { OnOk result (StayIndexed tally.old successors.old table.old tally.new
+        successors.new table.new) }
     ensures short { IfErr result (λ why.
         IsShort why tally.new.count (length successors.new) table.new) }
 {
@@ -237,6 +245,8 @@ fn go_on_from(
     ensures probable { OnOk result (StayProbable tally.old successors.old tally.new
         successors.new) }
     ensures takes { TakesEach tally.old tally.new table.old table.new }
+    ensures indexed { OnOk result (StayIndexed tally.old successors.old table.old tally.new
+        successors.new table.new) }
     ensures short { IfErr result (λ why.
         IsShort why tally.new.count (length successors.new) table.new) }
 {
@@ -263,6 +273,8 @@ fn finish(
         successors.new) }
     ensures ways { OnOk result (CountsEach middle.now.ways tally.old tally.new) }
     ensures takes { TakesEach tally.old tally.new table.old table.new }
+    ensures indexed { OnOk result (StayIndexed tally.old successors.old table.old tally.new
+        successors.new table.new) }
     ensures short { IfErr result (λ why.
         IsShort why tally.new.count (length successors.new) table.new) }
 {

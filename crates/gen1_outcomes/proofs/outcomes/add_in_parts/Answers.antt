@@ -2,6 +2,7 @@ use Rattle.std.proofs.Common.{arith, refl, ◌∙◌}
 use Rattle.gen1_outcomes.proofs.Leaving.{leaves_then, on_ok_leaves}
 use Rattle.gen1_outcomes.proofs.Lists.{on_ok_then, still_then, still_those}
 use Rattle.gen1_outcomes.proofs.Shares.{on_ok_stay, stay_then}
+use Rattle.gen1_outcomes.proofs.Table.{indexed_kept, on_ok_then_indexed}
 use Rattle.gen1_outcomes.proofs.outcomes.add_in_parts.Goals as goal
 
 pub walk-init : goal.walk-init
@@ -12,6 +13,7 @@ walk-init c =
       left_out = record { least = refl; none = λ l z. z };
       probable = λ are. are;
       takes = refl;
+      indexed = λ are. are;
       follow = λ s h o each. each;
     }
 
@@ -25,6 +27,9 @@ walk-preserved c =
           c.walk.invariant.probable c.in_ok-make_room.ensures.probable)
           c.in_ok-keep.ensures.probable;
       takes = omega (arith, c.walk.invariant.takes, c.make_room.ensures.takes, c.keep.ensures.count);
+      indexed = λ are.
+          indexed_kept c.make_room.new.table c.make_room.new.tally.count c.keep.new.tally.count c.make_room.new.successors c.keep.new.successors
+          c.in_ok-keep.ensures.battles c.in_ok-keep.ensures.count (c.in_ok-make_room.ensures.indexed (c.walk.invariant.indexed are));
       left_out = leaves_then _ _ _ (leaves_then _ _ _ c.walk.invariant.left_out c.in_ok-make_room.ensures.left_out) c.in_ok-keep.ensures.left_out;
       follow = still_those c.args.ways.now c.args.tally.now.count c.make_room.new.tally.count c.keep.new.tally.count
           c.args.successors.now c.make_room.new.successors c.keep.new.successors
@@ -58,3 +63,12 @@ returns-then-not-advance-clause-probable c =
     c.walk.invariant.probable c.in_ok-make_room.ensures.probable)
     c.in_ok-keep.ensures.probable)
     c.go_on_from.ensures.probable
+
+pub returns-then-not-advance-clause-indexed : goal.returns-then-not-advance-clause-indexed
+returns-then-not-advance-clause-indexed c =
+    on_ok_then_indexed c.args.tally.now c.keep.new.tally c.go_on_from.new.tally c.args.successors.now c.keep.new.successors c.go_on_from.new.successors
+    c.args.table.now c.make_room.new.table c.go_on_from.new.table c.go_on_from.result
+    (λ are.
+    indexed_kept c.make_room.new.table c.make_room.new.tally.count c.keep.new.tally.count c.make_room.new.successors c.keep.new.successors
+    c.in_ok-keep.ensures.battles c.in_ok-keep.ensures.count (c.in_ok-make_room.ensures.indexed (c.walk.invariant.indexed are)))
+    c.go_on_from.ensures.indexed

@@ -1,4 +1,5 @@
-use Rattle.std.proofs.Common.{arith, refl, ◌∙◌}
+use Rattle.std.proofs.Common.{arith, refl, subst, sym, ◌∙◌, ℕ}
+use Rattle.gen1_outcomes.specs.Merging.{IsIndexed}
 use Rattle.gen1_outcomes.proofs.Leaving.{leaves_then}
 use Rattle.gen1_outcomes.proofs.Lists.{still_more}
 use Rattle.gen1_outcomes.proofs.Shares.{counts_more, stay_more}
@@ -13,6 +14,7 @@ walk-init c =
       probable = λ are. are;
       ways = (0, omega arith);
       takes = refl;
+      indexed = λ are. are;
       follow = λ s h o each. each;
     }
 
@@ -27,6 +29,9 @@ walk-preserved c =
       ways = counts_more c.go_on.new.battle c.in_ok-chance.chance c.args.tally.now c.walk.tally c.add.new.tally c.count_ways.new.self
           c.walk.successors c.add.new.successors c.args.middle.now.ways c.walk.invariant.ways c.in_ok-add.ensures.adds c.in_ok-count_ways.ensures.counts;
       takes = omega (arith, c.walk.invariant.takes, c.add.ensures.takes, c.count_ways.ensures.count);
+      indexed = λ are.
+          subst (λ (n : ℕ). IsIndexed c.add.new.table n c.add.new.successors) (sym c.in_ok-count_ways.ensures.count)
+          (c.in_ok-add.ensures.indexed (c.walk.invariant.indexed are));
       left_out = leaves_then _ _ _ (leaves_then _ _ _ c.walk.invariant.left_out c.in_ok-add.ensures.left_out) c.in_ok-count_ways.ensures.left_out;
       follow = still_more c.args.ways.now c.args.ways.now c.go_on.new.battle c.args.tally.now.count c.walk.tally.count c.add.new.tally.count c.count_ways.new.self.count
           c.args.successors.now c.walk.successors c.add.new.successors refl c.walk.invariant.follow c.in_ok-chance.ensures.follows
@@ -53,3 +58,8 @@ pub returns-then-not-advance-clause-ways : goal.returns-then-not-advance-clause-
 returns-then-not-advance-clause-ways c =
     counts_more c.go_on.new.battle c.in_ok-chance.chance c.args.tally.now c.walk.tally c.add.new.tally c.count_ways.new.self
     c.walk.successors c.add.new.successors c.args.middle.now.ways c.walk.invariant.ways c.in_ok-add.ensures.adds c.in_ok-count_ways.ensures.counts
+
+pub returns-then-not-advance-clause-indexed : goal.returns-then-not-advance-clause-indexed
+returns-then-not-advance-clause-indexed c are =
+    subst (λ (n : ℕ). IsIndexed c.add.new.table n c.add.new.successors) (sym c.in_ok-count_ways.ensures.count)
+    (c.in_ok-add.ensures.indexed (c.walk.invariant.indexed are))

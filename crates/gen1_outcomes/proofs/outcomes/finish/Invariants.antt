@@ -1,6 +1,6 @@
 use Rattle.std.proofs.Common.{length, ◌≡◌, ◌≤◌}
 use Rattle.gen1_outcomes.specs.Listing.{StillFollow}
-use Rattle.gen1_outcomes.specs.Merging.{LeavesOut}
+use Rattle.gen1_outcomes.specs.Merging.{LeavesOut, StayIndexed}
 use Rattle.gen1_outcomes.specs.Shares.{CountsEach, StayProbable, TakesEach}
 use Rattle.gen1_outcomes.proofs.outcomes.finish.Given as goal
 
@@ -13,5 +13,6 @@ invariant-walk l =
       probable : StayProbable l.fn.tally l.fn.successors l.tally l.successors;
       ways : CountsEach l.middle.ways l.fn.tally l.tally;
       takes : TakesEach l.fn.tally l.tally l.fn.table l.table;
+      indexed : StayIndexed l.fn.tally l.fn.successors l.fn.table l.tally l.successors l.table;
       follow : StillFollow l.ways l.fn.tally.count l.fn.successors l.tally.count l.successors;
     }

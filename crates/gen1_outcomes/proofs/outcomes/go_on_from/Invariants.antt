@@ -1,6 +1,6 @@
 use Rattle.std.proofs.Common.{length, ◌≤◌}
 use Rattle.gen1_outcomes.specs.Listing.{StillFollow}
-use Rattle.gen1_outcomes.specs.Merging.{LeavesOut}
+use Rattle.gen1_outcomes.specs.Merging.{LeavesOut, StayIndexed}
 use Rattle.gen1_outcomes.specs.Shares.{StayProbable, TakesEach}
 use Rattle.gen1_outcomes.proofs.outcomes.go_on_from.Given as goal
 
@@ -11,5 +11,6 @@ invariant-places l =
       left_out : LeavesOut l.fn.tally l.tally;
       probable : StayProbable l.fn.tally l.fn.successors l.tally l.successors;
       takes : TakesEach l.fn.tally l.tally l.fn.table l.table;
+      indexed : StayIndexed l.fn.tally l.fn.successors l.fn.table l.tally l.successors l.table;
       follow : StillFollow l.ways l.fn.tally.count l.fn.successors l.tally.count l.successors;
     }

@@ -3,6 +3,7 @@ use Rattle.gen1_outcomes.specs.declared.options.OutcomeOptions.{OutcomeOptions}
 use Rattle.gen1_outcomes.proofs.Leaving.{finished_all}
 use Rattle.gen1_outcomes.proofs.Lists.{finished_follows}
 use Rattle.gen1_outcomes.proofs.Shares.{finished_left, finished_probable, none_probable}
+use Rattle.gen1_outcomes.proofs.Table.{finished_once, none_indexed}
 use Rattle.gen1_outcomes.proofs.outcomes.list_ways.Goals as goal
 
 pub returns-clause-follow : goal.returns-clause-follow
@@ -25,3 +26,8 @@ returns-clause-left c =
     finished_left c.args.ways.now.options.least c.add_all.new.tally c.add_all.new.successors c.finished.result
     (c.in_ok-add_all.ensures.probable (none_probable _ _ refl refl refl))
     (c.in_ok-add_all.ensures.left_out.least ∙ ap (λ (o : OutcomeOptions). o.least) c.options.ensures) c.finished.ensures.left_out c.finished.ensures.whole c.finished.ensures.ways
+
+pub returns-clause-once : goal.returns-clause-once
+returns-clause-once c =
+    finished_once c.add_all.new.tally.count c.add_all.new.successors c.add_all.new.table c.finished.result
+    (c.in_ok-add_all.ensures.indexed (none_indexed c.args.table.now 0 c.args.successors.now refl)) c.finished.ensures.count
