@@ -1,6 +1,5 @@
 -- The bytes of a host: what the tests mean, and that they are passed exactly by the bytes of hosts.
-use Rattle.std.proofs.Common.{[], All, Bool, Err, IsOk, List, None, Ok, Option, Result, Some, ap, arith, false, if◌then◌else◌, inl, inr, is_some, length, nat_le, refl, replicate, subst, sym, take, true, ℕ, ◌&&◌, ◌*◌, ◌++◌, ◌+◌, ◌-◌, ◌<◌, ◌==◌, ◌∙◌, ◌∷◌, ◌≡◌, ◌≢◌, ◌≤◌, ◌⊎◌}
-use Rattle.std.specs.Prelude.{⊤}
+use Rattle.std.proofs.Common.{[], Bool, List, None, Option, Some, ap, arith, false, if◌then◌else◌, inl, inr, is_some, length, nat_le, refl, subst, sym, true, ℕ, ◌&&◌, ◌*◌, ◌++◌, ◌+◌, ◌-◌, ◌<◌, ◌==◌, ◌∙◌, ◌∷◌, ◌≡◌, ◌≢◌, ◌≤◌, ◌⊎◌}
 use Rattle.std.proofs.lemmas.Bool.{eqb-true}
 use Rattle.std.proofs.lemmas.Bool.Decides.{eqb_tells, leb_tells}
 use Rattle.gen1_machine.specs.declared.choice.Choice.{Choice}
@@ -10,14 +9,11 @@ use Rattle.gen1_machine.specs.declared.side.Side.{Side}
 use Rattle.gen1_machine.specs.declared.side.Side.TheVariants.{One, Two}
 use Rattle.gen1_machine.specs.Choices.{byte_of_choice, choice_at}
 use Rattle.gen1_machine.specs.Layout.{bytes_of, number_of_bits}
-use Rattle.gen1_machine.specs.Numbers.{side_number}
 use Rattle.gen1_machine.specs.OfferedChoices.{offered, others_living_from}
 use Rattle.gen1_machine.specs.Room.{choice_by_byte, choice_made, chosen, Course, first_made, Submission}
 use Rattle.gen1_machine.specs.Rules.{bit_of}
-use Rattle.gen1_machine.specs.State.{active_in, Field, is_over, is_pass, party, request_of, same_side, State, Terms}
+use Rattle.gen1_machine.specs.State.{Field, is_over, is_pass, party, request_of, same_side, State, Terms}
 use Rattle.gen1_machine.specs.Valid.{IsStarted, IsState, IsUnstarted}
-use Rattle.gen1_events.specs.Splits.{IsReading}
-use Rattle.gen1_layout.specs.Joined.{joined-parts}
 use Rattle.gen1_layout.specs.LoadingHeader.{version_three}
 use Rattle.gen1_layout.specs.LoadingMeaning.{IsBattle, StandsForSome}
 use Rattle.gen1_layout.specs.Parts.{joined, parts_of, Parts}
@@ -26,15 +22,13 @@ use Rattle.gen1_layout.proofs.Packing.{parts-bytes_of}
 use Rattle.gen1_offers.specs.OfferedMask.{all_choices, choices_in, chosen_by, living_of, passing, switches}
 use Rattle.gen1_offers.proofs.Collecting.{places_living}
 use Rattle.gen1_offers.proofs.MaskChoices.{chosen-picked, picked_ifs}
-use Rattle.gen1_player.specs.Telling.{IsTeller}
-use Rattle.gen1_room.specs.declared.plain.PlainRoom.{PlainRoom}
 use Rattle.gen1_room.specs.Rooms.{Counts, is_replaced, on_bench, pairs_left, submission_of}
 use Rattle.gen1_host.specs.declared.host.Host.{Host}
 use Rattle.gen1_host.specs.declared.loading.HostFault.{HostFault}
 use Rattle.gen1_host.specs.declared.loading.HostFault.TheVariants as faults
-use Rattle.gen1_host.specs.Hosts.{draw_byte, ending_byte, Hosts, IsWithin}
-use Rattle.gen1_host.specs.Loading.{FailsTest, in_version_three, IsHost, IsLawful, IsLawfulAs, IsLog, IsStated, IsStored, IsTested, PassesTest}
-use Rattle.gen1_host.specs.Table.{Agreed, Ending, Forfeited, Table}
+use Rattle.gen1_host.specs.Hosts.{draw_byte, ending_byte}
+use Rattle.gen1_host.specs.Loading.{FailsTest, in_version_three, IsHost, IsLawful, IsLawfulAs, IsStated, IsStored, PassesTest}
+use Rattle.gen1_host.specs.Table.{Agreed, Ending, Forfeited}
 
 -- Bytes and choices
 

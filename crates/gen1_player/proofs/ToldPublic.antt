@@ -1,15 +1,7 @@
 -- What a side hears of what it is told is what the whole log makes public, as the side knows it.
-use Rattle.std.proofs.Common.{[], Bool, List, None, Option, Some, ap, arith, false, get_or, get_or-set_same, if◌then◌else◌, inl, inr, length, length-set, map, nat_le, refl, replicate, slice_index_or, slice_set, subst, suc, sym, true, true≢false, zero, ℕ, ◌+◌, ◌-◌, ◌<◌, ◌==◌, ◌∙◌, ◌∷◌, ◌≡◌, ◌≢◌, ◌≤◌, ◌⊎◌, ◌||◌}
-use Rattle.std.specs.Prelude.{nat_lt, unwrap_or}
-use Rattle.std.specs.List.{list_any, position, position_or_len}
-use Rattle.std.proofs.lemmas.Bool.{lt-ltb}
+use Rattle.std.proofs.Common.{[], Bool, List, None, Option, Some, ap, arith, false, get_or, get_or-set_same, if◌then◌else◌, inl, inr, length, length-set, map, nat_le, refl, replicate, slice_index_or, slice_set, subst, suc, sym, true, true≢false, zero, ℕ, ◌+◌, ◌-◌, ◌<◌, ◌==◌, ◌∙◌, ◌∷◌, ◌≡◌, ◌≢◌, ◌≤◌, ◌⊎◌}
 use Rattle.std.proofs.lemmas.Bool.Decides.{eqb_tells, leb_tells}
-use Rattle.std.proofs.lemmas.Grind.{get_or_default_zero}
 use Rattle.std.proofs.lemmas.List.{get_or-map, get_or-set_other}
-use Rattle.std.proofs.lemmas.List.Quantifiers.{position-Some}
-use Rattle.std.proofs.lemmas.List.Sums.{fails_before_first, position_or_len_is}
-use Rattle.std.proofs.lemmas.Map.Keys.{IsDistinct-from_apart}
-use Rattle.std.proofs.lemmas.Map.Steps.{length-le_from_distinct_below}
 use Rattle.gen1_stats.specs.Members.{Member}
 use Rattle.gen1_machine.specs.declared.side.Side.{Side}
 use Rattle.gen1_machine.specs.declared.side.Side.TheVariants.{One, Two}
@@ -32,7 +24,7 @@ use Rattle.gen1_player.specs.declared.player.Player.{Player}
 use Rattle.gen1_player.specs.Player.{first_known}
 use Rattle.gen1_player.specs.Public.{acting, activates, broken_off_if, comes_out, first_public, has_hit_itself, hears, hears_all, if_seen_out, is_cleared, not_seen, on_out, public_side, seen_at, settled, settled_by, takes_in, used_more}
 use Rattle.gen1_player.specs.Sides.{foe_hears, side_hears, side_named}
-use Rattle.gen1_player.specs.Telling.{appears, health_for, health_told, is_own, is_place, meets, meets_all, pixels_of, slot_of, told, told_all}
+use Rattle.gen1_player.specs.Telling.{appears, health_for, health_told, is_own, meets, meets_all, pixels_of, slot_of, told, told_all}
 use Rattle.gen1_player.specs.True.{as_known, events_in, first_teller, foe_as_told, foe_known, own_as_known, own_known, team_of, with_hp_told, PlayerHolds}
 use Rattle.gen1_player.proofs.Facts.{side_out}
 use Rattle.gen1_player.proofs.Hearing.{both, hears_named}

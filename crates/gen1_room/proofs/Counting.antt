@@ -1,9 +1,8 @@
 -- The number of pairs: it is in range, since fewer are left with each.
-use Rattle.std.proofs.Common.{Bool, List, [], ap, arith, false, inl, inr, length, not, refl, subst, suc, sym, true, zero, ℕ, ◌&&◌, ◌+◌, ◌-◌, ◌<◌, ◌==◌, ◌≡◌, ◌≢◌, ◌≤◌, ◌∙◌, ◌∷◌}
+use Rattle.std.proofs.Common.{Bool, List, [], ap, arith, false, inl, inr, length, refl, subst, suc, sym, true, zero, ℕ, ◌&&◌, ◌+◌, ◌-◌, ◌<◌, ◌==◌, ◌≡◌, ◌≢◌, ◌≤◌, ◌∷◌}
 use Rattle.std.specs.Prelude.{if◌then◌else◌, max}
 use Rattle.std.proofs.lemmas.Bool.Decides.{nat_tests}
 use Rattle.gen1_stats.specs.Members.{is_living, Member}
-use Rattle.gen1_machine.specs.declared.side.Side.{Side}
 use Rattle.gen1_machine.specs.declared.side.Side.TheVariants.{One, Two}
 use Rattle.gen1_machine.specs.declared.choice.Choice.{Choice}
 use Rattle.gen1_machine.specs.declared.choice.Choice.TheVariants as choices
@@ -11,8 +10,8 @@ use Rattle.gen1_machine.specs.declared.terms.Request.{Request}
 use Rattle.gen1_machine.specs.declared.terms.Request.TheVariants as requests
 use Rattle.gen1_machine.specs.OfferedChoices.{others_living_from}
 use Rattle.gen1_machine.specs.Room.{Course}
-use Rattle.gen1_machine.specs.State.{Active, Party, State, is_over, party}
-use Rattle.gen1_machine.specs.Step.{step, Stepped}
+use Rattle.gen1_machine.specs.State.{Active, Party, State, is_over}
+use Rattle.gen1_machine.specs.Step.{Stepped}
 use Rattle.gen1_machine.specs.Valid.{IsStarted, IsState, IsUnstarted}
 use Rattle.gen1_machine.proofs.Bench.{alive, bench, bench-most, living, living_but}
 use Rattle.gen1_machine.proofs.RunsEnd.{due, left, left_by, state-ready, step-lower, Lower}

@@ -1,16 +1,12 @@
 -- Updates by offered choices, and what an accepted update left.
-use Rattle.std.proofs.Common.{List, Ok, ap, false, refl, ◌≡◌}
+use Rattle.std.proofs.Common.{ap, false, refl, ◌≡◌}
 use Rattle.gen1_machine.specs.declared.side.Side.TheVariants.{One}
-use Rattle.gen1_machine.specs.declared.event.Event.{Event}
 use Rattle.gen1_machine.specs.declared.choice.Choice.{Choice}
 use Rattle.gen1_machine.specs.Progress.{Progress}
 use Rattle.gen1_machine.specs.Ruling.{ruling_of}
 use Rattle.gen1_machine.specs.State.{is_over, State}
-use Rattle.gen1_machine.specs.Step.{Accepted, Answer, Refused, answered, opened, step, step_by, update}
-use Rattle.gen1_layout.specs.Parts.{Parts}
-use Rattle.gen1_layout.specs.Within.{Stands}
-use Rattle.gen1_engine.specs.declared.result.BattleResult.{BattleResult}
-use Rattle.gen1_engine.specs.Update.{AnswersAs, AreOffered}
+use Rattle.gen1_machine.specs.Step.{Accepted, answered, opened, step, step_by, update}
+use Rattle.gen1_engine.specs.Update.{AreOffered}
 use Rattle.gen1_engine.proofs.Making.{goes_on}
 
 -- what an accepted update does
