@@ -32,4 +32,6 @@ pub use public_side::PublicSide;
 pub use seen::{Seen, SeenMove};
 pub use stages::SeenStages;
 pub use teller::Teller;
-pub use truth::{actives_agree, conditions_agree, members_agree, players_hold_the_public, public_agrees};
+pub use truth::{
+    actives_agree, conditions_agree, members_agree, players_hold_the_public, public_agrees,
+};
