@@ -143,6 +143,7 @@ impl Ways {
         let two = copied(&self.two);
         explorer.draws_a_stream();
         let rest = begin(&mut battle, one, two, &mut explorer);
+        // No draw changes them, which no contract of a generator says.
         nodes.options = self.options;
         match nodes.chance() {
             Some(chance) => Some(Middle::new(&battle, rest, nodes, chance)),
@@ -192,6 +193,7 @@ impl Ways {
         let one = copied(&self.one);
         let two = copied(&self.two);
         play_way(battle, one, two, explorer, &mut Silent);
+        // No draw changes them, which no contract of a generator says.
         nodes.options = self.options;
         middle.chance_with(nodes)
     }

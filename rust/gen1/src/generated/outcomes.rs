@@ -2027,6 +2027,7 @@ mod ways {
             let two = copied(&self.two);
             explorer.draws_a_stream();
             let rest = begin(&mut battle, one, two, &mut explorer);
+            // No draw changes them, which no contract of a generator says.
             nodes.options = self.options;
             match nodes.chance() {
                 Some(chance) => Some(Middle::new(&battle, rest, nodes, chance)),
@@ -2062,6 +2063,7 @@ mod ways {
             let one = copied(&self.one);
             let two = copied(&self.two);
             play_way(battle, one, two, explorer, &mut Silent);
+            // No draw changes them, which no contract of a generator says.
             nodes.options = self.options;
             middle.chance_with(nodes)
         }
