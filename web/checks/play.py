@@ -172,7 +172,7 @@ def the_search_is_unpacked_when_it_is_needed(browser):
 
 
 def a_hint_has_its_reasons(browser):
-    """Explosion loses the only member, and Thunderbolt does damage twice as high as that of Water Gun's foe."""
+    """Explosion loses the only member, so Thunderbolt is the better choice; a hint disappears after the choice."""
     begin(browser, "Gengar\n- Explosion\n- Thunderbolt", "Starmie\n- Water Gun\n\nSnorlax\n- Rest")
     browser.click("#play-hint")
     browser.wait("return document.querySelectorAll('#play-hinted li').length === 2", 60)
