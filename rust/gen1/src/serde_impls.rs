@@ -1,10 +1,10 @@
 //! Serde for battles, and for what a host stores and sends. Both are checked when they are deserialized.
 //!
-//! A battle is its bytes. So are rows, messages, notices and own sides in binary formats; in formats for people, such as JSON, they are the
-//! objects of docs/HOST.schema.json.
+//! A battle is its bytes, and so is a host. So are rows, messages, notices and own sides in binary formats; in formats for people, such as
+//! JSON, they are the objects of docs/HOST.schema.json.
 use crate::generated::host as plain;
 use crate::generated::player::OwnMember;
-use crate::{Battle, Line, Message, Notice, OfferedMask, OwnSide, Row, WireFault};
+use crate::{Battle, Host, Line, Message, Notice, OfferedMask, OwnSide, Row, WireFault};
 use arrayvec::ArrayVec;
 use core::fmt;
 use core::marker::PhantomData;
@@ -86,6 +86,7 @@ fn array<const N: usize>(bytes: &[u8]) -> [u8; N] {
 
 as_bytes! {
     Battle, 384, "a battle", as_bytes, Battle::load;
+    Host, Host::LENGTH, "a host", to_bytes, |bytes: &[u8]| Host::from_bytes(&array(bytes));
     Row as RowFields, Row::LENGTH, "a row", to_bytes, |bytes: &[u8]| Row::from_bytes(&array(bytes)).ok_or(NO_ROW);
     OwnSide as OwnFields, OwnSide::LENGTH, "an own side", to_bytes, |bytes: &[u8]| OwnSide::from_bytes(&array(bytes));
     Message as MessageFields, Message::LENGTH, "a message", to_bytes, |bytes: &[u8]| Message::from_bytes(&array(bytes));

@@ -542,6 +542,22 @@ fn the_examples_of_the_schema() {
     assert_eq!(again.to_bytes(), notice.to_bytes());
 }
 
+#[cfg(feature = "serde")]
+#[test]
+fn serde_stores_the_bytes_of_a_host() {
+    use serde_json::{Value, from_value, json, to_value};
+    let (mut host, _) = table(HostOptions::default());
+    host.submit(Side::One, 0, Choice::MOVE_1, None).unwrap();
+    let bytes = host.to_bytes();
+    let stored: Value = to_value(&host).unwrap();
+    assert_eq!(stored, json!(&bytes[..]));
+    assert_eq!(from_value::<Host>(stored).unwrap().to_bytes(), bytes);
+    let short = from_value::<Host>(json!(&bytes[1..])).unwrap_err();
+    assert!(short.to_string().starts_with("invalid length"), "{short}");
+    let no_battle = from_value::<Host>(json!(vec![0; Host::LENGTH])).unwrap_err();
+    assert!(no_battle.to_string().contains("a host"), "{no_battle}");
+}
+
 #[test]
 fn bytes_that_nobody_sends_are_refused() {
     let (host, _) = table(HostOptions::default());
