@@ -2,15 +2,14 @@
 
 A file of code with a function has to be reached from a section of a document. A section has to have a definition, code, a worked
 example, a test and an edit. Each edit has to be applicable. The first line of a file says what it is, and the head of a lib.rt names
-each of its modules. The table of docs/ARCHITECTURE.md from twelve rules to their files has to be right. `tools/rules` prints what was
-read. Each field that the log makes public has to stand in a law of crates/gen1_player/specs/True.antt.
+each of its modules. `tools/rules` prints what was read. Each field that the log makes public has to stand in a law of crates/gen1_player/specs/True.antt.
 """
 
 import re
 
 import pytest
 from repository import ROOT, crates, edits, named_bodies
-from rule_files import collected, unreached, without_a_line, wrong_walks
+from rule_files import collected, unreached, without_a_line
 
 
 PLAYER = ROOT / "crates" / "gen1_player"
@@ -38,10 +37,6 @@ def test_every_edit_can_be_applied(rules):
 
 def test_the_first_line_of_a_file_says_what_it_is():
     failing(without_a_line())
-
-
-def test_the_table_of_twelve_rules(rules):
-    failing(wrong_walks(rules))
 
 
 def test_every_named_wrong_body_is_an_edit_of_every_gate(compared):

@@ -1,11 +1,10 @@
-"""Examples, laws and the names of contracts from crates/ in the documents that show them, so that each is said once.
+"""Examples and laws from crates/ in the documents that show them, so that each is said once.
 
-The documents are README.md, docs/PROVED.md and crates/*/CALLING.md. A document shows one of three things after a line with its mark:
+The documents are README.md, docs/PROVED.md and crates/*/CALLING.md. A document shows one of two things after a line with its mark:
 
     <!-- calling: NAME -->      an example: a part of crates/uses/src or of crates/gen1_c/src/the_theorem.rt, as a fenced block;
                                 after `NAME:` may be the names of the functions and types that are shown of it
     <!-- laws: CRATE .. -->     the laws of crates, each with the first paragraph of its `///` comment, up to a line `<!-- end -->`
-    <!-- contracts: CRATE -->   the public functions of a crate by file, up to a line `<!-- end -->`
 
 An example is between two lines of the source, which don't belong to it:
 
@@ -17,10 +16,12 @@ line between two. Each part loses its imports and the indentation of its first l
 with the name of a crate by the CALLING.md of that crate.
 """
 
+import os
 import re
 import sys
+from pathlib import Path
+from typing import NamedTuple
 
-from contracts import contracts, laws
 from repository import ROOT
 
 BEGIN = re.compile(r"\s*// calling: (\w+)")
@@ -28,7 +29,22 @@ END = re.compile(r"\s*// end")
 IMPORT = re.compile(r"(?:ghost )?use [^;]*;\n+")
 SHOWN = re.compile(r"(?m)^<!-- calling: (\w+)(?:: ([\w ]+))? -->\n```rust\n(?:.*\n)*?```$")
 ITEM = re.compile(r"\n\n(?=[/#\w])")
-LISTED = re.compile(r"(?m)^<!-- (laws|contracts): ([\w ]+) -->\n(?:.*\n)*?<!-- end -->$")
+LISTED = re.compile(r"(?m)^<!-- laws: ([\w ]+) -->\n(?:.*\n)*?<!-- end -->$")
+
+FUNCTION = re.compile(r'\s*(pub )?(?:const )?(?:extern "C" )?fn (\w+)')
+DOC = re.compile(r"\s*///\s?(.*)")
+ATTRIBUTE = re.compile(r"\s*#\[")
+# A place in a document, such as (docs/LAYOUT.md, "Loading"), which may contain parentheses within its quotes.
+PLACE = re.compile(r' ?\((?:docs|include)/[^"()]*(?:"[^"]*"[^"()]*)*\)')
+LINK = re.compile(r"\[(`[^`]*`)\](?:\([^)]*\))?")
+
+
+class Law(NamedTuple):
+    """A public function without a body: its file, its name and its comment."""
+
+    file: Path
+    name: str
+    doc: list
 
 
 def dedented(lines):
@@ -83,6 +99,45 @@ def items(text, names):
     return "\n\n".join(item for item in ITEM.split(text) if named.search(item))
 
 
+def paragraph(doc):
+    """The first paragraph of a comment, without the places in documents that it names."""
+    text = " ".join(doc[: doc.index("")] if "" in doc else doc)
+    return LINK.sub(r"\1", PLACE.sub("", text)).strip()
+
+
+def link(file, folder):
+    return os.path.relpath(file, folder)
+
+
+def laws(file):
+    """The laws of a file, in order."""
+    lines, doc = file.read_text().splitlines(), []
+    for at, line in enumerate(lines):
+        if found := DOC.match(line):
+            doc.append(found[1])
+            continue
+        found = FUNCTION.match(line)
+        if found and found[1] and body(lines[at:]) == "{}":
+            yield Law(file, found[2], doc)
+        if not ATTRIBUTE.match(line):
+            doc = []
+
+
+def body(lines):
+    """The line that the body of a function begins with."""
+    return next((it.strip() for it in lines if it.strip() in ("{", "{}") or it.endswith((" {", ";"))), "")
+
+
+def listing(crates, folder):
+    """The laws of these crates as lines of Markdown."""
+    for crate in crates:
+        found = [law for file in sorted((ROOT / "crates" / crate / "src").rglob("*.rt")) for law in laws(file)]
+        files = ", ".join(f"[{file.name}]({link(file, folder)})" for file in dict.fromkeys(law.file for law in found))
+        yield f"\n**{crate}** ({files}):\n\n"
+        for law in found:
+            yield f"- `{law.name}`: {paragraph(law.doc)}\n"
+
+
 def documents():
     return [ROOT / "README.md", ROOT / "docs" / "PROVED.md", *sorted((ROOT / "crates").glob("*/CALLING.md"))]
 
@@ -101,8 +156,7 @@ def written(document, texts):
         return f"<!-- calling: {mark} -->\n```rust\n{items(text, some) if some else text}\n```"
 
     def listed(found):
-        lists = {"laws": laws, "contracts": contracts}[found[1]]
-        return f"<!-- {found[1]}: {found[2]} -->\n{''.join(lists(found[2].split(), document.parent))}<!-- end -->"
+        return f"<!-- laws: {found[1]} -->\n{''.join(listing(found[1].split(), document.parent))}<!-- end -->"
 
     return LISTED.sub(listed, SHOWN.sub(block, document.read_text())), names
 

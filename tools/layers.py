@@ -7,7 +7,7 @@ those below; one that depends on a crate above, or that is in no layer, is an er
 import re
 import sys
 
-from contracts import link, purpose
+from calling import link, paragraph
 from repository import ROOT, crates
 
 DOCUMENT = ROOT / "docs" / "ARCHITECTURE.md"
@@ -64,6 +64,14 @@ def faults(known):
         for it in used:
             if name in height and it in height and height[it] > height[name]:
                 yield f"{name} names {it}, which is in a layer above its own"
+
+
+def purpose(crate):
+    """The file that a crate begins with, and the first sentence of its head."""
+    folder = ROOT / "crates" / crate / "src"
+    file = next(file for name in ("lib.rt", "main.rt") if (file := folder / name).is_file())
+    lines = [line[3:].strip() for line in file.read_text().splitlines() if line.startswith("//!")]
+    return file, re.match(r".*?\.(?= |$)", paragraph(lines))[0]
 
 
 def rows():

@@ -26,10 +26,6 @@ WITHOUT = {
         "definition": "crates/gen1_spectator/specs/Plain.antt: view_of, reading_of"
     },
 }
-# The table from twelve rules to their files.
-ARCHITECTURE = ROOT / "docs" / "ARCHITECTURE.md"
-WALKS = "| Rule | Definition | Code | Test |\n"
-LINK = re.compile(r"\[[^\]]*\]\(([^)]+)\)")
 DEFINITION = re.compile(r"(?:unfoldable |abbrev |opaque )*pub (\S+) : ")
 OPERATION = re.compile(
     r"\s*pub(?:\((?:crate|super)\))? (?:const |extern \"C\" )?(?:fn|struct|enum|trait|type) (\w+)|fn (main)\("
@@ -186,32 +182,3 @@ def without_a_line():
         for name in MODULE.findall(text) if file.name == "lib.rt" else ():
             if f"//! - `{name}`: " not in text:
                 yield f"{file.relative_to(ROOT)}: its head does not say what `{name}` is for"
-
-
-def walks():
-    """The rule, its section and its three files, of each row of the table; `Bide (Going on)` is Bide in the section "Going on"."""
-    table = ARCHITECTURE.read_text().partition(WALKS)[2]
-    for line in table.splitlines()[1:]:
-        if not line.startswith("|"):
-            return
-        rule, *cells = line.strip("| ").split(" | ")
-        section = re.search(r"\(([^)]*)\)$", rule)
-        links = [LINK.search(cell) for cell in cells]
-        yield rule, section[1] if section else rule, [
-            (ARCHITECTURE.parent / link[1]).resolve() for link in links if link
-        ]
-
-
-def wrong_walks(rules):
-    """What is wrong with the table: too few rows, or a file that does not belong to its section."""
-    found = list(walks())
-    if len(found) < 12:
-        yield f"docs/ARCHITECTURE.md: its table from rules to files has {len(found)} rows, and not twelve"
-    for rule, name, files in found:
-        section = Section("docs/MECHANICS.md", name)
-        if section not in rules.found or len(files) != 3:
-            yield f'docs/ARCHITECTURE.md, "{rule}": "{name}" is not a section of docs/MECHANICS.md, or it has not three files'
-            continue
-        for kind, file in zip(("definition", "code", "tests"), files):
-            if file not in [item.file for item in rules.of_kind(section, kind)]:
-                yield f'docs/ARCHITECTURE.md, "{rule}": {file.relative_to(ROOT)} has no {kind} of "{name}"'
