@@ -247,7 +247,7 @@ def test_before_the_first_update():
 
 
 def test_the_battle_of_the_example():
-    """As docs/PROGRAM.md shows it: two Tauros with Strength; the first turn hits each, and the second fells side 2."""
+    """As README.md shows it: two Tauros with Strength; the first turn hits each, and the second fells side 2."""
     battle = Battle([TAUROS], [TAUROS], SEED)
     tellers, players = [Teller(it) for it in (1, 2)], [Player(it, [TAUROS], 1) for it in (1, 2)]
     for choice in (0, 17, 17):

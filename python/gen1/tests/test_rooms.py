@@ -35,7 +35,7 @@ if RECORDED.is_dir():
 
 SEED = bytes([1, 36, 255, 7, 31, 100, 179, 254, 127, 10])
 STRONG = Team([Member("Tauros", ["Strength"])])
-# The first update of the battle that docs/PROGRAM.md shows: both come out, and turn 1 begins.
+# The first update of the battle that README.md shows: both come out, and turn 1 begins.
 START = bytes([2, 1, 128, 1, 100, 97, 1, 97, 1, 0, 2, 2, 128, 1, 100, 97, 1, 97, 1, 0, 1, 1, 0])
 
 

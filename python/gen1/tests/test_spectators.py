@@ -15,7 +15,7 @@ if RECORDED.is_dir():
     from battles import TRACES, recorded, traces
 
 KINDS = {0: Status.NONE, 8: Status.POISON, 16: Status.BURN, 32: Status.FREEZE, 64: Status.PARALYSIS}
-# The log of the battle that docs/PROGRAM.md shows: both come out, the first turn hits each, and the second fells side 2.
+# The log of the battle that README.md shows: both come out, the first turn hits each, and the second fells side 2.
 LOG = bytes.fromhex(
     "020180016461016101000202800164610161010001010003018046028007028005028095006101000003028046018005018007016101000001020003018046"
     "02800702800502800000610100001902801a01"

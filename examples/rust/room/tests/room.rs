@@ -1,4 +1,4 @@
-//! Rooms between processes: the lines of the battle that docs/PROGRAM.md shows, with HP in 48ths, whatever a player does.
+//! Rooms between processes: the lines of the battle that README.md shows, with HP in 48ths, whatever a player does.
 use std::fs;
 use std::path::PathBuf;
 use std::process::{Command, Output};
