@@ -200,12 +200,13 @@ def test_cpp17(compiler, it, needs):
 
 
 def test_examples_as_their_readmes_say(it, needs):
-    """Each example is built by its line of examples/c/README.md, in its folder, with the installed library."""
+    """Each example is built by its line of examples/README.md, in its folder, with the installed library."""
     needs("pkg-config")
     folder = it.work / "examples_c"
     shutil.copytree(ROOT / "examples" / "c", folder)
     built = 0
-    for section in re.split(r"(?m)^## ", (folder / "README.md").read_text())[1:]:
+    of_c = (ROOT / "examples" / "README.md").read_text().partition("\n## C\n")[2].partition("\n## ")[0]
+    for section in re.split(r"(?m)^### ", of_c)[1:]:
         for line in re.findall(r"(?m)^    (cc .*)$", section):
             ran("sh", "-c", line, cwd=folder / section.split(":")[0], env=it.environment)
             built += 1

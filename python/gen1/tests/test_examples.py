@@ -27,7 +27,7 @@ def loaded(name):
 @pytest.mark.parametrize("name", ["duel", "expectimax"])
 def test_the_table(name):
     """The program prints what its README shows."""
-    section = re.search(rf"(?ms)^## {name}:(.*?)(?=^## |\Z)", (EXAMPLES / "README.md").read_text())[1]
+    section = re.search(rf"(?ms)^### {name}:(.*?)(?=^##|\Z)", (EXAMPLES.parent / "README.md").read_text())[1]
     done = run(name)
     assert done.returncode == 0 and done.stdout == re.search(r"(?s)```text\n(.*?)```", section)[1]
 

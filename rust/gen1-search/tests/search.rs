@@ -132,7 +132,7 @@ fn equal_sides_win_half_of_the_time() {
     assert!(value.contains(0.5) && value.width() < 1e-6);
 }
 
-/// The table of examples/python/README.md, to its four digits.
+/// The table of examples/README.md, to its four digits.
 #[test]
 fn the_duel_at_level_5_has_the_values_of_its_table() {
     let battle = tauros();
