@@ -22,7 +22,6 @@ PYTEST = ("pytest", "_pytest", "pluggy", "iniconfig", "packaging", "attr", "attr
 QUICK = [
     "tests/test_faults.py",
     "tests/test_first_contact.py",
-    "tests/test_lazy.py",
     "tests/test_objects.py",
     "tests/test_views.py",
 ]

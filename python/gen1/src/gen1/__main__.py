@@ -3,7 +3,7 @@
 import os
 import sys
 
-from gen1._installed import installed
+from gen1._library import installed
 
 if __name__ == "__main__":
     program = installed("bin/gen1")

@@ -38,7 +38,7 @@ def _lawful(kind: type[Enum] | None) -> str:
 
 
 def _counts(value: Enum, kind: type[Enum] | None) -> bool:
-    """Whether a member of an enum may stand for its number."""
+    """Whether a member of an enum may be used as its number."""
     return isinstance(value, kind) if kind else not isinstance(type(value), NamedType)
 
 

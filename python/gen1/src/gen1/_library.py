@@ -6,6 +6,8 @@ longer than the call. A call that may take long releases the lock (`CDLL`).
 
 import ctypes
 import os
+import site
+import sysconfig
 from ctypes import POINTER, Structure, c_bool, c_char, c_size_t, c_uint8, c_uint16, c_uint32, c_uint64
 from ctypes.util import find_library
 from pathlib import Path
@@ -212,3 +214,9 @@ host_notice = bind("gen1_host_notice", None, _HOST, POINTER(NoticeStruct))
 host_number = bind("gen1_host_number", c_uint32, _HOST)
 host_awaited = bind("gen1_host_awaited", c_uint8, _HOST)
 host_result = bind("gen1_host_result", c_uint8, _HOST)
+
+
+def installed(name: str) -> Path | None:
+    """A file that a wheel installs outside the package, such as `bin/gen1`, in the folder where this package is; None if it is not there."""
+    folders = (Path(sysconfig.get_path("data")), Path(site.getuserbase()), Path(__file__).resolve().parents[1])
+    return next((folder / name for folder in folders if (folder / name).is_file()), None)

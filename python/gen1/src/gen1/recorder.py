@@ -10,7 +10,7 @@ from struct import pack
 from typing import Any
 
 from gen1._check import digits, listed, seed_bytes, shown, ten_bytes, whole
-from gen1._installed import installed
+from gen1._library import installed
 from gen1.battle import Battle, SeedLike, TeamLike, Update, sides_of
 from gen1.choices import Choice, Rules, Side
 from gen1.errors import BadArgument, Refused
