@@ -24,6 +24,11 @@ export function shown(value) {
   return text.length > MOST_SHOWN ? `${text.slice(0, MOST_SHOWN)}..` : text;
 }
 
+/** A name and fields, as console.log and util.inspect show an object of a class in Node. */
+export function inspected(name, fields, options, inspect) {
+  return `${name} ${inspect ? inspect(fields, options) : JSON.stringify(fields)}`;
+}
+
 /** The error for an argument of the wrong type. */
 export function wrongType(value, what, lawful) {
   return new ArgumentTypeError(`${what} is ${shown(value)}, not ${lawful}`, what);

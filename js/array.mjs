@@ -1,10 +1,9 @@
 // Many battles side by side in the module's memory, updated in one call, with numbers in typed arrays.
 import {BATTLE_SIZE} from "./arena.mjs";
-import {list, playoutSeed, record, sideOf, within, wrongType} from "./arguments.mjs";
+import {inspected, list, playoutSeed, record, sideOf, within, wrongType} from "./arguments.mjs";
 import {Battle, loadError, playoutOptions} from "./battle.mjs";
 import {ArgumentError, FreedError} from "./errors.mjs";
 import {CODES} from "./header.mjs";
-import {inspected} from "./inspecting.mjs";
 import {COLUMNS, fillRow, PLAYER_SIZE, TELLER_SIZE} from "./observing.mjs";
 import {Player, Teller} from "./players.mjs";
 import {made} from "./update.mjs";

@@ -1,10 +1,9 @@
 // A battle: 384 bytes in the module's memory.
 import {BATTLE_SIZE} from "./arena.mjs";
-import {byteOr255, choiceByte, choicesIn, choiceText, object, playoutSeed, record, seedFor, shown, sideOf, truth, whole, within, wrongType} from "./arguments.mjs";
+import {byteOr255, choiceByte, choicesIn, choiceText, inspected, object, playoutSeed, record, seedFor, shown, sideOf, truth, whole, within, wrongType} from "./arguments.mjs";
 import {ArgumentError, DamageError, FreedError, LoadError, RefusedError} from "./errors.mjs";
 import {guessOf, stateGuessed} from "./guesses.mjs";
 import {CODES} from "./header.mjs";
-import {inspected} from "./inspecting.mjs";
 import {outcomeOptions, outcomesOf} from "./outcomes.mjs";
 import {libraryOf} from "./players.mjs";
 import {blockOfState, indexOf, isState, memberAt} from "./states.mjs";

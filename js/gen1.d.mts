@@ -15,9 +15,9 @@ declare global {
   }
 }
 
-/** A species as an argument: its name, or its number from 1 to 151. Of a name only letters and digits count, in either case. */
+/** A species as an argument: its name, or its number from 1 to 151. Only the letters and digits of a name count, in either case. */
 export type SpeciesLike = SpeciesName | number | (string & {});
-/** A move as an argument: its name, or its number from 1 to 165. Of a name only letters and digits count, in either case. */
+/** A move as an argument: its name, or its number from 1 to 165. Only the letters and digits of a name count, in either case. */
 export type MoveLike = MoveName | number | (string & {});
 /** A choice as `choices` returns it. */
 export type ChoiceName = "pass" | `move ${0 | 1 | 2 | 3 | 4}` | `switch ${1 | 2 | 3 | 4 | 5 | 6}`;
@@ -248,8 +248,8 @@ export interface Odds {
   /** Why the use cannot hit, one of REASONS; null if it can. */
   reason: string | null;
   /**
-   * Without the usual damage: the least and the most damage; all from the least to the most are equally likely. Null if there is none. Of a
-   * move that is `oneHit` both are 65535, which is no number of HP to print.
+   * Without the usual damage: the least and the most damage; all from the least to the most are equally likely. Null if there is none. For a
+   * move that is `oneHit` both are 65535, which is not an amount of HP to print.
    */
   fixed: [number, number] | null;
   /** Whether it is Fissure, Guillotine or Horn Drill. A use that hits breaks any substitute and knocks out any foe. */

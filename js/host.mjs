@@ -1,9 +1,8 @@
 // A battle of two players and an audience, each of whom is sent what it may know (docs/MECHANICS.md, "Hosts").
-import {choiceBytesIn, choicesIn, choiceText, list, maskOf, octets, record, sideOf, truth, wrongType} from "./arguments.mjs";
+import {choiceBytesIn, choicesIn, choiceText, inspected, list, maskOf, octets, record, sideOf, truth, wrongType} from "./arguments.mjs";
 import {Battle} from "./battle.mjs";
 import {ArgumentError, HostError, LoadError} from "./errors.mjs";
 import {CODES} from "./header.mjs";
-import {inspected} from "./inspecting.mjs";
 import {Row} from "./row.mjs";
 import {bytesOfJson, fieldOf, jsonOf, layoutOf} from "./structs.mjs";
 import {made} from "./update.mjs";

@@ -1,9 +1,8 @@
 // All battles that an update can lead to, with their exact probabilities.
 import {BATTLE_SIZE} from "./arena.mjs";
-import {probability, record, within} from "./arguments.mjs";
+import {inspected, probability, record, within} from "./arguments.mjs";
 import {Gen1Error} from "./errors.mjs";
 import {CODES} from "./header.mjs";
-import {inspected} from "./inspecting.mjs";
 import {bytesOf} from "./teams.mjs";
 import {made} from "./update.mjs";
 

@@ -1,11 +1,10 @@
 // The knowledge that one side of a battle may have, and the teller that reports to it (docs/MECHANICS.md, "Player's view").
-import {choicesIn, octets, record, sideOf, truth, within, wrongType} from "./arguments.mjs";
+import {choicesIn, inspected, octets, record, sideOf, truth, within, wrongType} from "./arguments.mjs";
 import {Battle} from "./battle.mjs";
 import {ArgumentError} from "./errors.mjs";
 import {logErrorAfter} from "./events.mjs";
 import {CODES} from "./header.mjs";
 import {shownIn} from "./host.mjs";
-import {inspected} from "./inspecting.mjs";
 import {fieldOf, layoutOf, offsetsOf, readStruct} from "./structs.mjs";
 import {SPECIES} from "./tables.mjs";
 import {teamAt, teamError, teamGiven} from "./teams.mjs";

@@ -1,10 +1,9 @@
 // A battle of two players who choose independently (docs/MECHANICS.md, "Rooms").
 import {BATTLE_SIZE} from "./arena.mjs";
-import {choiceByte, choiceOf, seedFor, sideOf, within, wrongType} from "./arguments.mjs";
+import {choiceByte, choiceOf, inspected, seedFor, sideOf, within, wrongType} from "./arguments.mjs";
 import {Battle, notOffered, putSeed} from "./battle.mjs";
 import {RoomError} from "./errors.mjs";
 import {CODES} from "./header.mjs";
-import {inspected} from "./inspecting.mjs";
 import {fieldOf, layoutOf} from "./structs.mjs";
 import {made, Update} from "./update.mjs";
 import {resultOf} from "./views.mjs";

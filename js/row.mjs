@@ -1,7 +1,6 @@
 // What happens at a host, as values of 18 bytes that can be stored (docs/MECHANICS.md, "Hosts").
-import {choiceByte, freshNumbers, octets, record, seedOf, shown, sideOf, whole, within, wrongType} from "./arguments.mjs";
+import {choiceByte, freshNumbers, inspected, octets, record, seedOf, shown, sideOf, whole, within, wrongType} from "./arguments.mjs";
 import {ArgumentError, ArgumentTypeError} from "./errors.mjs";
-import {inspected} from "./inspecting.mjs";
 
 /** The kinds of rows. The number of each, in the first byte, is one more than its index. */
 export const ROW_KINDS = Object.freeze(["submit", "cancel", "expire", "draw", "forfeit"]);

@@ -1,7 +1,6 @@
 // A spectator's knowledge of a battle, from both teams and the log alone (docs/MECHANICS.md, "Spectator's view").
-import {octets} from "./arguments.mjs";
+import {inspected, octets} from "./arguments.mjs";
 import {logErrorAfter} from "./events.mjs";
-import {inspected} from "./inspecting.mjs";
 import {fieldOf, layoutOf, readStruct} from "./structs.mjs";
 import {teamAt, teamError, teamGiven} from "./teams.mjs";
 import {made} from "./update.mjs";

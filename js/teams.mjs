@@ -1,8 +1,7 @@
 // Teams in the library's form, from objects and from a team builder's text, and the errors for them.
-import {byteOr255, list, nearest, numbers, record, shown, text, within, wrongType} from "./arguments.mjs";
+import {byteOr255, inspected, list, nearest, numbers, record, shown, text, within, wrongType} from "./arguments.mjs";
 import {ArgumentError, TeamError, TextError} from "./errors.mjs";
 import {CODES, TEXT_FAULTS} from "./header.mjs";
-import {inspected} from "./inspecting.mjs";
 import {layoutOf, writeStruct} from "./structs.mjs";
 import {MOVE_ROWS, MOVES, SPECIES, SPECIES_ROWS, TYPES} from "./tables.mjs";
 import {made} from "./update.mjs";

@@ -1,7 +1,7 @@
 // The result of an update, and its log, which is decoded when it is read.
+import {inspected} from "./arguments.mjs";
 import {ArgumentTypeError} from "./errors.mjs";
 import {eventsOf, linesOf} from "./events.mjs";
-import {inspected} from "./inspecting.mjs";
 import {Library} from "./memory.mjs";
 import {resultOf} from "./views.mjs";
 
