@@ -1,7 +1,6 @@
 // The lobby of a server: formats and teams, searches, challenges, open battles and ratings.
 import {copy, done, find, guarded, inField, make, Problem} from "./dom.js";
-import {sampleTeams, savedTeams} from "./team_lists.js";
-import {textOf} from "./team_text.js";
+import {sampleTeams, savedTeams, textOf} from "./team_lists.js";
 
 /**
  * @typedef {{ title: string, team: boolean, rules?: number, limit?: number }} Format its title, and whether players bring their teams

@@ -4,8 +4,7 @@ import {decoded, encoded, joined, MEMBER, memberBytes, memberOf} from "./bytes.j
 import {blame, copy, done, find, guarded, inField, make, Problem} from "./dom.js";
 import {MemberForm, STATS} from "./member_form.js";
 import {badge} from "./sides.js";
-import {areKnown, sampleTeams, savedTeams, saveTeams, setOf} from "./team_lists.js";
-import {textOf, titleOf} from "./team_text.js";
+import {areKnown, sampleTeams, savedTeams, saveTeams, setOf, textOf, titleOf} from "./team_lists.js";
 
 /**
  * @typedef {import("./engine.js").Member} Member
