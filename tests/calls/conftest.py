@@ -12,8 +12,7 @@ from repository import ROOT
 sys.path.insert(0, str(ROOT / "examples" / "python"))
 
 import gen1  # noqa: E402
-from batches import declare, steps_of  # noqa: E402
-from states import declare_views  # noqa: E402
+from structs import declare, declare_views, steps_of  # noqa: E402
 
 
 @pytest.fixture(scope="session")

@@ -4,9 +4,8 @@ from ctypes import byref, c_size_t, c_uint8, c_uint16, c_uint64
 from fractions import Fraction
 
 import pytest
-from batches import KEPT, BatchUpdate, array_of, draws, reseeded
 from battles import loads, recorded
-from states import PlayoutOptionsStruct, PlayoutsStruct
+from structs import BatchUpdate, KEPT, PlayoutOptionsStruct, PlayoutsStruct, array_of, draws, reseeded
 
 
 def bit_of(choice):

@@ -7,8 +7,8 @@ import sys
 import pytest
 from battle_input import as_numbers
 from battles import in_codes
-from playing import cases_of
 from repository import ROOT
+from structs import cases_of
 
 PLAYED = ("battles", "rules", "limit", "first_path")
 STRICT = ("-std=c11", "-O2", "-Wall", "-Wextra", "-Werror", "-I", "include")

@@ -7,10 +7,9 @@ from ctypes import byref, c_size_t, c_uint8
 
 import gen1
 from battles import TRACES, recorded, traces
-from playing import battle_of, cases_of, member
 from repository import ROOT
-from states import state_read
 from tables import numbered, table
+from structs import battle_of, cases_of, member, state_read
 
 # The conditions that matter to a hit (docs/LAYOUT.md, "Condition bits").
 INVULNERABLE, MIST, FOCUS_ENERGY = 32, 128, 256

@@ -4,8 +4,8 @@ import ctypes
 from ctypes import byref, c_uint32
 from fractions import Fraction
 from struct import Struct
+from structs import KEPT, OutcomeList, OutcomeOptions, Way, array_of
 
-from batches import KEPT, OutcomeList, OutcomeOptions, Way, array_of
 
 SUCCESSOR = Struct("<384sQQ")
 PLACES = 65536

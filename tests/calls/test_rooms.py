@@ -5,8 +5,7 @@ from ctypes import byref, c_uint8
 
 import gen1
 from battles import TRACES, recorded, traces
-from playing import battle_of, cases_of, team_of
-from states import state_read
+from structs import battle_of, cases_of, state_read, team_of
 
 # The conditions that a spectator sees (docs/LAYOUT.md, "Condition bits").
 CONFUSED, SUBSTITUTE, LIGHT_SCREEN, REFLECT = 64, 512, 16384, 32768

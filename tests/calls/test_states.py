@@ -7,10 +7,9 @@ from ctypes import byref, c_uint8
 
 import pytest
 from battles import loads, recorded
-from playing import bytes_of_battles
 from repository import ROOT
-from states import StateStruct, filled, plain, state_read
 from tables import effect_names, element_names, numbered, table
+from structs import StateStruct, bytes_of_battles, filled, plain, state_read
 
 ROOM, KEPT = 128, b"\x07" * 128
 OFTEN_CRITICAL = ("Karate Chop", "Razor Leaf", "Crabhammer", "Slash")

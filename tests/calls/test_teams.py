@@ -5,11 +5,10 @@ from ctypes import byref, c_uint16
 from math import isqrt
 
 import gen1
-from batches import KEPT, TextFault
 from battles import cases, recorded
-from playing import battle_of, member
 from repository import ROOT
 from tables import numbered, table
+from structs import KEPT, TextFault, battle_of, member
 
 
 def export_text(members):

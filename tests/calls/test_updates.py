@@ -6,7 +6,7 @@ import json
 import gen1
 from battle_input import MOVES
 from battles import in_codes, loads, newest_form, recorded
-from playing import battle_of, battles_of, cases_of, member
+from structs import battle_of, battles_of, cases_of, member
 
 
 def test_updates(library, battles, checks):

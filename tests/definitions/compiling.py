@@ -10,7 +10,7 @@ from functools import cache, lru_cache
 
 from definitions import reading
 from definitions.modules import Constructor, Definition, Kind, Word
-from definitions.terms import Apply, Arrow, Elim, Lambda, Let, Name, Number, Project, Record, Term, Text, Tuple
+from definitions.reading import Apply, Arrow, Elim, Lambda, Let, Name, Number, Project, Record, Term, Text, Tuple
 from definitions.words import SPACE, WORDS
 
 MEMORY = 1 << 16

@@ -3,7 +3,7 @@
 from definitions import reading
 from definitions.compiling import Scope
 from definitions.machine import FAULTS
-from definitions.terms import Apply, Name, Tuple
+from definitions.reading import Apply, Name, Tuple
 
 COMPUTED = "computing"
 

@@ -4,7 +4,7 @@ import re
 from pathlib import Path
 
 from definitions import reading
-from definitions.terms import Arrow
+from definitions.reading import Arrow
 
 ROOT = Path(__file__).resolve().parent.parent.parent
 ENUMERATION = re.compile(r"^(?:pub )?enum (\w+)[^{]*\{(.*?)^\}", re.M | re.S)

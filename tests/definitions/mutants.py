@@ -5,12 +5,11 @@ from collections import Counter
 from functools import cache
 
 from definitions import reading
-from definitions.branches import Branches
 from definitions.compiling import spine
-from definitions.coverage import updates_of
+from definitions.coverage import Branches, updates_of
 from definitions.machine import FAULTS, Machine
 from definitions.modules import Constructor, Definition, Word
-from definitions.terms import Apply, Elim, Name, Number, Record, all_parts
+from definitions.reading import Apply, Elim, Name, Number, Record, all_parts
 
 PRELUDE = "Rattle.std.specs.Prelude"
 # The replacement of a word or an operator; `==` becomes `≤`.
