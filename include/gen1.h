@@ -1120,8 +1120,8 @@ typedef struct gen1_state {
 } gen1_state;
 
 /*
- * Writes the state that a battle's bytes represent to `*state`, every field of it. Of bytes that are no battle, `rules`, `outcome`,
- * `requests`, `index` and `numbers` are copied as they are, and each `status` is 0 to 5.
+ * Writes the state that a battle's bytes represent to `*state`, every field of it. For bytes that aren't a battle, `rules`,
+ * `outcome`, `requests`, `index` and `numbers` are copied as they are, and each `status` is 0 to 5.
  */
 void gen1_get_state(const gen1_battle *battle, gen1_state *state);
 
