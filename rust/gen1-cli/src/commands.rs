@@ -3,7 +3,7 @@ use crate::fault::Fault;
 use crate::files::put;
 use crate::game::{self, Step};
 use crate::input::chosen::Chosen;
-use crate::input::{Given, Members, Misfit, key, keys, noted, team};
+use crate::input::{CALCULATION_KEYS, Given, Members, Misfit, key, noted, team};
 use crate::json::{EventObject, UpdateObject, line_of, offered};
 use crate::{screen, showdown};
 use gen1::{
@@ -121,7 +121,7 @@ pub struct Calculation {
 impl Calculation {
     pub fn read(input: &[u8], strict: bool) -> Result<Calculation, Fault> {
         let value: Value = serde_json::from_slice(input)?;
-        let notes = noted(&value, keys::CALCULATION, strict)?;
+        let notes = noted(&value, CALCULATION_KEYS, strict)?;
         let members = [member(&value, "attacker")?, member(&value, "defender")?];
         let (id, critical) = (key(&value, "move")?, key(&value, "critical")?);
         Ok(Calculation {

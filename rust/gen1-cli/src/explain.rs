@@ -1,10 +1,9 @@
 //! `gen1 explain`: a battle in sentences, with each draw, its effect, and the effect that another byte would have had.
 //!
 //! The effect of a draw is found by trial: copies of the battle, in which the draw gives another byte, are updated.
-use crate::draws::{NUMBERS, drawn, with_draw};
 use crate::fault::Fault;
 use crate::files::put;
-use crate::game::{self, Step};
+use crate::game::{self, NUMBERS, Step, drawn, with_draw};
 use crate::input::Given;
 use crate::screen;
 use crate::sentences::sentence;

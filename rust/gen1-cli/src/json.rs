@@ -1,6 +1,6 @@
 //! Objects for programs (docs/PROGRAM.md, "Objects"): updates, events, choices and draws.
-use crate::draws::drawn;
 use crate::game::Step;
+use crate::game::drawn;
 use crate::screen;
 use gen1::{
     Battle, BattleResult, CantReason, DamageSource, Event, Health, Kind, MoveId, Side, Species,

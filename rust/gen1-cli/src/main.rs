@@ -7,7 +7,6 @@ mod bot;
 mod calc;
 mod closed;
 mod commands;
-mod draws;
 mod explain;
 mod fault;
 mod files;
@@ -17,7 +16,6 @@ mod help;
 mod input;
 mod json;
 mod league;
-mod names;
 mod play;
 mod random;
 mod replay;
@@ -76,7 +74,7 @@ fn done(command: &Command) -> Result<(), Fault> {
         }),
         Command::Explain(asked) => on_battle(&asked.battle, explain::explain),
         Command::Team(asked) => team::convert(asked),
-        Command::Names(asked) => names::names(asked),
+        Command::Names(asked) => team::names(asked),
         Command::Showdown(asked) => showdown::simulate(asked),
         Command::Follow(asked) => follow::follow(asked),
         Command::Think(asked) => on_battle(&asked.battle, |given| search::think(asked, given)),

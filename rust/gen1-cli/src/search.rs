@@ -31,7 +31,7 @@ pub struct Think {
     /// The nodes of the search, in place of a level
     #[arg(long, value_parser = clap::value_parser!(u64).range(1..=1_000_000_000), conflicts_with = "level")]
     nodes: Option<u64>,
-    /// Ends the search after so many milliseconds; without --nodes there is no other end
+    /// Ends the search after so many milliseconds; without --nodes nothing else ends it
     #[arg(long, value_parser = clap::value_parser!(u64).range(1..=3_600_000), conflicts_with = "level")]
     ms: Option<u64>,
     /// A seed of the search; the same seed and nodes give the same result

@@ -1,8 +1,7 @@
 //! The command line: subcommands and their arguments.
 use crate::input::{Input, Terms};
 use crate::{
-    batch, bench, calc, explain, follow, help, league, names, play, replay, search, shell,
-    showdown, team,
+    batch, bench, calc, explain, follow, help, league, play, replay, search, shell, showdown, team,
 };
 use clap::{Args, Parser, Subcommand};
 
@@ -49,7 +48,7 @@ pub enum Command {
     #[command(after_help = help::TEAM)]
     Team(team::Convert),
     /// Lists the names of species or moves
-    Names(names::Names),
+    Names(team::Names),
     /// Speaks the text protocol of Showdown's simulator over standard input and output
     #[command(after_help = help::SHOWDOWN)]
     Showdown(showdown::Showdown),

@@ -1,5 +1,5 @@
-//! Recorded battles in the other forms of input and output: choices in words, teams as text, JSON Lines and objects. They are the battles
-//! of the bytes (docs/PROGRAM.md).
+//! Recorded cases, which the program reproduces byte for byte, and the recorded battles in the other forms of input and output: choices in
+//! words, teams as text, JSON Lines and objects. They are the battles of the bytes (docs/PROGRAM.md).
 mod common;
 #[path = "common/lines.rs"]
 mod lines;
@@ -390,4 +390,43 @@ fn updates_have_the_recorded_draws_and_offers() {
                 .is_none_or(|last| state["bytes"] == last["bytes"])
         );
     }
+}
+
+fn bytes_of(hex: &str) -> Vec<u8> {
+    (0..hex.len() / 2)
+        .map(|at| u8::from_str_radix(&hex[2 * at..2 * at + 2], 16).expect("hexadecimal digits"))
+        .collect()
+}
+
+fn is_answered(case: &Value) {
+    let name = case["name"].as_str().expect("a name");
+    let words: Vec<&str> = case["args"]
+        .as_array()
+        .expect("words")
+        .iter()
+        .filter_map(Value::as_str)
+        .collect();
+    let input = match case["hex"].as_str() {
+        Some(hex) => bytes_of(hex),
+        None => case["input"].as_str().unwrap_or_default().into(),
+    };
+    let done = ran(&words, &input);
+    let printed = String::from_utf8_lossy(&done.stdout);
+    assert_eq!(printed, case["stdout"].as_str().expect("stdout"), "{name}");
+    if let Some(told) = case["stderr"].as_str() {
+        assert_eq!(String::from_utf8_lossy(&done.stderr), told, "{name}");
+    }
+    assert_eq!(
+        done.status.code().map(i64::from),
+        Some(case["status"].as_i64().unwrap_or(0)),
+        "{name}"
+    );
+}
+
+#[test]
+fn recorded_cases_are_answered_as_recorded() {
+    let others = ["calc", "errors", "print", "room"];
+    let cases = FILES.iter().chain(&others).flat_map(|name| recorded(name));
+    let count = cases.inspect(is_answered).count();
+    println!("{count} recorded cases");
 }

@@ -105,7 +105,7 @@ impl Keys {
         key.extend(self.places.iter().map(|at| bytes[usize::from(*at)]));
     }
 
-    /// The battle of a key; `None` for bytes that are no key.
+    /// The battle of a key; `None` for bytes that aren't a key.
     pub fn battle(&self, key: &[u8]) -> Option<Battle> {
         let mut bytes = self.start;
         for (at, byte) in self.places.iter().zip(key) {

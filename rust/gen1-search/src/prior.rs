@@ -90,7 +90,7 @@ impl Prior {
     ///
     /// # Errors
     ///
-    /// The guessed members are no team. This is not known to happen.
+    /// The guessed members aren't a team. This is not known to happen.
     pub fn guess(&self, player: &Player, dice: &mut Dice) -> Result<Team, TeamRefusal> {
         let seen: Vec<&Seen> = player
             .foe()

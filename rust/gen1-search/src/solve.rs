@@ -254,12 +254,12 @@ impl Solver {
         Some(self.values[self.index.find(&self.key(battle)?)?])
     }
 
-    /// The bytes that tell the position of a battle from the others of this solver; `None` if the battle has other members than the start.
+    /// The bytes that distinguish the position of a battle from the others of this solver; `None` if the battle has other members than the start.
     #[must_use]
     pub fn key(&self, battle: &Battle) -> Option<Vec<u8>> {
         let mut key = Vec::new();
         self.keys.write(battle, &mut key);
-        // The bytes that are no part of a key are those of the start, or it is a battle of others.
+        // The bytes outside a key are those of the start, or it is a battle of other members.
         let is_of_start = self.keys.battle(&key)?.as_bytes() == &self.keys.canonical(battle);
         is_of_start.then_some(key)
     }

@@ -87,7 +87,7 @@ pub enum ThinkFault {
     NoChoice,
     /// No guess of the foe's team fits what the player knows: why the last of them was refused.
     NoGuess(GuessFault),
-    /// A guessed team is no team.
+    /// A guessed team isn't a valid team.
     Team(TeamRefusal),
 }
 

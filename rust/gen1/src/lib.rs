@@ -100,7 +100,6 @@ mod guess;
 mod host;
 pub mod layout;
 mod lines;
-mod mask;
 mod odds;
 mod outcomes;
 mod player;
@@ -154,7 +153,6 @@ pub use from_state::{StateFault, StateField};
 pub use guess::{Guess, GuessFault};
 pub use host::{Host, HostOptions, Message, Notice, Row};
 pub use lines::{Events, Line, Lines, events_of};
-pub use mask::OfferedMask;
 pub use odds::{Between, Chances, DamageRefusal, HpChange, Odds, ThreeChances};
 #[cfg(feature = "alloc")]
 pub use outcomes::OutcomeList;
@@ -165,7 +163,7 @@ pub use room::Room;
 pub use spectator::Spectator;
 pub use state::{ActiveState, MemberState, SideState, State};
 pub use teams::{NameFault, member};
-pub use update::{Chosen, EventSink, Offered, Silent, Update};
+pub use update::{Chosen, EventSink, Offered, OfferedMask, Silent, Update};
 #[doc(inline)]
 pub use wire::WireFault;
 

@@ -1,6 +1,6 @@
 //! The players: one that tries its choices with playouts, and one that chooses at random.
-use crate::guesses;
 use crate::random::Random;
+use crate::teams;
 use gen1::{Battle, Choice, Offered, Outcome, Player, Side};
 
 /// The information that a bot may use.
@@ -16,7 +16,7 @@ impl Sight<'_> {
     /// A battle to play to its end, with its own numbers: a fork would draw the same numbers as the battle, so the bot would foresee its luck.
     fn fork(self, random: &mut Random) -> Battle {
         match self {
-            Sight::Fair(player) => guesses::drawn(player, random),
+            Sight::Fair(player) => teams::guessed(player, random),
             Sight::Cheating(battle) => {
                 let mut fork = battle.clone();
                 fork.reseed(random.seed());

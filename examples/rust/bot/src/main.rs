@@ -1,8 +1,6 @@
 //! Battles of a player that tries each of its choices with playouts, against one that chooses at random.
 mod bot;
-mod guesses;
 mod random;
-mod share;
 mod teams;
 
 use bot::Sight;
@@ -189,7 +187,7 @@ impl Words {
         } else {
             format!("a cheating one of {}", self.foe)
         };
-        let (low, high) = share::interval(won, self.battles);
+        let (low, high) = interval(won, self.battles);
         format!(
             "{} battles of {} members a side, seed {}: a {} bot of {} playouts a choice against {foe}\n\
              won {won}, lost {lost}, tied {tied}\n\
@@ -251,4 +249,35 @@ fn main() -> ExitCode {
         let _ = writeln!(std::io::stderr(), "{:.1} s", begun.elapsed().as_secs_f64());
     }
     ExitCode::SUCCESS
+}
+
+/// Wilson's 95 % interval of a share: `won` of `count`, which is not 0.
+pub fn interval(won: u32, count: u32) -> (f64, f64) {
+    const Z: f64 = 1.959_963_984_540_054;
+    let (n, share) = (f64::from(count), f64::from(won) / f64::from(count));
+    let middle = share + Z * Z / (2.0 * n);
+    let half = Z * (share * (1.0 - share) / n + Z * Z / (4.0 * n * n)).sqrt();
+    let whole = 1.0 + Z * Z / n;
+    ((middle - half) / whole, (middle + half) / whole)
+}
+
+#[cfg(test)]
+mod tests {
+    use super::interval;
+
+    /// Published numbers: 8 of 10, none of 10, and 81 of 263 (Newcombe 1998).
+    #[test]
+    fn intervals_are_wilsons() {
+        for (won, count, low, high) in [
+            (8, 10, 0.490, 0.943),
+            (0, 10, 0.0, 0.278),
+            (81, 263, 0.2553, 0.3662),
+        ] {
+            let (found_low, found_high) = interval(won, count);
+            assert!(
+                (found_low - low).abs() < 6e-4 && (found_high - high).abs() < 6e-4,
+                "{found_low} {found_high}"
+            );
+        }
+    }
 }

@@ -1,6 +1,5 @@
 //! The program's inputs (docs/PROGRAM.md, "Input", "Text in place of JSON").
 pub mod chosen;
-pub mod keys;
 mod options;
 
 use crate::fault::Fault;
@@ -9,6 +8,7 @@ use chosen::Chosen;
 use gen1::{Battle, MemberSpec, Rules, Team, TurnLimit};
 pub use gen1_showdown::Members;
 pub use gen1_showdown::reading::{self as near, Misfit, Typed, key, optional_key, shown};
+use near::{did_you_mean, nearest_word};
 pub use options::{Input, ReadTerms, Seed, Terms, seed_in};
 use serde_json::Value;
 use std::path::Path;
@@ -44,7 +44,7 @@ impl Given {
     /// A JSON object.
     pub fn of_json(bytes: &[u8], terms: ReadTerms, strict: bool) -> Result<Given, Fault> {
         let value = serde_json::from_slice(bytes)?;
-        let notes = noted(&value, keys::BATTLE, strict)?;
+        let notes = noted(&value, BATTLE_KEYS, strict)?;
         let pairs = None;
         Ok(Given {
             value,
@@ -127,7 +127,7 @@ impl Given {
 
 /// The unknown keys of an object, or with `strict` the error for the first of them.
 pub fn noted(value: &Value, known: &[&str], strict: bool) -> Result<Vec<String>, Fault> {
-    let notes = keys::unknown(value, known);
+    let notes = unknown_keys(value, known);
     match notes.first() {
         Some(first) if strict => Err(Fault::unknown_key(first)),
         _ => Ok(notes),
@@ -190,4 +190,68 @@ pub fn team_in(file: Option<&Path>) -> Result<Members, Fault> {
 /// The team of a side, 1 or 2.
 pub fn team(side: u8, members: &[MemberSpec]) -> Result<Team, Fault> {
     Team::new(members).map_err(|why| Fault::team(side, why))
+}
+
+/// The keys of an object of `run` and of `room`.
+pub const BATTLE_KEYS: &[&str] = &[
+    "seed",
+    "one",
+    "two",
+    "rules",
+    "limit",
+    "choices",
+    "submissions",
+];
+/// The keys of an object of `calc`.
+pub const CALCULATION_KEYS: &[&str] = &["attacker", "defender", "move", "critical"];
+const MEMBER_KEYS: &[&str] = &["species", "level", "dvs", "exp", "moves"];
+
+/// How many keys are listed.
+const LISTED: usize = 3;
+
+/// The keys that were found: a sentence for each of the first, and how many more there are.
+#[derive(Default)]
+struct Found {
+    listed: Vec<String>,
+    more: usize,
+}
+
+/// A sentence for each unknown key of an input, with the key that may be meant. Only the first are listed.
+fn unknown_keys(value: &Value, known: &[&str]) -> Vec<String> {
+    let mut found = Found::default();
+    found.collect(value, known, ".");
+    for key in ["one", "two"] {
+        let members = value.get(key).and_then(Value::as_array);
+        for (number, member) in members.into_iter().flatten().enumerate() {
+            found.collect(member, MEMBER_KEYS, &format!(".{key}[{number}]"));
+        }
+    }
+    let members = ["attacker", "defender"].into_iter();
+    for key in members.filter(|key| known.contains(key)) {
+        if let Some(member) = value.get(key) {
+            found.collect(member, MEMBER_KEYS, &format!(".{key}"));
+        }
+    }
+    let mut listed = found.listed;
+    if found.more > 0 {
+        listed.push(format!("{} more unknown keys", found.more));
+    }
+    listed
+}
+
+impl Found {
+    fn collect(&mut self, value: &Value, known: &[&str], path: &str) {
+        let Some(object) = value.as_object() else {
+            return;
+        };
+        for key in object.keys().filter(|key| !known.contains(&key.as_str())) {
+            if self.listed.len() == LISTED {
+                self.more += 1;
+                continue;
+            }
+            let meant = did_you_mean(nearest_word(key, known.iter().copied()));
+            let sentence = format!("at {path}: unknown key {}{meant}", shown(key));
+            self.listed.push(sentence);
+        }
+    }
 }

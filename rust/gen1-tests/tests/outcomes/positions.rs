@@ -1,5 +1,5 @@
 //! Positions of random battles: their outcomes against all strings of bytes, against samples, and against their ways.
-use crate::lists::{ALL, Bytes, List, ONE, TWO, expect_sums_of_ways};
+use crate::{ALL, Bytes, List, ONE, TWO, expect_sums_of_ways};
 use gen1::generated::events::{LogBuf, Silent};
 use gen1::generated::layout::Packed;
 use gen1::generated::machine::{Choice, Request, Side};

@@ -1,5 +1,5 @@
 //! Outcomes of updates that were worked by hand.
-use crate::lists::{ALL, Fraction, List, ONE, TWO, expect_sums_of_ways, reduced};
+use crate::{ALL, Fraction, List, ONE, TWO, expect_sums_of_ways, reduced};
 use gen1::generated::engine::Refusal;
 use gen1::generated::events::Silent;
 use gen1::generated::layout::{Conditions, Packed};

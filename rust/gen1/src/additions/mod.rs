@@ -1,21 +1,16 @@
 //! Traits that Rust users expect of the engine's types, in addition to the generated sources: text, order, hash and serde's data. These
 //! convert values, and contain no rule of battle (docs/PLAIN.md, "What is added").
 
-mod engine;
-mod events;
+mod battles;
+mod chances;
 mod host;
-mod layout;
 mod machine;
-mod odds;
-mod outcomes;
 mod player;
-mod playouts;
-mod room;
 mod stats;
 mod tables;
 
+pub use chances::Weights;
 pub use machine::UnknownText;
 pub(crate) use player::elements_at;
-pub use playouts::Weights;
 pub use tables::{OutOfRange, UnknownName};
 pub(crate) use tables::{as_number, ordered_by_key};
