@@ -37,7 +37,8 @@ RUST = ROOT / "rust"
 def generated():
     """Each generated file with its text."""
     kept = [(name, depends) for name, depends, _ in listed() if name.startswith("gen1_") or is_of_tests(name, depends)]
-    libraries = {name: Library(name, depends, added(name)) for name, depends in kept}
+    more = added()
+    libraries = {name: Library(name, depends, more) for name, depends in kept}
     for library in libraries.values():
         library.others = libraries
     modules = [name for name, _, is_for_c in listed() if name.startswith("gen1_") and not is_for_c]
@@ -141,10 +142,9 @@ def short(name):
     return name.removeprefix("gen1_")
 
 
-def added(name):
-    """What rust/gen1/src/additions has for a library."""
-    path = RUST / "gen1" / "src" / "additions" / f"{short(name)}.rs"
-    return path.read_text() if path.is_file() else ""
+def added():
+    """What rust/gen1/src/additions has for the libraries."""
+    return "".join(path.read_text() for path in sorted((RUST / "gen1" / "src" / "additions").glob("*.rs")))
 
 
 ALLOWED = "#![cfg_attr(rustfmt, rustfmt_skip)]\n#![allow(unused_variables, dead_code, clippy::all)]\n"
