@@ -1,10 +1,10 @@
-// Uses of hosts that are checked twice, as those of uses.mjs.
+// Uses of hosts and rooms that are checked twice, as those of uses.mjs.
 import * as library from "../gen1.mjs";
 
 import {equal, holds} from "./holding.mjs";
 
 /** @template T @typedef {Exclude<keyof T, symbol>} Named the keys that are texts */
-const {Battle, Host, Message, Notice, Row} = library;
+const {Battle, Host, Message, Notice, Room, Row} = library;
 
 /** @type {Record<Named<import("../gen1.mjs").Host>, true>} */
 const OF_HOST = {
@@ -62,6 +62,20 @@ const ALL_ROW_KINDS = {
   draw: true,
   forfeit: true
 };
+/** @type {Record<Named<import("../gen1.mjs").Room>, true>} */
+const OF_ROOM = {
+  battle: true,
+  result: true,
+  number: true,
+  log: true,
+  clone: true,
+  choices: true,
+  submit: true,
+  reseed: true,
+  forfeit: true,
+  forfeited: true,
+  toJSON: true
+};
 /**
  * Uses of hosts, rows and messages. `offers` compares the members of an object with those of its type.
  * @param {import("../gen1.mjs").Gen1} gen1
@@ -92,4 +106,16 @@ export function usesOfHosts(gen1, offers) {
   holds(Row.ofJSON(row.toJSON()) instanceof Row && gen1.messageOfJSON(message.toJSON()) instanceof Message &&
           gen1.noticeOfJSON(notice.toJSON()) instanceof Notice,
       "a host's values from JSON");
+}
+
+/**
+ * Uses of a room, in which side 1 then has made its choice.
+ * @param {import("../gen1.mjs").Room} room
+ * @param {(one: object, wanted: Record<string, true>) => void} offers
+ */
+export function usesOfRooms(room, offers) {
+  offers(room, OF_ROOM);
+  /** @type {import("../gen1.mjs").Update | null} */
+  const waiting = room.submit(1, room.number, room.choices(1)[0]);
+  holds(waiting === null && room.clone() instanceof Room, "another room");
 }

@@ -3,8 +3,7 @@
 import * as library from "../gen1.mjs";
 
 import {equal, holds, thrown} from "./holding.mjs";
-import {usesOfHosts} from "./host_uses.mjs";
-
+import {usesOfHosts, usesOfRooms} from "./host_uses.mjs";
 
 /** @typedef {import("../gen1.mjs").Gen1} Gen1 */
 /** @template T @typedef {Exclude<keyof T, symbol>} Named the keys that are texts */
@@ -164,20 +163,6 @@ const OF_OUTCOME = {
   battle: true,
   probability: true,
   weight: true
-};
-/** @type {Record<Named<import("../gen1.mjs").Room>, true>} */
-const OF_ROOM = {
-  battle: true,
-  result: true,
-  number: true,
-  log: true,
-  clone: true,
-  choices: true,
-  submit: true,
-  reseed: true,
-  forfeit: true,
-  forfeited: true,
-  toJSON: true
 };
 /** @type {Record<Named<import("../gen1.mjs").Spectator>, true>} */
 const OF_SPECTATOR = {
@@ -659,17 +644,13 @@ function battles(gen1) {
 }
 
 /** @param {Gen1} gen1 */
-function roomsAndSpectators(gen1) {
+function spectators(gen1) {
   const room = gen1.room(gen1.battle(TERMS));
   const spectator = gen1.spectator(TERMS.one, TERMS.two);
-  offers(room, OF_ROOM);
   offers(spectator, OF_SPECTATOR);
-  /** @type {import("../gen1.mjs").Update | null} */
-  const waiting = room.submit(1, room.number, room.choices(1)[0]);
+  usesOfRooms(room, offers);
   spectator.feed(room.submit(2, 0, "move 1")?.log ?? new Uint8Array(0));
-  holds(waiting === null && spectator.state.one.place === 0 && room.clone() instanceof Room &&
-          spectator.clone() instanceof Spectator,
-      "another room");
+  holds(spectator.state.one.place === 0 && spectator.clone() instanceof Spectator, "another spectator");
   hasKeys(spectator.state, OF_SHOWN);
   hasKeys(spectator.state.two, OF_SHOWN_SIDE);
   hasKeys(spectator.state.two.members[0], {hp: true, status: true});
@@ -810,7 +791,7 @@ function refused(gen1) {
 export function uses(gen1) {
   lists();
   battles(gen1);
-  roomsAndSpectators(gen1);
+  spectators(gen1);
   usesOfHosts(gen1, offers);
   statesAndPlayers(gen1);
   arrays(gen1);

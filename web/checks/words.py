@@ -170,7 +170,8 @@ def each_kind_of_event_has_its_sentence(browser):
         browser.click("#replay-last")
         browser.click("#replay-whole summary")
         browser.wait("return document.querySelector('#replay-whole-lines li')")
-        assert browser.words("#replay-whole-lines li") == [sentence for _, sentence in told]
+        found, due = browser.words("#replay-whole-lines li"), [sentence for _, sentence in told]
+        assert found == due, [pair for pair in zip(found, due) if pair[0] != pair[1]][:5]
 
 
 CHECKS = [each_kind_of_event_has_its_sentence]
