@@ -435,6 +435,20 @@ counted classes look byte old class new n e taken left =
     ap (λ (m : ℕ). m + size new) e
     ∙ split_size class new old (λ x lt. ap (λ (m : ℕ). has class x + m) (left x lt) ∙ taken_all (alike_in classes look byte x) (has old x) (has class x) (taken x lt))
 
+-- What is not left of a set after a byte is taken is the byte's class.
+left_of : (b : Bool) (c n m : ℕ) → c ≡ cond b n 0 → m ≡ cond b 0 n → c + m ≡ n
+left_of true c n m e f = omega (arith, e, f)
+left_of false c n m e f = omega (arith, e, f)
+
+pub weighs : (classes : ℕ) (look : Look) (byte : ℕ) (old new : ByteSet) (n : ℕ) → n + size new ≡ size old
+    → ((x : ℕ) → x < 256 → has new x ≡ cond (alike_in classes look byte x) 0 (has old x))
+    → (class : ByteSet) → ((x : ℕ) → x < 256 → has class x ≡ cond (alike_in classes look byte x) (has old x) 0) → n ≡ size class
+weighs classes look byte old new n sum left class taken =
+    let both : size class + size new ≡ size old =
+    split_size class new old (λ x lt. left_of (alike_in classes look byte x) (has class x) (has old x) (has new x) (taken x lt) (left x lt))
+    in
+    omega (arith, sum, both)
+
 -- The bytes below a bound are as many as it says.
 sum_under : (f : ℕ → ℕ) (bound a k : ℕ) → ((x : ℕ) → a ≤ x → x < a + k → f x ≡ cond (nat_lt x bound) 1 0) → sum_by f (range_with_len a k) ≡ min (bound - a) k
 sum_under f bound a zero each = omega arith

@@ -12,7 +12,7 @@ use Rattle.gen1_outcomes.specs.declared.outcomes.Outcomes.{Outcomes}
 use Rattle.gen1_outcomes.specs.declared.successor.Successor.{Successor}
 use Rattle.gen1_outcomes.specs.Chances.{IsBelow}
 use Rattle.gen1_outcomes.specs.Listing.{AreThose, battle_at, weight_of}
-use Rattle.gen1_outcomes.specs.Shares.{Adds, AreProbable, CountsEach, EachIsProbable, GetsShare, Grows, IsLeft, IsSamePart, KeepsShares, StayProbable, TakesEach, taken, weight_at, weight_before}
+use Rattle.gen1_outcomes.specs.Shares.{Adds, AreProbable, CountsEach, EachIsProbable, GetsShare, Grows, IsLeft, KeepsShares, StayProbable, TakesEach, weight_at, weight_before}
 use Rattle.gen1_outcomes.proofs.Parts.{both_positive, grown, grown_first, least_grown, most_grown, scaled, still_least, still_most}
 
 same_or : (m n : ℕ) → (m ≡ n) ⊎ (m ≢ n)

@@ -1,5 +1,5 @@
 -- A table of numbers, by which a battle is found in a list.
-use Rattle.std.proofs.Common.{◌≡◌, ◌≢◌, ℕ, Err, IfOk, Ok, OnOk, Result, ◌+◌, ◌-◌, ◌%◌, ◌<◌, ◌≤◌, List, length, take, get_or, get_or-set_other, get_or-set_same, set, ◌⊎◌, inl, inr, ap, refl, subst, sym, ◌∙◌, arith}
+use Rattle.std.proofs.Common.{◌≡◌, ◌≢◌, ℕ, Err, IfOk, Ok, OnOk, Result, ◌+◌, ◌-◌, ◌%◌, ◌<◌, ◌≤◌, List, length, take, get_or, get_or-set_other, get_or-set_same, set, ◌⊎◌, inl, inr, ap, subst, sym, ◌∙◌, arith}
 use Rattle.std.specs.Prelude.{slice_index}
 use Rattle.std.proofs.Math.Nat.{add-mod-mod, mod-eq_of_lt, mod-lt, mod_self}
 use Rattle.std.proofs.lemmas.List.{get_or-take, get_or_default, length-set, length-take-le}

@@ -1,13 +1,17 @@
--- How one way leads to the next.
-use Rattle.std.proofs.Common.{◌≡◌, ◌≢◌, ℕ, Bool, Some, false, not, true, inl, inr, refl, ◌*◌, ◌/◌, ◌%◌, ◌-◌, ◌<◌, ◌≤◌, List, length, get_or, get_or-set_other, get_or-set_same, set, ap, subst, sym, ◌∙◌, arith}
+-- How one way leads to the next, with no bytes for draws lost between them.
+use Rattle.std.proofs.Common.{◌≡◌, ◌≢◌, ℕ, Bool, Some, false, not, true, ◌⊎◌, inl, inr, refl, ◌+◌, ◌*◌, ◌/◌, ◌%◌, ◌-◌, ◌<◌, ◌≤◌, List, [], cond, length, lit<, get_or, get_or-set_other, get_or-set_same, set, ap, subst, sym, ◌∙◌, arith}
 use Rattle.std.proofs.Math.Nat.{mul_assoc, mul_comm}
-use Rattle.std.proofs.lemmas.List.{get_or_default}
+use Rattle.std.proofs.lemmas.List.{get_or_default, length-set}
+use Rattle.gen1_rolls.specs.declared.look.Look.TheVariants.{Below}
+use Rattle.gen1_outcomes.specs.declared.byte_set.ByteSet.{ByteSet}
 use Rattle.gen1_outcomes.specs.declared.nodes.Chance.{Chance}
 use Rattle.gen1_outcomes.specs.declared.nodes.Node.{Node}
 use Rattle.gen1_outcomes.specs.declared.nodes.Nodes.{Nodes}
 use Rattle.gen1_outcomes.specs.declared.plain.PlainWalk.{PlainWalk}
+use Rattle.gen1_outcomes.specs.Bytes.{has, size}
+use Rattle.gen1_outcomes.specs.Classes.{alike_in}
 use Rattle.gen1_outcomes.specs.Following.{PlaysNext, Walk}
-use Rattle.gen1_outcomes.specs.Nodes.{AllDone, GoesOn, IsChance, IsDone, LeadsOn}
+use Rattle.gen1_outcomes.specs.Nodes.{AllDone, AreBytes, AreLeft, AreOn, AreToCome, Covers, GoesOn, IsChance, IsDone, LeadsOn}
 use Rattle.gen1_outcomes.specs.Plain.{ArePlain, IsWay}
 
 pub leads_on : (old new : Nodes) (list : List Node) (len : ℕ) (node : Node) → new.list ≡ set list (len - 1) node → new.len ≡ len → new.options ≡ old.options → list ≡ old.list
@@ -30,6 +34,7 @@ leads_on old new list len node is same_len options same shorter some within d go
           let old_is : get_or list (len - 1) none ≡ get_or old.list (len - 1) none = ap (λ (l : List Node). get_or l (len - 1) none) same in
           subst (λ (y : Node). GoesOn (get_or old.list (len - 1) none) y) new_is (subst (λ (x : Node). GoesOn x node) (get_or_default list (len - 1) d none inside ∙ old_is) goes);
       after = λ k none more less. done k none (omega (arith, more)) less;
+      long = omega (arith, inside, same_len, ap length is ∙ length-set list (len - 1) node);
     }
 
 -- The probability of a way of a plain walk, and what comes after it.
@@ -64,3 +69,131 @@ crossed a b c d = mul_assoc a b (c * d) ∙ ap (λ (x : ℕ). a * x) (sym (mul_a
 pub then_is : (num whole p q t c : ℕ) → p * t ≡ q * c → num * p * (whole * t) ≡ whole * q * (num * c)
 then_is num whole p q t c e =
     crossed num p whole t ∙ ap (λ (x : ℕ). num * whole * x) e ∙ ap (λ (x : ℕ). x * (q * c)) (mul_comm num whole) ∙ sym (crossed whole q num c)
+
+-- The draw at a place.
+abbrev at : Nodes → ℕ → Node → Node
+at nodes k past = get_or nodes.list k past
+
+true_or : (b : Bool) → (b ≡ true) ⊎ (b ≡ false)
+true_or true = inl refl
+true_or false = inr refl
+
+three : (m n : ℕ) → (m < n) ⊎ (m ≡ n) ⊎ (n < m)
+three m n = grind arith
+
+some_node : Node
+some_node =
+    let rest : ByteSet = record { words = [] } in
+    record {
+      byte = 0;
+      look = Below 0;
+      damage_classes = 0;
+      above = record { num = 1; whole = 1; positive = lit< tt };
+      rest = rest;
+      total = size rest;
+      count = 0;
+      few = omega arith;
+    }
+
+-- Whether a byte is in the class of the one that a draw has.
+abbrev on : Node → ℕ → Bool
+on node b = alike_in node.damage_classes node.look node.byte b
+
+-- One draw more.
+on_more : (nodes : Nodes) (n : ℕ) (bytes : ℕ → ℕ) → AreOn nodes n bytes → ((past : Node) → on (at nodes n past) (bytes n) ≡ true) → AreOn nodes (n + 1) bytes
+on_more nodes n bytes before here k past lt =
+    elim (three k n) [
+      | inl less ↦ before k past less
+      | inr (inl same) ↦ subst (λ (j : ℕ). on (at nodes j past) (bytes j) ≡ true) (sym same) (here past)
+      | inr (inr more) ↦ absurd (omega (arith, lt, more))
+    ]
+
+-- What holds of a draw at one default holds at each.
+at_each : (nodes : Nodes) (k : ℕ) (P : Node → Type 0) (d : Node) → k < length nodes.list → P (at nodes k d) → (past : Node) → P (at nodes k past)
+at_each nodes k P d long holds past = subst P (get_or_default nodes.list k d past long) holds
+
+-- A draw is noted after those of a way.
+module _ (may : ByteSet) (old new : Nodes) (node : Node) (length : new.len ≡ old.len + 1)
+    (before : (k : ℕ) (past : Node) → k < old.len → at new k past ≡ at old k past) (here : (past : Node) → at new old.len past ≡ node)
+    (rest : (x : ℕ) → x < 256 → has node.rest x ≡ cond (on node x) 0 (has may x)) where
+  kept_on : (n : ℕ) (bytes : ℕ → ℕ) → n ≤ old.len → AreOn old n bytes → AreOn new n bytes
+  kept_on n bytes few are k past lt =
+      let is : at new k past ≡ at old k past = before k past (omega (arith, lt)) in
+      subst (λ (x : Node). on x (bytes k) ≡ true) (sym is) (are k past lt)
+
+  still_left : (bytes : ℕ → ℕ) → AreLeft old bytes → AreLeft new bytes
+  still_left bytes left =
+      record {
+        place = left.place;
+        within = omega (arith, left.within, length);
+        before = kept_on left.place bytes (omega (arith, left.within)) left.before;
+        here = λ past. subst (λ (x : Node). has x.rest (bytes left.place) ≡ 1) (sym (before left.place past left.within)) (left.here past);
+      }
+
+  to_come : (bytes : ℕ → ℕ) → AreBytes bytes → AreOn old old.len bytes → has may (bytes old.len) ≡ 1 → AreToCome new bytes
+  to_come bytes small are one =
+      let first : AreOn new old.len bytes = kept_on old.len bytes (omega arith) are in
+      elim (true_or (on node (bytes old.len))) [
+        | inl e ↦
+            inl (subst (λ (n : ℕ). AreOn new n bytes) (sym length)
+            (on_more new old.len bytes first (λ past. subst (λ (x : Node). on x (bytes old.len) ≡ true) (sym (here past)) e)))
+        | inr e ↦
+            let is : has node.rest (bytes old.len) ≡ 1 = rest (bytes old.len) (small old.len) ∙ rw e one in
+            inr (record {
+              place = old.len;
+              within = omega (arith, length);
+              before = first;
+              here = λ past. subst (λ (x : Node). has x.rest (bytes old.len) ≡ 1) (sym (here past)) is;
+            })
+      ]
+
+  pub covers : Covers may old new
+  covers = record { left = λ bytes small left. still_left bytes left; on = to_come }
+
+-- A byte that is still to be tried is in the class of the byte that the draw goes on to, or still to be tried.
+goes_case : (old new : Node) (b : ℕ) → b < 256 → GoesOn old new → has old.rest b ≡ 1 → (on new b ≡ true) ⊎ (has new.rest b ≡ 1)
+goes_case old new b lt goes here =
+    let takes = goes.takes in
+    let same : alike_in old.damage_classes old.look new.byte b ≡ on new b = rw (takes.look, takes.classes) refl in
+    elim (true_or (on new b)) [
+      | inl e ↦ inl e
+      | inr e ↦
+          let not : alike_in old.damage_classes old.look new.byte b ≡ false = same ∙ e in
+          inr (takes.rest b lt ∙ rw not here)
+    ]
+
+pub led : (old new : Nodes) (bytes : ℕ → ℕ) → AreBytes bytes → LeadsOn old new → AreLeft old bytes → AreToCome new bytes
+led old new bytes small leads left =
+    let d = some_node in
+    let place = leads.place in
+    let long : place < length new.list = omega (arith, leads.long, leads.length) in
+    let before : AreOn old place bytes → AreOn new place bytes =
+    λ on_old k past lt. subst (λ (x : Node). on x (bytes k) ≡ true) (sym (leads.before k past lt)) (on_old k past lt)
+    in
+    elim (three left.place place) [
+      | inl less ↦
+          inr (record {
+            place = left.place;
+            within = omega (arith, less, leads.length);
+            before = λ k past lt. subst (λ (x : Node). on x (bytes k) ≡ true) (sym (leads.before k past (omega (arith, lt, less)))) (left.before k past lt);
+            here = λ past. subst (λ (x : Node). has x.rest (bytes left.place) ≡ 1) (sym (leads.before left.place past less)) (left.here past);
+          })
+      | inr (inl same) ↦
+          let first : AreOn new place bytes = before (subst (λ (n : ℕ). AreOn old n bytes) same left.before) in
+          let here : has (at old place d).rest (bytes place) ≡ 1 = subst (λ (n : ℕ). has (at old n d).rest (bytes n) ≡ 1) same (left.here d) in
+          elim (goes_case (at old place d) (at new place d) (bytes place) (small place) (leads.here d) here) [
+            | inl e ↦
+                inl (subst (λ (n : ℕ). AreOn new n bytes) (sym leads.length) (on_more new place bytes first (at_each new place (λ (x : Node). on x (bytes place) ≡ true) d long e)))
+            | inr e ↦
+                inr (record {
+                  place = place;
+                  within = omega (arith, leads.length);
+                  before = first;
+                  here = at_each new place (λ (x : Node). has x.rest (bytes place) ≡ 1) d long e;
+                })
+          ]
+      | inr (inr more) ↦
+          let one = left.here d in
+          let none = leads.after left.place d more left.within (bytes left.place) (small left.place) in
+          absurd (omega (arith, one, none))
+    ]

@@ -1,5 +1,5 @@
 -- The draws of a way, and how one way leads to the next.
-use Rattle.std.specs.Prelude.{Bool, true, ℕ, slice_index_or, ◌+◌, ◌-◌, ◌*◌, ◌/◌, ◌^◌, ◌<◌, ◌≡◌, ◌≢◌, ◌≤◌, ◌⊎◌, if◌then◌else◌}
+use Rattle.std.specs.Prelude.{Bool, length, true, ℕ, slice_index_or, ◌+◌, ◌-◌, ◌*◌, ◌/◌, ◌^◌, ◌<◌, ◌≡◌, ◌≢◌, ◌≤◌, ◌⊎◌, if◌then◌else◌}
 use Rattle.gen1_rolls.specs.declared.look.Look.{Look}
 use Rattle.gen1_rolls.specs.declared.look.Look.TheVariants.{Factor}
 use Rattle.gen1_outcomes.specs.declared.byte_set.ByteSet.{ByteSet}
@@ -10,7 +10,12 @@ use Rattle.gen1_outcomes.specs.Bytes.{has, size}
 use Rattle.gen1_outcomes.specs.Chances.{IsBelow}
 use Rattle.gen1_outcomes.specs.Classes.{alike_in}
 
--- A draw takes a byte. The rest loses what is alike to it in the classes of damage, and nothing else. The count is how many bytes it loses.
+-- The class of a byte in a set: those of its bytes that are alike to it in the classes of damage.
+abbrev pub IsClass : ℕ → Look → ℕ → ByteSet → ByteSet → Type 0
+IsClass classes look byte among class = (x : ℕ) → x < 256 → has class x ≡ (if alike_in classes look byte x then has among x else 0)
+
+-- A draw takes a byte. The rest loses what is alike to it in the classes of damage, and nothing else. The count is how many bytes it loses:
+-- those of the class.
 pub record Takes (taken : ℕ) (old new : Node) : Type 0 where
   pub byte : new.byte ≡ taken
   pub look : new.look ≡ old.look
@@ -19,6 +24,7 @@ pub record Takes (taken : ℕ) (old new : Node) : Type 0 where
   pub total : new.total ≡ old.total
   pub rest : (x : ℕ) → x < 256 → has new.rest x ≡ (if alike_in old.damage_classes old.look taken x then 0 else has old.rest x)
   pub count : new.count + size new.rest ≡ size old.rest
+  pub weight : (class : ByteSet) → IsClass old.damage_classes old.look taken old.rest class → new.count ≡ size class
 
 -- A draw goes on to a byte of its rest.
 pub record GoesOn (old new : Node) : Type 0 where
@@ -47,6 +53,7 @@ IsDone node = (x : ℕ) → x < 256 → has node.rest x ≡ 0
 
 -- The next way: up to a draw it is the same, this draw goes on, and after it nothing was left.
 pub record LeadsOn (old new : Nodes) : Type 0 where
+  pub long : new.len ≤ length new.list
   pub place : ℕ
   pub within : place < old.len
   pub length : new.len ≡ place + 1
@@ -68,7 +75,34 @@ pub record IsChance (nodes : Nodes) (c : Chance) : Type 0 where
   pub without : nodes.len ≡ 0 → c ≡ nodes.before
   pub last : (past : Node) → 0 < nodes.len → IsThen (slice_index_or nodes.list (nodes.len - 1) past) c
 
--- A draw is added after the others: its byte, how many it may have, and the probability of those before it.
+-- Bytes for the draws of a way, one for each in order.
+abbrev pub AreBytes : (ℕ → ℕ) → Type 0
+AreBytes bytes = (k : ℕ) → bytes k < 256
+
+-- The first of them are in the classes of the bytes that the draws have.
+abbrev pub AreOn : Nodes → ℕ → (ℕ → ℕ) → Type 0
+AreOn nodes count bytes =
+    (k : ℕ) → (past : Node) → k < count
+    → alike_in (slice_index_or nodes.list k past).damage_classes (slice_index_or nodes.list k past).look (slice_index_or nodes.list k past).byte (bytes k) ≡ true
+
+-- They are left for a later way: at some draw theirs is still to be tried, and before it they are in the classes.
+pub record AreLeft (nodes : Nodes) (bytes : ℕ → ℕ) : Type 0 where
+  pub place : ℕ
+  pub within : place < nodes.len
+  pub before : AreOn nodes place bytes
+  pub here : (past : Node) → has (slice_index_or nodes.list place past).rest (bytes place) ≡ 1
+
+-- They are in the classes of all draws of a way, or left for a later one.
+abbrev pub AreToCome : Nodes → (ℕ → ℕ) → Type 0
+AreToCome nodes bytes = AreOn nodes nodes.len bytes ⊎ AreLeft nodes bytes
+
+-- A draw more, which may have some bytes, loses no bytes: those that are left stay so, and those that are on the way stay on it or are left.
+pub record Covers (may : ByteSet) (old new : Nodes) : Type 0 where
+  pub left : (bytes : ℕ → ℕ) → AreBytes bytes → AreLeft old bytes → AreLeft new bytes
+  pub on : (bytes : ℕ → ℕ) → AreBytes bytes → AreOn old old.len bytes → has may (bytes old.len) ≡ 1 → AreToCome new bytes
+
+-- A draw is added after the others: its byte, how many it may have and how many of them are in its class, and the probability of those
+-- before it. It loses no bytes.
 pub record Adds (drawn : ℕ) (seen : Look) (may : ByteSet) (old new : Nodes) : Type 0 where
   pub length : new.len ≡ old.len + 1
   pub options : new.options ≡ old.options
@@ -78,6 +112,10 @@ pub record Adds (drawn : ℕ) (seen : Look) (may : ByteSet) (old new : Nodes) : 
   pub told : (past : Node) → (slice_index_or new.list old.len past).damage_classes ≡ old.options.damage_classes
   pub total : (past : Node) → (slice_index_or new.list old.len past).total ≡ size may
   pub above : (past : Node) → IsChance old (slice_index_or new.list old.len past).above
+  pub fits : new.too_large ≡ old.too_large
+  pub since : new.before ≡ old.before
+  pub weight : (class : ByteSet) → IsClass old.options.damage_classes seen drawn may class → (past : Node) → (slice_index_or new.list old.len past).count ≡ size class
+  pub covers : Covers may old new
 
 -- A branch is left out only if its probability is below the least one.
 abbrev pub IsLeftOut : Nodes → Type 0

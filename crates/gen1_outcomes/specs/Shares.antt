@@ -1,5 +1,5 @@
 -- Shares of a list: weights over its denominator. How a battle gets its share, and which shares are left out (docs/MECHANICS.md, "Link numbers").
-use Rattle.std.specs.Prelude.{Bool, List, nat_lt, slice_index_or, ℕ, ◌*◌, ◌+◌, ◌<◌, ◌==◌, ◌≡◌, ◌≢◌, ◌≤◌, ◌⊎◌, if◌then◌else◌}
+use Rattle.std.specs.Prelude.{List, nat_lt, slice_index_or, ℕ, ◌*◌, ◌+◌, ◌<◌, ◌==◌, ◌≡◌, ◌≢◌, ◌≤◌, ◌⊎◌, if◌then◌else◌}
 use Rattle.std.specs.List.{sum_by}
 use Rattle.gen1_layout.specs.Parts.{Parts, joined}
 use Rattle.gen1_outcomes.specs.declared.merging.Tally.{Tally}

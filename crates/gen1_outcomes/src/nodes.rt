@@ -44,7 +44,7 @@ pub struct Node {
 
 impl Node {
     ghost use Rattle.gen1_outcomes.specs.declared.byte_set.ByteSet.{ByteSet};
-    ghost use Rattle.gen1_outcomes.specs.Nodes.{GoesOn, IsDone, IsRun, IsThen, Overflows, Takes, middle_of};
+    ghost use Rattle.gen1_outcomes.specs.Nodes.{GoesOn, IsClass, IsDone, IsRun, IsThen, Overflows, Takes, middle_of};
 
     fn none() -> Self
         ensures { result.count ≡ 0 }
@@ -71,6 +71,7 @@ impl Node {
         ensures above { result.above ≡ above }
         ensures total { result.total ≡ size may_have.now }
         ensures count { result.count + size result.rest ≡ size may_have.now }
+        ensures weight { (class : ByteSet) → IsClass damage_classes look byte may_have.now class → result.count ≡ size class }
     {
         match look {
             Look::Below(bound) if may_have.is_all() => {
@@ -112,6 +113,7 @@ impl Node {
         ensures above { result.above ≡ above }
         ensures total { result.total ≡ size may_have.now }
         ensures count { result.count + size result.rest ≡ size may_have.now }
+        ensures weight { (class : ByteSet) → IsClass damage_classes look byte may_have.now class → result.count ≡ size class }
     {
         let mut node = Node {
             byte,
@@ -262,7 +264,7 @@ pub struct Nodes {
 }
 
 impl Nodes {
-    ghost use Rattle.gen1_outcomes.specs.Nodes.{AllDone, IsChance, IsLeftOut, IsTooLarge, LeadsOn, Notes};
+    ghost use Rattle.gen1_outcomes.specs.Nodes.{AllDone, AreBytes, AreLeft, AreToCome, IsChance, IsLeftOut, IsTooLarge, LeadsOn, Notes};
 
     /// No draw yet, and nothing before it.
     pub fn new(options: OutcomeOptions) -> Self
@@ -341,10 +343,12 @@ impl Nodes {
     }
 
     /// Goes to the next way: the last draw that may have another byte has it, and those after it are dropped. Returns
-    /// whether there is such a draw.
+    /// whether there is such a draw. Bytes that are left are on the next way, or left for a later one.
     pub fn advance(&mut self) -> bool
         ensures on { IsTrue result → LeadsOn self.old self.new }
         ensures done { IsFalse result → AllDone self.old }
+        ensures left { IsTrue result → (bytes : ℕ → ℕ) → AreBytes bytes → AreLeft self.old bytes
+            → AreToCome self.new bytes }
     {
         self.at = 0;
         'places: for _ in 0..DEPTH {

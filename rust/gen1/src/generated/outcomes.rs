@@ -1258,7 +1258,7 @@ mod nodes {
         }
 
         /// Goes to the next way: the last draw that may have another byte has it, and those after it are dropped. Returns
-        /// whether there is such a draw.
+        /// whether there is such a draw. Bytes that are left are on the next way, or left for a later one.
         pub fn advance(&mut self) -> bool {
             self.at = 0;
             for _ in 0..DEPTH {

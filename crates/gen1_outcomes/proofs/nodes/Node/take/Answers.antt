@@ -1,7 +1,7 @@
-use Rattle.std.proofs.Common.{arith, ℕ, refl, ap, ◌∙◌, ◌-◌}
+use Rattle.std.proofs.Common.{arith, cond, ℕ, refl, ap, ◌∙◌, ◌-◌, ◌<◌, ◌≡◌}
 use Rattle.gen1_outcomes.specs.Bytes.{has}
 use Rattle.gen1_outcomes.specs.Classes.{alike_in}
-use Rattle.gen1_outcomes.proofs.Sets.{counted, taken_rest}
+use Rattle.gen1_outcomes.proofs.Sets.{counted, taken_rest, weighs}
 use Rattle.gen1_outcomes.proofs.nodes.Node.take.Goals as goal
 
 pub invariant_of-self : goal.invariant_of-self
@@ -14,14 +14,19 @@ invariant_of-self c =
 pub returns : goal.returns
 returns c =
     let old = c.args.self.now in
+    let left : (x : ℕ) → x < 256 → has c.without-self.result x ≡ cond (alike_in old.damage_classes old.look c.args.byte x) 0 (has old.rest x) =
+    λ x lt.
+    c.without-self.ensures x lt ∙ ap (λ (n : ℕ). has old.rest x - n) (c.alike_to-class.ensures x lt) ∙ taken_rest (alike_in old.damage_classes old.look c.args.byte x) (has old.rest x)
+    in
+    let all = counted old.damage_classes old.look c.args.byte old.rest c.alike_to-class.result c.without-self.result c.count-self.result c.count-self.ensures c.alike_to-class.ensures
+    c.without-self.ensures in
     record {
       byte = refl;
       look = refl;
       classes = refl;
       above = refl;
       total = refl;
-      rest = λ x lt.
-          c.without-self.ensures x lt ∙ ap (λ (n : ℕ). has old.rest x - n) (c.alike_to-class.ensures x lt) ∙ taken_rest (alike_in old.damage_classes old.look c.args.byte x) (has old.rest x);
-      count = counted old.damage_classes old.look c.args.byte old.rest c.alike_to-class.result c.without-self.result c.count-self.result c.count-self.ensures c.alike_to-class.ensures
-          c.without-self.ensures;
+      rest = left;
+      count = all;
+      weight = weighs old.damage_classes old.look c.args.byte old.rest c.without-self.result c.count-self.result all left;
     }
