@@ -1360,7 +1360,7 @@ uint8_t gen1_spectator_feed(gen1_spectator *spectator, const uint8_t *log, size_
 /* A move that a member was seen to prepare or to use. */
 typedef struct gen1_seen_move {
     uint8_t id;   /* 1 to 165; 0 in a free slot */
-    uint8_t uses; /* 0 to 255, where 255 means 255 or more; 0 for a move that it has only prepared, and in a free slot */
+    uint8_t uses; /* 0 to 255, where 255 means 255 or more; what may be going on, without PP, is not counted (docs/MECHANICS.md) */
 } gen1_seen_move;
 
 /* A member as the log last showed it. If it has not appeared, all fields are 0. */

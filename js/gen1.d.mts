@@ -338,7 +338,8 @@ export interface SeenMember {
   /** In 48ths if the teller hides exact HP. */
   hp: number;
   maxHp: number;
-  /** The moves that it was seen to prepare or to use, in the order of their appearance, and how often it used them, 0 to 255. */
+  /** The moves that it was seen to prepare or to use, in the order of their appearance, and how often it used them, 0 to 255.
+   * A use that may be one going on, without PP, is not counted. */
   moves: { name: MoveName; uses: number }[];
 }
 

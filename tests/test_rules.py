@@ -13,8 +13,8 @@ from rule_files import collected, unreached, without_a_line
 
 
 PLAYER = ROOT / "crates" / "gen1_player"
-# Padding, and a count that only tests compare with the battle (docs/PROVED.md, "gen1_player").
-WITHOUT_A_LAW = {"unused", "uses"}
+# Padding
+WITHOUT_A_LAW = {"unused"}
 
 
 @pytest.fixture(scope="module")

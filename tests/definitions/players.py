@@ -3,6 +3,9 @@ over what each side is told (Telling.antt), next to the fold over the log: it di
 where it is told in pixels.
 """
 
+from collections import Counter
+from itertools import chain
+
 from definitions.machine import events_of
 
 SPECS = "Rattle.gen1_player.specs.Public"
@@ -31,6 +34,8 @@ CONDITIONS = (
 )
 STATUSES = ("Healthy", "Asleep", "Poisoned", "Burned", "Frozen", "Paralysed")
 STRUGGLE = 165
+# Trapping moves, Thrash and Petal Dance: of these fewer uses may be counted than were made.
+MAY_GO_ON = {20, 35, 37, 80, 83, 128}
 
 
 class Players:
@@ -52,7 +57,7 @@ class Players:
 
     def fault(self, battle):
         """The first difference in a battle, after any of its updates; None where there is none."""
-        state, public = self.machine.begin(battle), self.first
+        state, public, lost = self.machine.begin(battle), self.first, Counter()
         players = [Told(self, side, pixels) for side, pixels in ((1, 0), (2, 1))]
         for number, pair in enumerate(battle.pairs):
             stepped = self.machine.step(state, *map(self.machine.choice, pair))
@@ -60,14 +65,35 @@ class Players:
                 public = self.hears(event, public)
                 for player in players:
                     player.hear(event)
+            lost.update(self.lost(state.field, stepped.state.field))
             state = stepped.state
-            for what, told, held in self.parts(state.field, public):
+            for what, told, held in chain(self.parts(state.field, public), self.uses(state.field, public, lost)):
                 if told != held:
                     return f"update {number}, {what}: {told} is public, and the state has {held}"
             for player in players:
                 if player.public != player.due(public):
                     return f"update {number}: side {player.teller.side} is told {player.public}, and is due {player.due(public)}"
         return None
+
+    def lost(self, before, after):
+        """The PP that each slot lost in an update, where 63 follow 0."""
+        for (slot, old), (_, new) in zip(self.slots(before), self.slots(after)):
+            yield from [slot] * ((old.pp - new.pp) % 64)
+
+    def slots(self, field):
+        for name in ("one", "two"):
+            for place, member in enumerate(getattr(field, name).members):
+                yield from (((name, place, slot), move) for slot, move in enumerate(member.moves))
+
+    def uses(self, field, public, lost):
+        """The uses that were counted of each move, with the PP that it lost."""
+        for slot, move in self.slots(field):
+            seen = getattr(public, slot[0]).members[slot[1]]
+            counted = sum(it.uses for it in seen.moves if it.id == move.id)
+            spent = min(255, lost[slot])
+            if move.id in MAY_GO_ON:
+                spent = max(min(spent, counted), min(spent, 1))
+            yield f"side {slot[0]}, place {slot[1] + 1}, uses of {move.id}", counted, spent
 
     def parts(self, field, public):
         """Each part of what is public, with the state's."""

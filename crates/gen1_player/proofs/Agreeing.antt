@@ -31,7 +31,7 @@ use Rattle.gen1_machine.specs.View.{cleared, first_side_view, first_view, if_out
 use Rattle.gen1_player.specs.declared.public.Public.{Public}
 use Rattle.gen1_player.specs.declared.public_side.PublicSide.{PublicSide}
 use Rattle.gen1_player.specs.declared.seen.Seen.{Seen}
-use Rattle.gen1_player.specs.Public.{acting, begins, broken_off_if, comes_out, drops, ends_recharging, first_public, first_public_side, gets_status, has_hit_itself, hears, hears_all, if_seen_out, is_cleared, is_kept_by, not_seen, on_announced, on_out, on_public_side, on_seen, prepares, public_side, rises, seen_at, set_volatile, settled, suffers_move, takes_damage, takes_in, takes_types, uses_move}
+use Rattle.gen1_player.specs.Public.{acting, begins, broken_off_if, comes_out, drops, ends_recharging, first_public, first_public_side, gets_status, has_hit_itself, hears, hears_all, if_seen_out, is_cleared, is_kept_by, not_seen, on_announced, on_out, on_public_side, on_seen, prepares, public_side, rises, seen_at, set_volatile, settled, starts_bide, suffers_move, takes_damage, takes_in, takes_types, uses_move}
 use Rattle.gen1_player.specs.True.{AgreesWith, SideAgrees}
 use Rattle.gen1_player.proofs.Facts.{side_out, Sizes, size_of, Fits}
 
@@ -213,6 +213,9 @@ suffers-essence false y = refl
 uses-essence : (move : ℕ) (y : PublicSide) → essence (uses_move move y) ≡ essence y
 uses-essence move y = ap (λ (l : List Brief). record (essence y) { members = l }) (map-set_same brief y.members (y.place - 1) _ not_seen refl)
 
+bides-essence : (y : PublicSide) → essence (starts_bide y) ≡ essence y
+bides-essence y = ap (λ (l : List Brief). record (essence y) { members = l }) (map-set_same brief y.members (y.place - 1) _ not_seen refl)
+
 prepares-essence : (move : ℕ) (y : PublicSide) → essence (prepares move y) ≡ essence y
 prepares-essence move y = ap (λ (l : List Brief). record (essence y) { members = l }) (map-set_same brief y.members (y.place - 1) _ not_seen refl)
 
@@ -383,7 +386,7 @@ module _ {n : Sizes} {v : View} {p : Public} where
   starts-meet : (s : Side) (what : Volatile) → Both n v p → Both n (on_side_view s (if_out (sees_volatile what true)) v) (begins s what p)
   starts-meet s volatiles.TypeChange m = named s (sees_volatile volatiles.TypeChange true) (takes_types (public_side (other s) p)) (λ k x y o h. h) m
   starts-meet s volatiles.Confusion m = named s (sees_volatile volatiles.Confusion true) (on_announced (set_volatile volatiles.Confusion 1)) (volatile-meets volatiles.Confusion true) m
-  starts-meet s volatiles.Bide m = named s (sees_volatile volatiles.Bide true) (on_announced (set_volatile volatiles.Bide 1)) (volatile-meets volatiles.Bide true) m
+  starts-meet s volatiles.Bide m = named s (sees_volatile volatiles.Bide true) starts_bide (λ k x y o h. subst (Pairs k x) (sym (bides-essence y)) h) m
   starts-meet s volatiles.Substitute m = named s (sees_volatile volatiles.Substitute true) (on_announced (set_volatile volatiles.Substitute 1)) (volatile-meets volatiles.Substitute true) m
   starts-meet s volatiles.LeechSeed m = named s (sees_volatile volatiles.LeechSeed true) (on_announced (set_volatile volatiles.LeechSeed 1)) (volatile-meets volatiles.LeechSeed true) m
   starts-meet s volatiles.Mist m = named s (sees_volatile volatiles.Mist true) (on_announced (set_volatile volatiles.Mist 1)) (volatile-meets volatiles.Mist true) m

@@ -1,11 +1,12 @@
 -- What the log shows of a member that has appeared is what no battle changes of the member at its place.
-use Rattle.std.proofs.Common.{[], All, Bool, List, None, Option, Some, ap, arith, false, get_or, get_or-set_same, if◌then◌else◌, inl, inr, length, map, nat_le, refl, replicate, slice_set, subst, suc, sym, true, true≢false, zero, ℕ, ◌&&◌, ◌-◌, ◌<◌, ◌==◌, ◌∙◌, ◌∷◌, ◌≡◌, ◌≢◌, ◌≤◌, ◌⊎◌, ◌||◌}
+use Rattle.std.proofs.Common.{[], All, Bool, List, None, Option, Some, ap, arith, false, get_or, get_or-set_same, if◌then◌else◌, inl, inr, length, map, nat_le, not, refl, replicate, slice_index_or, slice_set, subst, suc, sym, true, true≢false, zero, ℕ, ◌&&◌, ◌+◌, ◌-◌, ◌<◌, ◌==◌, ◌∙◌, ◌∷◌, ◌≡◌, ◌≢◌, ◌≤◌, ◌⊎◌, ◌||◌}
 use Rattle.std.proofs.lemmas.Bool.{le-leb}
 use Rattle.std.proofs.lemmas.Bool.Decides.{eqb_tells}
 use Rattle.std.proofs.lemmas.List.{get_or-set_other, length-map, map-set}
 use Rattle.std.proofs.Math.ListN.{get_or-map}
 use Rattle.std.proofs.Math.Seq.{map-set_same}
-use Rattle.gen1_tables.specs.Moves.{struggle}
+use Rattle.gen1_tables.specs.Effects.{bides}
+use Rattle.gen1_tables.specs.Moves.{move_row, move_rows, struggle, MoveRow}
 use Rattle.gen1_tables.specs.Types.{any}
 use Rattle.gen1_stats.specs.declared.known_move.KnownMove.{KnownMove}
 use Rattle.gen1_stats.specs.Members.{nobody, nothing_known, Member}
@@ -19,6 +20,7 @@ use Rattle.gen1_machine.specs.declared.picks.UsedMove.{UsedMove}
 use Rattle.gen1_machine.specs.declared.picks.UsedMove.TheVariants.{Nothing, Slot, Struggle}
 use Rattle.gen1_machine.specs.declared.health.Who.{Who}
 use Rattle.gen1_machine.specs.Health.{Health}
+use Rattle.gen1_machine.specs.Conditions.{ActiveConditions}
 use Rattle.gen1_machine.specs.LogBytes.{kind_or_0}
 use Rattle.gen1_machine.specs.Moves.{move_at}
 use Rattle.gen1_machine.specs.Numbers.{kind_number}
@@ -28,9 +30,9 @@ use Rattle.gen1_player.specs.declared.public.Public.{Public}
 use Rattle.gen1_player.specs.declared.public_side.PublicSide.{PublicSide}
 use Rattle.gen1_player.specs.declared.seen.Seen.{Seen}
 use Rattle.gen1_player.specs.declared.seen.SeenMove.{SeenMove}
-use Rattle.gen1_player.specs.Public.{activates, begins, comes_out, ends_recharging, gets_status, is_cleared, is_kept_by, not_seen, not_used, on_announced, on_out, on_seen, public_side, seen_at, set_volatile, settled, suffers_move, takes_damage, takes_in, takes_types, used_in, used_more}
+use Rattle.gen1_player.specs.Public.{activates, begins, bide, comes_out, ends_recharging, gets_status, is_cleared, is_kept_by, not_seen, not_used, on_announced, on_out, on_seen, public_side, seen_at, set_volatile, settled, suffers_move, takes_damage, takes_in, takes_types, used_in, used_more}
 use Rattle.gen1_player.specs.True.{IsMoveOf, IsSeen}
-use Rattle.gen1_player.proofs.Facts.{side_out, is_noise, traits, Traits}
+use Rattle.gen1_player.proofs.Facts.{side_out, is_noise, traits, Starts, Traits}
 use Rattle.gen1_player.proofs.HeardSides.{quiet-side, same-sides, settled-look}
 
 -- What shows of members besides HP and status
@@ -98,20 +100,29 @@ pub rest-faces : (w : Who) (u : Side) (p : Public) → faces (public_side u (tak
 unfolding takes_in
 rest-faces w u p = quiet-side faces w.side u (on_announced (λ a. record a { recharging = 1 })) p (λ x. refl)
 
-pub start-faces : (s : Side) (what : Volatile) (u : Side) (p : Public) → faces (public_side u (begins s what p)) ≡ faces (public_side u p)
-start-faces s volatiles.TypeChange u p = quiet-side faces s u (takes_types (public_side (other s) p)) p (λ x. refl)
-start-faces s volatiles.Mist u p = quiet-side faces s u (on_announced (set_volatile volatiles.Mist 1)) p (λ x. refl)
-start-faces s volatiles.FocusEnergy u p = quiet-side faces s u (on_announced (set_volatile volatiles.FocusEnergy 1)) p (λ x. refl)
-start-faces s volatiles.Disable u p = quiet-side faces s u (on_announced (set_volatile volatiles.Disable 1)) p (λ x. refl)
-start-faces s volatiles.Rage u p = quiet-side faces s u (on_announced (set_volatile volatiles.Rage 1)) p (λ x. refl)
-start-faces s volatiles.LeechSeed u p = quiet-side faces s u (on_announced (set_volatile volatiles.LeechSeed 1)) p (λ x. refl)
-start-faces s volatiles.Confusion u p = quiet-side faces s u (on_announced (set_volatile volatiles.Confusion 1)) p (λ x. refl)
-start-faces s volatiles.Bide u p = quiet-side faces s u (on_announced (set_volatile volatiles.Bide 1)) p (λ x. refl)
-start-faces s volatiles.Substitute u p = quiet-side faces s u (on_announced (set_volatile volatiles.Substitute 1)) p (λ x. refl)
-start-faces s volatiles.LightScreen u p = quiet-side faces s u (on_announced (set_volatile volatiles.LightScreen 1)) p (λ x. refl)
-start-faces s volatiles.Reflect u p = quiet-side faces s u (on_announced (set_volatile volatiles.Reflect 1)) p (λ x. refl)
-start-faces s volatiles.Trapped u p = quiet-side faces s u (on_announced (set_volatile volatiles.Trapped 1)) p (λ x. refl)
-start-faces s volatiles.Splash u p = quiet-side faces s u (on_announced (set_volatile volatiles.Splash 1)) p (λ x. refl)
+-- Bide shows a use as it starts.
+abbrev pub is_bide : Volatile → Bool
+is_bide volatiles.Bide = true
+is_bide _ = false
+
+pub starts-otherwise : (what : Volatile) (change : ActiveConditions → ActiveConditions) → Starts what change → is_bide what ≡ false
+starts-otherwise volatiles.Bide change h = absurd h
+starts-otherwise _ change h = refl
+
+pub start-faces : (s : Side) (what : Volatile) → is_bide what ≡ false → (u : Side) (p : Public) → faces (public_side u (begins s what p)) ≡ faces (public_side u p)
+start-faces s volatiles.TypeChange h u p = quiet-side faces s u (takes_types (public_side (other s) p)) p (λ x. refl)
+start-faces s volatiles.Mist h u p = quiet-side faces s u (on_announced (set_volatile volatiles.Mist 1)) p (λ x. refl)
+start-faces s volatiles.FocusEnergy h u p = quiet-side faces s u (on_announced (set_volatile volatiles.FocusEnergy 1)) p (λ x. refl)
+start-faces s volatiles.Disable h u p = quiet-side faces s u (on_announced (set_volatile volatiles.Disable 1)) p (λ x. refl)
+start-faces s volatiles.Rage h u p = quiet-side faces s u (on_announced (set_volatile volatiles.Rage 1)) p (λ x. refl)
+start-faces s volatiles.LeechSeed h u p = quiet-side faces s u (on_announced (set_volatile volatiles.LeechSeed 1)) p (λ x. refl)
+start-faces s volatiles.Confusion h u p = quiet-side faces s u (on_announced (set_volatile volatiles.Confusion 1)) p (λ x. refl)
+start-faces s volatiles.Bide h u p = absurd (true≢false h)
+start-faces s volatiles.Substitute h u p = quiet-side faces s u (on_announced (set_volatile volatiles.Substitute 1)) p (λ x. refl)
+start-faces s volatiles.LightScreen h u p = quiet-side faces s u (on_announced (set_volatile volatiles.LightScreen 1)) p (λ x. refl)
+start-faces s volatiles.Reflect h u p = quiet-side faces s u (on_announced (set_volatile volatiles.Reflect 1)) p (λ x. refl)
+start-faces s volatiles.Trapped h u p = quiet-side faces s u (on_announced (set_volatile volatiles.Trapped 1)) p (λ x. refl)
+start-faces s volatiles.Splash h u p = quiet-side faces s u (on_announced (set_volatile volatiles.Splash 1)) p (λ x. refl)
 
 pub end-faces : (s : Side) (what : Volatile) (u : Side) (p : Public) → faces (public_side u (on_out s (on_announced (set_volatile what 0)) p)) ≡ faces (public_side u p)
 end-faces s what u p = quiet-side faces s u (on_announced (set_volatile what 0)) p (λ x. refl)
@@ -190,6 +201,41 @@ uses-shows more move x qs low high h all =
     subst (λ (l : List Face). AllShow l qs) (sym (map-set face x.members i (record old { moves = used_more more move old.moves })))
     (set-shows (map face x.members) qs i (face (record old { moves = used_more more move old.moves })) (omega (arith, counted, low, high))
     (record { is = was.is; moves = used-allowed (get_or qs i no_traits).moves more _ move old.moves h was.moves }) all)
+
+-- Only Bide stores energy.
+
+abbrev only_bide : ℕ → List MoveRow → Bool
+only_bide i [] = true
+only_bide i (row ∷ rows) = (not (bides row.effect) || i == 116) && only_bide (i + 1) rows
+
+and-first : (a b : Bool) → (a && b) ≡ true → a ≡ true
+and-first true b e = refl
+and-first false b e = e
+
+and-rest : (a b : Bool) → (a && b) ≡ true → b ≡ true
+and-rest true b e = e
+and-rest false b e = absurd (true≢false (sym e))
+
+is-number : (c : Bool) (i : ℕ) → c ≡ true → (not c || i == 116) ≡ true → i ≡ 116
+is-number false i e h = absurd (true≢false (sym e))
+is-number true i e h = by (eqb_tells i 116)
+  where
+    by : (((i == 116) ≡ true) × (i ≡ 116)) ⊎ (((i == 116) ≡ false) × (i ≢ 116)) → i ≡ 116
+    by (inl x) = x.1
+    by (inr x) = absurd (true≢false (sym h ∙ x.0))
+
+row-number : (rows : List MoveRow) (i j : ℕ) (d : MoveRow) → only_bide i rows ≡ true → bides d.effect ≡ false → bides (slice_index_or rows j d).effect ≡ true → i + j ≡ 116
+row-number [] i j d h n e = absurd (true≢false (sym e ∙ n))
+row-number (row ∷ rows) i zero d h n e = let same = is-number (bides row.effect) i e (and-first _ _ h) in omega (arith, same)
+row-number (row ∷ rows) i (suc j) d h n e = let rest = row-number rows (i + 1) j d (and-rest (not (bides row.effect) || i == 116) _ h) n e in omega (arith, rest)
+
+only-one : only_bide 0 move_rows ≡ true
+unfolding move_rows
+only-one = refl
+
+pub bide-number : (n : ℕ) → bides (move_at n).effect ≡ true → n ≡ bide
+unfolding move_row
+bide-number n h = let at = row-number move_rows 0 (n - 1) _ only-one refl h in omega (arith, at)
 
 -- A member comes out
 

@@ -14,7 +14,7 @@ use Rattle.gen1_machine.specs.declared.picks.UsedMove.{UsedMove}
 use Rattle.gen1_machine.specs.Moves.{toxic, Move}
 use Rattle.gen1_machine.specs.Rules.{bit_of}
 use Rattle.gen1_machine.specs.Sides.{other}
-use Rattle.gen1_machine.specs.Conditions.{after_haze, with_bad_poison, with_recharge, without_seed, without_trapping, ActiveConditions}
+use Rattle.gen1_machine.specs.Conditions.{after_haze, with_bad_poison, with_bide, with_recharge, without_seed, without_trapping, ActiveConditions}
 use Rattle.gen1_machine.specs.State.{active_in, changed_active, changed_conditions, changed_member, fallen, has_fallen_in, health_in, member_at, member_in, party, who_in, with_current_move, with_member, with_types_of, Active, Field, Party}
 use Rattle.gen1_machine.specs.EarlyEffects.{with_levelled_stats}
 use Rattle.gen1_machine.specs.SwitchingIn.{switch_event, with_sent_out}
@@ -23,13 +23,13 @@ use Rattle.gen1_player.specs.declared.public.Public.{Public}
 use Rattle.gen1_player.specs.declared.public_side.PublicSide.{PublicSide}
 use Rattle.gen1_player.specs.Public.{comes_out, first_public, hears_all, is_cleared, on_announced, on_out, public_side, set_volatile, settled, takes_in, takes_types}
 use Rattle.gen1_player.specs.True.{ConditionsAgree, SideIsTold}
-use Rattle.gen1_player.proofs.Facts.{calm-mild, dull-noise, noise-is, noted, plain_of, sent-place, sent-standing, followed, is_noise, marked, plain, sent, standing, with_cleared, Followed, Marks, Mild, Placid, Plain, Standing}
+use Rattle.gen1_player.proofs.Facts.{calm-mild, dull-noise, noise-is, noted, plain_of, sent-place, sent-standing, followed, is_noise, marked, plain, sent, standing, starts-marks, with_cleared, Followed, Marks, Mild, Placid, Plain, Standing, Starts}
 use Rattle.gen1_player.proofs.Stories.{sickened, Outline, Story, Switching}
 use Rattle.gen1_machine.specs.Ruling.{ruling_of}
 use Rattle.gen1_player.proofs.ToldEffects.{ruling_of-tells}
 use Rattle.gen1_player.proofs.ToldActions.{says-any}
 use Rattle.gen1_player.proofs.ToldRuns.{story-runs}
-use Rattle.gen1_player.proofs.HeardSides.{clear-hears, come_out, comes-heard, end-hears, foe-side, heard, hears-in, hears_all-last, held, known_of, marked-known, move-hears, moves-heard, noise-heard, rest-heard, out-side, prepare-hears, prepares-heard, set-heard, settled-heard, start-hears, switch-hears, types-hears, with_mark, with_types, without_most, Begins, Known}
+use Rattle.gen1_player.proofs.HeardSides.{bide-hears, bides-heard, clear-hears, come_out, comes-heard, end-hears, foe-side, heard, hears-in, hears_all-last, held, known_of, marked-known, move-hears, moves-heard, noise-heard, rest-heard, out-side, prepare-hears, prepares-heard, set-heard, settled-heard, start-hears, starts-begins, switch-hears, types-hears, with_mark, with_types, without_most, Known}
 
 -- One side
 
@@ -153,21 +153,6 @@ marks-plain volatiles.LightScreen on change h c = plain-marks volatiles.LightScr
 marks-plain volatiles.Reflect on change h c = plain-marks volatiles.Reflect on change c (h c)
 marks-plain volatiles.Trapped on change h c = plain-marks volatiles.Trapped on change c (h c)
 marks-plain volatiles.Splash on change h c = plain-marks volatiles.Splash on change c (h c)
-
-marks-begins : (what : Volatile) (on : Bool) (change : ActiveConditions → ActiveConditions) → Marks what on change → Begins what
-marks-begins volatiles.TypeChange on change h = absurd h
-marks-begins volatiles.Mist on change h = tt
-marks-begins volatiles.FocusEnergy on change h = tt
-marks-begins volatiles.Disable on change h = tt
-marks-begins volatiles.Rage on change h = tt
-marks-begins volatiles.LeechSeed on change h = tt
-marks-begins volatiles.Confusion on change h = tt
-marks-begins volatiles.Bide on change h = tt
-marks-begins volatiles.Substitute on change h = tt
-marks-begins volatiles.LightScreen on change h = tt
-marks-begins volatiles.Reflect on change h = tt
-marks-begins volatiles.Trapped on change h = tt
-marks-begins volatiles.Splash on change h = tt
 
 exact-marks : (what : Volatile) (on : Bool) (change : ActiveConditions → ActiveConditions) → Marks what on change → (x : PublicSide) (t : Party)
     → Exact x t → Exact (on_announced (set_volatile what (bit_of on)) x) (with_conditions change t)
@@ -359,13 +344,14 @@ either-settled e f p m = either-heard f p (settled e p) (λ u. settled-heard e u
 next : (K : Field → Public → Type 0) (g : Field) (es : List Event) (e : Event) → K g (takes_in e (settled e (told_by es))) → K g (told_by (es ++ e ∷ []))
 next K g es e m = subst (K g) (sym (hears_all-last es e first_public ∙ hears-in e (told_by es))) m
 
-starts-both : (s : Side) (what : Volatile) (change : ActiveConditions → ActiveConditions) → Marks what true change → (f : Field) (es : List Event)
+starts-both : (s : Side) (what : Volatile) (change : ActiveConditions → ActiveConditions) → Starts what change → (f : Field) (es : List Event)
     → BothOut f → Both f (told_by es) → let g : Field = changed_conditions s change f in Both g (told_by (es ++ events.Start (who_in s g) what ∷ []))
 starts-both s what change h f es o m =
     let g : Field = changed_conditions s change f in
     let e : Event = events.Start (who_in s g) what in
     let p : Public = settled e (told_by es) in
-    next Both g es e (subst (Both g) (sym (start-hears (who_in s g) what p (marks-begins what true change h))) (both-marks s what true change h f p o (both-settled e f (told_by es) m)))
+    next Both g es e (subst (Both g) (sym (start-hears (who_in s g) what p (starts-begins what change h)))
+    (both-marks s what true change (starts-marks what change h) f p o (both-settled e f (told_by es) m)))
 
 ends-both : (s : Side) (what : Volatile) (change : ActiveConditions → ActiveConditions) → Marks what false change → (f : Field) (es : List Event)
     → BothOut f → Both f (told_by es) → let g : Field = changed_conditions s change f in Both g (told_by (es ++ events.End (who_in s g) what ∷ []))
@@ -424,6 +410,16 @@ rests-both s f es m =
     let p : Public = settled e (told_by es) in
     next Both g es e (both-conditions s with_recharge (λ c. refl) f _ (both-heard f p (takes_in e p) (λ u. rest-heard (who_in s g) u p) (both-settled e f (told_by es) m)))
 
+stores-both : (s : Side) (turns : ℕ) (f : Field) (es : List Event) → Both f (told_by es)
+    → let g : Field = changed_conditions s (with_bide turns) f in Both g (told_by (es ++ events.Start (who_in s g) volatiles.Bide ∷ []))
+unfolding with_bide
+stores-both s turns f es m =
+    let g : Field = changed_conditions s (with_bide turns) f in
+    let e : Event = events.Start (who_in s g) volatiles.Bide in
+    let p : Public = settled e (told_by es) in
+    next Both g es e (subst (Both g) (sym (bide-hears (who_in s g) p))
+    (both-conditions s (with_bide turns) (λ c. refl) f _ (both-heard f p _ (λ u. bides-heard s u p) (both-settled e f (told_by es) m))))
+
 noise-either : (e : Event) → is_noise e ≡ true → (f : Field) (es : List Event) → Either f (told_by es) → Either f (told_by (es ++ e ∷ []))
 noise-either e h f es m =
     let p : Public = settled e (told_by es) in
@@ -455,6 +451,7 @@ telling = record {
   moves = λ s move k f es o m. moves-both s move f es m;
   prepares = λ s move k f es o m. prepares-both s move f es m;
   explodes = λ s f es o m. exploded s f (told_by es) o m;
+  stores = λ s move k e turns f es o m. stores-both s turns f es m;
   rests = λ s move k e f es o m. rests-both s f es m;
   loose_active = λ s change h f es m. either-active s change h f (told_by es) m;
   loose_apart = λ f g es a b m. either-apart f g (told_by es) a b m;

@@ -243,7 +243,7 @@ pub theirs-in : (s : Side) {f : Field} {p : Public} → Even f p → Does (publi
 theirs-in One m = m.two
 theirs-in Two m = m.one
 
-reach-if : (c : Bool) (i : ℕ) → (if c then i else 0) ≢ 0 → i ≢ 0
+pub reach-if : (c : Bool) (i : ℕ) → (if c then i else 0) ≢ 0 → i ≢ 0
 reach-if true i h = h
 reach-if false i h = absurd (h refl)
 

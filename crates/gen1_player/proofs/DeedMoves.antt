@@ -1,8 +1,8 @@
 -- What active members do, through an action whose move is settled, and through a whole action.
-use Rattle.std.proofs.Common.{[], Bool, List, None, Option, Some, ap, arith, false, if◌then◌else◌, inl, inr, is_some, length, nat_lt, not, refl, subst, sym, true, true≢false, ℕ, ◌+◌, ◌++◌, ◌∙◌, ◌∷◌, ◌≡◌, ◌≢◌, ◌≤◌, ◌⊎◌}
+use Rattle.std.proofs.Common.{[], Bool, List, None, Option, Some, ap, arith, false, if◌then◌else◌, inl, inr, is_some, length, nat_lt, not, refl, subst, sym, true, true≢false, ℕ, ◌+◌, ◌++◌, ◌==◌, ◌∙◌, ◌∷◌, ◌≡◌, ◌≢◌, ◌≤◌, ◌⊎◌}
 use Rattle.gen1_tables.specs.declared.effect.Effect.{Effect}
 use Rattle.gen1_tables.specs.declared.effect.Effect.TheVariants as effects
-use Rattle.gen1_tables.specs.Effects.{bides, charges, hides, thrashes, traps}
+use Rattle.gen1_tables.specs.Effects.{bides, charges, hides, recharges, thrashes, traps}
 use Rattle.gen1_rolls.specs.Streams.{low_bits, Stream}
 use Rattle.gen1_stats.specs.Members.{Member}
 use Rattle.gen1_machine.specs.declared.side.Side.{Side}
@@ -15,9 +15,10 @@ use Rattle.gen1_machine.specs.declared.picks.UsedMove.{UsedMove}
 use Rattle.gen1_machine.specs.Moves.{move_at, Move}
 use Rattle.gen1_machine.specs.Numbers.{side_number}
 use Rattle.gen1_machine.specs.Picks.{used_by}
+use Rattle.gen1_machine.specs.Rules.{bit_of}
 use Rattle.gen1_machine.specs.Sides.{other}
-use Rattle.gen1_machine.specs.Conditions.{with_bide, with_bide_storing, with_charging, with_invulnerability, without_bide, without_charging, without_invulnerability, ActiveConditions, Storing}
-use Rattle.gen1_machine.specs.State.{active_in, changed_active, changed_conditions, changed_member, party, underway_in, who_in, with_current_move, with_kept_accuracy, with_last_damage, with_pp_spent, is_over, Active, Field, Party, Terms}
+use Rattle.gen1_machine.specs.Conditions.{with_bide, with_bide_storing, with_charging, with_invulnerability, without_bide, without_charging, without_invulnerability, ActiveConditions, Storing, Underway}
+use Rattle.gen1_machine.specs.State.{active_in, changed_active, changed_conditions, changed_member, member_in, party, underway_in, who_in, with_current_move, with_kept_accuracy, with_last_damage, with_pp_spent, is_over, Active, Field, Party, Terms}
 use Rattle.gen1_machine.specs.Progress.{choose, ends, given, lasts, on_action, on_active, on_conditions, on_field, set_last_damage, set_missed, starts, stay, stop, underway, ◌▸◌, Action, Progress}
 use Rattle.gen1_machine.specs.Ruling.{ruling_of}
 use Rattle.gen1_machine.specs.GoingOn.{bide_goes_on, bide_on, let_energy_go, set_letting_go, store_energy}
@@ -35,17 +36,17 @@ use Rattle.gen1_machine.proofs.Watching.{after-leads, before-leads, choose-tells
 use Rattle.gen1_machine.proofs.Watching as watching
 use Rattle.gen1_player.specs.declared.public.Public.{Public}
 use Rattle.gen1_player.specs.declared.public_side.PublicSide.{PublicSide}
-use Rattle.gen1_player.specs.Public.{on_announced, on_out, prepares, public_side, set_volatile, settled_by}
+use Rattle.gen1_player.specs.Public.{on_announced, on_out, prepares, public_side, set_volatile, settled_by, starts_bide}
 use Rattle.gen1_player.specs.True.{is_fault}
 use Rattle.gen1_player.proofs.Facts.{storing-calm, Sizes}
 use Rattle.gen1_player.proofs.Stories.{begun-active, begun-conditions, Begun, MayFall, Now, Story, stop-tells}
-use Rattle.gen1_player.proofs.HeardSides.{end-hears, foe-side, out-side, prepare-hears, start-hears}
+use Rattle.gen1_player.proofs.HeardSides.{bide-hears, end-hears, foe-side, out-side, prepare-hears}
 use Rattle.gen1_player.proofs.ToldEffects.{early_effect-tells, late_effect-tells, may_poison_by, not-toxic, ruling_of-tells}
 use Rattle.gen1_player.proofs.ToldActions.{damage_of-tells, prelude-tells, spent-tame, strike-tells}
-use Rattle.gen1_player.proofs.Deeds.{calm-bland, core, current_of, deeds, deeds_of, even-active, even-conditions, even-member, pending-out, with_active, with_conditions, Deeds, Does, Even, IsLast}
+use Rattle.gen1_player.proofs.Deeds.{calm-bland, core, current-kept, current_of, deeds, deeds_of, even-active, even-conditions, even-member, pending-out, with_active, with_conditions, Deeds, Does, Even, IsLast}
 use Rattle.gen1_player.proofs.DeedStory.{deeding, does-marked, told_by, Tale, Lasts}
 use Rattle.gen1_player.proofs.DeedGate.{acted-tale, at-conditions, at-draw, at-field, at-member, at-note, at-stop, at-told, at-weak, dull-tale, out-tale, tale-past, In, Near, Nothing_more, Opens, Over, Past}
-use Rattle.gen1_player.proofs.DeedActs.{bide-power, due-uses, ending-due, gate_or_held-deeds, is-bide, nothing-lasts, off-due, off-ending, rests-leads, tie-of, used-lasts, uses-spent, uses-tale, with-keeps, foe_of, own_of, taken_up, Due, Ending, IdleIsQuiet, Off, Ready, Tie, UsedBy, Uses}
+use Rattle.gen1_player.proofs.DeedActs.{bide-power, due-uses, ending-due, gate_or_held-deeds, is-bide, nothing-lasts, off-due, off-ending, reach-if, rests-leads, tie-of, used-lasts, uses-spent, uses-tale, with-keeps, foe_of, own_of, taken_up, Due, Ending, IdleIsQuiet, Off, Ready, Tie, UsedBy, Uses}
 
 -- The first turn of a charged move
 
@@ -133,7 +134,8 @@ primes-tale s move f es o m =
 -- Bide, of which only the start and the end are told
 
 Stores : Side → Field → List Event → Type 0
-Stores s f es = Even f (settled_by (side_number s) (told_by es)) × (is_some (underway_in s f).bide ≡ false)
+Stores s f es = Even f (settled_by (side_number s) (told_by es)) × (is_some (underway_in s f).bide ≡ false) × ((underway_in s f).charging ≡ false)
+    × (bides (move_at (current_of (party s f))).effect ≡ true)
 
 vacuous : (last k i : ℕ) → k ≡ i → bides (move_at i).effect ≡ true → IsLast last k
 vacuous last k i e h c = absurd (true≢false (sym h ∙ ap (λ (j : ℕ). bides (move_at j).effect) (sym e) ∙ c))
@@ -147,34 +149,68 @@ does-taken x t a i p c e h m = record {
   few = m.few;
 }
 
-off-stores : (b : Bool) (s : Side) (pick : Pick) (move : Move) → bides (move_at move.number).effect ≡ true → (f : Field) (es : List Event) → Off b s pick move f es → Stores s (taken_up s pick f) es
-unfolding changed_active with_current_move Stores
-off-stores b One pick move h f es m = let e = m.ready.near.even in
-    (record { one = does-taken _ f.one (record f.one.active { current_move = used_by pick f.one.active.current_move }) move.number refl refl m.ready.named h e.one; two = e.two }, m.off)
-off-stores b Two pick move h f es m = let e = m.ready.near.even in
-    (record { one = e.one; two = does-taken _ f.two (record f.two.active { current_move = used_by pick f.two.active.current_move }) move.number refl refl m.ready.named h e.two }, m.off)
+uncharged : (c : Bool) {d : Bool} → (c ≡ true → d ≡ true) → d ≡ false → c ≡ false
+uncharged true h e = absurd (true≢false (sym (h refl) ∙ e))
+uncharged false h e = refl
 
-off-kept : (s : Side) (change : Member → Member) (f : Field) → is_some (underway_in s f).bide ≡ false → is_some (underway_in s (changed_member s change f)).bide ≡ false
+off-stores : (b : Bool) (s : Side) (pick : Pick) (move : Move) → bides (move_at move.number).effect ≡ true → charges move.effect ≡ false → (f : Field) (es : List Event)
+    → Off b s pick move f es → Stores s (taken_up s pick f) es
+unfolding changed_active with_current_move Stores
+off-stores b One pick move h c f es m = let e = m.ready.near.even in (
+  record { one = does-taken _ f.one (record f.one.active { current_move = used_by pick f.one.active.current_move }) move.number refl refl m.ready.named h e.one; two = e.two },
+  m.off,
+  uncharged (underway_in One f).charging m.ready.charging c,
+  ap (λ (k : ℕ). bides (move_at k).effect) m.ready.named ∙ h,
+)
+off-stores b Two pick move h c f es m = let e = m.ready.near.even in (
+  record { one = e.one; two = does-taken _ f.two (record f.two.active { current_move = used_by pick f.two.active.current_move }) move.number refl refl m.ready.named h e.two },
+  m.off,
+  uncharged (underway_in Two f).charging m.ready.charging c,
+  ap (λ (k : ℕ). bides (move_at k).effect) m.ready.named ∙ h,
+)
+
+off-kept : (s : Side) (change : Member → Member) (f : Field) → underway_in s (changed_member s change f) ≡ underway_in s f
 unfolding changed_member
-off-kept One change f e = e
-off-kept Two change f e = e
+off-kept One change f = refl
+off-kept Two change f = refl
+
+spent-named : (s : Side) (used : UsedMove) (f : Field) → current_of (party s (changed_member s (with_pp_spent used) f)) ≡ current_of (party s f)
+unfolding changed_member
+spent-named One used f = current-kept (with_pp_spent used (member_in One f)) f.one (spent-tame used (member_in One f))
+spent-named Two used f = current-kept (with_pp_spent used (member_in Two f)) f.two (spent-tame used (member_in Two f))
 
 stores-spent : (s : Side) (used : UsedMove) (f : Field) (es : List Event) → Stores s f es → Stores s (changed_member s (with_pp_spent used) f) es
 unfolding Stores
-stores-spent s used f es m = (even-member s (with_pp_spent used) (spent-tame used) f _ m.0, off-kept s (with_pp_spent used) f m.1)
+stores-spent s used f es m = (
+  even-member s (with_pp_spent used) (spent-tame used) f _ m.0,
+  ap (λ (u : Underway). is_some u.bide) (off-kept s (with_pp_spent used) f) ∙ m.1,
+  ap (λ (u : Underway). u.charging) (off-kept s (with_pp_spent used) f) ∙ m.2,
+  ap (λ (k : ℕ). bides (move_at k).effect) (spent-named s used f) ∙ m.3,
+)
 
 stores-damage : (s : Side) (damage : ℕ) (f : Field) (es : List Event) → Stores s f es → Stores s (with_last_damage damage f) es
 unfolding Stores with_last_damage
-stores-damage One damage f es m = (record { one = m.0.one; two = m.0.two }, m.1)
-stores-damage Two damage f es m = (record { one = m.0.one; two = m.0.two }, m.1)
+stores-damage One damage f es m = (record { one = m.0.one; two = m.0.two }, m.1, m.2, m.3)
+stores-damage Two damage f es m = (record { one = m.0.one; two = m.0.two }, m.1, m.2, m.3)
+
+-- Its use ends charging and recharging, and then Bide is on.
+does-stored : (turns : ℕ) (x : PublicSide) (t : Party) → t.active.conditions.underway.charging ≡ false → Does x t → bides (move_at (current_of t)).effect ≡ true
+    → Does (starts_bide x) (with_conditions (with_bide turns) t)
+unfolding with_bide
+does-stored turns x t c m h = record {
+  same = ap (λ (k : Deeds). record k { bide = 1; charging = 0 }) m.same ∙ ap (λ (d : Bool). record (deeds_of t.active.place (core t.active.conditions)) { bide = 1; charging = bit_of d }) (sym c);
+  reach = λ e. m.reach (reach-if (x.announced.charging == 0) x.invulnerable e);
+  last = λ b. absurd (true≢false (sym h ∙ b));
+  few = m.few;
+}
 
 stores-tale : (s : Side) (turns : ℕ) (f : Field) (es : List Event) → BothOut f → Stores s f es
     → let g : Field = changed_conditions s (with_bide turns) f in Tale Nothing_more g (es ++ events.Start (who_in s g) volatiles.Bide ∷ [])
 unfolding Stores changed_active changed_conditions with_bide
 stores-tale s turns f es o m =
     let g : Field = changed_conditions s (with_bide turns) f in
-    out-tale Nothing_more (side_number s) s (on_announced (set_volatile volatiles.Bide 1)) (with_conditions (with_bide turns) (party s f)) f es (events.Start (who_in s g) volatiles.Bide) refl
-    (start-hears (who_in s g) volatiles.Bide _ tt) o (does-marked volatiles.Bide true (with_bide turns) (λ c. refl) _ (party s f)) m.0 tt
+    out-tale Nothing_more (side_number s) s starts_bide (with_conditions (with_bide turns) (party s f)) f es (events.Start (who_in s g) volatiles.Bide) refl
+    (bide-hears (who_in s g) _) o (λ d. does-stored turns _ (party s f) m.2 d m.3) m.0 tt
 
 near-let : (b : Bool) (s : Side) (f : Field) (es : List Event) → BothOut f → Near b s f es
     → let g : Field = changed_conditions s without_bide f in Tale Nothing_more g (es ++ events.End (who_in s g) volatiles.Bide ∷ [])
@@ -214,10 +250,6 @@ module _ {n : Sizes} {pre : List Event} {K L : Field → List Event → Type 0} 
 -- The action doesn't let energy go.
 abbrev Holds_back : Field → Action → Stream → Type 0
 Holds_back f a w = a.letting_go ≡ false
-
-uncharged : (c : Bool) {d : Bool} → (c ≡ true → d ≡ true) → d ≡ false → c ≡ false
-uncharged true h e = absurd (true≢false (sym (h refl) ∙ e))
-uncharged false h e = refl
 
 module _ {n : Sizes} {pre : List Event} (b : Bool) (s : Side) (pick : Pick) (move : Move) (same : move ≡ move_at move.number) where
   hides-deeds : Leads (In n pre (Taken s move Raises)) (In n pre (Taken s move (Primes move))) (In n pre (Over b s)) (choose (λ p. hides move.effect) (on_conditions s with_invulnerability) stay)
@@ -268,9 +300,9 @@ acted-use : (s : Side) (move : Move) → (after_use s move).acted s move
 unfolding deeding UsedBy
 acted-use s move p u = u
 
-knows-any : (U : Public → Type 0) (l : Lasts U) (s : Side) (move : Move) → (deeding U l).knows s move
+knows-any : (U : Public → Type 0) (l : Lasts U) (s : Side) (move : Move) → bides move.effect ≡ false → (deeding U l).knows s move
 unfolding deeding
-knows-any U l s move = tt
+knows-any U l s move h = h
 
 used-over : {n : Sizes} {pre : List Event} (b : Bool) (s : Side) (move : Move) (p : Progress) → MayFall (after_use s move) n pre p → In n pre (Over b s) p
 unfolding deeding
@@ -311,9 +343,9 @@ module _ (t : Terms) {n : Sizes} {pre : List Event} (b : Bool) (s : Side) (pick 
   carry-plain = none-goes
       ⊳ watching.choose-sees lets_energy_go (record { leads = λ p r m. absurd (true≢false (sym m.1 ∙ m.0.1)) }) (before-leads (λ p m. m.0.0) lead-deeds)
       ⊳ rests-leads (used-over b s move) (choose-tells _ stay-tells (damage_of-tells s move move.effect))
-      ⊳ rests-leads (used-over b s move) (choose-tells _ stay-tells (choose-tells _ (late_effect-tells (ruling_of t) (ruling_of-tells t) s move move.effect ⊳ stop-tells) stay-tells))
+      ⊳ rests-leads (used-over b s move) (choose-tells _ stay-tells (choose-tells _ (late_effect-tells (ruling_of t) (ruling_of-tells t) s move move.effect (λ e. (knows-any _ _ s move h, e)) ⊳ stop-tells) stay-tells))
       ⊳ after-leads (used-over b s move) (rests-leads (used-over b s move) (strike-tells (ruling_of t) (ruling_of-tells t) s move
-      (λ e. record { acts = acted-use s move; plain = not-toxic move.number (ap (λ (m : Move). may_poison_by m.effect) (sym same) ∙ e) }) (λ e. knows-any _ _ s move)))
+      (λ e. record { acts = acted-use s move; plain = not-toxic move.number (ap (λ (m : Move). may_poison_by m.effect) (sym same) ∙ e) }) (λ e. knows-any _ _ s move h)))
 
 -- Bide
 
@@ -366,7 +398,7 @@ module _ (t : Terms) {n : Sizes} {pre : List Event} (b : Bool) (s : Side) (pick 
   lead-stores : Leads (In n pre (Off b s pick move)) (In n pre (Stores s)) (In n pre (Over b s)) (lead_up s pick move)
   unfolding lead_up charge use_move prelude spend_pp
   lead-stores = if-sees (charges move.effect) (λ c. absurd (true≢false (sym c ∙ of-bide move h charges))) (λ c. stay-tells)
-      ⊳ (current-deeds {L = Stores s} s pick (λ f es m. off-stores b s pick move (ap (λ (k : Move). bides k.effect) (sym same) ∙ h) f es m)
+      ⊳ (current-deeds {L = Stores s} s pick (λ f es m. off-stores b s pick move (ap (λ (k : Move). bides k.effect) (sym same) ∙ h) (of-bide move h charges) f es m)
       ⊳ choose-tells _ stay-tells (given-tells _ (λ used. at-member s (with_pp_spent used) (λ f es o m. stores-spent s used f es m)))
       ⊳ if-sees (not (bides move.effect)) (λ c. absurd (true≢false (sym c ∙ ap not h))) (λ c. stay-tells))
       ⊳ if-sees (is_early move.effect) (λ c. absurd (true≢false (sym c ∙ of-bide move h is_early))) (λ c. stay-tells)
@@ -416,7 +448,8 @@ module _ (t : Terms) {n : Sizes} {pre : List Event} (b : Bool) (s : Side) (pick 
   carry-bide : Leads (Readies n pre b s pick move) (In n pre (Over b s)) (In n pre (Over b s)) (carry_out (ruling_of t) s pick move)
   unfolding carry_out
   carry-bide = bide-goes ⊳ bide-leads ⊳ choose-tells _ stay-tells (bide-damage move.effect h) ⊳ bide-late
-      ⊳ after-leads (plain-over b s) (rests-leads (plain-over b s) (strike-tells (ruling_of t) (ruling_of-tells t) s move (λ c. absurd (true≢false (sym c ∙ of-bide move h may_poison_by))) (λ c. knows-any _ _ s move)))
+      ⊳ after-leads (plain-over b s) (rests-leads (plain-over b s) (strike-tells (ruling_of t) (ruling_of-tells t) s move (λ c. absurd (true≢false (sym c ∙ of-bide move h may_poison_by)))
+      (λ c. absurd (true≢false (sym c ∙ of-bide move h recharges)))))
 
 carry-deeds : (t : Terms) {n : Sizes} {pre : List Event} (b : Bool) (s : Side) (pick : Pick) (move : Move) → move ≡ move_at move.number
     → Leads (Readies n pre b s pick move) (In n pre (Over b s)) (In n pre (Over b s)) (carry_out (ruling_of t) s pick move)

@@ -2,8 +2,9 @@
 use Rattle.gen1_machine.specs.Moves.{move_at}
 use Rattle.gen1_tables.specs.declared.effect.Effect.{Effect}
 use Rattle.gen1_tables.specs.declared.effect.Effect.TheVariants as effects
-use Rattle.gen1_tables.specs.Effects.{bides, recharges}
-use Rattle.std.proofs.Common.{[], Bool, List, ap, arith, false, flat_map, inl, inr, length, not, refl, subst, sym, true, true≢false, ℕ, ◌++◌, ◌∙◌, ◌∷◌, ◌≡◌, ◌≤◌, ◌⊎◌, ◌||◌}
+use Rattle.gen1_tables.specs.Effects.{bides, recharges, thrashes, traps}
+use Rattle.std.proofs.Common.{[], Bool, List, ap, arith, false, flat_map, if◌then◌else◌, inl, inr, is_some, length, not, refl, subst, sym, true, true≢false, ℕ, ◌++◌, ◌&&◌, ◌==◌, ◌∙◌, ◌∷◌, ◌≡◌, ◌≢◌, ◌≤◌, ◌⊎◌, ◌||◌}
+use Rattle.std.proofs.lemmas.Bool.Decides.{eqb_tells}
 use Rattle.std.proofs.lemmas.List.{append-nil, append_assoc}
 use Rattle.gen1_stats.specs.Members.{is_living}
 use Rattle.gen1_machine.specs.declared.side.Side.{Side}
@@ -16,14 +17,17 @@ use Rattle.gen1_machine.specs.declared.terms.Request.TheVariants as requests
 use Rattle.gen1_machine.specs.declared.event.Event.{Event}
 use Rattle.gen1_machine.specs.declared.event.Event.TheVariants as events
 use Rattle.gen1_machine.specs.Sides.{other}
-use Rattle.gen1_machine.specs.State.{changed_member, fallen, first_state, has_fallen_in, is_over, member_in, who_in, with_next_turn, with_outcome, with_requests, Field, Party, State, Terms, active_in, nobody_out, party, Active}
+use Rattle.gen1_machine.specs.State.{changed_member, fallen, first_state, has_fallen_in, is_over, member_in, who_in, with_next_turn, with_outcome, with_requests, Field, Party, State, Terms, nobody_out, party, Active}
 use Rattle.gen1_machine.specs.Progress.{has_fallen, note, on_field, ◌▸◌, Progress}
 use Rattle.gen1_machine.specs.Ruling.{ruling_of, Ruling}
 use Rattle.gen1_machine.specs.Falls.{ask_for_moves, ask_for_switches, ask_nothing, battle_ends, close, end_if_decided, faint_if_fallen, faint_in_order, settle, switch_if, the_fallen_faint}
 use Rattle.gen1_machine.specs.SwitchingIn.{replace, start}
 use Rattle.gen1_machine.specs.OfferedChoices.{offered_for}
 use Rattle.gen1_machine.specs.Step.{answered, close_update, events_of, is_among, offers, opened, run, run_by, step, step_by, update, update_for, Stepped}
-use Rattle.gen1_machine.specs.Valid.{IsAsked, IsStarted, IsState, IsUnstarted, StandsAs}
+use Rattle.gen1_machine.specs.Action.{keeps_going}
+use Rattle.gen1_machine.specs.Conditions.{Underway}
+use Rattle.gen1_machine.specs.Rules.{bit_of}
+use Rattle.gen1_machine.specs.Valid.{IsAsked, IsStarted, IsState, IsUnderway, IsUnstarted, StandsAs}
 use Rattle.gen1_machine.proofs.FirstStates.{first_states_are_valid}
 use Rattle.gen1_machine.proofs.Fitting.{offered-fits}
 use Rattle.gen1_machine.proofs.RunsEnd.{offered-is}
@@ -33,8 +37,9 @@ use Rattle.gen1_machine.proofs.Showing.{IsOut}
 use Rattle.gen1_machine.proofs.Watching.{after-leads, before-leads, choose-tells, given-tells, stay-tells, ◌⊳◌, Lands, Leads, Rests, Runs}
 use Rattle.gen1_machine.proofs.Watching as watching
 use Rattle.gen1_player.specs.declared.public_side.PublicSide.{PublicSide}
-use Rattle.gen1_player.specs.Public.{acting, hears_all, settled_by}
-use Rattle.gen1_player.specs.True.{is_fault, ActivesAgree, SideDoes, BothDo}
+use Rattle.gen1_player.specs.Public.{acting, hears_all, is_going_on, may_go_on, new_uses, settled_by}
+use Rattle.gen1_player.specs.True.{is_fault, ActivesAgree, SideDoes, BothDo, IsTold}
+use Rattle.gen1_player.proofs.Conditions.{conditions_agree}
 use Rattle.gen1_player.proofs.Facts.{is_dull, Fits, Sizes}
 use Rattle.gen1_player.proofs.Stories.{begun-member, Begun, MayFall, Now}
 use Rattle.gen1_player.proofs.ToldTurns.{replace-falls, send_out-tells, ChoiceFits}
@@ -357,30 +362,81 @@ module _ {n : Sizes} where
 
 -- What is left of it
 
--- Recharging belongs to the current move.
-abbrev Tied : Party → Type 0
-Tied t = t.active.conditions.underway.recharge ≡ true → recharges (move_at (current_of t)).effect ≡ true
+-- Recharging, thrashing and trapping belong to the current move.
+record Tied (t : Party) : Type 0 where
+  recharge : t.active.conditions.underway.recharge ≡ true → recharges (move_at (current_of t)).effect ≡ true
+  thrash : is_some t.active.conditions.underway.thrash ≡ true → thrashes (move_at (current_of t)).effect ≡ true
+  trapping : is_some t.active.conditions.underway.trapping ≡ true → traps (move_at (current_of t)).effect ≡ true
 
-recharge-false : (f : Field) (u : Side) → (active_in u f ≡ nobody_out) → Tied (party u f)
-recharge-false f One e h = absurd (true≢false (sym h ∙ ap (λ (a : Active). a.conditions.underway.recharge) e))
-recharge-false f Two e h = absurd (true≢false (sym h ∙ ap (λ (a : Active). a.conditions.underway.recharge) e))
+none-tied : (t : Party) → t.active ≡ nobody_out → Tied t
+none-tied t e = record {
+  recharge = λ h. absurd (true≢false (sym h ∙ ap (λ (a : Active). a.conditions.underway.recharge) e));
+  thrash = λ h. absurd (true≢false (sym h ∙ ap (λ (a : Active). is_some a.conditions.underway.thrash) e));
+  trapping = λ h. absurd (true≢false (sym h ∙ ap (λ (a : Active). is_some a.conditions.underway.trapping) e));
+}
+
+valid-tied : (t : Party) → IsUnderway (move_at (current_of t)).effect t.active.conditions.underway → Tied t
+valid-tied t h = record { recharge = h.recharge_tied; thrash = h.thrash_tied; trapping = h.trapping_tied }
 
 tied-of : (s : State) → IsState s → (u : Side) → Tied (party u s.field)
 tied-of s h u = by u h.field
   where
     by : (u : Side) → IsUnstarted s.terms s.field ⊎ IsStarted s.terms s.field → Tied (party u s.field)
-    by One (inl k) = recharge-false s.field One k.nobody_one
-    by Two (inl k) = recharge-false s.field Two k.nobody_two
-    by One (inr k) = k.field.one.active.conditions.underway.recharge_tied
-    by Two (inr k) = k.field.two.active.conditions.underway.recharge_tied
+    by One (inl k) = none-tied s.field.one k.nobody_one
+    by Two (inl k) = none-tied s.field.two k.nobody_two
+    by One (inr k) = valid-tied s.field.one k.field.one.active.conditions.underway
+    by Two (inr k) = valid-tied s.field.two k.field.two.active.conditions.underway
 
 not-bide : (e : Effect) → recharges e ≡ true → bides e ≡ false
 not-bide effects.Recharge h = refl
 not-bide _ h = absurd (true≢false (sym h))
 
-side-does : (x : PublicSide) (t : Party) → Tied t → Does x t → SideDoes x t
-side-does x t r m = record {
-  recharge = λ e. let c = r e in subst (λ (k : ℕ). recharges (move_at k).effect ≡ true) (sym (m.last (not-bide _ c))) c;
+goes-not-bide : (e : Effect) → may_go_on e ≡ true → bides e ≡ false
+goes-not-bide effects.Bide h = absurd (true≢false (sym h))
+goes-not-bide _ h = refl
+
+-- A move that goes on is not counted
+
+same-number : (a b : ℕ) → a ≡ b → (a == b) ≡ true
+same-number a b z = by (eqb_tells a b)
+  where
+    by : (((a == b) ≡ true) × (a ≡ b)) ⊎ (((a == b) ≡ false) × (a ≢ b)) → (a == b) ≡ true
+    by (inl e) = e.0
+    by (inr e) = absurd (e.1 z)
+
+or-first : (a b : Bool) → a ≡ true → (a || b) ≡ true
+or-first a b e = ap (λ (c : Bool). c || b) e
+
+or-second : (a b : Bool) → b ≡ true → (a || b) ≡ true
+or-second true b e = refl
+or-second false b e = e
+
+both-true : (a b : Bool) → a ≡ true → b ≡ true → (a && b) ≡ true
+both-true a b e h = ap (λ (c : Bool). c && b) e ∙ h
+
+rage-going : (k : ℕ) (x : PublicSide) → x.announced.rage ≡ 1 → is_going_on k x ≡ true
+rage-going k x e = or-first _ _ (ap (λ (n : ℕ). not (n == 0)) e)
+
+move-going : (x : PublicSide) (t : Party) → Does x t → may_go_on (move_at (current_of t)).effect ≡ true → is_going_on (current_of t) x ≡ true
+move-going x t m e = or-second _ _ (both-true _ _ (same-number x.last_move (current_of t) (m.last (goes-not-bide _ e))) e)
+
+keeps-uncounted : (x : PublicSide) (t : Party) → x.announced.rage ≡ bit_of t.active.conditions.underway.rage → Tied t → Does x t
+    → keeps_going t.active.conditions.underway ≡ true → new_uses (current_of t) x ≡ 0
+keeps-uncounted x t rage r m e = ap (λ (b : Bool). if b then 0 else 1) (by _ _ _ refl refl refl e)
+  where
+    u : Underway
+    u = t.active.conditions.underway
+
+    by : (a b c : Bool) → is_some u.thrash ≡ a → is_some u.trapping ≡ b → u.rage ≡ c → (a || b || c) ≡ true → is_going_on (current_of t) x ≡ true
+    by true b c i j k o = move-going x t m (or-second _ _ (r.thrash i))
+    by false true c i j k o = move-going x t m (or-first _ _ (r.trapping j))
+    by false false true i j k o = rage-going (current_of t) x (rage ∙ ap bit_of k)
+    by false false false i j k o = absurd (true≢false (sym o))
+
+side-does : (x : PublicSide) (t : Party) → x.announced.rage ≡ bit_of t.active.conditions.underway.rage → Tied t → Does x t → SideDoes x t
+side-does x t rage r m = record {
+  uses = keeps-uncounted x t rage r m;
+  recharge = λ e. let c = r.recharge e in subst (λ (k : ℕ). recharges (move_at k).effect ≡ true) (sym (m.last (not-bide _ c))) c;
   bide = ap (λ (k : Deeds). k.bide) m.same;
   charging = ap (λ (k : Deeds). k.charging) m.same;
   toxic = ap (λ (k : Deeds). k.toxic) m.same;
@@ -388,14 +444,18 @@ side-does x t r m = record {
   last_move = m.last;
 }
 
-tale-does : (f : Field) (es : List Event) → ((u : Side) → Tied (party u f)) → Tale Nothing_more f es → BothDo (told_by es) f
-tale-does f es r m = record { one = side-does _ f.one (r One) m.even.one; two = side-does _ f.two (r Two) m.even.two; may_hit_itself = m.quiet }
+tale-does : (f : Field) (es : List Event) → IsTold (told_by es) f → ((u : Side) → Tied (party u f)) → Tale Nothing_more f es → BothDo (told_by es) f
+tale-does f es k r m = record {
+  one = side-does _ f.one k.0.rage (r One) m.even.one;
+  two = side-does _ f.two k.1.rage (r Two) m.even.two;
+  may_hit_itself = m.quiet;
+}
 
-ready-does : {n : Sizes} (pre : List Event) (f : Field) → ((u : Side) → Tied (party u f)) → Ready n pre f → is_fault f.outcome ≡ false → BothDo (told_by pre) f
+ready-does : {n : Sizes} (pre : List Event) (f : Field) → IsTold (told_by pre) f → ((u : Side) → Tied (party u f)) → Ready n pre f → is_fault f.outcome ≡ false → BothDo (told_by pre) f
 unfolding deeding
-ready-does pre f r (Goes b (inl m)) e = subst (λ (l : List Event). BothDo (told_by l) f) (append-nil pre) (tale-does f _ r m)
-ready-does pre f r (Goes b (inr m)) e = absurd (true≢false (sym m ∙ e))
-ready-does pre f r (Opens m a c d k) e = subst (λ (l : List Event). BothDo (told_by l) f) (append-nil pre) (tale-does f _ r m.exact)
+ready-does pre f k r (Goes b (inl m)) e = tale-does f pre k r (subst (Tale Nothing_more f) (append-nil pre) m)
+ready-does pre f k r (Goes b (inr m)) e = absurd (true≢false (sym m ∙ e))
+ready-does pre f k r (Opens m a c d l) e = tale-does f pre k r (subst (Tale Nothing_more f) (append-nil pre) m.exact)
 
 pub actives_agree : ActivesAgree
 unfolding hears_all deeding
@@ -410,6 +470,6 @@ actives_agree t one two seed pairs limit stream a b over =
       more = tt;
     } in
     let valid : IsState s = first_states_are_valid t one two seed limit a b stream in
-    ready-does (flat_map events_of (run s pairs).answers) (run s pairs).state.field (tied-of (run s pairs).state (states_stay_valid s pairs valid))
+    ready-does (flat_map events_of (run s pairs).answers) (run s pairs).state.field (conditions_agree t one two seed pairs a b) (tied-of (run s pairs).state (states_stay_valid s pairs valid))
     (run-deeds {n = sizes_of one two} [] s pairs valid
     (Opens (record { sized = record { one = refl; two = refl }; exact = start }) refl refl a.size.0 b.size.0)) over

@@ -1,5 +1,6 @@
 -- The story of what active members do.
-use Rattle.std.proofs.Common.{[], Bool, List, ap, false, if◌then◌else◌, not, refl, subst, sym, true, ℕ, ◌++◌, ◌==◌, ◌∙◌, ◌∷◌, ◌≡◌, ◌≤◌}
+use Rattle.std.proofs.Common.{[], Bool, List, ap, false, if◌then◌else◌, not, refl, subst, sym, true, true≢false, ℕ, ◌++◌, ◌==◌, ◌∙◌, ◌∷◌, ◌≡◌, ◌≤◌}
+use Rattle.gen1_tables.specs.Effects.{bides}
 use Rattle.gen1_stats.specs.Members.{Member}
 use Rattle.gen1_machine.specs.declared.side.Side.{Side}
 use Rattle.gen1_machine.specs.declared.side.Side.TheVariants.{One, Two}
@@ -21,9 +22,9 @@ use Rattle.gen1_machine.proofs.Showing.{BothOut}
 use Rattle.gen1_player.specs.declared.public.Public.{Public}
 use Rattle.gen1_player.specs.declared.public_side.PublicSide.{PublicSide}
 use Rattle.gen1_player.specs.Public.{acting, first_public, gets_status, hears_all, is_cleared, on_announced, on_out, on_seen, public_side, set_volatile, settled, takes_in, takes_types}
-use Rattle.gen1_player.proofs.Facts.{followed, is_dull, noted, with_cleared, Dull, Followed, Marks, Placid, Tame}
+use Rattle.gen1_player.proofs.Facts.{followed, is_dull, noted, starts-marks, with_cleared, Dull, Followed, Marks, Placid, Starts, Tame}
 use Rattle.gen1_player.proofs.Stories.{sickened, Story}
-use Rattle.gen1_player.proofs.HeardSides.{clear-hears, end-hears, foe-side, hears-in, hears_all-last, out-side, quiet-side, settled-look, start-hears, types-hears, Begins, rest-hears}
+use Rattle.gen1_player.proofs.HeardSides.{clear-hears, end-hears, foe-side, hears-in, hears_all-last, out-side, quiet-side, settled-look, start-hears, starts-begins, types-hears, rest-hears}
 use Rattle.gen1_player.proofs.Deeds.{calm-bland, Bland, core_of, deeds, deeds_of, does-in, dull-fades, dull-quiet, even-active, even-apart, even-conditions, even-fades, even-member, even-party, even-quiet, pending-out, placed-in, with_active, with_conditions, Deeds, Does, Even}
 
 abbrev pub told_by : List Event → Public
@@ -56,21 +57,6 @@ marks-noted volatiles.LightScreen on change h c = h c
 marks-noted volatiles.Reflect on change h c = h c
 marks-noted volatiles.Trapped on change h c = h c
 marks-noted volatiles.Splash on change h c = h c
-
-marks-begins : (what : Volatile) (on : Bool) (change : ActiveConditions → ActiveConditions) → Marks what on change → Begins what
-marks-begins volatiles.TypeChange on change h = absurd h
-marks-begins volatiles.Mist on change h = tt
-marks-begins volatiles.FocusEnergy on change h = tt
-marks-begins volatiles.Disable on change h = tt
-marks-begins volatiles.Rage on change h = tt
-marks-begins volatiles.LeechSeed on change h = tt
-marks-begins volatiles.Confusion on change h = tt
-marks-begins volatiles.Bide on change h = tt
-marks-begins volatiles.Substitute on change h = tt
-marks-begins volatiles.LightScreen on change h = tt
-marks-begins volatiles.Reflect on change h = tt
-marks-begins volatiles.Trapped on change h = tt
-marks-begins volatiles.Splash on change h = tt
 
 abbrev with_deed : Volatile → ℕ → Deeds → Deeds
 with_deed volatiles.Substitute on k = record k { substitute = on }
@@ -248,13 +234,13 @@ module _ {U : Public → Type 0} (lasts : Lasts U) where
   pub tale-apart : (f g : Field) (es : List Event) → f.one ≡ g.one → f.two ≡ g.two → Tale U f es → Tale U g es
   tale-apart f g es a b m = record { even = even-apart f g (told_by es) a b m.even; quiet = m.quiet; more = m.more }
 
-  pub tale-starts : (s : Side) (what : Volatile) (change : ActiveConditions → ActiveConditions) → Marks what true change → (f : Field) (es : List Event)
+  pub tale-starts : (s : Side) (what : Volatile) (change : ActiveConditions → ActiveConditions) → Starts what change → (f : Field) (es : List Event)
       → BothOut f → Tale U f es → Tale U (changed_conditions s change f) (es ++ events.Start (who_in s (changed_conditions s change f)) what ∷ [])
   unfolding changed_active changed_conditions
   tale-starts s what change h f es o m =
       let g : Field = changed_conditions s change f in
       tells-out s (on_announced (set_volatile what 1)) (with_conditions change (party s f)) f es (events.Start (who_in s g) what)
-      (start-hears (who_in s g) what _ (marks-begins what true change h)) (λ x. refl) o (does-marked what true change h _ (party s f)) m
+      (start-hears (who_in s g) what _ (starts-begins what change h)) (λ x. refl) o (does-marked what true change (starts-marks what change h) _ (party s f)) m
 
   pub tale-ends : (s : Side) (what : Volatile) (change : ActiveConditions → ActiveConditions) → Marks what false change → (f : Field) (es : List Event)
       → BothOut f → Tale U f es → Tale U (changed_conditions s change f) (es ++ events.End (who_in s (changed_conditions s change f)) what ∷ [])
@@ -331,7 +317,7 @@ deeding U l = record {
   loose = Tale U;
   said = λ s move. ⊥;
   acted = λ s move. (p : Public) → U p → (public_side s p).last_move ≡ move.number;
-  knows = λ s move. Unit {0};
+  knows = λ s move. bides move.effect ≡ false;
   loosen = λ f es m. m;
   tighten = λ f es m a b. m;
   member = λ s change h f es m. tale-member l s change h f es m;
@@ -347,6 +333,7 @@ deeding U l = record {
   moves = λ s move k f es o m. absurd k;
   prepares = λ s move k f es o m. absurd k;
   explodes = λ s f es o m. tale-conditions l s without_seed seed-bland (changed_member s fallen f) es (tale-member l s fallen fallen-tame f es m);
+  stores = λ s move k e turns f es o m. absurd (true≢false (sym e ∙ k));
   rests = λ s move k e f es o m. tale-rests l s f es o m;
   loose_active = λ s change h f es m. tale-active l s change h f es m;
   loose_apart = λ f g es a b m. tale-apart l f g es a b m;

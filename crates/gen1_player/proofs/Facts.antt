@@ -106,6 +106,26 @@ abbrev pub Marks : Volatile → Bool → (ActiveConditions → ActiveConditions)
 Marks volatiles.TypeChange on change = ⊥
 Marks what on change = (c : ActiveConditions) → followed (change c) ≡ noted what on (followed c)
 
+-- Bide begins with the use of a move.
+abbrev pub Starts : Volatile → (ActiveConditions → ActiveConditions) → Type 0
+Starts volatiles.Bide change = ⊥
+Starts what change = Marks what true change
+
+pub starts-marks : (what : Volatile) (change : ActiveConditions → ActiveConditions) → Starts what change → Marks what true change
+starts-marks volatiles.Mist change h = h
+starts-marks volatiles.FocusEnergy change h = h
+starts-marks volatiles.Disable change h = h
+starts-marks volatiles.Rage change h = h
+starts-marks volatiles.LeechSeed change h = h
+starts-marks volatiles.Confusion change h = h
+starts-marks volatiles.Bide change h = absurd h
+starts-marks volatiles.Substitute change h = h
+starts-marks volatiles.LightScreen change h = h
+starts-marks volatiles.Reflect change h = h
+starts-marks volatiles.TypeChange change h = h
+starts-marks volatiles.Trapped change h = h
+starts-marks volatiles.Splash change h = h
+
 pub confusion-calm : Calm with_confusion_one_less
 unfolding with_confusion_one_less
 confusion-calm c = refl

@@ -17,6 +17,7 @@ use Rattle.gen1_machine.specs.declared.event.Volatile.{Volatile}
 use Rattle.gen1_machine.specs.declared.event.Volatile.TheVariants as volatiles
 use Rattle.gen1_machine.specs.declared.event.Event.{Event}
 use Rattle.gen1_machine.specs.declared.event.Event.TheVariants as events
+use Rattle.gen1_machine.specs.Conditions.{ActiveConditions}
 use Rattle.gen1_machine.specs.Health.{Health}
 use Rattle.gen1_machine.specs.Moves.{move_at, toxic}
 use Rattle.gen1_machine.specs.Numbers.{kind_number}
@@ -25,8 +26,8 @@ use Rattle.gen1_machine.specs.Sides.{other}
 use Rattle.gen1_machine.specs.State.{Party}
 use Rattle.gen1_player.specs.declared.public.Public.{Public}
 use Rattle.gen1_player.specs.declared.public_side.PublicSide.{PublicSide}
-use Rattle.gen1_player.specs.Public.{acting, activates, begins, broken_off_if, comes_out, ends_recharging, gets_status, has_hit_itself, hears, hears_all, if_seen_out, is_cleared, is_kept_by, on_announced, on_out, on_public_side, on_seen, prepares, public_side, set_volatile, settled, suffers_move, takes_damage, takes_in, takes_types, uses_move}
-use Rattle.gen1_player.proofs.Facts.{side_out, is_noise, marked, plain, standing, Plain, Standing}
+use Rattle.gen1_player.specs.Public.{acting, activates, begins, broken_off_if, comes_out, ends_recharging, gets_status, has_hit_itself, hears, hears_all, if_seen_out, is_cleared, is_kept_by, on_announced, on_out, on_public_side, on_seen, prepares, public_side, set_volatile, settled, starts_bide, suffers_move, takes_damage, takes_in, takes_types, uses_move}
+use Rattle.gen1_player.proofs.Facts.{side_out, is_noise, marked, plain, standing, Plain, Standing, Starts}
 
 -- What the log tells of a side's types and conditions. A flag is 1 or 0.
 pub record Known : Type 0 where
@@ -174,6 +175,9 @@ moves-heard w foe u move p = quiet-side heard foe u (suffers_move move) (on_out 
 pub prepares-heard : (w u : Side) (move : ℕ) (p : Public) → heard (public_side u (on_out w (prepares move) p)) ≡ heard (public_side u p)
 prepares-heard w u move p = quiet-side heard w u (prepares move) p (λ x. refl)
 
+pub bides-heard : (w u : Side) (p : Public) → heard (public_side u (on_out w starts_bide p)) ≡ heard (public_side u p)
+bides-heard w u p = quiet-side heard w u starts_bide p (λ x. refl)
+
 pub noise-heard : (e : Event) → is_noise e ≡ true → (u : Side) (p : Public) → heard (public_side u (takes_in e p)) ≡ heard (public_side u p)
 unfolding takes_in
 noise-heard (events.Turn i) h u p = same-sides heard u (record p { turn = i }) p refl refl
@@ -240,10 +244,26 @@ marked-known volatiles.TypeChange on a c = refl
 marked-known volatiles.Trapped on a c = refl
 marked-known volatiles.Splash on a c = refl
 
--- That a volatile begins, where it isn't a change of types.
+-- That a volatile begins, where it is neither a change of types nor the use of Bide.
 abbrev pub Begins : Volatile → Type 0
 Begins volatiles.TypeChange = ⊥
+Begins volatiles.Bide = ⊥
 Begins _ = Unit {0}
+
+pub starts-begins : (what : Volatile) (change : ActiveConditions → ActiveConditions) → Starts what change → Begins what
+starts-begins volatiles.TypeChange change h = absurd h
+starts-begins volatiles.Mist change h = tt
+starts-begins volatiles.FocusEnergy change h = tt
+starts-begins volatiles.Disable change h = tt
+starts-begins volatiles.Rage change h = tt
+starts-begins volatiles.LeechSeed change h = tt
+starts-begins volatiles.Confusion change h = tt
+starts-begins volatiles.Bide change h = absurd h
+starts-begins volatiles.Substitute change h = tt
+starts-begins volatiles.LightScreen change h = tt
+starts-begins volatiles.Reflect change h = tt
+starts-begins volatiles.Trapped change h = tt
+starts-begins volatiles.Splash change h = tt
 
 pub begins-out : (s : Side) (what : Volatile) (p : Public) → Begins what → begins s what p ≡ on_out s (on_announced (set_volatile what 1)) p
 begins-out s volatiles.Mist p h = refl
@@ -252,7 +272,7 @@ begins-out s volatiles.Disable p h = refl
 begins-out s volatiles.Rage p h = refl
 begins-out s volatiles.LeechSeed p h = refl
 begins-out s volatiles.Confusion p h = refl
-begins-out s volatiles.Bide p h = refl
+begins-out s volatiles.Bide p h = absurd h
 begins-out s volatiles.Substitute p h = refl
 begins-out s volatiles.LightScreen p h = refl
 begins-out s volatiles.Reflect p h = refl
@@ -263,6 +283,10 @@ begins-out s volatiles.Splash p h = refl
 pub start-hears : (w : Who) (what : Volatile) (p : Public) → Begins what → takes_in (events.Start w what) p ≡ on_out w.side (on_announced (set_volatile what 1)) p
 unfolding takes_in
 start-hears w what p h = begins-out w.side what p h
+
+pub bide-hears : (w : Who) (p : Public) → takes_in (events.Start w volatiles.Bide) p ≡ on_out w.side starts_bide p
+unfolding takes_in
+bide-hears w p = refl
 
 pub types-hears : (w : Who) (p : Public) → takes_in (events.Start w volatiles.TypeChange) p ≡ on_out w.side (takes_types (public_side (other w.side) p)) p
 unfolding takes_in
@@ -409,7 +433,7 @@ start-less s volatiles.Disable u p = less-side s u _ p (set-less volatiles.Disab
 start-less s volatiles.Rage u p = less-side s u _ p (set-less volatiles.Rage 1)
 start-less s volatiles.LeechSeed u p = less-side s u _ p (set-less volatiles.LeechSeed 1)
 start-less s volatiles.Confusion u p = less-side s u _ p (set-less volatiles.Confusion 1)
-start-less s volatiles.Bide u p = less-side s u _ p (set-less volatiles.Bide 1)
+start-less s volatiles.Bide u p = less-side s u starts_bide p (λ x e. absurd (e refl))
 start-less s volatiles.Substitute u p = less-side s u _ p (set-less volatiles.Substitute 1)
 start-less s volatiles.LightScreen u p = less-side s u _ p (set-less volatiles.LightScreen 1)
 start-less s volatiles.Reflect u p = less-side s u _ p (set-less volatiles.Reflect 1)
@@ -428,4 +452,4 @@ move-less s u move p e = less-side s u (uses_move move) p (λ x h. absurd (h ref
     (less-side (other s) u (suffers_move move) (on_out s (uses_move move) p) (suffer-less (ends_recharging (move_at move).effect)) e)
 
 pub prepare-less : (s u : Side) (move : ℕ) (p : Public) → Less (public_side u (on_out s (prepares move) p)) (public_side u p)
-prepare-less s u move p = less-side s u (prepares move) p (λ x e. e)
+prepare-less s u move p = less-side s u (prepares move) p (λ x e. absurd (e refl))

@@ -22,7 +22,7 @@ use Rattle.gen1_player.specs.declared.public.Public.{Public}
 use Rattle.gen1_player.specs.declared.public_side.PublicSide.{PublicSide}
 use Rattle.gen1_player.specs.declared.seen.Seen.{Seen}
 use Rattle.gen1_player.specs.Player.{known_at}
-use Rattle.gen1_player.specs.Public.{charges_up, comes_out, drops, ends_recharging, gets_status, hears, hears_all, if_seen_out, is_kept_by, not_seen, on_announced, on_seen, prepares, public_side, rises, seen_at, set_volatile, strikes, suffers_move, takes_damage, takes_types, used_more, uses_move}
+use Rattle.gen1_player.specs.Public.{bide, charges_up, comes_out, drops, ends_recharging, gets_status, hears, hears_all, if_seen_out, is_kept_by, new_uses, not_seen, on_announced, on_seen, prepares, public_side, rises, seen_at, set_volatile, starts_bide, strikes, suffers_move, takes_damage, takes_types, used_more, uses_move}
 use Rattle.gen1_player.specs.Sides.{foe_hears, side_begins, side_hears}
 use Rattle.gen1_player.specs.True.{members_by, own_as_known, own_known, own_places}
 use Rattle.gen1_player.proofs.Facts.{side_out}
@@ -163,7 +163,8 @@ announced-eye l x f s = out-eye l x (on_announced f) (on_announced f) s (λ z. r
 begins-eye : (l k : Lens) (x foe : PublicSide) (what : Volatile) → Sees l x.place x.members → side_begins what (eye k foe) (eye l x) ≡ eye l (side_begins what foe x)
 begins-eye l k x foe volatiles.TypeChange s = out-eye l x (takes_types foe) (takes_types (eye k foe)) s (λ z. refl)
 begins-eye l k x foe volatiles.Confusion s = announced-eye l x (set_volatile volatiles.Confusion 1) s
-begins-eye l k x foe volatiles.Bide s = announced-eye l x (set_volatile volatiles.Bide 1) s
+begins-eye l k x foe volatiles.Bide s = out-eye l x starts_bide starts_bide s (λ z. ap (λ (y : PublicSide). on_announced (set_volatile volatiles.Bide 1) (strikes y))
+    (seen-eye l (record x { last_move = bide }) (λ m. record m { moves = used_more 1 bide m.moves }) (λ m. record m { moves = used_more 1 bide m.moves }) (s.out z) (s.moves z 1 bide)))
 begins-eye l k x foe volatiles.Substitute s = announced-eye l x (set_volatile volatiles.Substitute 1) s
 begins-eye l k x foe volatiles.LeechSeed s = announced-eye l x (set_volatile volatiles.LeechSeed 1) s
 begins-eye l k x foe volatiles.Mist s = announced-eye l x (set_volatile volatiles.Mist 1) s
@@ -189,7 +190,8 @@ hears-eye l k x foe s (events.Damage w h source) q = absurd (true≢false (sym q
 hears-eye l k x foe s (events.Heal w h) q = absurd (true≢false (sym q))
 hears-eye l k x foe s (events.Move w move target) q = out-eye l x (uses_move move) (uses_move move) s
     (λ z. ap strikes
-    (seen-eye l (record x { last_move = move }) (λ m. record m { moves = used_more 1 move m.moves }) (λ m. record m { moves = used_more 1 move m.moves }) (s.out z) (s.moves z 1 move)))
+    (seen-eye l (record x { last_move = move }) (λ m. record m { moves = used_more (new_uses move x) move m.moves }) (λ m. record m { moves = used_more (new_uses move x) move m.moves }) (s.out z)
+    (s.moves z (new_uses move x) move)))
 hears-eye l k x foe s (events.Cant w why) q = announced-eye l x (is_kept_by why) s
 hears-eye l k x foe s (events.Status w kind) q = out-eye l x
     (λ y. on_announced (gets_status kind foe.last_move) (on_seen (λ m. record m { status = kind_number kind }) y))
@@ -273,7 +275,7 @@ announced-touches x f = touches-out x (on_announced f) (λ z. stays x)
 begins-touches : (x foe : PublicSide) (what : Volatile) → TouchesTo x (side_begins what foe x)
 begins-touches x foe volatiles.TypeChange = touches-out x (takes_types foe) (λ z. stays x)
 begins-touches x foe volatiles.Confusion = announced-touches x (set_volatile volatiles.Confusion 1)
-begins-touches x foe volatiles.Bide = announced-touches x (set_volatile volatiles.Bide 1)
+begins-touches x foe volatiles.Bide = touches-out x starts_bide (touches-seen x (λ m. record m { moves = used_more 1 bide m.moves }) (λ m. refl))
 begins-touches x foe volatiles.Substitute = announced-touches x (set_volatile volatiles.Substitute 1)
 begins-touches x foe volatiles.LeechSeed = announced-touches x (set_volatile volatiles.LeechSeed 1)
 begins-touches x foe volatiles.Mist = announced-touches x (set_volatile volatiles.Mist 1)
@@ -291,7 +293,7 @@ is_switch event = false
 
 pub hears-touches : (x foe : PublicSide) (e : Event) → is_switch e ≡ false → TouchesTo x (side_hears e foe x)
 hears-touches x foe (events.Switch w place level h) q = absurd (true≢false q)
-hears-touches x foe (events.Move w move target) q = touches-out x (uses_move move) (touches-seen x (λ m. record m { moves = used_more 1 move m.moves }) (λ m. refl))
+hears-touches x foe (events.Move w move target) q = touches-out x (uses_move move) (touches-seen x (λ m. record m { moves = used_more (new_uses move x) move m.moves }) (λ m. refl))
 hears-touches x foe (events.Cant w why) q = announced-touches x (is_kept_by why)
 hears-touches x foe (events.Damage w h source) q = touches-out x (λ y. takes_damage source (on_seen (λ m. record m { hp = h.hp }) y)) (touches-seen x (λ m. record m { hp = h.hp }) (λ m. refl))
 hears-touches x foe (events.Heal w h) q = touches-out x (on_seen (λ m. record m { hp = h.hp })) (touches-seen x (λ m. record m { hp = h.hp }) (λ m. refl))

@@ -17,12 +17,12 @@ use Rattle.gen1_machine.specs.Health.{Health}
 use Rattle.gen1_machine.specs.declared.health.Kind.TheVariants as kinds
 use Rattle.std.proofs.lemmas.Bool.{le-leb}
 use Rattle.std.proofs.lemmas.Bool.Decides.{eqb_tells}
-use Rattle.gen1_tables.specs.Effects.{recharges}
+use Rattle.gen1_tables.specs.Effects.{bides, recharges}
 use Rattle.gen1_tables.specs.Moves.{move_row, move_rows, struggle}
 use Rattle.gen1_tables.specs.Types.{any}
 use Rattle.gen1_machine.specs.Moves.{move_at, toxic, Move}
 use Rattle.gen1_machine.specs.Sides.{other}
-use Rattle.gen1_machine.specs.Conditions.{after_haze, with_bad_poison, with_recharge, without_seed, ActiveConditions}
+use Rattle.gen1_machine.specs.Conditions.{after_haze, with_bad_poison, with_bide, with_recharge, without_seed, ActiveConditions}
 use Rattle.gen1_machine.specs.State.{first_state, active_in, changed_active, changed_conditions, changed_member, fallen, health_in, member_at, member_in, party, who_in, with_current_move, with_types_of, Active, Field, Party, Terms}
 use Rattle.gen1_machine.specs.EarlyEffects.{with_levelled_stats}
 use Rattle.gen1_machine.specs.Picks.{number_in, used_by}
@@ -31,11 +31,11 @@ use Rattle.gen1_machine.specs.Action.{move_taken_in}
 use Rattle.gen1_machine.specs.Ruling.{ruling_of}
 use Rattle.gen1_machine.specs.Step.{run, Ran}
 use Rattle.gen1_machine.specs.SwitchingIn.{switch_event, with_sent_out}
-use Rattle.gen1_machine.proofs.Showing.{BothOut, IsOut}
+use Rattle.gen1_machine.proofs.Showing.{keeps-conditions, BothOut, IsOut}
 use Rattle.gen1_machine.proofs.Watching.{Lands, Rests, Runs}
 use Rattle.gen1_player.specs.declared.public.Public.{Public}
 use Rattle.gen1_player.specs.declared.public_side.PublicSide.{PublicSide}
-use Rattle.gen1_player.specs.Public.{begins, comes_out, first_public, hears_all, not_seen, on_announced, seen_at, on_out, prepares, public_side, settled, takes_in, uses_move}
+use Rattle.gen1_player.specs.Public.{begins, bide, comes_out, first_public, hears_all, new_uses, not_seen, on_announced, seen_at, on_out, prepares, public_side, settled, starts_bide, takes_in, uses_move}
 use Rattle.gen1_player.specs.True.{events_in, public_of, MembersAgree, OfRuns, SideHasAppeared}
 use Rattle.gen1_player.proofs.Facts.{side_out, dull-noise, noise-is, sent-place, sent, traits, with_cleared, Noise, Sizes, Standing, Tame, Traits}
 use Rattle.gen1_player.proofs.Stories.{sickened, MayFall, Outline, Story, Switching}
@@ -43,8 +43,8 @@ use Rattle.gen1_player.proofs.ToldEffects.{ruling_of-tells}
 use Rattle.gen1_player.proofs.ToldActions.{carry_out-tells, Says}
 use Rattle.gen1_player.proofs.ToldRuns.{sizes_of, story-runs}
 use Rattle.gen1_player.proofs.Lenses.{tellable-last, AllTellable, Tellable}
-use Rattle.gen1_player.proofs.HeardSides.{clear-hears, clear-less, end-hears, end-less, less-path, move-less, noise-less, prepare-less, rest-hears, settled-less, start-less, Less, foe-side, hears-in, hears_all-last, move-hears, out-side, prepare-hears, switch-hears}
-use Rattle.gen1_player.proofs.Appearing.{allowed-is, rest-faces, AllShow, Allowed, Face, Faces, Shows, clear-faces, comes-face, comes-faces, comes-shows, end-faces, face, faces, no_face, no_traits, noise-faces, none-show, settled-faces, shows-seen, shows_use, start-faces, suffers-same, used-is-allowed, uses-face, uses-shows}
+use Rattle.gen1_player.proofs.HeardSides.{bide-hears, clear-hears, clear-less, end-hears, end-less, less-path, move-less, noise-less, prepare-less, rest-hears, settled-less, start-less, Less, foe-side, hears-in, hears_all-last, move-hears, out-side, prepare-hears, switch-hears}
+use Rattle.gen1_player.proofs.Appearing.{allowed-is, bide-number, is_bide, rest-faces, starts-otherwise, AllShow, Allowed, Face, Faces, Shows, clear-faces, comes-face, comes-faces, comes-shows, end-faces, face, faces, no_face, no_traits, noise-faces, none-show, settled-faces, shows-seen, shows_use, start-faces, suffers-same, used-is-allowed, uses-face, uses-shows}
 
 -- The members of two teams, as no battle changes them.
 record Teams : Type 0 where
@@ -164,13 +164,13 @@ uses-appeared ts x t more n o h m =
           (subst (λ (i : ℕ). Allowed (get_or ts (i - 1) no_traits).moves n) (sym e) h) m.shows;
     }
 
-acted : (k : Teams) (s : Side) (more n : ℕ) (act : PublicSide → PublicSide) → ((x : PublicSide) → faces (act x) ≡ faces (shows_use more n x))
+acted : (k : Teams) (s : Side) (more : PublicSide → ℕ) (n : ℕ) (act : PublicSide → PublicSide) → ((x : PublicSide) → faces (act x) ≡ faces (shows_use (more x) n x))
     → (f : Field) (p : Public) → BothOut f → Usable k s n f → Appears k f p → Appears k f (on_out s act p)
 acted k One more n act same f p o h m =
     let e : p.one.place ≡ f.one.active.place = m.one.place in
     let low : 1 ≤ p.one.place = omega (arith, e, o.one.placed) in
     record {
-      one = subst (λ (z : Faces). Appeared k.one z f.one) (sym (ap faces (out-side One act p low) ∙ same p.one)) (uses-appeared k.one p.one f.one more n o.one h m.one);
+      one = subst (λ (z : Faces). Appeared k.one z f.one) (sym (ap faces (out-side One act p low) ∙ same p.one)) (uses-appeared k.one p.one f.one (more p.one) n o.one h m.one);
       two = subst (λ (x : PublicSide). Appeared k.two (faces x) f.two) (sym (foe-side One act p)) m.two;
     }
 acted k Two more n act same f p o h m =
@@ -178,7 +178,7 @@ acted k Two more n act same f p o h m =
     let low : 1 ≤ p.two.place = omega (arith, e, o.two.placed) in
     record {
       one = subst (λ (x : PublicSide). Appeared k.one (faces x) f.one) (sym (foe-side Two act p)) m.one;
-      two = subst (λ (z : Faces). Appeared k.two z f.two) (sym (ap faces (out-side Two act p low) ∙ same p.two)) (uses-appeared k.two p.two f.two more n o.two h m.two);
+      two = subst (λ (z : Faces). Appeared k.two z f.two) (sym (ap faces (out-side Two act p low) ∙ same p.two)) (uses-appeared k.two p.two f.two (more p.two) n o.two h m.two);
     }
 
 -- A side whose member comes out.
@@ -398,6 +398,9 @@ record With (k : Teams) (U : Field → Type 0) (f : Field) (es : List Event) : T
   each : AllTellable es first_public
   rest : Rest k f (told_by es)
 
+out-conditions : (s : Side) (change : ActiveConditions → ActiveConditions) (f : Field) → BothOut f → BothOut (changed_conditions s change f)
+out-conditions s change f o = (keeps-conditions s change).both f o
+
 fallen-tame : Tame fallen
 unfolding fallen
 fallen-tame m = refl
@@ -445,9 +448,9 @@ module _ {k : Teams} {U : Field → Type 0} (u : Further U) where
   with-apart : (f g : Field) (es : List Event) → f.one ≡ g.one → f.two ≡ g.two → With k U f es → With k U g es
   with-apart f g es a b m = record { appears = appears-apart f g (told_by es) a b m.appears; more = u.apart f g a b m.more; each = m.each; rest = rest-apart f g (told_by es) a b m.rest }
 
-  with-start : (w : Who) (what : Volatile) (f : Field) (es : List Event) → With k U f es → With k U f (es ++ events.Start w what ∷ [])
-  with-start w what f es m = with-last f es (events.Start w what)
-      (λ s p. ap (λ (q : Public). faces (public_side s q)) (start-begins w what p) ∙ start-faces w.side what s p) (λ s p. less-path s p (start-begins w what p) (start-less w.side what s p)) tt m
+  with-start : (w : Who) (what : Volatile) → is_bide what ≡ false → (f : Field) (es : List Event) → With k U f es → With k U f (es ++ events.Start w what ∷ [])
+  with-start w what b f es m = with-last f es (events.Start w what)
+      (λ s p. ap (λ (q : Public). faces (public_side s q)) (start-begins w what p) ∙ start-faces w.side what b s p) (λ s p. less-path s p (start-begins w what p) (start-less w.side what s p)) tt m
 
   with-end : (w : Who) (what : Volatile) (f : Field) (es : List Event) → With k U f es → With k U f (es ++ events.End w what ∷ [])
   with-end w what f es m = with-last f es (events.End w what)
@@ -463,7 +466,7 @@ module _ {k : Teams} {U : Field → Type 0} (u : Further U) where
   with-convert : (s : Side) (f : Field) (es : List Event) → With k U f es
       → let g : Field = changed_active s (with_types_of (active_in (other s) f)) f in With k U g (es ++ events.Start (who_in s g) volatiles.TypeChange ∷ [])
   unfolding with_types_of
-  with-convert s f es m = with-start _ volatiles.TypeChange _ es (with-active s (with_types_of (active_in (other s) f)) (λ a. refl) f es m)
+  with-convert s f es m = with-start _ volatiles.TypeChange refl _ es (with-active s (with_types_of (active_in (other s) f)) (λ a. refl) f es m)
 
   with-move : (s : Side) (move : Move) → ((f : Field) → U f → Usable k s move.number f) → (f : Field) (es : List Event) → BothOut f → With k U f es
       → With k U f (es ++ events.Move (who_in s f) move.number (who_in (other s) f) ∷ [])
@@ -474,7 +477,7 @@ module _ {k : Teams} {U : Field → Type 0} (u : Further U) where
       record {
         appears = subst (Appears k f) (sym (hears_all-last es e first_public ∙ hears-in e (told_by es) ∙ move-hears (who_in s f) (who_in (other s) f) n p))
             (appears-heard f (on_out s (uses_move n) p) _ (λ t. suffers-same (other s) t n (on_out s (uses_move n) p))
-            (acted k s 1 n (uses_move n) (λ x. refl) f p o (h f m.more) (with-settled f es e m)));
+            (acted k s (new_uses n) n (uses_move n) (λ x. refl) f p o (h f m.more) (with-settled f es e m)));
         more = m.more;
         each = tellable-last es e first_public m.each tt;
         rest = rest-next f es e (rest-less f p _ (λ t. less-path t p (move-hears (who_in s f) (who_in (other s) f) n p) (move-less s t n p)) (rest-before f es e m));
@@ -488,10 +491,26 @@ module _ {k : Teams} {U : Field → Type 0} (u : Further U) where
       let p : Public = settled e (told_by es) in
       record {
         appears = subst (Appears k f) (sym (hears_all-last es e first_public ∙ hears-in e (told_by es) ∙ prepare-hears (who_in s f) n p))
-            (acted k s 0 n (prepares n) (λ x. refl) f p o (h f m.more) (with-settled f es e m));
+            (acted k s (λ x. 0) n (prepares n) (λ x. refl) f p o (h f m.more) (with-settled f es e m));
         more = m.more;
         each = tellable-last es e first_public m.each tt;
         rest = rest-next f es e (rest-less f p _ (λ t. less-path t p (prepare-hears (who_in s f) n p) (prepare-less s t n p)) (rest-before f es e m));
+      }
+
+  with-stores : (s : Side) (move : Move) → ((f : Field) → U f → Usable k s move.number f) → bides (move_at move.number).effect ≡ true → (turns : ℕ) (f : Field) (es : List Event)
+      → BothOut f → With k U f es → let g : Field = changed_conditions s (with_bide turns) f in With k U g (es ++ events.Start (who_in s g) volatiles.Bide ∷ [])
+  with-stores s move h c turns f es o m =
+      let g : Field = changed_conditions s (with_bide turns) f in
+      let w : With k U g es = with-conditions s (with_bide turns) f es m in
+      let e : Event = events.Start (who_in s g) volatiles.Bide in
+      let p : Public = settled e (told_by es) in
+      record {
+        appears = subst (Appears k g) (sym (hears_all-last es e first_public ∙ hears-in e (told_by es) ∙ bide-hears (who_in s g) p))
+            (acted k s (λ x. 1) bide starts_bide (λ x. refl) g p (out-conditions s (with_bide turns) f o)
+            (subst (λ (i : ℕ). Usable k s i g) (bide-number move.number c) (h g w.more)) (with-settled g es e w));
+        more = w.more;
+        each = tellable-last es e first_public m.each tt;
+        rest = rest-next g es e (rest-less g p _ (λ t. less-path t p (bide-hears (who_in s g) p) (start-less s volatiles.Bide t p)) (rest-before g es e w));
       }
 
   with-rest : (s : Side) (move : Move) → ((f : Field) → U f → Usable k s move.number f) → recharges (move_at move.number).effect ≡ true → (f : Field) (es : List Event) → With k U f es
@@ -523,7 +542,8 @@ appearing k U u = record {
   apart = λ f g es a b m. with-apart u f g es a b m;
   noise = λ e f h es m. with-noise u e f (dull-noise f e h) es m;
   poisons = λ s move a f es o m. with-noise u (events.Status (who_in (other s) f) kinds.Poison) (sickened s move f) refl es (with-sickened u s move f es m);
-  starts = λ s what change h f es o m. with-start u _ what _ es (with-conditions u s change f es m);
+  starts = λ s what change h f es o m. with-start u _ what (starts-otherwise what change h) _ es (with-conditions u s change f es m);
+  stores = λ s move h e turns f es o m. with-stores u s move h.0 (ap bides (sym h.1) ∙ e) turns f es o m;
   ends = λ s what change h f es o m. with-end u _ what _ es (with-conditions u s change f es m);
   converts = λ s f es o m. with-convert u s f es m;
   clears = λ f es o m. with-clear u f es m;

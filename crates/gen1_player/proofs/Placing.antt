@@ -95,6 +95,7 @@ placing n = record {
   moves = λ s move k f es o m. placed-last n f es _ tt m;
   prepares = λ s move k f es o m. placed-last n f es _ tt m;
   explodes = λ s f es o m. placed-active s _ _ es (placed-member s _ f es m);
+  stores = λ s move k e turns f es o m. placed-last n _ es _ tt (placed-active s _ f es m);
   rests = λ s move k e f es o m. placed-last n _ es _ tt (placed-active s _ f es m);
   loose_active = λ s change h f es m. placed-active s change f es m;
   loose_apart = λ f g es a b m. placed-same f g es a b m;

@@ -1,5 +1,5 @@
 -- The slots of the foe's members that have appeared: each place is in its own slot.
-use Rattle.std.proofs.Common.{[], Bool, List, None, Some, ap, arith, false, get_or, get_or-set_same, if◌then◌else◌, inl, inr, length, length-set, nat_le, refl, replicate, slice_set, subst, suc, sym, true, true≢false, zero, ℕ, ◌-◌, ◌<◌, ◌&&◌, ◌==◌, ◌∙◌, ◌∷◌, ◌≡◌, ◌≢◌, ◌≤◌, ◌⊎◌, ◌||◌}
+use Rattle.std.proofs.Common.{[], Bool, List, None, Some, ap, arith, false, get_or, get_or-set_same, if◌then◌else◌, inl, inr, length, length-set, nat_le, refl, replicate, slice_set, subst, suc, sym, true, true≢false, zero, ℕ, ◌<◌, ◌&&◌, ◌==◌, ◌∙◌, ◌∷◌, ◌≡◌, ◌≢◌, ◌≤◌, ◌⊎◌, ◌||◌}
 use Rattle.std.specs.Prelude.{nat_lt, unwrap_or}
 use Rattle.std.specs.List.{AllByRecursion, list_any, position, position_or_len}
 use Rattle.std.proofs.lemmas.Bool.{lt-ltb}

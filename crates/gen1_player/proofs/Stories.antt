@@ -19,15 +19,15 @@ use Rattle.gen1_machine.specs.declared.event.Event.{Event}
 use Rattle.gen1_machine.specs.declared.event.Event.TheVariants as events
 use Rattle.gen1_machine.specs.Sides.{other}
 use Rattle.gen1_machine.specs.Moves.{toxic, Move}
-use Rattle.gen1_tables.specs.Effects.{recharges}
-use Rattle.gen1_machine.specs.Conditions.{with_bad_poison, with_recharge, without_seed, ActiveConditions}
+use Rattle.gen1_tables.specs.Effects.{bides, recharges}
+use Rattle.gen1_machine.specs.Conditions.{with_bad_poison, with_bide, with_recharge, without_seed, ActiveConditions}
 use Rattle.gen1_machine.specs.State.{active_in, changed_active, changed_conditions, changed_member, fallen, has_fallen_in, healed_by, health_in, hurt_by, party, who_in, with_current_move, with_last_damage, with_outcome, with_status, with_types_of, Active, Field}
 use Rattle.gen1_machine.specs.CurrentStats.{with_penalty_of}
 use Rattle.gen1_machine.specs.Progress.{cure, stop, draw, draw_until, ends, fault, gain_hp, inflict, lasts, lose_hp, note, on_action, on_active, on_conditions, on_field, on_member, set_last_damage, starts, told, Action, Phase, Progress}
 use Rattle.gen1_machine.specs.SwitchingIn.{switch_event}
 use Rattle.gen1_machine.proofs.Showing.{keeps-active, keeps-member, BothOut}
 use Rattle.gen1_machine.proofs.Watching.{choose-tells, stay-tells, stop-leads, ◌⊳◌, Lands, Leads, Runs}
-use Rattle.gen1_player.proofs.Facts.{penalty-placid, still-is, Calm, Dull, Marks, Mild, Noise, Standing, Placid, Tame, is_own_damage, is_poison, is_still, with_cleared, sent, Sizes}
+use Rattle.gen1_player.proofs.Facts.{penalty-placid, still-is, Calm, Dull, Marks, Mild, Noise, Standing, Starts, Placid, Tame, is_own_damage, is_poison, is_still, with_cleared, sent, Sizes}
 
 -- Stories
 
@@ -53,7 +53,7 @@ pub record Story : Type 1 where
   pub noise : (e : Event) (f : Field) → Dull f e → (es : List Event) → exact f es → exact f (es ++ e ∷ [])
   pub poisons : (s : Side) (move : Move) → acted s move → (f : Field) (es : List Event) → BothOut f → exact f es
       → exact (sickened s move f) (es ++ events.Status (who_in (other s) f) kinds.Poison ∷ [])
-  pub starts : (s : Side) (what : Volatile) (change : ActiveConditions → ActiveConditions) → Marks what true change → (f : Field) (es : List Event)
+  pub starts : (s : Side) (what : Volatile) (change : ActiveConditions → ActiveConditions) → Starts what change → (f : Field) (es : List Event)
       → BothOut f → exact f es → exact (changed_conditions s change f) (es ++ events.Start (who_in s (changed_conditions s change f)) what ∷ [])
   pub ends : (s : Side) (what : Volatile) (change : ActiveConditions → ActiveConditions) → Marks what false change → (f : Field) (es : List Event)
       → BothOut f → exact f es → exact (changed_conditions s change f) (es ++ events.End (who_in s (changed_conditions s change f)) what ∷ [])
@@ -65,6 +65,8 @@ pub record Story : Type 1 where
   pub prepares : (s : Side) (move : Move) → said s move → (f : Field) (es : List Event) → BothOut f → exact f es
       → exact f (es ++ events.Prepare (who_in s f) move.number ∷ [])
   pub explodes : (s : Side) (f : Field) (es : List Event) → BothOut f → exact f es → loose (changed_conditions s without_seed (changed_member s fallen f)) es
+  pub stores : (s : Side) (move : Move) → knows s move → bides move.effect ≡ true → (turns : ℕ) (f : Field) (es : List Event) → BothOut f → exact f es
+      → exact (changed_conditions s (with_bide turns) f) (es ++ events.Start (who_in s (changed_conditions s (with_bide turns) f)) volatiles.Bide ∷ [])
   pub rests : (s : Side) (move : Move) → knows s move → recharges move.effect ≡ true → (f : Field) (es : List Event) → BothOut f → exact f es
       → exact (changed_conditions s with_recharge f) (es ++ events.MustRecharge (who_in s (changed_conditions s with_recharge f)) ∷ [])
   pub loose_active : (s : Side) (change : Active → Active) → Placid change → (f : Field) (es : List Event) → loose f es → loose (changed_active s change f) es
@@ -236,13 +238,22 @@ module _ {v : Story} {n : Sizes} {pre : List Event} {S : Progress → Type 0} wh
     exact = v.apart f (with_last_damage damage f) (pre ++ es) refl refl m.exact;
   })
 
-  pub starts-tells : (s : Side) (what : Volatile) (change : ActiveConditions → ActiveConditions) → Marks what true change
+  pub starts-tells : (s : Side) (what : Volatile) (change : ActiveConditions → ActiveConditions) → Starts what change
       → Leads (Now v n pre) (Now v n pre) S (starts s what change)
   unfolding starts
   starts-tells s what change h = told-tells (changed_conditions s change) (λ f. events.Start (who_in s f) what) (λ f es m. record {
     begun = begun-conditions s change f m.begun;
     exact = at_end v.exact (changed_conditions s change f) pre es (events.Start (who_in s (changed_conditions s change f)) what)
         (v.starts s what change h f (pre ++ es) m.begun.both m.exact);
+  })
+
+  pub stores-tells : (s : Side) (move : Move) → v.knows s move → bides move.effect ≡ true → (turns : ℕ)
+      → Leads (Now v n pre) (Now v n pre) S (starts s volatiles.Bide (with_bide turns))
+  unfolding starts
+  stores-tells s move k e turns = told-tells (changed_conditions s (with_bide turns)) (λ f. events.Start (who_in s f) volatiles.Bide) (λ f es m. record {
+    begun = begun-conditions s (with_bide turns) f m.begun;
+    exact = at_end v.exact (changed_conditions s (with_bide turns) f) pre es (events.Start (who_in s (changed_conditions s (with_bide turns) f)) volatiles.Bide)
+        (v.stores s move k e turns f (pre ++ es) m.begun.both m.exact);
   })
 
   pub ends-tells : (s : Side) (what : Volatile) (change : ActiveConditions → ActiveConditions) → Marks what false change

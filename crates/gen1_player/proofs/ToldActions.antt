@@ -436,7 +436,7 @@ module _ {v : Story} {z : Sizes} {pre : List Event} (o : Outline v) where
   carry_out-tells r h s pick move same k = bide_goes_on-tells o s
       ⊳ choose-tells _ stay-tells (lead_up-tells s pick move k)
       ⊳ choose-tells _ stay-tells (damage_of-tells s move move.effect)
-      ⊳ choose-tells _ stay-tells (choose-tells _ (late_effect-tells r h s move move.effect ⊳ stop-tells) stay-tells)
+      ⊳ choose-tells _ stay-tells (choose-tells _ (late_effect-tells r h s move move.effect (λ e. (o.knows s move k, e)) ⊳ stop-tells) stay-tells)
       ⊳ strike-tells r h s move
       (λ e. record { acts = o.acts s move; plain = not-toxic move.number (ap may_poison_by (sym same) ∙ e) }) (λ e. o.knows s move k)
 

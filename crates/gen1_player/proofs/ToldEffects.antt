@@ -1,7 +1,7 @@
 -- A story stays true through what moves do in addition to damage.
 use Rattle.std.proofs.Common.{[], Bool, List, None, Option, Some, ap, false, if◌then◌else◌, inl, inr, refl, subst, sym, true, true≢false, ℕ, ◌++◌, ◌==◌, ◌∙◌, ◌∷◌, ◌≡◌, ◌≢◌, ◌⊎◌}
 use Rattle.std.proofs.lemmas.Bool.Decides.{eqb_tells}
-use Rattle.gen1_tables.specs.Effects.{recharges}
+use Rattle.gen1_tables.specs.Effects.{bides, recharges}
 use Rattle.gen1_tables.specs.Moves.{move_row, move_rows}
 use Rattle.gen1_tables.specs.declared.effect.Stat.{Stat}
 use Rattle.gen1_tables.specs.declared.effect.Stat.TheVariants.{Attack, Speed}
@@ -30,7 +30,7 @@ use Rattle.gen1_machine.specs.LateEffects.{ready_to_sleep, put_to_sleep, lower_f
 use Rattle.gen1_machine.specs.SideEffects.{happens_below, by_chance, thaw, may_inflict, may_poison, may_confuse, flinch, kept_away_effect, names_slot, disable_for, disable_slot, disable, must_recharge, side_effect}
 use Rattle.gen1_machine.proofs.Watching.{seeing, Runs, Leads, after-leads, before-leads, ◌⊳◌, choose-tells, if-sees, given-tells, given-sees, stay-tells}
 use Rattle.gen1_player.proofs.Facts.{penalty-placid, is_still, with_cleared, Placid, Sizes}
-use Rattle.gen1_player.proofs.Stories.{Begun, Story, Holds, Now, MayFall, Tells, at_end, begun-active, begun-conditions, may-active, may-noise, draw-tells, until-tells, told-tells, note-tells, active-tells, conditions-tells, starts-tells, lose-tells, gain-tells, status-tells, inflict-tells, cure-tells, poison-told, sickened}
+use Rattle.gen1_player.proofs.Stories.{Begun, Story, Holds, Now, MayFall, Tells, at_end, begun-active, begun-conditions, may-active, may-noise, draw-tells, until-tells, told-tells, note-tells, active-tells, conditions-tells, starts-tells, stores-tells, lose-tells, gain-tells, status-tells, inflict-tells, cure-tells, poison-told, sickened}
 use Rattle.gen1_player.proofs.ToldGate.{fail-tells, fails_if-tells, must_hit-tells}
 
 pub record RulingTells (v : Story) (n : Sizes) (pre : List Event) (r : Ruling) : Type 0 where
@@ -355,21 +355,22 @@ module _ {v : Story} {n : Sizes} {pre : List Event} where
   unfolding lower_foes_stat seeing
   lower_foes-tells s move stat by = fails_if-tells s _ ⊳ must_hit-tells s move ⊳ fails_if-tells s _ ⊳ lower-tells s (other s) stat by (fail-tells s)
 
-  pub bide_for-tells : (s : Side) (b : ℕ) → Tells v n pre (bide_for s b)
+  pub bide_for-tells : (s : Side) (move : Move) → v.knows s move → bides move.effect ≡ true → (b : ℕ) → Tells v n pre (bide_for s b)
   unfolding bide_for seeing
-  bide_for-tells s b = starts-tells s _ _ (λ c. refl)
+  bide_for-tells s move k e b = stores-tells s move k e _
 
-  pub bide-tells : (s : Side) → Tells v n pre (start_bide s)
+  pub bide-tells : (s : Side) (move : Move) → v.knows s move → bides move.effect ≡ true → Tells v n pre (start_bide s)
   unfolding start_bide seeing
-  bide-tells s = draw-tells (bide_for-tells s)
+  bide-tells s move k e = draw-tells (bide_for-tells s move k e)
 
-  pub late_effect-tells : (r : Ruling) → RulingTells v n pre r → (s : Side) (move : Move) (e : Effect) → Tells v n pre (late_effect r s move e)
+  pub late_effect-tells : (r : Ruling) → RulingTells v n pre r → (s : Side) (move : Move) (e : Effect) → (bides e ≡ true → v.knows s move × (bides move.effect ≡ true))
+      → Tells v n pre (late_effect r s move e)
   unfolding late_effect seeing
-  late_effect-tells r h s move (effects.StatUp stat by) = raise-tells s s stat by (fail-tells s)
-  late_effect-tells r h s move (effects.StatDown stat by) = lower_foes-tells s move stat by
-  late_effect-tells r h s move effects.InflictSleep = put_to_sleep-tells r h s move
-  late_effect-tells r h s move effects.Bide = bide-tells s
-  late_effect-tells r h s move _ = stay-tells
+  late_effect-tells r h s move (effects.StatUp stat by) k = raise-tells s s stat by (fail-tells s)
+  late_effect-tells r h s move (effects.StatDown stat by) k = lower_foes-tells s move stat by
+  late_effect-tells r h s move effects.InflictSleep k = put_to_sleep-tells r h s move
+  late_effect-tells r h s move effects.Bide k = let known = k refl in bide-tells s move known.0 known.1
+  late_effect-tells r h s move _ k = stay-tells
 
   -- Side effects
 

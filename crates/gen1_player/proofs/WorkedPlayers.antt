@@ -100,6 +100,18 @@ digs : ((after (events.Prepare bull 91 ∷ [])).one.invulnerable ≡ 1) × ((aft
 unfolding computing hears_all hears settled takes_in on_out
 digs = (refl, refl, refl, refl)
 
+-- Uses (docs/MECHANICS.md, "What the log makes public"): Wrap after itself may be going on, Rage goes on once it is announced, and Bide is
+-- used as it starts.
+abbrev uses_of : List Event → List SeenMove
+uses_of es = (seen_at 1 (after es).one).moves
+
+counted : (uses_of (events.Move bull 35 starmie ∷ events.Move bull 35 starmie ∷ events.Move bull 70 starmie ∷ events.Move bull 35 starmie ∷ []) ≡ used 35 2 ∷ used 70 1 ∷ replicate 3 not_used)
+    × (uses_of (events.Move bull 99 starmie ∷ events.Start bull volatiles.Rage ∷ events.Move bull 99 starmie ∷ []) ≡ used 99 1 ∷ replicate 4 not_used)
+    × (uses_of (events.Start bull volatiles.Bide ∷ events.End bull volatiles.Bide ∷ []) ≡ used 117 1 ∷ replicate 4 not_used)
+    × ((after (events.Start bull volatiles.Bide ∷ [])).one.last_move ≡ 117)
+unfolding computing hears_all hears settled takes_in on_out
+counted = (refl, refl, refl, refl)
+
 -- Before the battle (docs/MECHANICS.md, "Player's view"): its own Tauros of 353 HP is known, and nothing of the foe.
 known_first : ((seen_at 1 (first_known One (tauros ∷ [])).one).hp ≡ 353) × (seen_at 2 (first_known One (tauros ∷ [])).one ≡ not_seen)
     × (seen_at 1 (first_known One (tauros ∷ [])).two ≡ not_seen)

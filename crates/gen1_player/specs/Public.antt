@@ -5,7 +5,7 @@ use Rattle.std.specs.List.{position}
 use Rattle.gen1_tables.specs.declared.effect.Effect.{Effect}
 use Rattle.gen1_tables.specs.declared.effect.Effect.TheVariants as effects
 use Rattle.gen1_tables.specs.declared.effect.Stat.{Stat}
-use Rattle.gen1_tables.specs.Effects.{hides, traps}
+use Rattle.gen1_tables.specs.Effects.{hides, thrashes, traps}
 use Rattle.gen1_tables.specs.Species.{species_row}
 use Rattle.gen1_tables.specs.Types.{number_of}
 use Rattle.gen1_machine.specs.declared.side.Side.{Side}
@@ -115,7 +115,7 @@ used_in more (Some k) move slots = slice_set slots k (record { id = move; uses =
 abbrev pub is_slot : ℕ → SeenMove → Bool
 is_slot move m = m.id == move || m.id == 0
 
--- More uses of a move: one, or none as it is prepared.
+-- More uses of a move: one, or none as it is prepared or goes on.
 abbrev pub used_more : ℕ → ℕ → List SeenMove → List SeenMove
 used_more more move slots = used_in more (position (is_slot move) slots) move slots
 
@@ -142,13 +142,28 @@ strikes x = record x {
   invulnerable = (if x.announced.charging == 0 then x.invulnerable else 0);
 }
 
--- A move that its user was seen to use.
-abbrev pub uses_move : ℕ → PublicSide → PublicSide
-uses_move move x = strikes (on_seen (λ m. record m { moves = used_more 1 move m.moves }) (record x { last_move = move }))
+-- Moves that may go on for some turns, without PP, and whose end the log need not tell.
+abbrev pub may_go_on : Effect → Bool
+may_go_on effect = traps effect || thrashes effect
 
--- The first turn of a charging move. Fly and Dig take their user out of reach.
+-- Whether a move that is used now may be going on: Rage, once it is announced, and one of these moves if it was the last one too.
+abbrev pub is_going_on : ℕ → PublicSide → Bool
+is_going_on move x = not (x.announced.rage == 0) || x.last_move == move && may_go_on (move_at move).effect
+
+-- How many uses are counted.
+abbrev pub new_uses : ℕ → PublicSide → ℕ
+new_uses move x = if is_going_on move x then 0 else 1
+
+-- A move that its user was seen to use, of which some uses are counted.
+abbrev pub uses_times : ℕ → ℕ → PublicSide → PublicSide
+uses_times more move x = strikes (on_seen (λ m. record m { moves = used_more more move m.moves }) (record x { last_move = move }))
+
+abbrev pub uses_move : ℕ → PublicSide → PublicSide
+uses_move move x = uses_times (new_uses move x) move x
+
+-- The first turn of a charging move. Who acts recharges no more. Fly and Dig take their user out of reach.
 abbrev pub charges_up : Bool → PublicSide → PublicSide
-charges_up hidden x = record x { announced = record x.announced { charging = 1 }; invulnerable = (if hidden then 1 else x.invulnerable) }
+charges_up hidden x = record x { announced = record x.announced { charging = 1; recharging = 0 }; invulnerable = (if hidden then 1 else x.invulnerable) }
 
 abbrev pub prepares : ℕ → PublicSide → PublicSide
 prepares move x = charges_up (hides (move_at move).effect)
@@ -221,8 +236,16 @@ is_cleared x = on_announced ends_by_haze (record x { stages = level_stages })
 abbrev pub takes_types : PublicSide → PublicSide → PublicSide
 takes_types foe x = record x { first_type = foe.first_type; second_type = foe.second_type }
 
+-- Bide is used as it starts. No Move is written.
+abbrev pub bide : ℕ
+bide = 117
+
+abbrev pub starts_bide : PublicSide → PublicSide
+starts_bide x = on_announced (set_volatile volatiles.Bide 1) (uses_times 1 bide x)
+
 abbrev pub begins : Side → Volatile → Public → Public
 begins s volatiles.TypeChange p = on_out s (takes_types (public_side (other s) p)) p
+begins s volatiles.Bide p = on_out s starts_bide p
 begins s what p = on_out s (on_announced (set_volatile what 1)) p
 
 abbrev pub rises : Stat → ℕ → PublicSide → PublicSide

@@ -8,7 +8,7 @@ use Rattle.gen1_machine.specs.declared.side.Side.{Side}
 use Rattle.gen1_machine.specs.Numbers.{kind_number}
 use Rattle.gen1_player.specs.declared.public_side.PublicSide.{PublicSide}
 use Rattle.gen1_player.specs.declared.seen.Seen.{Seen}
-use Rattle.gen1_player.specs.Public.{comes_out, drops, gets_status, if_seen_out, is_kept_by, not_seen, on_announced, on_seen, prepares, rises, seen_at, set_volatile, suffers_move, takes_damage, takes_types, uses_move}
+use Rattle.gen1_player.specs.Public.{comes_out, drops, gets_status, if_seen_out, is_kept_by, not_seen, on_announced, on_seen, prepares, rises, seen_at, set_volatile, starts_bide, suffers_move, takes_damage, takes_types, uses_move}
 
 -- the side that an event names, if it changes what is public of it
 abbrev pub side_named : Event → Option Side
@@ -30,6 +30,7 @@ side_named _ = None
 
 abbrev pub side_begins : Volatile → PublicSide → PublicSide → PublicSide
 side_begins volatiles.TypeChange foe x = if_seen_out (takes_types foe) x
+side_begins volatiles.Bide foe x = if_seen_out starts_bide x
 side_begins what foe x = if_seen_out (on_announced (set_volatile what 1)) x
 
 -- how it changes that side, next to its foe

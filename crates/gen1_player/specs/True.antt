@@ -14,6 +14,7 @@ use Rattle.gen1_machine.specs.declared.side.Side.TheVariants.{One, Two}
 use Rattle.gen1_rolls.specs.Streams.{IsStream, Link}
 use Rattle.gen1_machine.specs.declared.terms.Outcome.{Outcome}
 use Rattle.gen1_machine.specs.declared.terms.Outcome.TheVariants as outcomes
+use Rattle.gen1_machine.specs.Action.{keeps_going}
 use Rattle.gen1_machine.specs.Layout.{outcome_byte}
 use Rattle.gen1_machine.specs.LogBytes.{kind_or_0}
 use Rattle.gen1_machine.specs.Moves.{move_at}
@@ -34,7 +35,7 @@ use Rattle.gen1_player.specs.declared.player.Player.{Player}
 use Rattle.gen1_player.specs.declared.teller.Teller.{Teller}
 use Rattle.gen1_player.specs.Player.{IsPlayer, known_at}
 use Rattle.gen1_player.specs.Player as players
-use Rattle.gen1_player.specs.Public.{first_public, hears_all, not_seen, on_public_side, seen_at}
+use Rattle.gen1_player.specs.Public.{first_public, hears_all, new_uses, not_seen, on_public_side, seen_at}
 use Rattle.gen1_player.specs.Telling.{health_told, meets_all, slot_of, told_all}
 
 -- All events that a run logged.
@@ -105,7 +106,8 @@ abbrev pub current_move_of : Party → ℕ
 current_move_of t = number_in t.active.current_move (member_at t.active.place t).moves
 
 -- Bide, charging and bad poison are announced exactly if they are on. A member that is announced as invulnerable is so. The last move is
--- the current one; only Bide is not seen as it is used. A member that has to recharge used a move for it last.
+-- the current one; only Bide is not seen as it is used. A member that has to recharge used a move for it last. A move that goes on, which
+-- costs no PP, isn't counted as a use.
 pub record SideDoes (x : PublicSide) (t : Party) : Type 0 where
   pub bide : x.announced.bide ≡ bit_of (is_some t.active.conditions.underway.bide)
   pub charging : x.announced.charging ≡ bit_of t.active.conditions.underway.charging
@@ -113,6 +115,7 @@ pub record SideDoes (x : PublicSide) (t : Party) : Type 0 where
   pub invulnerable : x.invulnerable ≢ 0 → t.active.conditions.invulnerable ≡ true
   pub last_move : bides (move_at (current_move_of t)).effect ≡ false → x.last_move ≡ current_move_of t
   pub recharge : t.active.conditions.underway.recharge ≡ true → recharges (move_at x.last_move).effect ≡ true
+  pub uses : keeps_going t.active.conditions.underway ≡ true → new_uses (current_move_of t) x ≡ 0
 
 abbrev pub is_fault : Outcome → Bool
 is_fault (outcomes.Fault n) = true

@@ -2,7 +2,7 @@
 ghost use Rattle.std.specs.Prelude.{◌≡◌, ◌≤◌};
 ghost use Rattle.gen1_tables.specs.Effects.{hides};
 ghost use Rattle.gen1_machine.specs.LogBytes.{kind_or_0};
-ghost use Rattle.gen1_player.specs.Public.{comes_out, ends_recharging, first_public_side, if_seen_out, is_cleared, on_seen, prepares, reach_after, seen_at, strikes, suffers_move, takes_damage, uses_move};
+ghost use Rattle.gen1_player.specs.Public.{comes_out, ends_recharging, first_public_side, if_seen_out, is_cleared, is_going_on, may_go_on, new_uses, on_seen, prepares, reach_after, seen_at, strikes, suffers_move, takes_damage, uses_move, uses_times};
 ghost use Rattle.gen1_player.specs.Sides.{foe_hears, seen_or_none, side_begins, side_hears};
 
 use crate::announced::Announced;
@@ -10,6 +10,9 @@ use crate::seen::Seen;
 use crate::stages::SeenStages;
 use gen1_machine::{DamageSource, Event, Health, Kind, Volatile};
 use gen1_tables::{Effect, MoveId, Species};
+
+// The number of Bide, which is used as it starts.
+const BIDE: u8 = 117;
 
 /// What is public of a side.
 #[repr(C)]
@@ -172,10 +175,29 @@ impl PublicSide {
         requires out { 1 ≤ self.old.place }
         ensures { self.new ≡ uses_move id self.old }
     {
-        self.last_move = id.number();
-        let seen = self.active().after_use(id.number(), 1);
+        self.count_uses(id.number(), self.new_uses(id));
+    }
+
+    fn count_uses(&mut self, id: u8, more: u8)
+        requires out { 1 ≤ self.old.place }
+        ensures { self.new ≡ uses_times more id self.old }
+    {
+        self.last_move = id;
+        let seen = self.active().after_use(id, more);
         self.show(seen);
         self.strike();
+    }
+
+    fn new_uses(&self, id: MoveId) -> u8
+        ensures { result ≡ new_uses id self.now }
+    {
+        if self.is_going_on(id) { 0 } else { 1 }
+    }
+
+    fn is_going_on(&self, id: MoveId) -> bool
+        ensures { result ≡ is_going_on id self.now }
+    {
+        self.announced.rage != 0 || self.last_move == id.number() && may_go_on(id.effect())
     }
 
     fn prepare(&mut self, id: MoveId)
@@ -186,6 +208,7 @@ impl PublicSide {
         let seen = self.active().after_use(id.number(), 0);
         self.show(seen);
         self.announced.charging = 1;
+        self.announced.recharging = 0;
         if hides(id.effect()) {
             self.invulnerable = 1;
         }
@@ -242,13 +265,24 @@ impl PublicSide {
         requires out { 1 ≤ self.old.place }
         ensures { self.new ≡ side_begins what foe.now self.old }
     {
-        if matches!(what, Volatile::TypeChange) {
-            self.first_type = foe.first_type;
-            self.second_type = foe.second_type;
-        } else {
-            self.announced.set(what, 1);
+        match what {
+            Volatile::TypeChange => {
+                self.first_type = foe.first_type;
+                self.second_type = foe.second_type;
+            }
+            Volatile::Bide => {
+                self.count_uses(BIDE, 1);
+                self.announced.bide = 1;
+            }
+            _ => self.announced.set(what, 1),
         }
     }
+}
+
+fn may_go_on(effect: Effect) -> bool
+    ensures { result ≡ may_go_on effect }
+{
+    effect.traps() || effect.thrashes()
 }
 
 fn ends_recharging(effect: Effect) -> bool

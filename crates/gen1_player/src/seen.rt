@@ -9,7 +9,8 @@ ghost use Rattle.gen1_player.specs.Public.{is_slot, not_seen, used_more};
 pub struct SeenMove {
     /// The number of the move, 1 to 165; 0 in a free slot.
     pub id: u8,
-    /// How often the member used it; 255 for that many and more. 0 for a move that it has only prepared, and in a free slot.
+    /// How often the member used it; 255 for that many and more. A use that may be one going on is not counted. 0 for a move that it has
+    /// only prepared, and in a free slot.
     pub uses: u8,
 }
 

@@ -1181,7 +1181,7 @@ mod players {
         Used(Side, u8, usize, u8, u8),
     }
 
-    static PUBLIC: [Row; 17] = [
+    static PUBLIC: [Row; 19] = [
         Row {
             name: "before the first event nothing is public",
             steps: &[
@@ -1223,6 +1223,42 @@ mod players {
                 Step::Is(Fact::LastMove(TWO, 57)),
                 Step::Repeats(300, Move(TWO, 57)),
                 Step::Is(Fact::Used(TWO, 3, 0, 57, 255)),
+            ],
+        },
+        Row {
+            name: "a move that may be going on is not counted",
+            steps: &[
+                Step::Begin,
+                // Wrap, and again after Strength.
+                Step::Tells(Move(ONE, 35)),
+                Step::Tells(Move(ONE, 35)),
+                Step::Is(Fact::Used(ONE, 1, 0, 35, 1)),
+                Step::Tells(Move(ONE, 70)),
+                Step::Tells(Move(ONE, 35)),
+                Step::Is(Fact::Used(ONE, 1, 0, 35, 2)),
+                // Petal Dance.
+                Step::Repeats(3, Move(ONE, 80)),
+                Step::Is(Fact::Used(ONE, 1, 2, 80, 1)),
+                // Rage, which misses at first.
+                Step::Tells(Move(TWO, 99)),
+                Step::Tells(Move(TWO, 99)),
+                Step::Is(Fact::Used(TWO, 3, 0, 99, 2)),
+                Step::Tells(Start(TWO, Volatile::Rage)),
+                Step::Repeats(3, Move(TWO, 99)),
+                Step::Is(Fact::Used(TWO, 3, 0, 99, 2)),
+            ],
+        },
+        Row {
+            name: "Bide is used as it starts",
+            steps: &[
+                Step::Begin,
+                Step::Tells(MustRecharge(ONE)),
+                Step::Tells(Start(ONE, Volatile::Bide)),
+                Step::Announced(ONE, &["bide"]),
+                Step::Is(Fact::Used(ONE, 1, 0, 117, 1)),
+                Step::Is(Fact::LastMove(ONE, 117)),
+                Step::Tells(End(ONE, Volatile::Bide)),
+                Step::Is(Fact::Used(ONE, 1, 0, 117, 1)),
             ],
         },
         Row {
@@ -1347,6 +1383,11 @@ mod players {
                 Step::Announced(ONE, &["recharging"]),
                 Step::Tells(Move(ONE, 63)),
                 Step::Announced(ONE, &[]),
+                // The first turn of its next move.
+                Step::Tells(MustRecharge(ONE)),
+                Step::Tells(Prepare(ONE, 13)),
+                Step::Announced(ONE, &["charging"]),
+                Step::Tells(Move(ONE, 13)),
                 // Sleep Powder and Wrap of the foe.
                 Step::Tells(MustRecharge(ONE)),
                 Step::Announced(ONE, &["recharging"]),

@@ -33,8 +33,9 @@ _BITS = {int(it): 1 << bit for bit, it in enumerate(CHOICES)}
 
 @dataclass(frozen=True)
 class SeenMove:
-    """A move that a member was seen to prepare or to use, and how often it
-    used it: 0 to 255, where 255 means 255 or more.
+    """A move that a member was seen to prepare or to use, and how often
+    it used it: 0 to 255, where 255 means 255 or more. A use that may be
+    one going on, without PP, is not counted.
     """
 
     move: Move
