@@ -40,6 +40,7 @@
 //! | a spectator's view | [`Spectator`] |
 //! | two players who choose independently | [`Room`] |
 //! | everything that two players and an audience are sent | [`Host`] |
+//! | bytes for a network or a file | `to_bytes` and `from_bytes` of [`Message`], [`Notice`], [`OwnSide`], [`Player`], [`Spectator`], [`Teller`], [`Room`], [`Host`] and [`Row`]; [`Battle::as_bytes`] and [`Battle::load`] |
 //!
 //! # Names
 //!
@@ -50,8 +51,8 @@
 //! # Features
 //!
 //! The crate is `no_std`. The feature `alloc`, on by default, adds `Battle::outcomes`, whose list grows; [`Battle::outcomes_into`] and
-//! [`Battle::ways`] do without, and need no allocator with `default-features = false`. `serde` adds `Serialize` and `Deserialize` for members, names, choices, sides, events,
-//! states, outcomes, odds, playouts and battles. A [`Team`] is only deserialized, from a list of members. A member is the object of
+//! [`Battle::ways`] do without, and need no allocator with `default-features = false`. `serde` adds `Serialize` and `Deserialize` for
+//! members, names, choices, sides, events, states, outcomes, odds, playouts, battles, and what has bytes. A [`Team`] is only deserialized, from a list of members. A member is the object of
 //! [docs/PROGRAM.md][program], in which `level`, `dvs`, `exp` and the PP ups of a move may be absent, a battle its 384 bytes, and a name
 //! its text:
 //!

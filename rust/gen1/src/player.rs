@@ -64,6 +64,10 @@ impl Player {
         (inner.foes <= 6).then_some(Player { inner, side })
     }
 
+    pub(crate) fn plain(&self) -> &plain::Player {
+        &self.inner
+    }
+
     /// Reads the next bytes of the log of its side's teller, which may be cut anywhere.
     ///
     /// # Errors
@@ -190,6 +194,15 @@ impl Teller {
     #[must_use]
     pub fn in_pixels(side: Side) -> Self {
         let inner = plain::Teller::new(side, true);
+        Teller { inner, side }
+    }
+
+    pub(crate) fn plain(&self) -> &plain::Teller {
+        &self.inner
+    }
+
+    /// The teller of this side with these numbers, which are its.
+    pub(crate) fn from_plain(inner: plain::Teller, side: Side) -> Self {
         Teller { inner, side }
     }
 

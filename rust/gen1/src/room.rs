@@ -143,6 +143,14 @@ impl Room {
         plain::forfeit(&mut self.inner, side)
     }
 
+    pub(crate) fn plain(&self) -> &PlainRoom {
+        &self.inner
+    }
+
+    pub(crate) fn from_plain(inner: PlainRoom) -> Self {
+        Room { inner }
+    }
+
     /// The side that has forfeited, if one has.
     #[must_use]
     pub fn forfeited(&self) -> Option<Side> {

@@ -1,10 +1,13 @@
 //! Serde for battles, and for what a host stores and sends. Both are checked when they are deserialized.
 //!
-//! A battle is its bytes, and so is a host. So are rows, messages, notices and own sides in binary formats; in formats for people, such as
-//! JSON, they are the objects of docs/HOST.schema.json.
+//! A battle is its bytes, and so are hosts, rooms, players, tellers and spectators. So are rows, messages, notices and own sides in binary
+//! formats; in formats for people, such as JSON, they are the objects of docs/HOST.schema.json, and a mask is the list of its choices.
 use crate::generated::host as plain;
 use crate::generated::player::OwnMember;
-use crate::{Battle, Host, Line, Message, Notice, OfferedMask, OwnSide, Row, WireFault};
+use crate::{
+    Battle, Host, Line, Message, Notice, OfferedMask, OwnSide, Player, Room, Row, Spectator,
+    Teller, WireFault,
+};
 use arrayvec::ArrayVec;
 use core::fmt;
 use core::marker::PhantomData;
@@ -87,6 +90,10 @@ fn array<const N: usize>(bytes: &[u8]) -> [u8; N] {
 as_bytes! {
     Battle, 384, "a battle", as_bytes, Battle::load;
     Host, Host::LENGTH, "a host", to_bytes, |bytes: &[u8]| Host::from_bytes(&array(bytes));
+    Room, Room::LENGTH, "a room", to_bytes, |bytes: &[u8]| Room::from_bytes(&array(bytes));
+    Player, Player::LENGTH, "a player", to_bytes, |bytes: &[u8]| Player::from_bytes(&array(bytes));
+    Teller, Teller::LENGTH, "a teller", to_bytes, |bytes: &[u8]| Teller::from_bytes(&array(bytes));
+    Spectator, Spectator::LENGTH, "a spectator", to_bytes, |bytes: &[u8]| Spectator::from_bytes(&array(bytes));
     Row as RowFields, Row::LENGTH, "a row", to_bytes, |bytes: &[u8]| Row::from_bytes(&array(bytes)).ok_or(NO_ROW);
     OwnSide as OwnFields, OwnSide::LENGTH, "an own side", to_bytes, |bytes: &[u8]| OwnSide::from_bytes(&array(bytes));
     Message as MessageFields, Message::LENGTH, "a message", to_bytes, |bytes: &[u8]| Message::from_bytes(&array(bytes));
@@ -95,7 +102,34 @@ as_bytes! {
 
 const NO_ROW: &str = "not a row";
 /// The mask of all choices.
-const ALL: u16 = 0xfff;
+const ALL: OfferedMask = OfferedMask(0xfff);
+
+/// The bits for formats that are binary; else the choices, as bytes in rising order.
+impl Serialize for OfferedMask {
+    fn serialize<S: Serializer>(&self, serializer: S) -> Result<S::Ok, S::Error> {
+        if serializer.is_human_readable() {
+            serializer.collect_seq(self.iter().map(|it| it.choice().byte()))
+        } else {
+            self.bits().serialize(serializer)
+        }
+    }
+}
+
+impl<'de> Deserialize<'de> for OfferedMask {
+    fn deserialize<D: Deserializer<'de>>(deserializer: D) -> Result<Self, D::Error> {
+        let bits = if deserializer.is_human_readable() {
+            let choices = ArrayVec::<u8, 9>::deserialize(deserializer)?;
+            choices.iter().try_fold(0, |bits, byte| {
+                let bit = ALL.iter().position(|it| it.choice().byte() == *byte)?;
+                Some(bits | 1 << bit)
+            })
+        } else {
+            Some(u16::deserialize(deserializer)?)
+        };
+        let mask = bits.and_then(OfferedMask::from_bits);
+        mask.ok_or_else(|| D::Error::custom("not a mask of choices"))
+    }
+}
 
 #[derive(Clone, Copy, Serialize, Deserialize)]
 #[serde(rename_all = "lowercase")]
@@ -265,7 +299,7 @@ struct MessageFields {
     number: u32,
     log: Log,
     own: OwnFields,
-    choices: ArrayVec<u8, 12>,
+    choices: OfferedMask,
     draw: Option<u8>,
 }
 
@@ -275,11 +309,7 @@ impl From<&Message> for MessageFields {
             number: message.number(),
             log: message.log().iter().copied().collect(),
             own: message.own().into(),
-            choices: message
-                .offered()
-                .iter()
-                .map(|it| it.choice().byte())
-                .collect(),
+            choices: message.offered(),
             draw: message.draw().map(|side| side.number()),
         }
     }
@@ -287,17 +317,11 @@ impl From<&Message> for MessageFields {
 
 impl MessageFields {
     fn restored(self) -> Result<Message, WireFault> {
-        let mut offered = 0;
-        for byte in self.choices {
-            let mut all = OfferedMask(ALL).iter();
-            let place = all.position(|it| it.choice().byte() == byte);
-            offered |= 1 << place.ok_or(WireFault::new("a message", "choices"))?;
-        }
         let (log, log_length) = log_of(&self.log);
         let inner = plain::Message {
             own: self.own.untested(),
             number: self.number,
-            offered,
+            offered: self.choices.bits(),
             log_length,
             draw: draw_of(self.draw),
             unused: [0; 3],

@@ -1,5 +1,6 @@
 //! A spectator's knowledge of a battle.
 use crate::generated::spectator::View;
+use crate::generated::spectator::plain::PlainSpectator;
 use crate::{Event, Kind, LogFault, LogReader, Outcome, Side, Stat, Team};
 use core::fmt;
 
@@ -42,6 +43,15 @@ impl Spectator {
     #[must_use]
     pub fn new(one: &Team, two: &Team) -> Self {
         let view = View::new(one, two);
+        Spectator { view }
+    }
+
+    pub(crate) fn view(&self) -> &View {
+        &self.view
+    }
+
+    pub(crate) fn from_plain(plain: &PlainSpectator) -> Self {
+        let view = View::of_plain(plain);
         Spectator { view }
     }
 

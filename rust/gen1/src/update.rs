@@ -53,6 +53,12 @@ impl fmt::Display for Offered {
 pub struct OfferedMask(pub(crate) u16);
 
 impl OfferedMask {
+    /// The mask with these bits; `None` if there are more than twelve bits, or more than nine choices.
+    #[must_use]
+    pub fn from_bits(bits: u16) -> Option<Self> {
+        (bits <= 0xfff && count_of(bits) <= 9).then_some(OfferedMask(bits))
+    }
+
     /// A bit for each choice, from the lowest: pass, move with slot 0 to 4, switch to place 1 to 6. All are 0 once the battle is
     /// over.
     #[must_use]

@@ -188,9 +188,9 @@ fn serde() {
         (
             "\"choices\":[17",
             "\"choices\":[21",
-            "not a message: choices",
+            "not a mask of choices",
         ),
-        ("\"level\":100", "\"level\":101", "not a message: species"),
+        ("\"level\":100", "\"level\":101", "not a message: level"),
         ("\"log\":[", "\"log\":[99", "not a message: log"),
         (
             "\"own\":{",

@@ -564,9 +564,9 @@ fn bytes_that_nobody_sends_are_refused() {
     let (sent, all) = (host.message(Side::One).to_bytes(), host.notice().to_bytes());
     for (place, byte, field) in [
         (0, 152, "species"),
-        (1, 101, "species"),
-        (2, 6, "members"),
-        (4, 166, "members"),
+        (1, 101, "level"),
+        (2, 6, "status"),
+        (4, 166, "moves"),
         (171, 7, "count"),
         (171, 0, "count"),
         (158, 3, "place"),
@@ -579,7 +579,7 @@ fn bytes_that_nobody_sends_are_refused() {
         (177, 16, "offered"),
         (180, 3, "draw"),
         (181, 1, "unused"),
-        (179, 3, "log"),
+        (179, 3, "log_length"),
         (184, 29, "log"),
     ] {
         let mut wrong = sent;
@@ -590,7 +590,7 @@ fn bytes_that_nobody_sends_are_refused() {
         assert_eq!(fault.to_string(), text);
     }
     for (place, byte, field) in [
-        (5, 3, "log"),
+        (5, 3, "log_length"),
         (6, 6, "outcome"),
         (7, 3, "draw"),
         (8, 0, "log"),
