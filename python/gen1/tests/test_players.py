@@ -11,6 +11,7 @@ from conftest import BIG, LIB, NO_NUMBERS, random_team
 from gen1 import (
     Announced,
     BadArgument,
+    BadBytes,
     BadLog,
     BadTeam,
     BadType,
@@ -33,6 +34,7 @@ from gen1 import (
     Spectator,
     Stat,
     Status,
+    Team,
     Teller,
     Type,
 )
@@ -523,3 +525,121 @@ def test_choices_that_are_shown(player):
         wanted = tuple(sorted(offered)) if isinstance(offered, tuple) else (Choice.MOVE_1,)
         player.show(own, offered)
         assert player.choices == wanted and all(isinstance(it, Choice) for it in player.choices)
+
+
+def known_table():
+    """A room with all who follow it, as in rust/gen1/tests/wire.rs: side 2 is told HP in 48ths."""
+    one = "Tauros||||BodySlam,HyperBeam,Blizzard,Earthquake|||||||]Chansey||||IceBeam,Thunderbolt,SoftBoiled|||||||"
+    two = "Gengar||||Hypnosis,Dig,NightShade|||||||]Snorlax||||BodySlam,Substitute,Amnesia|||||||"
+    teams = [Team.from_packed(it) for it in (one, two)]
+    tellers, players = [Teller(1), Teller(2, pixels=True)], [Player(1, teams[0], 2), Player(2, teams[1])]
+    return [Room(Battle(*teams, SEED)), *tellers, *players, Spectator(*teams)]
+
+
+def told(room, one, two, first, second, spectator):
+    """All of a table, after the log of the room's last pair."""
+    for teller, player in ((one, first), (two, second)):
+        player.feed(teller.tell(room.log))
+        player.show(room.battle.own_side(player.side), room.battle.choices(player.side))
+    spectator.feed(room.log)
+
+
+def fnv(before, data):
+    """FNV-1a."""
+    for byte in data:
+        before = (before ^ byte) * 0x100000001B3 % 2**64
+    return before
+
+
+def test_bytes_are_those_of_the_c_structs():
+    """In a battle that Rust and JavaScript play too; at each step all go on from their bytes."""
+    table, pairs = known_table(), 0
+    told(*table)
+    found = fnv(0xCBF29CE484222325, b"".join(map(bytes, table)))
+    while not table[0].result.is_over:
+        for side in Side:
+            choices = table[0].choices(side)
+            if choices:
+                again = [type(it).from_bytes(bytes(it)) for it in table]
+                assert again == table
+                number, table = table[0].number, again
+                table[0].submit(side, number, choices[(pairs + side) % len(choices)])
+                if table[0].number > number:
+                    told(*table)
+                found = fnv(found, b"".join(map(bytes, table)))
+        pairs += 1
+    room = known_table()[0]
+    room.forfeit(2)
+    assert pairs == 25 and fnv(found, bytes(Room.from_bytes(bytes(room)))) == 0x8838AACA0CF38FA3
+
+
+def test_bytes_that_are_refused():
+    """A field out of its range is named; random damage is refused, or can be looked at."""
+    table, dice = known_table(), random.Random(4)
+    told(*table)
+    own = table[3].own
+    assert OwnSide.from_bytes(bytes(own)) == own
+    for it, at, byte, field in (
+        *((table[3], at, byte, field) for at, byte, field in ((4, 152, "species"), (1, 4, "hp"), (259, 7, "place"))),
+        *(
+            (table[3], at, byte, field)
+            for at, byte, field in ((441, 16, "offered"), (444, 9, "held"), (442, 3, "side"))
+        ),
+        *((table[1], at, byte, field) for at, byte, field in ((0, 0, "side"), (1, 2, "pixels"), (3, 1, "places"))),
+        *(
+            (table[5], at, byte, field)
+            for at, byte, field in ((24, 7, "count"), (25, 3, "place"), (75, 10, "held_count"))
+        ),
+        *((own, at, byte, field) for at, byte, field in ((12, 99, "hp"), (158, 3, "place"), (171, 0, "count"))),
+        *((table[0], at, byte, field) for at, byte, field in ((393, 1, "unused"), (392, 3, "forfeit"))),
+    ):
+        data = bytearray(bytes(it))
+        data[at] = byte
+        with pytest.raises(BadArgument, match=f"data is not an? [a-z ]*: {field} is out of its range"):
+            type(it).from_bytes(data)
+        for wrong in (b"", bytes(len(data) + 1)):
+            with pytest.raises(BadArgument, match=f"data must be the {len(data)} bytes of an? "):
+                type(it).from_bytes(wrong)
+        with pytest.raises(BadType):
+            type(it).from_bytes("bytes")
+    for it in (*table, own):
+        for _ in range(1000):
+            data = bytearray(bytes(it))
+            data[dice.randrange(len(data))] = dice.randrange(256)
+            try:
+                made = type(it).from_bytes(data)
+            except BadArgument:
+                continue
+            assert bytes(made) == data and repr(made)
+            if isinstance(made, Player):
+                assert made.foe and made.public(made.side) and made.own.members and made.choices is not None
+
+
+def test_bytes_of_no_room_are_refused():
+    """The library's test of hosts, and a forfeit that leads to the room."""
+    room = known_table()[0]
+    lost = room.copy()
+    lost.submit(1, 0, 0x11)
+    lost.forfeit(1)
+    for it, edits, why in (
+        (room, {384: 10}, "leaves no place"),
+        (room, {390: 0x15}, "side 1's choice is not offered"),
+        (room, {390: 0x11, 391: 0x11}, "both choices are there"),
+        (room, {396: 0x1D}, "is no log"),
+        (room, {392: 1}, "leaves no place"),
+        (lost, {384: 0}, "leaves no place"),
+        (lost, {384: 11}, "leaves no place"),
+        (lost, {397: 1}, "no forfeit of side 1 leads there"),
+        (lost, {392: 2}, "no forfeit of side 2 leads there"),
+        (lost, {390: 255}, "no forfeit of side 1 leads there"),
+        (lost, {392: 0}, "is missing though nothing is asked|is not offered"),
+    ):
+        data = bytearray(bytes(it))
+        for at, byte in edits.items():
+            data[at] = byte
+        with pytest.raises(BadArgument, match=why):
+            Room.from_bytes(data)
+    data = bytearray(bytes(room))
+    data[0] = 9
+    with pytest.raises(BadBytes):
+        Room.from_bytes(data)

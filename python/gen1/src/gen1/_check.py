@@ -1,15 +1,19 @@
 """Checks and converts the caller's arguments before the library is called, whose numbers are bytes."""
 
+from __future__ import annotations
+
 import operator
 import os
-from collections.abc import Iterable, Sequence
+from collections.abc import Callable, Iterable, Sequence
+from ctypes import sizeof
 from enum import Enum
 from itertools import islice
 from math import inf
 from numbers import Real
-from typing import TypeVar
+from typing import Any, TypeVar
 
 from gen1 import _library
+from gen1._structs import first_above
 from gen1.errors import BadArgument, BadPlace, BadTeam, BadType
 from gen1.names import Move, Named, NamedType, NewFault, Species
 
@@ -110,6 +114,23 @@ def octets(value: object, what: str) -> bytes:
     if view.itemsize != 1:
         raise BadType(f"{what} must be bytes, not items of {view.itemsize} bytes: {shown(value)}")
     return view.tobytes()
+
+
+def struct_from(data: object, kind: Any, what: str, fault: Callable[[Any], str | None] = lambda _: None) -> Any:
+    """The struct with these bytes. `fault` names a field that does not fit the others. Raises `BadArgument`, `BadType`."""
+    given = octets(data, "data")
+    if len(given) != sizeof(kind):
+        raise BadArgument(f"data must be the {sizeof(kind)} bytes of {what}, not {len(given):,}")
+    held = kind.from_buffer_copy(given)
+    wrong = first_above(kind, given) or fault(held)
+    if wrong:
+        raise BadArgument(f"data is not {what}: {wrong} is out of its range")
+    return held
+
+
+def first_false(tests: Iterable[tuple[str, object]]) -> str | None:
+    """The name of the first test that fails."""
+    return next((name for name, passes in tests if not passes), None)
 
 
 def seed_bytes(value: object) -> bytes:

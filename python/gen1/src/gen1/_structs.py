@@ -1,7 +1,11 @@
 """The structs of include/gen1.h for ctypes, with their fields in its order; those of teams and events are in `_library`."""
 
+from __future__ import annotations
+
 from collections.abc import Callable
-from ctypes import Structure, c_int8, c_uint8, c_uint16, c_uint32, c_uint64, sizeof
+from ctypes import Array, Structure, c_int8, c_uint8, c_uint16, c_uint32, c_uint64, sizeof
+from functools import lru_cache
+from operator import le
 from struct import Struct
 from typing import Any
 
@@ -429,6 +433,63 @@ class NoticeStruct(Structure):
         ("draw", c_uint8),
         ("log", c_uint8 * LOG_ROOM),
     ]
+
+
+# The highest number of each field of what crosses a network; a field that is not named may have any number.
+_MOST: dict[str, dict[str, int]] = {
+    "OwnMemberStruct": {
+        **{"species": 151, "level": 100, "status": 5, "unused": 0, "moves": 165, "pp": 63},
+        **{"hp": 999, "max_hp": 999, "stats": 999},
+    },
+    "OwnSideStruct": {
+        **{"conditions": 0x1FFFF, "stats": 999, "turn": 9999, "place": 6, "types": 14, "stages": 12},
+        **{"disabled_slot": 4, "held": 1, "request": 2, "outcome": 5, "count": 6},
+    },
+    "SeenMoveStruct": {"id": 165},
+    "SeenStruct": {"hp": 999, "max": 999, "species": 151, "level": 100, "status": 5, "unused": 0},
+    "AnnouncedStruct": dict.fromkeys(ANNOUNCED, 1),
+    "PublicSideStruct": {
+        **{"stages": 12, "place": 6, "first_type": 14, "second_type": 14, "last_move": 165, "invulnerable": 1},
+    },
+    "PublicStruct": {"turn": 9999, "outcome": 5, "may_hit_itself": 2},
+    "PlayerStruct": {"offered": 0xFFF, "side": 2, "foes": 6, "held_count": 9, "unused": 0},
+    "TellerStruct": {"side": 2, "pixels": 1, "places": 6},
+    "ShownMemberStruct": {"hp": 999, "status": 5, "reserved": 0},
+    "ShownSideStruct": {
+        **{"count": 6, "place": 6, "stages": 12, "substitute": 1, "confused": 1, "light_screen": 1, "reflect": 1},
+    },
+    "SpectatorStruct": {"turn": 9999, "outcome": 5, "held_count": 9},
+    "MessageStruct": {"offered": 0xFFF, "log_length": LOG_ROOM, "draw": 2, "unused": 0},
+    "NoticeStruct": {"log_length": LOG_ROOM, "outcome": 5, "draw": 2},
+    "RoomStruct": {"log_length": LOG_ROOM, "forfeit": 2, "unused": 0},
+}
+
+
+def _fields_of(kind: Any, name: str = "", most: int = 0) -> list[tuple[str, str, int]]:
+    """The numbers of a struct, array or number: the letter, the name and the highest of each."""
+    if issubclass(kind, Array):
+        of_item = _fields_of(kind._type_, name, most)
+        return [it for _ in range(kind._length_) for it in of_item]
+    if not issubclass(kind, Structure):
+        return [({1: "B", 2: "H", 4: "I"}[sizeof(kind)], name, most)]
+    ranges = _MOST[kind.__name__]
+    fields = [(name, of, ranges.get(name, 0xFFFFFFFF)) for name, of in kind._fields_]
+    return [it for name, of, most in fields for it in _fields_of(of, name, most)]
+
+
+@lru_cache(None)
+def _numbers(kind: Any) -> tuple[Callable[[bytes], tuple[int, ...]], tuple[str, ...], tuple[int, ...]]:
+    letters, names, most = zip(*_fields_of(kind))
+    return Struct("<" + "".join(letters)).unpack, names, most
+
+
+def first_above(kind: Any, data: bytes) -> str | None:
+    """The first field of a struct with these bytes that is above its range. These structs have no padding."""
+    unpack, names, most = _numbers(kind)
+    numbers = unpack(data)
+    if all(map(le, numbers, most)):
+        return None
+    return next(name for name, number, high in zip(names, numbers, most) if number > high)
 
 
 def reader(kind: type[Structure]) -> Callable[[bytes], dict[str, Any]]:

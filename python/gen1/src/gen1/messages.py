@@ -4,23 +4,21 @@
 
 from __future__ import annotations
 
-from collections.abc import Iterable, Mapping, Sequence
+from collections.abc import Callable, Iterable, Mapping, Sequence
 from ctypes import Array, Structure, sizeof
 from typing import TYPE_CHECKING, Any
 
-from gen1._check import octets, shown, within
+from gen1._check import shown, struct_from, within
 from gen1._structs import LOG_ROOM, MessageStruct, NoticeStruct, OwnSideStruct
 from gen1.choices import Choice, Side, a_side
 from gen1.errors import BadArgument, BadLog, BadType
 from gen1.events import Event, events
 from gen1.names import Outcome
-from gen1.own_sides import OwnSide, own_side_from
+from gen1.own_sides import OwnSide, mask_fault, own_fault, own_side_from
 
 if TYPE_CHECKING:
     from _typeshed import ReadableBuffer
 
-# The fields of an own side that a message from outside may have wrong.
-_READ = ("members", "types", "stages", "conditions", "request", "outcome")
 _CHOICES = tuple(Choice)
 
 
@@ -111,18 +109,7 @@ class Message(_Sent):
         """The message with these bytes. Raises `BadArgument` for bytes that no
         host sends, as far as one can see without the battle, and `BadType`.
         """
-        held = _struct(data, MessageStruct)
-        own = own_side_from(bytes(held.own))
-        if not 0 < held.own.place <= held.own.count <= 6:
-            raise BadArgument(f"data is not a message: place {held.own.place} of {held.own.count} members is out")
-        for name in _READ:
-            try:
-                getattr(own, name)
-            except (ValueError, KeyError, IndexError):
-                raise BadArgument(f"data is not a message: {name} of the own side is out of its range") from None
-        if held.offered >> len(_CHOICES):
-            raise BadArgument(f"data is not a message: its mask of choices is {held.offered}")
-        return message_of(held)
+        return message_of(_struct(data, MessageStruct, "a message", _message_fault))
 
     def _fields(self) -> dict[str, Any]:
         own = _object(self._held.own)
@@ -170,10 +157,7 @@ class Notice(_Sent):
         """The notice with these bytes. Raises `BadArgument` for bytes that no
         host sends, as far as one can see without the battle, and `BadType`.
         """
-        held = _struct(data, NoticeStruct)
-        if held.outcome > max(Outcome):
-            raise BadArgument(f"data is not a notice: outcome must be 0 to {max(Outcome):d}, not {held.outcome}")
-        return notice_of(held)
+        return notice_of(_struct(data, NoticeStruct, "a notice"))
 
     def _fields(self) -> dict[str, Any]:
         return {"outcome": self._held.outcome}
@@ -191,21 +175,18 @@ class Notice(_Sent):
         return f"<Notice, pair {self.number}, {self.outcome.label}>"
 
 
-def _struct(data: ReadableBuffer, kind: Any) -> Any:
-    """The struct with these bytes, whose log and draw are in their ranges."""
-    given, name = octets(data, "data"), kind.__name__.removesuffix("Struct").lower()
-    if len(given) != sizeof(kind):
-        raise BadArgument(f"data must be the {sizeof(kind)} bytes of a {name}, not {len(given):,}")
-    held = kind.from_buffer_copy(given)
-    if held.log_length > LOG_ROOM:
-        raise BadArgument(f"data is not a {name}: its log has {held.log_length:,} bytes, more than {LOG_ROOM}")
-    if held.draw > 2:
-        raise BadArgument(f"data is not a {name}: a draw is offered by side 1, side 2 or no side, not {held.draw}")
+def _struct(data: ReadableBuffer, kind: Any, what: str, fault: Callable[[Any], str | None] = lambda _: None) -> Any:
+    """The struct with these bytes, whose log is one."""
+    held = struct_from(data, kind, what, fault)
     try:
         events(bytes(held.log[: held.log_length]))
-    except BadLog as fault:
-        raise BadArgument(f"data is not a {name}: its log is {fault}") from None
+    except BadLog as why:
+        raise BadArgument(f"data is not {what}: its log is {why}") from None
     return held
+
+
+def _message_fault(of: MessageStruct) -> str | None:
+    return own_fault(of.own) or mask_fault(of)
 
 
 def record(value: object, what: str, names: Iterable[str]) -> Mapping[str, Any]:

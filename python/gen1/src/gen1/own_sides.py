@@ -8,13 +8,20 @@ from ctypes import byref, sizeof
 from dataclasses import dataclass
 from functools import lru_cache
 from struct import Struct
-from typing import Any
+from typing import TYPE_CHECKING, Any
 
 from gen1 import _library
-from gen1._check import by_number
+from gen1._check import by_number, first_false, struct_from
 from gen1._structs import OwnMemberStruct, OwnSideStruct, reader
 from gen1.names import Conditions, Move, Outcome, Request, Species, Stat, Status, Type
 from gen1.states import KEPT, stage_in, stages_of
+
+if TYPE_CHECKING:
+    from _typeshed import ReadableBuffer
+
+
+# A side is offered at most four moves and five switches.
+MOST_CHOICES = 9
 
 
 @dataclass(frozen=True)
@@ -43,6 +50,9 @@ class OwnSide:
     equal if all of their fields are equal. Before the first update there is
     no active member: `place` is 0, and the fields of the active member are
     zeros.
+
+    `bytes` of an own side are the 172 bytes of a `gen1_own_side`, and
+    `from_bytes` is the way back.
     """
 
     __slots__ = ("_held", "_members")
@@ -122,6 +132,16 @@ class OwnSide:
         """The stage of a stat, -6 to 6. Raises `BadArgument`, `BadType`."""
         return stage_in(self.stages, stat)
 
+    @classmethod
+    def from_bytes(cls, data: ReadableBuffer) -> OwnSide:
+        """The own side with these bytes. Raises `BadArgument` for a field that
+        is out of its range, and `BadType`.
+        """
+        return _made(struct_from(data, OwnSideStruct, "an own side", own_fault))
+
+    def __bytes__(self) -> bytes:
+        return bytes(self._held)
+
     def __reduce__(self) -> tuple[Any, ...]:
         return own_side_from, (bytes(self._held),)
 
@@ -136,6 +156,29 @@ class OwnSide:
     def __repr__(self) -> str:
         out = self.active
         return f"<OwnSide, turn {self.turn}, {out.species.label if out else 'nobody'} out, asked {self.request}>"
+
+
+def own_fault(of: Any) -> str | None:
+    """The field of an own side that does not fit the others."""
+    tests: list[tuple[str, object]] = []
+    for it in of.members[: of.count]:
+        tests += [("species", it.species), ("level", it.level), ("hp", it.hp <= it.max_hp), ("max_hp", it.max_hp >= 11)]
+        tests.append(("stats", min(it.stats) >= 5))
+    return first_false(
+        [
+            *tests,
+            ("conditions", not of.conditions & Conditions.FLINCH),
+            ("stats", not of.place or min(of.stats)),
+            ("count", of.count),
+            ("place", of.place <= of.count),
+            ("members", not any(any(bytes(it)) for it in of.members[of.count :])),
+        ]
+    )
+
+
+def mask_fault(of: Any) -> str | None:
+    """Whether the mask of a player or message has more choices than a side is ever offered."""
+    return "offered" if bin(of.offered).count("1") > MOST_CHOICES else None
 
 
 @lru_cache(KEPT)

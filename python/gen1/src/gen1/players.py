@@ -11,15 +11,15 @@ from struct import Struct
 from typing import TYPE_CHECKING, Any
 
 from gen1 import _library
-from gen1._check import digits, listed, octets, shown, truth, whole, within
+from gen1._check import digits, first_false, listed, octets, shown, struct_from, truth, whole, within
 from gen1._structs import ANNOUNCED, LOG_ROOM, OwnMemberStruct, PlayerStruct, PublicSideStruct, SeenStruct, TellerStruct
 from gen1.battle import Battle, TeamLike
 from gen1.choices import Choice, Side, a_side
 from gen1.errors import BadArgument, BadLog, BadTeam, BadType
 from gen1.messages import Message, a_message
 from gen1.names import LogFault, Move, NewFault, Outcome, Request, Species, Stat, Status, Type
-from gen1.own_sides import OwnSide, own_side_from
-from gen1.spectators import fault_place
+from gen1.own_sides import OwnSide, mask_fault, own_fault, own_side_from
+from gen1.spectators import fault_place, held_fault
 from gen1.states import stage_in, stages_of
 from gen1.teams import as_team
 
@@ -124,7 +124,8 @@ class Player:
 
     Two players are equal if they know the same and hold the same bytes of
     an incomplete event; a player has no hash. A player must be used by one
-    thread at a time.
+    thread at a time. `bytes` of a player are the 456 bytes of a
+    `gen1_player`, and `from_bytes` is the way back.
     """
 
     __slots__ = ("_held",)
@@ -265,6 +266,16 @@ class Player:
     def __deepcopy__(self, _: object) -> Player:
         return self.copy()
 
+    @classmethod
+    def from_bytes(cls, data: ReadableBuffer) -> Player:
+        """The player with these bytes. Raises `BadArgument` for a field that
+        is out of its range, and `BadType`.
+        """
+        return _player(bytes(struct_from(data, PlayerStruct, "a player", _player_fault)))
+
+    def __bytes__(self) -> bytes:
+        return bytes(self._held)
+
     def __reduce__(self) -> tuple[Any, ...]:
         return _player, (bytes(self._held),)
 
@@ -287,7 +298,8 @@ class Teller:
     members in the order in which they appeared. It may also hide exact HP.
     Everything else is reported unchanged. Two tellers are equal if they
     report the same; a teller has no hash. A teller must be used by one
-    thread at a time.
+    thread at a time. `bytes` of a teller are the 8 bytes of a
+    `gen1_teller`.
     """
 
     __slots__ = ("_held",)
@@ -372,6 +384,16 @@ class Teller:
     def __deepcopy__(self, _: object) -> Teller:
         return self.copy()
 
+    @classmethod
+    def from_bytes(cls, data: ReadableBuffer) -> Teller:
+        """The teller with these bytes, which are the host's. Raises
+        `BadArgument` for a field that is out of its range, and `BadType`.
+        """
+        return _teller(bytes(struct_from(data, TellerStruct, "a teller", _teller_fault)))
+
+    def __bytes__(self) -> bytes:
+        return bytes(self._held)
+
     def __reduce__(self) -> tuple[Any, ...]:
         return _teller, (bytes(self._held),)
 
@@ -403,6 +425,33 @@ def _public(of: PublicSideStruct) -> PublicSide:
         last_move=Move(of.last_move) if of.last_move else None,
         announced=Announced(**flags, invulnerable=bool(of.invulnerable)),
     )
+
+
+def _player_fault(of: PlayerStruct) -> str | None:
+    """The field of a player that does not fit the others."""
+    return (
+        _public_fault(of.known.sides[0])
+        or _public_fault(of.known.sides[1])
+        # Before the first time nothing is shown.
+        or (own_fault(of.own) if any(bytes(of.own)) else None)
+        or mask_fault(of)
+        or ("side" if not of.side else held_fault(of))
+    )
+
+
+def _public_fault(of: PublicSideStruct) -> str | None:
+    tests: list[tuple[str, object]] = []
+    for it in of.members:
+        if any(bytes(it)):
+            tests += [("species", it.species), ("level", it.level), ("hp", it.hp <= it.max), ("max", it.max >= 11)]
+            tests.append(("uses", all(move.id or not move.uses for move in it.moves)))
+    return first_false([*tests, ("place", not of.place or of.members[of.place - 1].species)])
+
+
+def _teller_fault(of: TellerStruct) -> str | None:
+    places = [it for it in of.places if it]
+    is_teller = places == of.places[: len(places)] and len(places) == len(set(places))
+    return first_false([("side", of.side), ("places", is_teller)])
 
 
 def _names(team: tuple[int, ...]) -> str:

@@ -6,17 +6,22 @@ from __future__ import annotations
 
 from ctypes import byref
 from threading import RLock
-from typing import Any
+from typing import TYPE_CHECKING, Any
 
 from gen1 import _library
-from gen1._check import seed_bytes, shown, within
-from gen1._structs import LOG_ROOM, RoomStruct
+from gen1._check import seed_bytes, shown, struct_from, within
+from gen1._structs import HostStruct, RoomStruct
 from gen1.battle import CHOICE, CHOICES, RESULTS, Battle, Result, SeedLike, Update, battle_of
 from gen1.choices import Choice, Side, a_choice, a_side, not_offered
-from gen1.errors import BadType, RoomRefused
-from gen1.names import RoomRefusal
+from gen1.errors import BadArgument, BadType, RoomRefused
+from gen1.names import HostFault, Request, RoomRefusal
+
+if TYPE_CHECKING:
+    from _typeshed import ReadableBuffer
 
 NUMBERS = (1 << 32) - 1
+# The byte of a choice that is missing.
+DUE = 255
 
 
 class Room:
@@ -28,6 +33,9 @@ class Room:
     are equal if their battles, numbers, logs, choices and forfeits are
     equal; a room has no hash. Several threads may use one room, for example
     the handlers of both players.
+
+    `bytes` of a room are the 908 bytes of a `gen1_room`, and `from_bytes`
+    is the way back. They have everything, also secret choices.
     """
 
     # Each call of the library is atomic for other threads; the lock makes methods with several calls atomic too.
@@ -150,8 +158,22 @@ class Room:
     def __deepcopy__(self, _: object) -> Room:
         return self.copy()
 
+    @classmethod
+    def from_bytes(cls, data: ReadableBuffer) -> Room:
+        """The room with these bytes. Exactly those of rooms are accepted.
+
+        Raises `BadBytes` if the battle in them is none, `BadArgument` if
+        the rest is not that of a room, and `BadType`.
+        """
+        made = cls.__new__(cls)
+        made._held, made._lock = _room_in(data), RLock()
+        return made
+
+    def __bytes__(self) -> bytes:
+        return bytes(self._held)
+
     def __reduce__(self) -> tuple[Any, ...]:
-        return _restored, self._parts()
+        return type(self).from_bytes, (bytes(self),)
 
     def __eq__(self, other: object) -> bool:
         if not isinstance(other, Room):
@@ -164,9 +186,8 @@ class Room:
         return f"<Room, pair {self.number}, {self.result.outcome.label}>"
 
     def _parts(self) -> tuple[bytes, int, bytes, bytes, int]:
-        """Its whole state: battle, number, choices, log and forfeit."""
         with self._lock:
-            return bytes(self._held.battle), self.number, bytes(self._held.chosen), self.log, int(self._held.forfeit)
+            return _parts_of(self._held)
 
     def _refused(self, code: RoomRefusal, side: int, number: int, byte: int | None) -> RoomRefused:
         offered = self.choices(side)
@@ -179,14 +200,25 @@ class Room:
         return RoomRefused(code, said, side=side, number=number, current=self.number, choice=byte, offered=offered)
 
 
-def _restored(battle: bytes, number: int, chosen: bytes, log: bytes, forfeit: int = 0) -> Room:
-    """The room that was pickled."""
-    made = Room.__new__(Room)
-    made._lock = RLock()
-    made._held = RoomStruct(
-        number=within(number, "number", 0, NUMBERS), log_length=within(len(log), "log", 0, LOG_ROOM)
-    )
-    made._held.battle[:] = Battle.load(battle).bytes
-    made._held.chosen[:], made._held.log[: len(log)] = chosen, log
-    made._held.forfeit = within(forfeit, "forfeit", 0, 2)
-    return made
+def _room_in(data: ReadableBuffer) -> RoomStruct:
+    """The room with these bytes: that of a host whose tellers have told nothing, or what a forfeit makes of such a room."""
+    held = struct_from(data, RoomStruct, "a room")
+    battle, host = Battle.load(bytes(held.battle)), HostStruct(room=held)
+    room, host.tellers[0].side, host.tellers[1].side = host.room, 1, 2
+    room.battle[:] = battle.bytes
+    if held.forfeit:
+        # A forfeit discards choices, so any room before it will do.
+        room.chosen[:] = [0 if it is Request.NOTHING else DUE for it in battle.result.requests]
+        room.number, room.forfeit = (held.number or 1 << 32) - 1, 0
+    code = _library.host_load(byref(host))
+    if code:
+        raise BadArgument(f"data is not a room: {HostFault(code).label}")
+    if held.forfeit:
+        if _library.room_forfeit(byref(room), held.forfeit) or _parts_of(room) != (battle.bytes, *_parts_of(held)[1:]):
+            raise BadArgument(f"data is not a room: no forfeit of side {held.forfeit} leads there")
+    return RoomStruct.from_buffer_copy(room)
+
+
+def _parts_of(of: RoomStruct) -> tuple[bytes, int, bytes, bytes, int]:
+    """The whole state of a room: battle, number, choices, log and forfeit."""
+    return bytes(of.battle), of.number, bytes(of.chosen), bytes(of.log[: of.log_length]), of.forfeit

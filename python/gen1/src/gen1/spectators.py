@@ -9,7 +9,7 @@ from dataclasses import dataclass
 from typing import TYPE_CHECKING, Any
 
 from gen1 import _library
-from gen1._check import octets
+from gen1._check import first_false, octets, struct_from
 from gen1._structs import ShownSideStruct, SpectatorStruct
 from gen1.battle import TeamLike, sides_of
 from gen1.errors import BadLog, BadTeam
@@ -71,7 +71,8 @@ class Spectator:
 
     Two spectators are equal if they know the same and hold the same bytes
     of an incomplete event; a spectator has no hash. A spectator must be
-    used by one thread at a time.
+    used by one thread at a time. `bytes` of a spectator are the 86 bytes of
+    a `gen1_spectator`, and `from_bytes` is the way back.
     """
 
     __slots__ = ("_held",)
@@ -121,13 +122,25 @@ class Spectator:
     def __deepcopy__(self, _: object) -> Spectator:
         return self.copy()
 
+    @classmethod
+    def from_bytes(cls, data: ReadableBuffer) -> Spectator:
+        """The spectator with these bytes. Raises `BadArgument` for a field
+        that is out of its range, and `BadType`.
+        """
+        made = cls.__new__(cls)
+        made._held = struct_from(data, SpectatorStruct, "a spectator", _fault)
+        return made
+
+    def __bytes__(self) -> bytes:
+        return bytes(self._held)
+
     def __reduce__(self) -> tuple[Any, ...]:
-        return _restored, (self.state, self.held)
+        return type(self).from_bytes, (bytes(self),)
 
     def __eq__(self, other: object) -> bool:
         if not isinstance(other, Spectator):
             return NotImplemented
-        return (self.state, self.held) == (other.state, other.held)
+        return bytes(self) == bytes(other)
 
     __hash__ = None  # type: ignore[assignment]
 
@@ -149,19 +162,23 @@ def fault_place(log: bytes) -> int:
     return at.value
 
 
-def _restored(state: ShownState, held: bytes) -> Spectator:
-    """The spectator that was pickled."""
-    made = Spectator.__new__(Spectator)
-    of = made._held = SpectatorStruct(turn=state.turn, outcome=state.outcome, held_count=len(held))
-    of.held[: len(held)] = held
-    for to, side in zip(of.sides, (state.one, state.two)):
-        to.count, to.place, to.stages[:] = len(side.members), side.place, [it + 6 for it in side.stages]
-        to.substitute, to.confused, to.light_screen, to.reflect = (
-            side.substitute,
-            side.confused,
-            side.light_screen,
-            side.reflect,
-        )
-        for place, member in enumerate(side.members):
-            to.members[place].hp, to.members[place].status = member.hp, member.status
-    return made
+def held_fault(of: Any) -> str | None:
+    """Whether a player or spectator holds other bytes than those of an event that has come in part."""
+    held, rest, reader = bytes(of.held[: of.held_count]), of.held[of.held_count :], SpectatorStruct()
+    code = _library.spectator_feed(byref(reader), held, len(held))
+    return "held" if code or reader.held_count != len(held) or any(rest) else None
+
+
+def _fault(of: SpectatorStruct) -> str | None:
+    """The field of a spectator that does not fit the others."""
+    sides = [test for side in of.sides for test in _side_tests(side)]
+    return first_false(sides) or held_fault(of)
+
+
+def _side_tests(of: ShownSideStruct) -> list[tuple[str, object]]:
+    empty = of.members[of.count :]
+    return [
+        ("members", not any(any(bytes(it)) for it in empty)),
+        ("count", of.count),
+        ("place", of.place <= of.count),
+    ]
