@@ -669,6 +669,8 @@ export class Room {
   private constructor();
   /** A copy of the battle. */
   readonly battle: Battle;
+  /** A copy of its gen1_room (include/gen1.h), which must not be sent. */
+  readonly bytes: Uint8Array;
   readonly result: Result;
   /** The number of the current pair of choices, from 0. */
   readonly number: number;
@@ -858,6 +860,8 @@ export class Notice {
 /** A spectator, which knows only both teams and the log. `gen1.spectator` creates it. */
 export class Spectator {
   private constructor();
+  /** A copy of its gen1_spectator (include/gen1.h). */
+  readonly bytes: Uint8Array;
   readonly state: ShownState;
   /** The bytes, at most 9, of an incomplete event. */
   readonly held: Uint8Array;
@@ -947,6 +951,8 @@ export class Gen1 {
   room(battle: Battle): Room;
   /** Creates a host with a copy of the battle, which is started at once if it has not begun. */
   host(battle: Battle, options?: HostOptions): Host;
+  /** The room whose `bytes` these are. Exactly those of rooms are accepted. Throws LoadError and ArgumentError. */
+  roomOfBytes(bytes: Uint8Array | ArrayBuffer): Room;
   /** The host whose `bytes` these are. Exactly those of hosts are accepted. Throws LoadError, and ArgumentError for another number of bytes. */
   hostOfBytes(bytes: Uint8Array | ArrayBuffer): Host;
   /** The message whose `bytes` these are. Throws ArgumentError for another number of bytes and a log above 512 bytes; no more is tested. */
@@ -963,6 +969,10 @@ export class Gen1 {
   player(terms: { side: Side; team: Team | Members; foes?: number }): Player;
   /** The player whose `bytes` these are. Throws ArgumentError for another number of bytes; no more is tested. */
   playerOfBytes(bytes: Uint8Array | ArrayBuffer): Player;
+  /** The teller whose `bytes` these are. Throws as `playerOfBytes`. */
+  tellerOfBytes(bytes: Uint8Array | ArrayBuffer): Teller;
+  /** The spectator whose `bytes` these are. Throws as `playerOfBytes`. */
+  spectatorOfBytes(bytes: Uint8Array | ArrayBuffer): Spectator;
   /** Creates a teller of a side, before the first event. With `pixels` it reports the HP of the foe's members in 48ths. */
   teller(terms: { side: Side; pixels?: boolean }): Teller;
   /** The members in a team builder's text (docs/TEAM_TEXT.md). Throws TextError. */

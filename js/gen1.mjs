@@ -13,7 +13,7 @@ import {Battle, blockOfTerms, damageError, loadError} from "./battle.mjs";
 import {ModuleError} from "./errors.mjs";
 import {CANT_REASONS, DAMAGE_SOURCES, EVENT_KINDS, eventsOf, FAULTS, linesOf, VOLATILES} from "./events.mjs";
 import {CODES} from "./header.mjs";
-import {Host, hostOf, Message, messageBytes, Notice, noticeBytes, storedHost, structBytes} from "./host.mjs";
+import {Host, hostOf, Message, messageBytes, Notice, noticeBytes, storedHost, storedRoom, structBytes} from "./host.mjs";
 import {instanceOf, Library} from "./memory.mjs";
 import {COLUMNS} from "./observing.mjs";
 import {Outcomes} from "./outcomes.mjs";
@@ -121,6 +121,11 @@ export class Gen1 {
     return new Host(this.#library, hostOf(this.#library, battle, options));
   }
 
+  /** The room whose `bytes` these are. Exactly those of rooms are accepted. */
+  roomOfBytes(bytes) {
+    return new Room(this.#library, storedRoom(this.#library, bytes));
+  }
+
   /** The host whose `bytes` these are. Exactly those of hosts are accepted. */
   hostOfBytes(bytes) {
     return new Host(this.#library, storedHost(this.#library, bytes));
@@ -159,6 +164,16 @@ export class Gen1 {
   /** The player whose `bytes` these are. Only their number is tested. */
   playerOfBytes(bytes) {
     return new Player(this.#library, structBytes(this.#library, "gen1_player", bytes));
+  }
+
+  /** The teller whose `bytes` these are. Only their number is tested. */
+  tellerOfBytes(bytes) {
+    return new Teller(this.#library, structBytes(this.#library, "gen1_teller", bytes));
+  }
+
+  /** The spectator whose `bytes` these are. Only their number is tested. */
+  spectatorOfBytes(bytes) {
+    return new Spectator(this.#library, structBytes(this.#library, "gen1_spectator", bytes));
   }
 
   /** Creates a teller of a side, before the first event. With `pixels` it reports the foe's HP in 48ths. */

@@ -1,12 +1,13 @@
 // A battle of two players and an audience, each of whom is sent what it may know (docs/MECHANICS.md, "Hosts").
+import {BATTLE_SIZE} from "./arena.mjs";
 import {choiceBytesIn, choicesIn, choiceText, inspected, list, maskOf, octets, record, sideOf, truth, wrongType} from "./arguments.mjs";
 import {Battle} from "./battle.mjs";
 import {ArgumentError, HostError, LoadError} from "./errors.mjs";
 import {CODES} from "./header.mjs";
 import {Row} from "./row.mjs";
-import {bytesOfJson, fieldOf, jsonOf, layoutOf} from "./structs.mjs";
+import {bytesOfJson, fieldOf, jsonOf, layoutOf, offsetsOf} from "./structs.mjs";
 import {made} from "./update.mjs";
-import {OUTCOMES, ownSideOf, resultOf} from "./views.mjs";
+import {OUTCOMES, ownSideOf, REQUESTS, resultOf} from "./views.mjs";
 
 const OPTIONS = ["exactHp", "mayCancel", "lateForfeits"];
 
@@ -26,13 +27,46 @@ export function hostOf(library, battle, options) {
 export function storedHost(library, bytes) {
   const given = structBytes(library, "gen1_host", bytes);
   library.begin();
-  const host = library.put(given);
+  return library.read(loaded(library, given, "host"), given.length);
+}
+
+// A pointer to the host with these bytes, which the library has tested.
+function loaded(library, bytes, what) {
+  const host = library.put(bytes);
   const code = library.calls.gen1_host_load(host);
-  if (code) {
-    const sentence = library.sentence(code);
-    throw new LoadError(`the bytes are not a host: ${sentence}`, code, sentence);
+  if (!code) return host;
+  const sentence = library.sentence(code);
+  throw new LoadError(`the bytes are not a ${what}: ${sentence}`, code, sentence);
+}
+
+const ROOM = offsetsOf("gen1_room");
+// The byte of a choice that is missing.
+const DUE = 255;
+
+/** The bytes of a room that was stored: that of a host whose tellers have told nothing, or what a forfeit makes of such a room. */
+export function storedRoom(library, bytes) {
+  const given = structBytes(library, "gen1_room", bytes);
+  const [side, view] = [given[ROOM.forfeit], new DataView(given.buffer)];
+  const host = new Uint8Array(layoutOf("gen1_host", library.isLong).size);
+  host.set(given);
+  [host[ROOM.size], host[ROOM.size + 8]] = [1, 2];
+  library.begin();
+  if (side === 1 || side === 2) {
+    // A forfeit discards choices, so any room before it will do.
+    const {requests} = resultOf(library.calls.gen1_result(library.put(given.subarray(0, BATTLE_SIZE))));
+    host.set(requests.map((request) => (request === REQUESTS[0] ? 0 : DUE)), ROOM.chosen);
+    new DataView(host.buffer).setUint32(ROOM.number, view.getUint32(ROOM.number, true) - 1, true);
+    host[ROOM.forfeit] = 0;
   }
-  return library.read(host, given.length);
+  const room = loaded(library, host, "room");
+  if (!host[ROOM.forfeit] && side) {
+    const code = library.calls.gen1_room_forfeit(room, side);
+    const made = library.read(room, given.length);
+    const length = ROOM.log + made[ROOM.logLength];
+    if (code || made.subarray(BATTLE_SIZE, length).some((byte, at) => byte !== given[BATTLE_SIZE + at]))
+      throw new ArgumentError(`bytes is not a room: no forfeit of side ${side} leads there`, "bytes");
+  }
+  return library.read(room, given.length);
 }
 
 /** A copy of bytes that have the length of a struct. */

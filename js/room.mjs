@@ -31,6 +31,11 @@ export class Room {
     this.#bytes = bytes;
   }
 
+  /** A copy of the bytes of its gen1_room (include/gen1.h), which must not be sent. */
+  get bytes() {
+    return this.#bytes.slice();
+  }
+
   #field(name) {
     return fieldOf("gen1_room", name, this.#bytes, this.#library.isLong);
   }

@@ -26,6 +26,11 @@ export class Spectator {
     this.#bytes = bytes;
   }
 
+  /** A copy of the bytes of its gen1_spectator (include/gen1.h). */
+  get bytes() {
+    return this.#bytes.slice();
+  }
+
   #field(name) {
     return fieldOf("gen1_spectator", name, this.#bytes, this.#library.isLong);
   }

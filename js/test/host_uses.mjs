@@ -64,6 +64,7 @@ const ALL_ROW_KINDS = {
 };
 /** @type {Record<Named<import("../gen1.mjs").Room>, true>} */
 const OF_ROOM = {
+  bytes: true,
   battle: true,
   result: true,
   number: true,

@@ -232,6 +232,53 @@ function storedHosts(gen1, check, begun) {
     }
     equal(gen1.noticeOfBytes(host.notice().bytes), host.notice());
   });
+  // Rust and Python play the same battle (rust/gen1/tests/wire.rs), and have the same number.
+  check("the bytes of all who follow a room", () => {
+    let table = tableOf(gen1);
+    const kinds = ["room", "teller", "teller", "player", "player", "spectator"].map((it) => gen1[`${it}OfBytes`]);
+    let found = table.reduce((hash, it) => fnv(hash, it.bytes), 0xcbf29ce484222325n);
+    for (let pairs = 0; table[0].result.outcome === "ongoing"; pairs++) {
+      for (const side of [1, 2]) {
+        const choices = table[0].choices(side);
+        if (!choices.length) continue;
+        table = table.map((it, at) => kinds[at].call(gen1, it.bytes));
+        const [{number}, room] = [table[0], table[0]];
+        room.submit(side, number, choices[(pairs + side) % choices.length]);
+        if (room.number > number) told(table);
+        found = table.reduce((hash, it) => fnv(hash, it.bytes), found);
+      }
+    }
+    const [room] = tableOf(gen1);
+    room.forfeit(2);
+    equal(fnv(found, gen1.roomOfBytes(room.bytes).bytes).toString(16), "8838aaca0cf38fa3");
+  });
+}
+
+/** A room with all who follow it; side 2 is told HP in 48ths. */
+function tableOf(gen1) {
+  const [one, two] = [
+    "Tauros||||BodySlam,HyperBeam,Blizzard,Earthquake|||||||]Chansey||||IceBeam,Thunderbolt,SoftBoiled|||||||",
+    "Gengar||||Hypnosis,Dig,NightShade|||||||]Snorlax||||BodySlam,Substitute,Amnesia|||||||"
+  ].map((it) => gen1.teamFromPacked(it));
+  const tellers = [gen1.teller({side: 1}), gen1.teller({side: 2, pixels: true})];
+  const players = [gen1.player({side: 1, team: one, foes: 2}), gen1.player({side: 2, team: two})];
+  return told([gen1.room(gen1.battle({one, two, seed: SEED})), ...tellers, ...players, gen1.spectator(one, two)]);
+}
+
+/** All of a table, after the log of the room's last pair. */
+function told(table) {
+  const [room, one, two, first, second, spectator] = table;
+  for (const [teller, player] of [[one, first], [two, second]]) {
+    player.feed(teller.tell(room.log));
+    player.show(room.battle);
+  }
+  spectator.feed(room.log);
+  return table;
+}
+
+/** FNV-1a. */
+function fnv(before, bytes) {
+  return bytes.reduce((hash, byte) => BigInt.asUintN(64, (hash ^ BigInt(byte)) * 0x100000001b3n), before);
 }
 
 /** Bad input to hosts. */
@@ -245,8 +292,11 @@ export function badHosts(gen1, check) {
         wrong(() => gen1.host(host.battle, {[name]: it}), /^options\..* is .*, not true or false$/);
     outside(() => gen1.host(host.battle, {exactHP: true}),
         /^options has the unknown key "exactHP"; did you mean "exactHp"\?$/);
-    const loads = [gen1.hostOfBytes, gen1.messageOfBytes, gen1.noticeOfBytes, gen1.playerOfBytes, Row.ofBytes];
-    const sizes = [928, 696, 520, 456, 18];
+    const loads = [
+      gen1.hostOfBytes, gen1.messageOfBytes, gen1.noticeOfBytes, gen1.playerOfBytes, Row.ofBytes, gen1.roomOfBytes,
+      gen1.tellerOfBytes, gen1.spectatorOfBytes
+    ];
+    const sizes = [928, 696, 520, 456, 18, 908, 8, 86];
     for (const [at, load] of loads.entries()) {
       for (const it of [undefined, null, 5, "bytes", [1]])
         wrong(() => load.call(gen1, it), /^bytes is .*, not bytes, as a Uint8Array$/);
@@ -278,6 +328,27 @@ export function badHosts(gen1, check) {
     const bytes = host.bytes;
     bytes.set([17, 17], 390);
     equal(thrown(() => gen1.hostOfBytes(bytes), LoadError, /both choices are there/).code, 84);
+  });
+  check("bytes of no room", () => {
+    const room = gen1.room(gen1.battle(BATTLE));
+    const lost = room.clone();
+    lost.submit(1, 0, 17);
+    lost.forfeit(1);
+    equal(hexOf(gen1.roomOfBytes(lost.bytes).bytes), hexOf(lost.bytes));
+    // A room, offsets and bytes, and the code; at a forfeit that nobody made there is none.
+    for (const [it, edits, code] of [[room, [[0, 9]], 17], [room, [[384, 12]], 80], [room, [[390, 18]], 82],
+             [room, [[392, 1]], 80], [room, [[392, 3]], 90], [room, [[395, 1]], 90], [lost, [[384, 0]], 80],
+             [lost, [[384, 13]], 80], [lost, [[392, 0]], 82]]) {
+      const {bytes} = it;
+      for (const [at, byte] of edits) bytes[at] = byte;
+      const fault = thrown(() => gen1.roomOfBytes(bytes), LoadError, /^the bytes are not a room: /);
+      equal([edits, fault.code], [edits, code]);
+    }
+    for (const [at, byte] of [[397, 1], [392, 2], [390, 255], [388, 0]]) {
+      const {bytes} = lost;
+      bytes[at] = byte;
+      outside(() => gen1.roomOfBytes(bytes), /^bytes is not a room: no forfeit of side [12] leads there$/);
+    }
   });
   check("rows that are none", () => {
     const bytes = Row.submit(1, 0, 17, SEED).bytes;

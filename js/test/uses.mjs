@@ -105,6 +105,9 @@ const OF_GEN1 = {
   messageOfJSON: true,
   noticeOfJSON: true,
   playerOfBytes: true,
+  tellerOfBytes: true,
+  spectatorOfBytes: true,
+  roomOfBytes: true,
   spectator: true,
   player: true,
   teller: true,
@@ -166,6 +169,7 @@ const OF_OUTCOME = {
 };
 /** @type {Record<Named<import("../gen1.mjs").Spectator>, true>} */
 const OF_SPECTATOR = {
+  bytes: true,
   state: true,
   held: true,
   clone: true,
