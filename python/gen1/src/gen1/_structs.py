@@ -465,22 +465,23 @@ _MOST: dict[str, dict[str, int]] = {
 }
 
 
-def _fields_of(kind: Any, name: str = "", most: int = 0) -> list[tuple[str, str, int]]:
-    """The numbers of a struct, array or number: the letter, the name and the highest of each."""
+def _fields_of(kind: Any, name: str = "", most: int | None = None) -> list[tuple[str, str, int | None]]:
+    """The numbers of a struct, array or number: the letter, the name and the highest of each. Those without a highest are left out."""
     if issubclass(kind, Array):
         of_item = _fields_of(kind._type_, name, most)
         return [it for _ in range(kind._length_) for it in of_item]
     if not issubclass(kind, Structure):
-        return [({1: "B", 2: "H", 4: "I"}[sizeof(kind)], name, most)]
-    ranges = _MOST[kind.__name__]
-    fields = [(name, of, ranges.get(name, 0xFFFFFFFF)) for name, of in kind._fields_]
-    return [it for name, of, most in fields for it in _fields_of(of, name, most)]
+        return [(f"{sizeof(kind)}x" if most is None else {1: "B", 2: "H", 4: "I"}[sizeof(kind)], name, most)]
+    ranges = _MOST.get(kind.__name__, {})
+    return [it for name, of in kind._fields_ for it in _fields_of(of, name, ranges.get(name))]
 
 
 @lru_cache(None)
 def _numbers(kind: Any) -> tuple[Callable[[bytes], tuple[int, ...]], tuple[str, ...], tuple[int, ...]]:
-    letters, names, most = zip(*_fields_of(kind))
-    return Struct("<" + "".join(letters)).unpack, names, most
+    fields = _fields_of(kind)
+    bound = [(name, most) for _, name, most in fields if most is not None]
+    names, most = zip(*bound)
+    return Struct("<" + "".join(letter for letter, _, _ in fields)).unpack, names, most
 
 
 def first_above(kind: Any, data: bytes) -> str | None:
