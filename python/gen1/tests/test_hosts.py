@@ -1,6 +1,7 @@
-"""Hosts: against a room and tellers that are called by hand, what each side receives while the foe's choices differ, endings, and bytes."""
+"""Hosts: against a host on paper, what each side receives while the foe's choices differ, endings, and bytes."""
 
 import copy
+import dataclasses
 import json
 import pickle
 import random
@@ -28,16 +29,16 @@ from gen1 import (
     Player,
     Refused,
     Request,
-    Room,
-    RoomRefused,
     Row,
     RowKind,
     Side,
+    SwitchEvent,
     Team,
     TieEvent,
     WinEvent,
+    events,
 )
-from gen1.players import Teller
+from gen1._structs import OwnSideStruct
 
 TAUROS = Team([Member("Tauros", ["Body Slam", "Hyper Beam"]), Member("Starmie", ["Surf", "Recover"])])
 SCHEMA = Path(__file__).resolve().parents[3] / "docs" / "HOST.schema.json"
@@ -57,77 +58,143 @@ def code_of(call):
     return None
 
 
-class ByHand:
-    """A room and its tellers, as a host without this package's `Host` would keep them."""
+class OnPaper:
+    """A host by docs/MECHANICS.md, "Hosts", for rows of all kinds, without the library's hosts, rooms and tellers: it plays the battle only."""
 
-    def __init__(self, battle, exact_hp):
-        self.room, self.pixels = Room(battle), not exact_hp
-        self.tellers = [Teller(side, self.pixels) for side in Side]
-        self.all = [Teller(side, self.pixels) for side in Side]
-        self.tell()
+    def __init__(self, battle, exact_hp, may_cancel, late_forfeits):
+        self.battle, self.options, self.exact = battle, (may_cancel, late_forfeits), exact_hp
+        self.number, self.draw, self.end = 0, None, None
+        # The foe's places in the order in which its members appeared.
+        self.appeared = {side: [] for side in Side}
+        self.begin(events(battle.update(0, 0).log))
 
-    def tell(self):
-        self.told = [teller.tell(self.room.log) for teller in self.tellers]
-        self.told_all = self.all[1].tell(self.all[0].tell(self.room.log))
+    def begin(self, told):
+        """The pair that follows these events. A side that is asked nothing passes."""
+        self.told = {side: [self.tell(side, it) for it in told] for side in Side}
+        asked = zip(Side, self.battle.result.requests)
+        self.chosen = {side: 0 if request is Request.NOTHING else None for side, request in asked}
+        self.draw = None
 
-    def submit(self, row):
-        kept = self.room.copy()
+    def tell(self, side, event):
+        """An event as a side is told it."""
+        if getattr(event, "who", None) is None or event.who.side is side or not hasattr(event, "health"):
+            return event
+        made, hp = event, event.health
+        if isinstance(event, SwitchEvent):
+            order = self.appeared[side]
+            order += [] if event.place in order else [event.place]
+            made = dataclasses.replace(made, place=1 + order.index(event.place))
+        if not self.exact:
+            pixels = max(48 * hp.hp // hp.max_hp, hp.hp > 0)
+            made = dataclasses.replace(made, health=dataclasses.replace(hp, hp=pixels, max_hp=48))
+        return made
+
+    def told_all(self):
+        """What both tellers make of the events: of each event of a side, what the foe of that side is told."""
+        pairs = zip(self.told[Side.ONE], self.told[Side.TWO])
+        return [
+            two if getattr(two, "who", None) is not None and two.who.side is Side.ONE else one for one, two in pairs
+        ]
+
+    def closes(self, event, outcome):
+        self.told, self.end, self.number = dict.fromkeys(Side, [event]), outcome, self.number + 1
+        return True
+
+    def outcome(self):
+        return self.end or self.battle.result.outcome
+
+    def reply(self, row):
+        """Whether a pair has ended, or the refusal."""
+        side, passes = row.side, self.battle.result.requests[row.side - 1] is Request.NOTHING
+        if self.outcome() is not Outcome.ONGOING:
+            return HostRefusal.OVER
+        if row.kind is RowKind.FORFEIT:
+            return self.closes(WinEvent(side.foe), Outcome(side.foe))
+        if row.kind is RowKind.OFFER_DRAW:
+            if self.draw is side.foe:
+                return self.closes(TieEvent(), Outcome.TIE)
+            self.draw = side
+            return False
+        if row.kind is RowKind.CANCEL and not self.options[0]:
+            return HostRefusal.NO_CANCEL
+        if row.number != self.number:
+            return HostRefusal.STALE
+        if row.kind is RowKind.CANCEL:
+            if self.chosen[side] is None or passes:
+                return HostRefusal.NOTHING_CHOSEN
+            self.chosen[side] = None
+            return False
+        if self.chosen[side] is not None:
+            return HostRefusal.CHOSEN
+        offered = self.battle.choices(side)
+        if row.kind is RowKind.SUBMIT:
+            return self.chooses(row, row.choice) if row.choice in offered else HostRefusal.NOT_OFFERED
+        return self.closes(WinEvent(side.foe), Outcome(side.foe)) if self.options[1] else self.chooses(row, offered[0])
+
+    def chooses(self, row, choice):
         if row.numbers is not None:
-            self.room.reseed(row.numbers)
-        try:
-            ended = self.room.submit(row.side, row.number, row.choice) is not None
-        except RoomRefused as fault:
-            self.room = kept
-            return int(fault.code)
-        if ended:
-            self.tell()
-        return ended
+            self.battle.reseed(row.numbers)
+        self.chosen[row.side] = choice
+        if None in self.chosen.values():
+            return False
+        told = events(self.battle.update(self.chosen[Side.ONE], self.chosen[Side.TWO]).log)
+        self.number += 1
+        self.begin(told)
+        return True
 
     def is_shown_by(self, host):
-        battle = self.room.battle
-        assert (host.battle, host.number, host.result) == (battle, self.room.number, battle.result)
-        for side, told in zip(Side, self.told):
-            message = host.message(side)
-            assert (message.log, message.own, message.choices) == (told, battle.own_side(side), battle.choices(side))
-            assert (message.number, message.draw, message.outcome) == (host.number, None, battle.result.outcome)
-            assert host.awaits(side) == bool(self.room.choices(side))
-        notice = host.notice()
-        assert (notice.log, notice.number, notice.outcome) == (self.told_all, host.number, battle.result.outcome)
+        outcome, notice = self.outcome(), host.notice()
+        assert (host.number, host.result.outcome, host.battle) == (self.number, outcome, self.battle)
+        assert (notice.number, notice.outcome, notice.draw) == (self.number, outcome, self.draw)
+        assert notice.events == tuple(self.told[Side.ONE] if self.end else self.told_all())
+        for side, told in self.told.items():
+            message, own = host.message(side), bytearray(bytes(self.battle.own_side(side)))
+            if self.end:
+                own[OwnSideStruct.request.offset], own[OwnSideStruct.outcome.offset] = 0, outcome
+            assert (message.number, message.events, bytes(message.own)) == (self.number, tuple(told), own)
+            assert (message.outcome, message.draw) == (outcome, self.draw)
+            is_over = outcome is not Outcome.ONGOING
+            assert message.choices == (() if is_over else self.battle.choices(side))
+            assert host.awaits(side) == (self.chosen[side] is None and not is_over)
+
+
+def some_row(dice, paper, late):
+    """A row of any kind; few offers, and a forfeit only late."""
+    side, number = Side(1 + dice.randrange(2)), paper.number + (dice.random() < 0.05)
+    numbers = dice.choice([None, dice.randbytes(10)])
+    byte = dice.choice([0, 0x12, 255, *paper.battle.choices(side) * 4])
+    submit, expire = Row.submit(side, number, byte, numbers), Row.expire(side, number, numbers)
+    rows = [submit, Row.cancel(side, number), expire, Row.offer_draw(side), Row.forfeit(side)]
+    return dice.choices(rows, (60, 10, 1 if late else 3, 4, paper.number > 30))[0]
 
 
 @pytest.mark.parametrize("seed", range(20))
-def test_a_host_is_a_room_with_tellers(seed):
-    dice = random.Random(seed)
-    one, two, exact = random_team(dice), random_team(dice), seed % 2 == 0
-    start = Battle(one, two, dice.randbytes(10), limit=60)
-    host, room, rows = Host(start, exact_hp=exact), ByHand(start.copy(), exact), []
-    players = {side: Player(side, team) for side, team in zip(Side, (one, two))}
-    for side in Side:
-        players[side].receive(host.message(side))
-    while not host.is_closed:
-        side, number = dice.choice(list(Side)), host.number + (dice.random() < 0.1)
-        byte = dice.choice([0, 0x12, 255, *host.message(side).choices])
-        row = Row.submit(side, number, byte, dice.choice([None, dice.randbytes(10)]))
-        before = host.copy()
-        try:
-            reply: object = host.apply(row)
-        except HostRefused as fault:
-            reply = int(fault.code)
-            assert host == before and len(str(fault)) > 10 and (fault.current, fault.side) == (host.number, side)
-            assert fault.choice == byte and fault.offered == host.message(side).choices
-        else:
-            rows.append(bytes(row))
-        assert reply == room.submit(row)
-        room.is_shown_by(host)
-        if reply is True:
-            for it in Side:
-                players[it].receive(host.message(it))
-    for side in Side:
-        assert players[side].own == host.battle.own_side(side) and players[side].outcome is host.result.outcome
-    again = Host(start, exact_hp=exact)
-    for data in rows:
-        again.apply(Row.from_bytes(data))
-    assert again == host
+def test_a_host_is_that_on_paper(seed):
+    """5,000 rows of all kinds: replies, messages, notices and results. A refused row changes nothing, and the rows lead there again."""
+    dice, count = random.Random(seed), 0
+    while count < 5000:
+        exact, may_cancel, late = (dice.random() < 0.5 for _ in range(3))
+        teams = [random_team(dice), random_team(dice)]
+        start = Battle(*teams, dice.randbytes(10), limit=40)
+        host, again = (Host(start, exact_hp=exact, may_cancel=may_cancel, late_forfeits=late) for _ in range(2))
+        paper, players = OnPaper(start, exact, may_cancel, late), [
+            Player(side, team) for side, team in zip(Side, teams)
+        ]
+        reply: object = True
+        while reply is not HostRefusal.OVER:
+            paper.is_shown_by(host)
+            for player in players if reply is True else ():
+                player.receive(host.message(player.side))
+            row, before, count = some_row(dice, paper, late), bytes(host), count + 1
+            try:
+                reply = host.apply(row)
+                again.apply(Row.from_bytes(bytes(row)))
+            except HostRefused as fault:
+                reply = fault.code
+                assert bytes(host) == before and (fault.current, fault.side) == (paper.number, row.side)
+            assert reply == paper.reply(row)
+        assert again == host
+        assert all(it.own == host.message(it.side).own and it.outcome is paper.outcome() for it in players)
 
 
 @pytest.mark.parametrize("seed", range(20))
