@@ -4,7 +4,10 @@ import argparse
 import asyncio
 import signal
 import sys
+from importlib import import_module
+from importlib.util import find_spec
 from pathlib import Path
+from typing import Any
 
 from gen1_server import keeping, logs, schema
 from gen1_server.config import BadConfig, Config, configured
@@ -46,13 +49,9 @@ def _run(command: str, config: Config, file: Path | None) -> str:
     if command == "serve":
         logs.begin()
         keeping.prepare(config)
-        try:
-            import uvloop
-        except ImportError:
-            asyncio.run(_serve(config))
-        else:
-            with asyncio.Runner(loop_factory=uvloop.new_event_loop) as runner:
-                runner.run(_serve(config))
+        loop: Any = find_spec("uvloop") and import_module("uvloop").new_event_loop
+        with asyncio.Runner(loop_factory=loop) as runner:
+            runner.run(_serve(config))
         return ""
     if command in ("backup", "restore"):
         if file is None:

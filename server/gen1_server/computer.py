@@ -6,7 +6,8 @@ import logging
 import secrets
 from functools import partial
 
-from gen1 import Choice, Error, LibraryMissing, Message, Player, Row, Team
+from gen1 import Choice, Error, Message, Player, Row, Team
+from gen1.search import think
 from gen1_server.accounts import Account
 from gen1_server.core import View
 from gen1_server.formats import FORMATS, LIMIT
@@ -67,17 +68,7 @@ class Computer(Watcher):
 
 
 def best(player: Player, level: int, rules: int) -> Choice:
-    """A choice by a search; without its library any one that is offered."""
-    try:
-        from gen1.search import think
-
-        found = think(player, level=level, rules=rules, limit=LIMIT, seed=secrets.randbits(63)).choices
-    except LibraryMissing:
-        return secrets.choice(player.choices)
+    """A choice by a search."""
+    found = think(player, level=level, rules=rules, limit=LIMIT, seed=secrets.randbits(63)).choices
     # As often as the search says, since a side that always makes its best choice can be foreseen.
-    left = secrets.SystemRandom().random()
-    for it in found:
-        left -= it.probability
-        if left < 0:
-            return it.choice
-    return found[0].choice
+    return secrets.SystemRandom().choices(found, [it.probability for it in found])[0].choice

@@ -54,6 +54,8 @@ class Config:
     # The account of the computer, which accepts each challenge. Empty: none.
     bot: str = "bot"
     bot_level: int = 1
+    # After so many seconds of a search the computer is the foe, in a rated battle; 0: never.
+    bot_seconds: float = 30.0
     # Origins that a browser's page may have, besides the server's own.
     origins: tuple[str, ...] = ()
     # Whether the last address of X-Forwarded-For is the client's. Only behind a proxy that sets it.
@@ -86,7 +88,7 @@ class Config:
 
 
 # The numbers that may be 0, and the lowest values that are not above 0.
-MAY_BE_ZERO = {"lapses", "audience_delay", "keep_days", "grace_seconds"}
+MAY_BE_ZERO = {"lapses", "audience_delay", "keep_days", "grace_seconds", "bot_seconds"}
 LEAST = {"lease_seconds": 1, "message_bytes": 1024, "waiting_bytes": 16384, "heartbeat_seconds": 1}
 
 

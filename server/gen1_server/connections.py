@@ -10,22 +10,22 @@ from base64 import b64encode
 from collections import deque
 from collections.abc import Callable
 from hashlib import sha1
+from dataclasses import dataclass
 from struct import Struct
-from typing import TYPE_CHECKING, Any, ClassVar
+from typing import Any, ClassVar
 
 from aiohttp import WSCloseCode, WSMessage, WSMsgType, web
 from aiohttp.http import WebSocketError, WebSocketReader
 from gen1 import Row, Side
 from gen1_server import metrics
-from gen1_server.accounts import Account
+from gen1_server.accounts import Account, Accounts
+from gen1_server.config import Config
 from gen1_server.core import Refused
-from gen1_server.formats import format_named, team_for
-from gen1_server.limits import Bucket
-from gen1_server.lobby import Seeker
-from gen1_server.rooms import Reply, Watcher
-
-if TYPE_CHECKING:
-    from gen1_server.services import Services
+from gen1_server.formats import format_named, team_for, text_of
+from gen1_server.limits import Bucket, Limits
+from gen1_server.lobby import Lobby, Seeker
+from gen1_server.rooms import Reply, Rooms, Watcher
+from gen1_server.store import Store
 
 LOG = logging.getLogger("gen1_server")
 # A client that has been slowed down for so many seconds without a pause is closed.
@@ -63,6 +63,18 @@ def handshake(request: web.Request) -> bytes:
     return _SWITCHED.format(b64encode(sha1((key + _KEY).encode()).digest()).decode()).encode()
 
 
+@dataclass(frozen=True, slots=True)
+class Services:
+    """The parts of a process that its connections use, each made once at the start."""
+
+    config: Config
+    store: Store
+    limits: Limits
+    rooms: Rooms
+    accounts: Accounts
+    lobby: Lobby
+
+
 class Connection(Watcher, asyncio.Protocol):
     """A protocol is a subclass that defines the first four methods here, and
     those of `Watcher`.
@@ -71,7 +83,7 @@ class Connection(Watcher, asyncio.Protocol):
     protocol: ClassVar[str]
 
     def __init__(
-        self, services: "Services", transport: asyncio.Transport, address: str, ended: Callable[["Connection"], None]
+        self, services: Services, transport: asyncio.Transport, address: str, ended: Callable[["Connection"], None]
     ) -> None:
         self.services, self.address = services, address
         self.account: Account | None = None
@@ -148,8 +160,8 @@ class Connection(Watcher, asyncio.Protocol):
 
     def seeker(self, format: str, team: Any) -> Seeker:
         """The account with a team for a format. Raises `Refused`."""
-        found = format_named(format)
-        return Seeker(self.known, found, team_for(found, team), self)
+        text = text_of(team_for(format_named(format), team))
+        return Seeker(self.known.id, self.known.name, format, text, self)
 
     def ask(self, room: int, row: Callable[[Side], Row], reply: Reply) -> None:
         """Asks for a row of the account's side in a room."""

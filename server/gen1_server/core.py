@@ -158,21 +158,11 @@ class Match:
         sent: Message | Notice = host.message(side) if side else self._notices[0]
         if side is None and len(self._notices) > 1:
             logs = logs[: 1 - len(self._notices)]
-        return View(
-            room=start.id,
-            format=start.format,
-            rated=start.rated,
-            names=start.names,
-            sizes=self._sizes,
-            side=side,
-            team=start.teams[side - 1] if side else "",
-            number=sent.number,
-            logs=logs,
-            sent=sent,
-            awaited=side is not None and host.awaits(side),
-            due=self.clock.due(side) if side and not self.ending else 0,
-            ending=self.ending if side or len(self._notices) == 1 else None,
-        )
+        fixed = start.id, start.format, start.rated, start.names, self._sizes, side
+        team, is_awaited = (start.teams[side - 1], host.awaits(side)) if side else ("", False)
+        due = self.clock.due(side) if side and not self.ending else 0
+        ending = self.ending if side or len(self._notices) == 1 else None
+        return View(*fixed, team, sent.number, logs, sent, is_awaited, due, ending)
 
     def end(self, ending: Ending) -> None:
         """Sets how the battle ended, as it was committed."""

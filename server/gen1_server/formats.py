@@ -77,10 +77,15 @@ def team_for(format: Format, given: Any) -> Team:
     return members.team
 
 
-def computers_team(format: Format) -> Team:
+def computers_team(name: str) -> Team:
     """A team of the computer for a format."""
-    chance, samples = SystemRandom(), list(sample_teams().values())
-    if format.checker is None:
+    chance, checker = SystemRandom(), FORMATS[name].checker
+    if checker is None:
         return random_team(chance)
-    allowed = [it for it in samples if not format.checker.complaints(Members(it), format.id)]
-    return chance.choice(allowed or samples)
+    samples = list(sample_teams().values())
+    return chance.choice([it for it in samples if not checker.complaints(Members(it), name)] or samples)
+
+
+def text_of(team: Team) -> str:
+    """A team as the JSON of its members."""
+    return json.dumps(team.to_dicts(), separators=(",", ":"))

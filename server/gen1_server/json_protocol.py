@@ -20,7 +20,7 @@ MOST = 1 << 53
 class JsonConnection(Connection):
     """A client of protocol 1."""
 
-    protocol = "json"
+    protocol, follows = "json", True
 
     def greet(self) -> None:
         formats = {it.id: {"title": it.title, "team": it.brings_teams, "rules": it.rules} for it in FORMATS.values()}
@@ -112,11 +112,11 @@ class JsonConnection(Connection):
         to = _field(given, "to", str) if "to" in given else ""
         seeker = self.seeker(_field(given, "format", str), given.get("team"))
         code = await self.services.lobby.challenge(to, seeker)
-        self._say("challenging", code=code, to=to, format=seeker.format.id)
+        self._say("challenging", code=code, to=to, format=seeker.format)
 
     async def on_accept(self, given: dict[str, Any]) -> None:
         found = self.services.lobby.challenge_of(_field(given, "code", str), self.known)
-        await self.services.lobby.accept(found, self.seeker(found.seeker.format.id, given.get("team")))
+        await self.services.lobby.accept(found, self.seeker(found.seeker.format, given.get("team")))
 
     async def on_withdraw(self, given: dict[str, Any]) -> None:
         self.services.lobby.withdraw(_field(given, "code", str), self.known)

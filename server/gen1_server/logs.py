@@ -1,5 +1,6 @@
 """The log: a JSON object a line, on the standard error. No line has what a client sent."""
 
+import faulthandler
 import json
 import logging
 from datetime import datetime, timezone
@@ -18,6 +19,8 @@ class JsonLines(logging.Formatter):
 
 def begin() -> None:
     """Has everything logged as lines of JSON."""
+    # A fault of native code would otherwise end the process without a word.
+    faulthandler.enable()
     handler = logging.StreamHandler()
     handler.setFormatter(JsonLines())
     logging.basicConfig(level=logging.INFO, handlers=[handler])

@@ -56,9 +56,6 @@ def player(folded: str, count: int, connection: Any) -> dict[str, Any] | None:
     ratings = select(rating.c.format, rating.c.season, *RATED).where(rating.c.account == found[0])
     names = "room", "format", "season", "before", "after", "deviation", "score", "at"
     changes = select(*[rating_change.c[it] for it in names]).where(rating_change.c.account == found[0])
-    last = connection.execute(changes.order_by(rating_change.c.at.desc()).limit(count)).mappings()
-    return {
-        "name": found[1],
-        "ratings": [dict(it) for it in connection.execute(ratings).mappings()],
-        "battles": [dict(it) for it in last],
-    }
+    last = changes.order_by(rating_change.c.at.desc()).limit(count)
+    rows, battles = ([dict(it) for it in connection.execute(of).mappings()] for of in (ratings, last))
+    return {"name": found[1], "ratings": rows, "battles": battles}

@@ -42,17 +42,15 @@ def rated(own: Rating, results: Iterable[tuple[Rating, float]]) -> Rating:
 
 def _volatility(sigma: float, phi: float, variance: float, delta: float) -> float:
     """The new volatility: the root of step 5, by the Illinois algorithm."""
-    start = log(sigma**2)
+    start, spread = log(sigma**2), phi**2 + variance
 
     def off(x: float) -> float:
         e = exp(x)
-        return (
-            e * (delta**2 - phi**2 - variance - e) / (2 * (phi**2 + variance + e) ** 2) - (x - start) / TAU**2
-        )
+        return e * (delta**2 - spread - e) / (2 * (spread + e) ** 2) - (x - start) / TAU**2
 
     low = start
-    if delta**2 > phi**2 + variance:
-        high = log(delta**2 - phi**2 - variance)
+    if delta**2 > spread:
+        high = log(delta**2 - spread)
     else:
         steps = 1
         while off(start - steps * TAU) < 0:

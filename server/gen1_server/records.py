@@ -2,19 +2,42 @@
 
 import json
 from collections import defaultdict
-from dataclasses import asdict
+from collections.abc import Callable
+from dataclasses import asdict, replace
 from typing import Any, NamedTuple
 
-from gen1 import Row
+from gen1 import Row, library_build
 from gen1_server import schema
 from gen1_server.core import Ending, Entry, Options, Start
 from gen1_server.ratings import Rating, rated
-from gen1_server.schema import process, rating, rating_change, room, room_row
-from sqlalchemy import delete, insert, select, update
+from gen1_server.schema import process, rating, rating_change, room, room_row, search
+from sqlalchemy import and_, delete, insert, select, update
 
 OPEN = room.c.outcome == 0
 # The columns of a start, besides its number.
 BEGUN = "format rated account_one account_two name_one name_two team_one team_two battle options season created".split()
+
+
+# Ratings of foes may differ by this much at first, and by so much more for each second that one of them waits.
+WINDOW, WIDENING = 100.0, 20.0
+
+
+class Waiting(NamedTuple):
+    """Somebody of a process who waits for a foe. `follows` says whether the
+    client can be led to another process, and `room` is the battle that another
+    process has begun, or 0. `since` is in milliseconds.
+    """
+
+    process: int
+    account: int
+    name: str
+    format: str
+    team: str
+    season: str
+    rating: float
+    since: int
+    follows: int
+    room: int
 
 
 class StoredRoom(NamedTuple):
@@ -26,10 +49,66 @@ class StoredRoom(NamedTuple):
     ending: Ending | None
 
 
-def add_room(start: Start, build: str, owner: int, connection: Any) -> int:
-    """Adds an open room of a process; returns its number."""
-    values = dict(zip(BEGUN, _columns(start)), build=build, process=owner)
-    return schema.added(connection, room, values)
+def add_room(start: Start, owner: int, connection: Any) -> Start:
+    """Adds an open room of a process; returns the start with its number."""
+    values = dict(zip(BEGUN, _columns(start)), build=library_build, process=owner)
+    return replace(start, id=schema.added(connection, room, values))
+
+
+def add_search(new: Waiting, connection: Any) -> None:
+    """Adds somebody who waits, in place of an earlier search, with the rating."""
+    own = rating_of(new.account, new.format, new.season, connection).rating
+    connection.execute(delete(search).where(_is(new)))
+    connection.execute(insert(search).values(new._replace(rating=own)._asdict()))
+
+
+Begin = Callable[[Waiting, Waiting | None], Start | None]
+
+
+def pair(
+    owner: int, leads: bool, wanted: set[tuple[int, str]], now: int, begin: Begin, connection: Any
+) -> tuple[list[Start], list[tuple[Waiting, str]]]:
+    """Begins the battles of those of a process who fit somebody that waits, and
+    forgets its searches that are not wanted. Returns the battles, and those
+    who have one at another process, with its address.
+
+    `leads` says whether clients of other processes can be led here. What
+    another process is pairing is passed over, so that no process waits.
+    """
+    columns = [search.c[it] for it in Waiting._fields]
+    of = select(*columns, process.c.until).join_from(search, process, process.c.id == search.c.process)
+    found = connection.execute(of.order_by(search.c.since).with_for_update(of=search, skip_locked=True)).fetchall()
+    waiting, begun, led = [], list[Start](), list[tuple[Waiting, str]]()
+    for *values, until in found:
+        it = Waiting(*values)
+        is_own = it.process == owner
+        if it.room and is_own:
+            led.append((it, (address_of(it.room, connection) or ("",))[0]))
+        if until < now or is_own and (it.room or (it.account, it.format) not in wanted):
+            connection.execute(delete(search).where(_is(it)))
+        elif not it.room and (is_own or leads and it.follows):
+            waiting.append(it)
+    for own in [it for it in waiting if it.process == owner]:
+        fitting = [it for it in waiting if own in waiting and _fit(own, it, now)]
+        foe = min(fitting, key=lambda it: (abs(it.rating - own.rating), it.since), default=None)
+        start = begin(own, foe) if own in waiting else None
+        if start:
+            begun.append(add_room(start, owner, connection))
+            for it in (own, foe) if foe else (own,):
+                waiting.remove(it)
+                away = update(search).values(room=begun[-1].id) if it.process != owner else delete(search)
+                connection.execute(away.where(_is(it)))
+    return begun, led
+
+
+def _is(it: Waiting) -> Any:
+    return and_(*[search.c[name] == getattr(it, name) for name in ("process", "account", "format")])
+
+
+def _fit(one: Waiting, two: Waiting, now: int) -> bool:
+    window = WINDOW + WIDENING * (now - min(one.since, two.since)) / 1000
+    same = (one.format, one.season) == (two.format, two.season) and one.account != two.account
+    return same and abs(one.rating - two.rating) <= window
 
 
 def end_room(start: Start, outcome: int, reason: str, owner: int, now: int, connection: Any) -> tuple[float, ...]:
@@ -80,7 +159,7 @@ def _rate(start: Start, account: int, was: Rating, new: Rating, score: float, no
     connection.execute(insert(rating_change).values({**key, **change, "score": score, "at": now}))
 
 
-def begin_process(name: str, address: str, now: int, until: int, connection: Any) -> int:
+def begin_process(name: str, address: str, until: int, connection: Any) -> int:
     """Adds a process, and gives it the rooms of earlier ones of its name. Their
     rows are refused from now on.
     """

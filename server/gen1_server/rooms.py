@@ -4,10 +4,10 @@ import asyncio
 import logging
 from collections import Counter, defaultdict
 from collections.abc import Callable
-from dataclasses import dataclass, field, replace
+from dataclasses import dataclass, field
 from functools import partial
 from time import perf_counter, time
-from typing import Any
+from typing import Any, ClassVar, TypeAlias
 
 import gen1
 from gen1 import HostRefused, Row, Side
@@ -21,12 +21,18 @@ LOG = logging.getLogger("gen1_server")
 WAITING, KEPT = 8, 200
 # Called once with None when a request is committed, before anything is sent; or with what was refused.
 Reply = Callable[[Refused | None], None]
+# The outcome of the battle that a row ends and its reason, and the ratings before and after.
+End: TypeAlias = tuple[int, str] | None
+Ratings: TypeAlias = tuple[float, ...] | None
 
 
 class Watcher:
     """A connection, or the computer, as rooms see it. What a subclass does not
     define does nothing.
     """
+
+    # Whether its client goes on at another process where it is told to.
+    follows: ClassVar[bool] = False
 
     def joined(self, view: View) -> None:
         """Shows a whole room."""
@@ -103,10 +109,8 @@ class Rooms:
         """Enters this process in the database, and opens the rooms that it has.
         Returns how many.
         """
-        config, moment = self._config, now()
-        until = moment + int(config.lease_seconds * 1000)
-        work = partial(records.begin_process, config.name, config.address, moment, until)
-        self.process = await self._store.run(work)
+        config, until = self._config, now() + int(self._config.lease_seconds * 1000)
+        self.process = await self._store.run(partial(records.begin_process, config.name, config.address, until))
         await self.renew()
         return len(self.open)
 
@@ -169,13 +173,17 @@ class Rooms:
             self.room_for(account)
         self._begun.update(start.accounts)
         try:
-            number = await self._store.run(partial(records.add_room, start, gen1.library_build, self.process))
+            start = await self._store.run(partial(records.add_room, start, self.process))
         finally:
             # Keeps no zeros.
             self._begun -= Counter(start.accounts)
-        if number not in self.open:
-            self._show_whole(self._seat(Match(replace(start, id=number))))
-        return number
+        self.seat(start)
+        return start.id
+
+    def seat(self, start: Start) -> None:
+        """Opens a room that this process has begun, and shows it."""
+        if start.id not in self.open:
+            self._show_whole(self._seat(Match(start)))
 
     def _seat(self, match: Match) -> OpenRoom:
         """Opens a match, with the connections of its players."""
@@ -257,13 +265,7 @@ class Rooms:
             self._store.add(Work((row,), ends, partial(self._committed, room, request, entry, end)))
 
     def _committed(
-        self,
-        room: OpenRoom,
-        request: Request,
-        entry: Entry,
-        end: tuple[int, str] | None,
-        ratings: tuple[float, ...] | None,
-        fault: Exception | None,
+        self, room: OpenRoom, request: Request, entry: Entry, end: End, ratings: Ratings, fault: Exception | None
     ) -> None:
         """Applies a row that is committed, and sends what it changed."""
         if fault is not None:

@@ -10,27 +10,26 @@ from typing import Any
 from sqlalchemy import column, insert, inspect, select, table
 
 # The newest version, which this program needs.
-VERSION = "0001"
+VERSION = "0002"
 MIGRATIONS = Path(__file__).parent / "migrations"
 
 
-def _table(name: str, *columns: str) -> Any:
-    return table(name, *map(column, columns))
+def _table(name: str, columns: str) -> Any:
+    return table(name, *map(column, columns.split()))
 
 
-account = _table("account", "id", "name", "folded", "secret", "created")
-session = _table("session", "hash", "account", "until")
-process = _table("process", "id", "name", "address", "until")
+account = _table("account", "id name folded secret created")
+session = _table("session", "hash account until")
+process = _table("process", "id name address until")
 room = _table(
     "room",
-    *("id", "format", "rated", "account_one", "account_two", "name_one", "name_two", "team_one", "team_two", "battle"),
-    *("options", "season", "build", "created", "process", "outcome", "reason", "ended"),
+    "id format rated account_one account_two name_one name_two team_one team_two battle options season build created"
+    " process outcome reason ended",
 )
-room_row = _table("room_row", "room", "sequence", "bytes", "at", "cause")
-rating = _table("rating", "account", "format", "season", "rating", "deviation", "volatility", "wins", "losses", "ties")
-rating_change = _table(
-    "rating_change", "account", "room", "format", "season", "before", "after", "deviation", "score", "at"
-)
+room_row = _table("room_row", "room sequence bytes at cause")
+rating = _table("rating", "account format season rating deviation volatility wins losses ties")
+rating_change = _table("rating_change", "account room format season before after deviation score at")
+search = _table("search", "process account name format team season rating since follows room")
 _version = _table("alembic_version", "version_num")
 
 

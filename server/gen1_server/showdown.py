@@ -17,11 +17,10 @@ from typing import Any
 from gen1 import Error, Message, Row, Side
 from gen1.showdown import ChoiceRefused, Formats, Hp, Lines, Members, Seat, Viewer
 from gen1_server.accounts import LONGEST_NAME, Account, folded
-from gen1_server.connections import Connection
+from gen1_server.connections import Connection, Services
 from gen1_server.core import Refused, View
 from gen1_server.formats import FORMATS, format_named
 from gen1_server.rooms import Reply
-from gen1_server.services import Services
 
 # The clauses of a format without a checker: those of the engine.
 CLAUSES = Formats().clauses("gen1ou")[:2]
@@ -88,7 +87,7 @@ class ShowdownConnection(Connection):
         act: Callable[[str], Awaitable[None]] | None = getattr(self, f"do_{word}", None)
         if act is None:
             raise Refused("command", f'The command "/{word[:40]}" does not exist.')
-        if self.account is None and word != "trn":
+        if self.account is None and word not in ("trn", "join", "leave"):
             raise Refused("account", "Choose a name first.")
         await act(rest.strip())
 
@@ -224,7 +223,7 @@ class ShowdownConnection(Connection):
         self._say("", f"|updatesearch|{json.dumps({'searching': formats, 'games': games or None})}")
 
     def _search_again(self) -> None:
-        self.searches(self.services.lobby.searching(self.known.id))
+        self.searches(self.services.lobby.searching(self.account.id if self.account else 0))
 
     async def do_trn(self, rest: str) -> None:
         name, _, more = rest.partition(",")
@@ -259,12 +258,12 @@ class ShowdownConnection(Connection):
         to, _, format = rest.partition(",")
         seeker = self.seeker(format.partition(",")[0].strip(), self._team)
         if await self.services.lobby.challenge(to.strip(), seeker):
-            format = seeker.format.id
+            format = seeker.format
             self._say("", f"|pm| {self._name}| {_line(to.strip())}|/challenge {format}|{format}|||")
 
     async def do_accept(self, rest: str) -> None:
         found = self.services.lobby.challenge_of(rest, self.known)
-        await self.services.lobby.accept(found, self.seeker(found.seeker.format.id, self._team))
+        await self.services.lobby.accept(found, self.seeker(found.seeker.format, self._team))
 
     async def do_reject(self, rest: str) -> None:
         found = self.services.lobby.challenge_of(rest, self.known)

@@ -18,7 +18,7 @@ from time import perf_counter
 from typing import IO, Any, TypeVar
 
 from sqlalchemy import create_engine, event
-from sqlalchemy.exc import DBAPIError
+from sqlalchemy.exc import DBAPIError, IntegrityError
 
 T = TypeVar("T")
 Statements = Callable[[Any], T]
@@ -63,7 +63,9 @@ class Work:
 def engine_of(url: str, durable: bool = True) -> Any:
     """The SQLAlchemy engine of a database."""
     if not url.startswith("sqlite"):
-        return create_engine(url, executemany_mode="values_plus_batch")
+        # A process that is stopped inside a transaction must not hold what others wait for.
+        options = {"options": "-c idle_in_transaction_session_timeout=5000"}
+        return create_engine(url, executemany_mode="values_plus_batch", connect_args=options)
     engine = create_engine(url, connect_args={"check_same_thread": False, "timeout": 30})
 
     def connected(connection: Any, _: Any) -> None:
@@ -211,7 +213,7 @@ class Store:
                 self._disconnect()
                 return [fault for _ in works]
             if len(works) == 1:
-                return [Conflict(_first_line(fault)) if "IntegrityError" in _kinds(fault) else fault]
+                return [Conflict(_first_line(fault)) if isinstance(fault, IntegrityError) else fault]
         return [answer for work in works for answer in self._done([work])]
 
     def _committed(self, raw: Any, works: list[Work]) -> list[Any]:
@@ -252,11 +254,6 @@ class Store:
                     work.done(it, None)
             except Exception:
                 LOG.exception("what follows a commit failed")
-
-
-def _kinds(fault: Exception) -> list[str]:
-    """The names of an error's classes: drivers have no common ones."""
-    return [it.__name__ for it in type(fault).__mro__]
 
 
 def _first_line(fault: Exception) -> str:

@@ -16,14 +16,13 @@ from gen1_server import metrics, people, schema
 from gen1_server.accounts import Accounts, folded
 from gen1_server.computer import Computer
 from gen1_server.config import Config
-from gen1_server.connections import Connection, handshake
-from gen1_server.core import Refused
+from gen1_server.connections import Connection, Services, handshake
 from gen1_server.formats import load
 from gen1_server.json_protocol import JsonConnection
 from gen1_server.limits import Limits
 from gen1_server.lobby import Lobby
 from gen1_server.rooms import Rooms
-from gen1_server.services import Services
+from gen1_server.showdown import ShowdownConnection, login
 from gen1_server.store import Store
 from prometheus_client import generate_latest
 
@@ -55,24 +54,16 @@ class Server:
         app = web.Application(client_max_size=self.config.message_bytes, middlewares=[self._headers])
         routes: dict[str, Any] = {
             **{"/": self._page, "/socket": partial(self._socket, JsonConnection), "/rooms": self._rooms},
+            "/showdown/websocket": partial(self._socket, ShowdownConnection),
             **{"/ladder/{format}": self._ladder, "/player/{name}": self._player},
             **{"/metrics": self._metrics, "/health": self._health, "/ready": self._is_ready},
         }
         app.router.add_routes([web.get(path, it) for path, it in routes.items()])
-        self._add_showdown(app)
+        app.router.add_post("/action.php", self._login)
         app.on_startup.append(self._start)
         app.on_shutdown.append(self._stop)
         app.on_cleanup.append(self._clean)
         return app
-
-    def _add_showdown(self, app: web.Application) -> None:
-        """Adds the second protocol, where its library is there."""
-        try:
-            from gen1_server.showdown import ShowdownConnection, login
-        except ImportError:
-            return
-        app.router.add_get("/showdown/websocket", partial(self._socket, ShowdownConnection))
-        app.router.add_post("/action.php", partial(self._login, login))
 
     # ---- start and stop ----
 
@@ -132,8 +123,6 @@ class Server:
                 done = act()
                 if isinstance(done, Awaitable):
                     await done
-            except Refused:
-                pass
             except Exception:
                 LOG.exception("a task failed")
 
@@ -161,9 +150,7 @@ class Server:
     def _expect_origin(self, request: web.Request) -> None:
         """Refuses a browser's page of another site."""
         origin = request.headers.get("Origin")
-        if origin is None or origin in self.config.origins:
-            return
-        if urlsplit(origin).netloc != request.host:
+        if origin is not None and origin not in self.config.origins and urlsplit(origin).netloc != request.host:
             metrics.REFUSED.labels("origin").inc()
             raise web.HTTPForbidden(text="this origin is not allowed")
 
@@ -192,7 +179,7 @@ class Server:
         connection.begin()
         raise asyncio.CancelledError
 
-    async def _login(self, login: Any, request: web.Request) -> web.Response:
+    async def _login(self, request: web.Request) -> web.Response:
         """The login of Showdown's protocol."""
         self._expect_origin(request)
         if not self.services.limits.login(self._address(request)):

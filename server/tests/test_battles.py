@@ -52,6 +52,61 @@ def test_two_play_a_third_watches_a_fourth_plays_the_computer(server, database):
     assert it.command("verify") == (0, "2 finished battles end as they were stored\n")
 
 
+def test_a_search_meets_those_of_another_process(server, postgres):
+    """A client that can be led goes where the battle is. One of Showdown's protocol stays, so others come to it."""
+    database = postgres()
+    one, two = [server(name=name, database=database, address=f"ws://{name}/socket") for name in ("one", "two")]
+
+    async def test(session):
+        a, b = await guest(session, one, "A"), await guest(session, two, "B")
+        bot = await session.ws_connect(one.url.replace("/socket", "/showdown/websocket"))
+        await bot.send_str("|/trn C,0,")
+        for client, foe, place in ((a, b, "two"), (b, bot, "one")):
+            if foe is bot:
+                await bot.send_str("|/search gen1randombattle")
+            await client.ask("searching", type="search", format="gen1randombattle")
+            if foe is b:
+                await b.ask("searching", type="search", format="gen1randombattle")
+            led = await client.until("moved")
+            assert led["address"] == f"ws://{place}/socket"
+            assert client.heard[-2] == {"type": "searching", "formats": []}
+            there = Client(session, (one if place == "one" else two).url)
+            await there.connect(type="token", token=client.welcome["token"])
+            shown = await there.until("room")
+            assert shown["room"] == led["room"] and shown["rated"]
+            await there.say(type="forfeit", room=led["room"])
+            await there.until("update")
+        # One that is taken back, or whose client is gone, meets nobody.
+        await a.ask("searching", type="search", format="gen1ou", team=TEAMS[0])
+        await a.ask("searching", type="cancel_search")
+        gone = await guest(session, one, "D")
+        await gone.ask("searching", type="search", format="gen1ou", team=TEAMS[0])
+        await gone.socket.close()
+        await asyncio.sleep(0.5)
+        await b.ask("searching", type="search", format="gen1ou", team=TEAMS[1])
+        with pytest.raises(TimeoutError):
+            await b.until("room", "moved", seconds=3)
+
+    run(test)
+    assert '"fault"' not in one.said() + two.said()
+
+
+def test_the_computer_plays_those_who_find_nobody(server):
+    it = server(bot="bot", bot_seconds=1.0)
+
+    async def test(session):
+        one = await guest(session, it, "One")
+        await one.ask("searching", type="search", format="gen1ou", team=TEAMS[0])
+        shown = await one.until("room", seconds=10)
+        assert shown["rated"] and set(shown["names"]) == {"One", "bot"}
+        await one.say(type="forfeit", room=shown["room"])
+        await one.until("update")
+
+    run(test)
+    players = json.loads(it.get("/ladder/gen1ou"))["players"]
+    assert [(row["name"], row["wins"]) for row in players] == [("bot", 1), ("One", 0)]
+
+
 def expect_schema(clients):
     """Each message is as messages.schema.json says."""
     jsonschema = pytest.importorskip("jsonschema")

@@ -4,6 +4,7 @@ import asyncio
 import itertools
 import json
 import random
+from dataclasses import replace
 from functools import partial
 from types import SimpleNamespace
 
@@ -117,9 +118,9 @@ class FakeStore:
     def add(self, work):
         work.done((), None)
 
-    def run(self, statements):
+    def run(self, add_room):
         answer = asyncio.get_running_loop().create_future()
-        answer.set_result(next(self.number))
+        answer.set_result(replace(add_room.args[0], id=next(self.number)))
         return answer
 
 

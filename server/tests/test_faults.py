@@ -15,6 +15,7 @@ from types import SimpleNamespace
 
 import aiohttp
 import pytest
+from alembic import command as alembic_command
 from client import PACKAGE, Client, free_port, guest, paired, play, run
 from gen1_server import connections, keeping, records, schema, store, web
 from gen1_server.config import Config
@@ -79,13 +80,13 @@ def test_a_row_of_a_process_that_lost_the_room_is_refused(database):
             schema.account,
             {"name": "A", "folded": "a", "secret": b"", "created": 0},
         )
-        old = records.begin_process("one", "", 0, 10, connection)
+        old = records.begin_process("one", "", 10, connection)
         values = dict.fromkeys(
             ("format", "name_one", "name_two", "team_one", "team_two", "options", "season", "build"), ""
         )
         numbers = {"rated": 0, "account_one": account, "account_two": account, "created": 0, "process": old}
         room = schema.added(connection, schema.room, values | numbers | {"battle": b""})
-        new = records.begin_process("one", "", 20, 30, connection)
+        new = records.begin_process("one", "", 30, connection)
     row = StoredRow(room, 0, bytes(18), 0, "player", old)
     held = engine.raw_connection()
     raw = held.connection
@@ -509,7 +510,23 @@ def test_commands(server):
     assert it.command("restore", "nothing") == (1, "gen1_server: there is no file nothing\n")
     assert it.command("migrate")[0] == 1
     it.stop()
-    assert it.command("migrate") == (0, "the database has version 0001; it had 0001\n")
+    assert it.command("migrate") == (0, "the database has version 0002; it had 0002\n")
+
+
+def test_a_database_of_an_earlier_version(database, monkeypatch):
+    """A server refuses it, until `migrate` has brought it to the newest version."""
+    config = Config(database=database)
+    monkeypatch.setattr(alembic_command, "upgrade", partial(upgrade_to, alembic_command.upgrade, "0001"))
+    assert keeping.migrate(config).endswith("it had none")
+    monkeypatch.undo()
+    with pytest.raises(RuntimeError, match="has version 0001, this program needs 0002"):
+        keeping.within(config, schema.expect_newest)
+    assert keeping.migrate(config) == "the database has version 0002; it had 0001"
+    keeping.within(config, schema.expect_newest)
+
+
+def upgrade_to(upgrade, version, config, _):
+    upgrade(config, version)
 
 
 def test_the_lock_of_a_file(tmp_path):

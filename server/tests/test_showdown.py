@@ -243,6 +243,47 @@ def test_a_challenge_a_spectator_and_a_player_that_comes_back(address):
     ]
 
 
+class Watching(Bot):
+    """It makes no choice."""
+
+    async def choose(self, room, state):
+        pass
+
+    def compare(self, state):
+        pass
+
+
+class Stranger(Watching):
+    """It has no name."""
+
+    async def of_lobby(self, fields):
+        if fields[1] == "challstr":
+            self.named.set()
+        await super().of_lobby([*fields[:1], fields[1].replace("challstr", ""), *fields[2:]])
+
+
+def test_a_stranger_watches(address):
+    """It is shown what a spectator with a name is, and may do nothing else."""
+
+    async def act(one, two, three, four):
+        await asyncio.gather(*(it.named.wait() for it in (one, two, three, four)))
+        await one.say("/challenge Trent, gen1ou")
+        await two.say(f"/accept {await two.challenges.get()}")
+        await until(lambda: one.rooms)
+        (room,) = one.rooms
+        for it in (three, four):
+            await it.say(f"/join {room}")
+        await four.say("/search gen1ou")
+        await until(lambda: four.popups)
+        await until(lambda: three.ended and four.ended)
+        return room, three, four
+
+    watchers = bot("Watcher", kind=Watching), bot("Nobody", kind=Stranger)
+    room, three, four = played(address, act, bot("Carol"), bot("Trent", TEAMS[1]), *watchers)
+    told = [[it for it in each.rooms[room]["lines"] if "|t:|" not in it] for each in (three, four)]
+    assert told[0][-3:-1] == told[1][-3:-1] and told[0] == told[1] and four.popups == ["Choose a name first."]
+
+
 async def nothing(*_):
     """A bot that only listens."""
 
