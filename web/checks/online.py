@@ -103,7 +103,7 @@ def two_persons_play_to_the_end_and_a_third_watches(club):
     for person in (ann, ben):
         person.wait(ASKED)
     address = ann.wait(ADDRESS)
-    cid.enter("Cid", address)
+    cid.come(address)
     cid.wait(SHOWN)
     assert cid.wait(STRIP).startswith("You watch"), cid.run(STRIP)
     play((ann, ben), draw, lambda: ann.updates > 12 or ann.run(OVER))
@@ -160,6 +160,54 @@ def a_battle_goes_on_after_a_lost_connection(club):
         assert person.updates == number
     assert not ann.run(ASKED) and ann.text("#play-wait") == "Waiting for Ben2."
     play((ben,), draw, lambda: ann.updates > number)
+
+
+def a_stranger_watches(club):
+    """Without a name: from the list or by an address, after a lost connection too, and to the end."""
+    ann, _, cid = club.persons
+    ann.enter("Ann10")
+    ann.click("#online-computer")
+    ann.wait(ASKED)
+    address = ann.wait(ADDRESS)
+    cid.come()
+    cid.press_text("#online-battles", "Watch")
+    cid.wait(SHOWN)
+    cid.press_text("#online-strip", "Back to the lobby")
+    assert cid.wait("return document.getElementById('online-login').checkVisibility()")
+    assert not cid.run("return document.getElementById('online-play-card').checkVisibility()")
+    cid.open(address)
+    cid.wait(SHOWN)
+    play((ann,), random.Random(8), lambda: ann.updates > 3)
+    cid.wait(f"{UPDATED} > 3")
+    club.server.kill()
+    cid.wait("return /connection to the server is lost/.test(document.getElementById('online-strip').textContent)")
+    club.server.start()
+    ann.wait("return document.getElementById('online-strip').textContent === ''", 40)
+    play((ann,), random.Random(9), lambda: ann.updates > 6 or ann.run(OVER))
+    if not ann.run(OVER):
+        ann.run("document.getElementById('play-menu').open = true")
+        ann.press_text("#play-menu", "Forfeit")
+        ann.press_text("#online-strip", "Forfeit")
+    cid.wait(OVER, 40)
+    assert cid.updates == ann.updates
+
+
+def a_client_is_led_to_another_process(club):
+    """It goes on at the address that the server names, with the same battle."""
+    ann = club.persons[0]
+    kept = "window.sockets = []; const Own = WebSocket; WebSocket = class extends Own { constructor(...a) { super(...a); sockets.push(this) } };"
+    given = {"source": kept}
+    script = ann.driver.execute_cdp_cmd("Page.addScriptToEvaluateOnNewDocument", given)["identifier"]
+    ann.enter("Ann11")
+    ann.click("#online-computer")
+    ann.wait(ASKED)
+    room = re.search(r"r=(\d+)", ann.wait(ADDRESS))[1]
+    led = f"JSON.stringify({{type: 'moved', room: {room}, address: '{club.server.url}?two'}})"
+    ann.run(f"sockets[0].dispatchEvent(new MessageEvent('message', {{data: {led}}}))")
+    assert ann.wait("return sockets[1]?.readyState === 1 && sockets[1].url").endswith("?two")
+    begun = ann.updates
+    play((ann,), random.Random(10), lambda: ann.updates > begun or ann.run(OVER))
+    ann.driver.execute_cdp_cmd("Page.removeScriptToEvaluateOnNewDocument", {"identifier": script})
 
 
 def a_link_challenges_and_a_battle_ends_early(club):
@@ -223,7 +271,7 @@ def only_what_a_side_may_know_is_in_the_page(club):
     ben.press_text("#online-calls", "Accept")
     for person in (ann, ben):
         person.wait(ASKED)
-    cid.enter("Cid5", ann.wait(ADDRESS))
+    cid.come(ann.wait(ADDRESS))
     cid.wait(SHOWN)
     for person, hidden in ((ann, ["Lickitung"]), (ben, ["Mr. Mime"]), (cid, ["Lickitung", "Mr. Mime"])):
         text = person.run("return document.getElementById('play-game').outerHTML")
@@ -349,6 +397,8 @@ def only_the_server_is_asked_and_nothing_is_wrong(club):
 CHECKS = [
     two_persons_play_to_the_end_and_a_third_watches,
     a_battle_goes_on_after_a_lost_connection,
+    a_stranger_watches,
+    a_client_is_led_to_another_process,
     a_link_challenges_and_a_battle_ends_early,
     the_computer_plays_online,
     only_what_a_side_may_know_is_in_the_page,

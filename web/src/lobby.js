@@ -225,8 +225,8 @@ export class Lobby {
   async look() {
     this.drawTeams();
     const {format} = this;
-    const [found, ladder] =
-        await Promise.all([this.server.table("rooms"), this.server.table(`ladder/${encodeURIComponent(format)}`)]);
+    const ratings = format && this.server.table(`ladder/${encodeURIComponent(format)}`);
+    const [found, ladder] = await Promise.all([this.server.table("rooms"), ratings]);
     this.open = found?.rooms ?? [];
     this.drawBattles();
     if (format === this.format) this.drawLadder(ladder);

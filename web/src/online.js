@@ -9,6 +9,8 @@ import {Table} from "./table.js";
 
 /** @typedef {import("./server.js").Message} Message */
 
+/** What only an account has in the lobby. */
+const OWN = ["online-account", "online-play-card", "online-season-card"];
 /** The fields that refusals are about, by their codes. */
 const FIELDS = new Map([
   ["login", "password"], ["password", "password"], ["name", "name"], ["taken", "name"], ["no player", "to"],
@@ -100,7 +102,10 @@ class Online {
     const match = this.matches.get(room);
     if (match) return this.put(match);
     this.wanted = room;
-    this.ask("join", {room});
+    if (this.name || this.server.isReady)
+      this.ask("join", {room});
+    else
+      this.server.open();
   }
 
   /** @param {RemoteMatch} match */
@@ -125,6 +130,8 @@ class Online {
     this.before = shown;
     this.table.draw(shown);
     if (shown && !this.play.isMoving) this.play.wait(this.waiting(shown));
+    // The server closes the connection of somebody without a name who watches nothing.
+    if (!this.name && !this.server.token && !this.wanted && (shown?.isOver ?? before)) this.server.close();
     if (!before || before.room === shown?.room) return;
     if (!before.side || before.isOver) this.matches.delete(before.room);
     if (!before.side && !before.isOver && this.server.isReady) this.ask("leave", {room: before.room});
@@ -138,15 +145,11 @@ class Online {
   route(values) {
     const [room, code] = [Number(values.get("r") ?? 0), values.get("c") ?? ""];
     if (code) this.lobby.called({code, from: values.get("by") ?? "", format: values.get("f") ?? ""});
-    if (room && room !== this.shown?.room) {
-      this.wanted = room;
-      if (this.name) return this.show(room);
-      this.server.open();
-    }
+    if (room && room !== this.shown?.room) return this.show(room);
     if (!room && this.shown) this.play.leave();
-    if (this.name) return void this.lobby.look();
-    const why = room ? "watch the battle" : code ? "answer the challenge" : "";
-    if (why) find("online-why", HTMLElement).textContent = `Enter a name to ${why}. A guest needs no password.`;
+    void this.lobby.look();
+    if (code && !this.name)
+      find("online-why", HTMLElement).textContent = "Enter a name to answer the challenge. A guest needs no password.";
   }
 
   // ---- what the server says ----
@@ -159,7 +162,7 @@ class Online {
     else if (type === "goodbye")
       this.exit();
     else if (type === "hello")
-      this.lobby.greet(/** @type {any} */ (message));
+      this.greeted(message);
     else if (type === "room")
       this.begin(/** @type {any} */ (message));
     else if (type === "refused")
@@ -176,6 +179,15 @@ class Online {
       this.lobby.challenging(message, (values) => link("online", values));
     else
       this.tell(message);
+  }
+
+  /** @param {Message} message */
+  greeted(message) {
+    this.lobby.greet(/** @type {any} */ (message));
+    const {shown} = this;
+    const room = this.wanted || (shown?.isOver ? 0 : shown?.room);
+    // To an account the server tells its battles by itself.
+    if (room && !this.server.token) this.ask("join", {room});
   }
 
   /** @param {Message} message */
@@ -212,7 +224,7 @@ class Online {
     find("online-who", HTMLElement).textContent = name;
     keepingFocus(find("online-who", HTMLElement), () => {
       find("online-login", HTMLElement).hidden = true;
-      find("online-lobby", HTMLElement).hidden = false;
+      for (const id of OWN) find(id, HTMLElement).hidden = false;
     });
     this.lobby.enter(name);
     // The server tells the open battles of the account by itself.
@@ -256,6 +268,7 @@ class Online {
       this.exit();
       return this.say("You were logged out. Enter a name again.");
     }
+    if (code === "elsewhere") return this.moved({room: this.wanted, address: said});
     if (asked === "choose") this.again();
     if (asked === "join") this.wanted = 0;
     if (asked === "rematch") this.table.wanted.clear();
@@ -272,9 +285,11 @@ class Online {
     play.drawChoices();
   }
 
-  /** @param {Message} message a battle that another process of the server has */
+  /** @param {Record<string, any>} message a battle that another process of the server has */
   moved({room, address}) {
-    throw new Problem(`Battle ${room} is at another address: ${address || "of this server"}.`);
+    if (!address) throw new Problem(`Battle ${room} is at another address of this server.`);
+    this.wanted = room;
+    this.server.move(address);
   }
 
   /** The account has logged out, or its token is no longer valid. */
@@ -286,7 +301,7 @@ class Online {
     if (this.shown) this.play.leave();
     keepingFocus(find("online-head", HTMLElement), () => {
       find("online-login", HTMLElement).hidden = false;
-      find("online-lobby", HTMLElement).hidden = true;
+      for (const id of OWN) find(id, HTMLElement).hidden = true;
     });
     setAddress("online", {});
   }

@@ -21,6 +21,8 @@ export class Server {
     this.timer = 0;
     /** Whether it is opened again when it is lost. */
     this.isWanted = false;
+    /** The address of another process of the server, to which this one has led; empty for that of the page. */
+    this.address = "";
     /** @type {Message[]} what is sent once the server has greeted, and accepted the token */
     this.waiting = [];
     this.isReady = false;
@@ -41,8 +43,10 @@ export class Server {
     window.clearTimeout(this.timer);
     this.isWanted = true;
     if (this.socket) return;
-    const address = new URL("socket", location.href.split("#")[0]);
+    const address = new URL(this.address || "socket", location.href.split("#")[0]);
     address.protocol = address.protocol.replace("http", "ws");
+    // Where it is lost, the page begins where it is from.
+    this.address = "";
     const socket = this.socket = new WebSocket(address);
     socket.onmessage = ({data}) => this.socket === socket && this.hear(JSON.parse(data));
     socket.onclose = () => this.socket === socket && this.lose();
@@ -68,11 +72,21 @@ export class Server {
     this.wait = Math.min(2 * this.wait, LONGEST);
   }
 
+  /**
+   * Goes on at another process.
+   * @param {string} address
+   */
+  move(address) {
+    this.close();
+    this.address = address;
+    this.open();
+  }
+
   /** Closes it, and keeps it closed until the next request. */
   close() {
     window.clearTimeout(this.timer);
     const {socket} = this;
-    [this.socket, this.isReady, this.isWanted, this.wait] = [null, false, false, FIRST];
+    [this.socket, this.isReady, this.isWanted, this.wait, this.waiting] = [null, false, false, FIRST, []];
     socket?.close();
   }
 

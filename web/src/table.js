@@ -104,7 +104,8 @@ export class Table {
     /** @type {[string, ...HTMLElement[]][]} */
     const found = [];
     if (this.text) found.push([this.text]);
-    if (!side && !isOver) found.push([`You watch ${one}, who is side 1, against ${two}.`]);
+    const back = button("Back to the lobby", () => this.leave());
+    if (!side && !isOver) found.push([`You watch ${one}, who is side 1, against ${two}.`, back]);
     if (!isOver && this.isOffered(match))
       found.push([`${foe} offers a draw.`, button("Accept the draw", () => this.tell("offer_draw"))]);
     else if (!isOver && draw && side)
@@ -118,7 +119,7 @@ export class Table {
       found.push([`You have asked ${foe} for a rematch.`]);
     else if (isOver && side && this.wanting.has(room))
       found.push([`${foe} wants a rematch.`]);
-    if (isOver) found.push([why, button("Back to the lobby", () => this.leave())]);
+    if (isOver) found.push([why, back]);
     return found;
   }
 
