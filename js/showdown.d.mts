@@ -1,7 +1,7 @@
 // The types of showdown.mjs. docs/PROGRAM.md has the lines, the requests and the commands, which are from memory of Showdown's public
 // documents. Nothing of it is proved.
 import type {
-  Battle, ChoiceName, Gen1, Gen1Error, Host, Message, MoveName, Notice, Numbers, Player, Side, Source, SpeciesName, Team, WholeMember,
+  ArgumentError, Battle, ChoiceName, Gen1, Gen1Error, Host, Message, MoveName, Notice, Numbers, Player, Side, Source, SpeciesName, Team, WholeMember,
 } from "./gen1.mjs";
 
 /** The form in which a member's HP is shown to all but its owner: as it is told, in 48ths, or in hundredths. */
@@ -16,6 +16,12 @@ export class ProtocolError extends Gen1Error {
 }
 /** A text is no choice now. The message is what Showdown sends after `|error|[Invalid choice]` and a space. */
 export class ChoiceError extends Gen1Error {}
+
+/** A secret is not the one that a player committed to. */
+export class CommitmentError extends ArgumentError {
+  /** The player, 1 or 2. */
+  readonly player: number;
+}
 
 /** A member with its exact names. What is left out is at its maximum. */
 export interface NamedMember {
@@ -187,6 +193,25 @@ export class Showdown {
   simulator(options?: { hp?: Hp; clock?: boolean; formats?: Formats }): Simulator;
   /** The clauses of a battle before its first update: both, unless an option says otherwise. */
   endingClauses(options?: { sleep?: boolean; freeze?: boolean }): EndingClauses;
+  /**
+   * The commitment of player 1 or 2 to its secret: 32 bytes of crypto.getRandomValues. It is a SHA-256 of the secret, the player and the battle's
+   * name. A host shows both commitments to both players, and only then asks for the secrets. What can be tried:
+   *
+   * - To choose a secret late, or to guess the other's: no second secret has the commitment, and it says nothing of 32 bytes by chance.
+   * - To repeat a commitment, of the other player or of an earlier battle: it has the player and the name, so each battle needs a name of its own.
+   * - To refuse the secret: who has both first knows the result. So a refusal must be a loss, never a new draw; and where secrets go to the host
+   *   alone, a player has nothing to refuse by.
+   * - To know draws in advance: who knows both secrets knows all draws of a battle that goes on with its seed. Players without a host agree anew for
+   *   each pair, and submit the seed as its numbers. A host that tells a player the secrets can't be found out.
+   */
+  commit(battle: string, player: 1 | 2, secret: Uint8Array): Uint8Array;
+  /**
+   * What the secrets of player 1 and 2 decide: the seed of the battle, and the side of each player, by lot. After the battle its host shows both
+   * secrets, with which anybody can do the same. Throws CommitmentError for a secret without its commitment.
+   */
+  agree(
+      battle: string, commitments: readonly [Uint8Array, Uint8Array], secrets: readonly [Uint8Array, Uint8Array],
+  ): { seed: Uint8Array; sides: [Side, Side] };
   /** With the own team its members have their places; without it they are numbered as they came out. */
   follower(options: { side: Side; members?: Members }): Follower;
 }

@@ -29,8 +29,17 @@ export class ProtocolError extends Gen1Error {
 /** A text is no choice now. The message is what Showdown sends after `|error|[Invalid choice]` and a space. */
 export class ChoiceError extends Gen1Error {}
 
+/** A secret is not the one that `player`, 1 or 2, committed to. */
+export class CommitmentError extends ArgumentError {
+  constructor(message, player) {
+    super(message, "secrets");
+    this.player = player;
+  }
+}
+
 // The error that the module reports.
-function errorOf({kind, why, line, side}) {
+function errorOf({kind, why, line, side, player}) {
+  if (kind === "commitment") return new CommitmentError(why, player);
   if (kind === "line") return new ProtocolError(why, line);
   if (kind === "choice") return new ChoiceError(why);
   if (kind === "team" || kind === "text") return new TeamError(why, 0, {side, reason: why});
@@ -59,6 +68,13 @@ const both = (value, what) => {
     throw new ArgumentError(`${what} has ${value.length} items, not two, of side 1 and side 2`, what);
   return Array.from(value);
 };
+
+// The 32 bytes of a secret or a commitment.
+function hashOf(value, what) {
+  const bytes = octets(value, what);
+  if (bytes.length !== 32) throw new ArgumentError(`${what} has ${bytes.length} bytes, not 32`, what);
+  return hexOf(bytes);
+}
 
 const timeOf = (value) => (value === undefined ? null : within(value, "time", 0, MOST));
 
@@ -466,6 +482,21 @@ export class Showdown {
 
   endingClauses(options) {
     return new EndingClauses(this.#module, options);
+  }
+
+  /** The commitment of player 1 or 2 to its secret, both of 32 bytes. */
+  commit(battle, player, secret) {
+    const asked = {battle: lineOf(battle, "battle"), player: within(player, "player", 1, 2)};
+    return bytesOf(this.#module.call("commit", {...asked, secret: hashOf(secret, "secret")}).commitment);
+  }
+
+  /** What the secrets of both players decide: the seed of the battle, and the side of each player, by lot. */
+  agree(battle, commitments, secrets) {
+    const [committed, revealed] = [[commitments, "commitments"], [secrets, "secrets"]].map(
+        ([given, what]) => both(given, what).map((it) => hashOf(it, what)));
+    const asked = {battle: lineOf(battle, "battle"), commitments: committed, secrets: revealed};
+    const {seed, sides} = this.#module.call("agree", asked);
+    return {seed: Uint8Array.from(seed), sides};
   }
 
   follower(options) {

@@ -1,6 +1,8 @@
 // Tests of showdown.mjs under Node: node test/showdown.mjs. Expected texts are those of docs/PROGRAM.md and of Showdown's documents.
+import {createHash, randomBytes} from "node:crypto";
+
 import {ArgumentError, ArgumentTypeError, FreedError, load, Row, TeamError} from "../gen1.mjs";
-import {ChoiceError, loadShowdown, ProtocolError} from "../showdown.mjs";
+import {ChoiceError, CommitmentError, loadShowdown, ProtocolError} from "../showdown.mjs";
 
 import {equal, holds, thrown} from "./holding.mjs";
 
@@ -159,5 +161,24 @@ function judged() {
   thrown(() => showdown.endingClauses(/** @type {any} */ ({slep: true})), ArgumentError, /did you mean "sleep"/);
 }
 
-for (const test of [teams, rules, hosted, simulated, followed, judged]) test();
-console.log("6 passed, 0 failed");
+// The hashes are those of Node's crypto.
+function agreed() {
+  const hash = (...parts) => parts.reduce((all, part) => all.update(part), createHash("sha256")).digest();
+  for (let at = 0; at < 8; at++) {
+    const [name, secrets] = [`room ${at} \u00fc`, [Uint8Array.from(randomBytes(32)), new Uint8Array(32).fill(at)]];
+    const commitments = secrets.map((secret, player) => showdown.commit(name, player + 1, secret));
+    equal(commitments.map((it) => Buffer.from(it)),
+        secrets.map((it, player) => hash("gen1 commitment\0", Uint8Array.of(player + 1), it, name)));
+    const due = hash("gen1 agreement\0", ...secrets, name);
+    const {seed, sides} = showdown.agree(name, commitments, secrets);
+    equal([Buffer.from(seed), sides], [due.subarray(0, 10), due[10] % 2 ? [2, 1] : [1, 2]]);
+    const broken =
+        thrown(() => showdown.agree(name, commitments, [secrets[0], secrets[0]]), CommitmentError, /player 2/);
+    equal(broken.player, 2);
+  }
+  thrown(() => showdown.commit("a", 3, new Uint8Array(32)), ArgumentError, /player/);
+  thrown(() => showdown.commit("a", 1, new Uint8Array(31)), ArgumentError, /31 bytes, not 32/);
+}
+
+for (const test of [teams, rules, hosted, simulated, followed, judged, agreed]) test();
+console.log("7 passed, 0 failed");

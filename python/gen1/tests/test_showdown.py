@@ -4,6 +4,7 @@ import json
 import pickle
 import random
 import re
+from hashlib import sha256
 
 import pytest
 from gen1 import (
@@ -26,6 +27,7 @@ from gen1 import (
     showdown,
 )
 from gen1.showdown import (
+    BrokenCommitment,
     ChoiceRefused,
     EndingClauses,
     Follower,
@@ -37,6 +39,8 @@ from gen1.showdown import (
     Seat,
     Simulator,
     Viewer,
+    agree,
+    commit,
 )
 
 
@@ -205,6 +209,39 @@ def test_a_second_sleep_loses():
         EndingClauses().hear(b"\xff")
     with pytest.raises(BadType):
         EndingClauses(sleep=1)
+
+
+def test_two_secrets_decide_a_seed_and_the_sides():
+    """The hashes are those of hashlib."""
+    dice, sides = random.Random(5), set()
+    for at in range(20):
+        name, secrets = f"room {at} ü", [dice.randbytes(32), dice.randbytes(32)]
+        commitments = [commit(name, player, it) for player, it in enumerate(secrets, 1)]
+        for player, secret in enumerate(secrets, 1):
+            due = sha256(b"gen1 commitment\0" + bytes([player]) + secret + name.encode()).digest()
+            assert commitments[player - 1] == due
+        due = sha256(b"gen1 agreement\0" + secrets[0] + secrets[1] + name.encode()).digest()
+        agreed = agree(name, commitments, secrets)
+        assert agreed.seed == due[:10]
+        assert agreed.sides == ((Side.TWO, Side.ONE) if due[10] % 2 else (Side.ONE, Side.TWO))
+        sides.add(agreed.sides)
+        for others in ([secrets[0], secrets[0]], secrets[::-1]):
+            with pytest.raises(BrokenCommitment) as broken:
+                agree(name, commitments, others)
+            assert broken.value.player == (2 if others[0] == secrets[0] else 1)
+    assert len(sides) == 2
+    with pytest.raises(BrokenCommitment, match="the secret of player 1"):
+        agree("another room", commitments, secrets)
+    for wrong in (lambda: commit("a", 3, bytes(32)), lambda: commit("a", 1, bytes(31)), lambda: agree("a", [], [])):
+        with pytest.raises(BadArgument):
+            wrong()
+    for wrong in (
+        lambda: commit(1, 1, bytes(32)),
+        lambda: commit("a", 1, "x" * 32),
+        lambda: commit("a", True, bytes(32)),
+    ):
+        with pytest.raises(BadType):
+            wrong()
 
 
 def test_a_simulator_begins_as_the_program_does():

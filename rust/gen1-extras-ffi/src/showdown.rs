@@ -5,7 +5,7 @@ use gen1::{Battle, LogFault, MemberSpec, Message, Notice, Rules, Side, Team, Tea
 use gen1_showdown::reading::Typed;
 use gen1_showdown::{
     Complaint, EndingClauses, Fault, Follower, Formats, Heading, Hp, LineWriter, Members, Note,
-    Options, Seat, Simulator, Viewer, choice_in, names_of, request,
+    Options, Seat, Simulator, Viewer, agree, choice_in, commit, names_of, request,
 };
 use serde::Deserialize;
 use serde_json::{Value, json};
@@ -116,6 +116,18 @@ enum Ask {
     NewClauses {
         sleep: bool,
         freeze: bool,
+    },
+    /// The commitment of a player, 1 or 2, to its secret.
+    Commit {
+        battle: String,
+        player: u8,
+        secret: String,
+    },
+    /// What two secrets decide.
+    Agree {
+        battle: String,
+        commitments: [String; 2],
+        secrets: [String; 2],
     },
     /// Takes in the log of a pair, and returns the side that has lost.
     Judge {
@@ -277,6 +289,19 @@ fn done(ask: Ask) -> Result<Value, Refused> {
             Ok(kept(Object::Clauses(Box::new(clauses))))
         }
         Ask::Judge { of, log } => judged(of, &bytes_in(&log)?),
+        Ask::Commit {
+            battle,
+            player,
+            secret,
+        } => {
+            let commitment = commit(&battle, player, &hash_in(&secret)?);
+            Ok(json!({"commitment": hex(&commitment)}))
+        }
+        Ask::Agree {
+            battle,
+            commitments,
+            secrets,
+        } => agreed(&battle, &commitments, &secrets),
         Ask::NewSimulator { hp, clock, formats } => {
             let hp = hp.as_deref().map(hp_of).transpose()?;
             let options = Options {
@@ -690,6 +715,28 @@ fn bytes_in(text: &str) -> Result<Vec<u8>, Refused> {
     let bytes = pairs.map(|pair| u8::from_str_radix(std::str::from_utf8(pair).ok()?, 16).ok());
     let bytes: Option<Vec<u8>> = bytes.collect();
     bytes.ok_or_else(|| Refused::of("call", "expected bytes in hexadecimal digits"))
+}
+
+/// The 32 bytes of a secret or a commitment.
+fn hash_in(text: &str) -> Result<[u8; 32], Refused> {
+    let bytes = bytes_in(text)?;
+    bytes
+        .try_into()
+        .map_err(|_| Refused::of("call", "expected 32 bytes"))
+}
+
+/// What two secrets decide: the seed, and the side of each player.
+fn agreed(
+    battle: &str,
+    commitments: &[String; 2],
+    secrets: &[String; 2],
+) -> Result<Value, Refused> {
+    let both = |[one, two]: &[String; 2]| Ok::<_, Refused>([hash_in(one)?, hash_in(two)?]);
+    let agreed = agree(battle, &both(commitments)?, &both(secrets)?);
+    let agreed = agreed.map_err(|why| {
+        Refused(json!({"kind": "commitment", "player": why.player, "why": why.to_string()}))
+    })?;
+    Ok(json!({"seed": agreed.seed, "sides": agreed.sides.map(Side::number)}))
 }
 
 fn battle_in(text: &str) -> Result<Battle, Refused> {

@@ -9,6 +9,7 @@
 //! | teams as text, with nicknames | [`Members`] |
 //! | teams checked by the rules of a format | [`Formats`] |
 //! | a second sleep or freeze that loses the battle | [`EndingClauses`] |
+//! | a seed and sides that neither player chooses | [`Agreement`] |
 //!
 //! The table of events and lines is in docs/PROGRAM.md, "Showdown's battle log". Showdown's forms are from memory of its public documents.
 //!
@@ -27,7 +28,6 @@
 //! ```
 #![forbid(unsafe_code)]
 
-mod clauses;
 mod follow;
 mod formats;
 mod game;
@@ -38,9 +38,9 @@ mod request;
 mod seat;
 mod simulator;
 mod texts;
+mod variants;
 mod words;
 
-pub use clauses::EndingClauses;
 pub use follow::{Follower, Note};
 pub use formats::{Complaint, Formats};
 pub use lines::{Heading, LineWriter, Viewer};
@@ -48,6 +48,7 @@ pub use members::{Members, names_of, numbered};
 pub use request::{choice_in, request};
 pub use seat::{Seat, Slot};
 pub use simulator::{Options, Reply, Simulator};
+pub use variants::{Agreement, BrokenCommitment, EndingClauses, agree, commit};
 pub use words::Hp;
 
 use gen1::{LogFault, Refusal, Side, TeamRefusal};

@@ -460,6 +460,67 @@ class EndingClauses(_Kept):
         return None if loser is None else Side(loser)
 
 
+class BrokenCommitment(BadArgument):
+    """A secret is not the one that `player`, 1 or 2, committed to."""
+
+    def __init__(self, said: str, player: int) -> None:
+        super().__init__(said)
+        self.player = player
+
+
+@dataclass(frozen=True)
+class Agreement:
+    """What two secrets decide: the seed of a battle, and the side of each
+    player, by lot.
+    """
+
+    seed: bytes
+    sides: tuple[Side, Side]
+
+
+def commit(battle: str, player: int, secret: ReadableBuffer) -> bytes:
+    """The commitment, 32 bytes, of player 1 or 2 to its secret, 32 bytes of
+    `secrets.token_bytes(32)`: a SHA-256 of it, the player and the battle's
+    name.
+
+    A host shows both commitments to both players, and only then asks for
+    the secrets. What can be tried:
+
+    - To choose a secret late, or to guess the other's: no second secret has
+      the commitment, and it says nothing of 32 bytes by chance.
+    - To repeat a commitment, of the other player or of an earlier battle:
+      it has the player and the name, so each battle needs a name of its
+      own.
+    - To refuse the secret: who has both first knows the result. So a
+      refusal must be a loss (`Row.forfeit`), never a new draw; and where
+      secrets go to the host alone, a player has nothing to refuse by.
+    - To know draws in advance: who knows both secrets knows all draws of a
+      battle that goes on with its seed. Players without a host agree anew
+      for each pair, and submit the seed as `numbers`. A host that tells a
+      player the secrets can't be found out.
+
+    Raises `BadArgument`, `BadType`.
+    """
+    asked = {"battle": _text(battle, "battle"), "player": within(player, "player", 1, 2)}
+    return bytes.fromhex(_call("commit", secret=_hash(secret, "secret"), **asked)["commitment"])
+
+
+def agree(battle: str, commitments: Sequence[ReadableBuffer], secrets: Sequence[ReadableBuffer]) -> Agreement:
+    """What the secrets of player 1 and 2 decide. After the battle its host
+    shows both, with which anybody can do the same.
+
+    Raises `BrokenCommitment` for a secret without its commitment,
+    `BadArgument`, `BadType`.
+    """
+    given = {"commitments": commitments, "secrets": secrets}
+    asked = {
+        what: [_hash(it, f"{what}[{at}]") for at, it in enumerate(_both(both, what))] for what, both in given.items()
+    }
+    found = _call("agree", battle=_text(battle, "battle"), **asked)
+    one, two = found["sides"]
+    return Agreement(bytes(found["seed"]), (Side(one), Side(two)))
+
+
 @dataclass(frozen=True)
 class Reply:
     """What a simulator returns for a line: messages, each with an empty line
@@ -630,6 +691,8 @@ def _fault(of: dict[str, Any]) -> Error:
         return ProtocolFault(why, of["line"])
     if kind == "choice":
         return ChoiceRefused(why)
+    if kind == "commitment":
+        return BrokenCommitment(why, of["player"])
     if kind in ("team", "text"):
         return BadTeam(why, side=of.get("side", 0))
     return BadArgument(why)
@@ -642,6 +705,14 @@ def _text(value: object, what: str) -> str:
     if len(value.splitlines()) > 1 or "\n" in value:
         raise BadArgument(f"{what} must be a text of one line, not {shown(value)}")
     return value
+
+
+def _hash(value: object, what: str) -> str:
+    """The 32 bytes of a secret or a commitment."""
+    found = bytes(octets(value, what))
+    if len(found) != 32:
+        raise BadArgument(f"{what} must have 32 bytes, not {len(found)}")
+    return found.hex()
 
 
 def _both(value: object, what: str) -> list[Any]:
