@@ -252,6 +252,35 @@ def a_link_holds_a_team(browser):
         assert "damaged" in browser.notice(), (code, browser.notice())
 
 
+def rules_are_checked(browser):
+    """A legal team, and one violation each, in the words of gen1-showdown (rust/gen1-cli/tests/texts.rs)."""
+    fresh(browser)
+    for text, format, due in (
+        ("Tauros||||bodyslam|||||||", "gen1ou", []),
+        ("Mewtwo||||rest|||||||", "gen1ou", ["member 1 (Mewtwo): species that are not banned; found Mewtwo"]),
+        ("Mewtwo||||rest|||||||", "gen1ubers", []),
+        ("Tauros||||rest|||||||", "gen1uu", ["member 1 (Tauros): species that are not banned; found Tauros"]),
+        (
+            "Ditto||||bind|||||||]Onix||||rest,fissure|||||||",
+            "gen1ubers",
+            ["member 2 (Onix): OHKO Clause: OHKO moves are banned; found Fissure"],
+        ),
+        (
+            "Onix||||dig|||||||]Onix||||doubleteam|||||||",
+            "gen1ou",
+            [
+                "member 1 (Onix): Invulnerability Clause: Dig and Fly are banned; found Dig",
+                "member 2 (Onix): Species Clause: Limit one of each Pokémon; found another Onix",
+                "member 2 (Onix): Evasion Moves Clause: Evasion moves are banned; found Double Team",
+            ],
+        ),
+        ("Onix||||dig|||||||]Onix||||doubleteam|||||||", "gen1customgame", []),
+    ):
+        read(browser, text)
+        browser.fill("#teams-format", format)
+        assert browser.words("#teams-complaints li") == due, (text, browser.words("#teams-complaints li"))
+
+
 def a_team_goes_to_play(browser):
     fresh(browser)
     read(browser, TAUROS)
@@ -276,5 +305,6 @@ CHECKS = [
     a_wrong_value_changes_nothing,
     new_teams_have_different_names,
     a_link_holds_a_team,
+    rules_are_checked,
     a_team_goes_to_play,
 ]

@@ -1,5 +1,5 @@
-// Teams to choose from: the sample teams that the page is built with (examples/teams), and those that a person has built, which the browser keeps.
-// A team as export text of Showdown's team builder (docs/TEAM_TEXT.md), as `gen1 team` writes it.
+// Teams to choose from: the sample teams that the page is built with (examples/teams), and those that a person has built, which the browser
+// keeps. Rule sets that check a team (rust/gen1-showdown/formats.json). Teams as export text, as `gen1 team` writes it (docs/TEAM_TEXT.md).
 import {find} from "./dom.js";
 import {usualMoves} from "./sets.js";
 
@@ -7,6 +7,8 @@ import {usualMoves} from "./sets.js";
  * @typedef {import("./engine.js").Member} Member
  * @typedef {{ name: string, text: string }} NamedTeam
  * @typedef {{ name: string, members: import("./engine.js").Member[] }} Team
+ * @typedef {{ id: string, line: string, moves?: string[], one_of_each?: boolean }} Clause
+ * @typedef {{ id: string, name: string, members?: number[], levels?: number[], banned?: string[], clauses: string[] }} Format
  */
 
 /** @type {NamedTeam[] | undefined} */
@@ -94,6 +96,42 @@ export function saveTeams(teams) {
   } catch {
     return false;
   }
+}
+
+/** @type {{ clauses: Clause[], formats: Format[] } | undefined} */
+let rules;
+
+/** The formats and their clauses. */
+export function formats() {
+  rules ??=
+      /** @type {{ clauses: Clause[], formats: Format[] }} */ (JSON.parse(find("formats", HTMLScriptElement).text));
+  return rules;
+}
+
+/**
+ * The rules of a format that a team breaks, in the words of gen1-showdown: by members, then of the whole team.
+ * @param {Format} format
+ * @param {import("./engine.js").Member[]} members
+ */
+export function complaints(format, members) {
+  const {members: [fewest, most] = [1, 6], levels: [lowest, highest] = [1, 100], banned = []} = format;
+  const clauses = formats().clauses.filter(({id}) => format.clauses.includes(id));
+  const found = members.flatMap(({species, level, moves}, at) => {
+    const before = members.slice(0, at).some((it) => it.species === species);
+    const broken = [
+      ...(banned.includes(String(species)) ? [`species that are not banned; found ${species}`] : []),
+      ...(level < lowest || level > highest ? [`level ${lowest} to ${highest}; found ${level}`] : []),
+      ...clauses.flatMap(
+          ({line,
+            moves: not = [],
+            one_of_each: one}) => [...(one && before ? [`${line}; found another ${species}`] : []),
+              ...moves.filter(([move]) => not.includes(String(move))).map(([move]) => `${line}; found ${move}`),
+    ]),
+    ];
+    return broken.map((why) => `member ${at + 1} (${species}): ${why}`);
+  });
+  const {length} = members;
+  return length < fewest || length > most ? [...found, `team: ${fewest} to ${most} members; found ${length}`] : found;
 }
 
 /**

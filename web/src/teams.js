@@ -4,7 +4,7 @@ import {decoded, encoded, joined, MEMBER, memberBytes, memberOf} from "./bytes.j
 import {blame, copy, done, find, guarded, inField, make, Problem} from "./dom.js";
 import {MemberForm, STATS} from "./member_form.js";
 import {badge} from "./sides.js";
-import {areKnown, sampleTeams, savedTeams, saveTeams, setOf, textOf, titleOf} from "./team_lists.js";
+import {areKnown, complaints, formats, sampleTeams, savedTeams, saveTeams, setOf, textOf, titleOf} from "./team_lists.js";
 
 /**
  * @typedef {import("./engine.js").Member} Member
@@ -43,6 +43,8 @@ export class Teams {
     this.which = find("teams-which", HTMLSelectElement);
     this.name = find("teams-name", HTMLInputElement);
     this.text = find("teams-text", HTMLTextAreaElement);
+    this.format = find("teams-format", HTMLSelectElement);
+    this.format.append(...formats().formats.map(({id, name}) => make("option", {value: id}, name)));
     this.form = new MemberForm(engine, "This member", (species) => this.offer(species));
     this.stats = make("div", {class: "stat-bars", role: "group", "aria-label": "Stats"});
     find("teams-member", HTMLElement).append(this.form.name, this.form.moveList, this.stats, this.form.advanced);
@@ -55,6 +57,7 @@ export class Teams {
     for (const type of ["input", "change"])
       member.addEventListener(type, () => this.changed(type === "input" ? PAUSE : 0));
     this.which.addEventListener("change", () => this.open([...this.saved, ...this.samples][Number(this.which.value)]));
+    this.format.addEventListener("change", () => this.drawComplaints());
     this.name.addEventListener("change", () => this.edit(() => (this.team.name = this.name.value.trim() || "My team")));
     const click = (/** @type {string} */ id, /** @type {() => void | Promise<void>} */ work) =>
         (find(id, HTMLButtonElement).addEventListener("click", () => void guarded(work)));
@@ -278,7 +281,15 @@ export class Teams {
     this.drawStats();
     const fault = team.members.length ? this.engine.fault(team.members) : "";
     find("teams-state", HTMLElement).textContent = fault ? `${fault}.` : "";
+    this.drawComplaints();
     if (this.isShown) setAddress("teams", {t: team.members.length ? this.code() : ""});
+  }
+
+  /** The rules of the chosen format that the team breaks. */
+  drawComplaints() {
+    const format = formats().formats.find(({id}) => id === this.format.value);
+    const found = format && this.team.members.length ? complaints(format, this.team.members) : [];
+    find("teams-complaints", HTMLElement).replaceChildren(...found.map((text) => make("li", {}, text)));
   }
 
   /** The list of all teams. A team from a link is in it until another is chosen. */
