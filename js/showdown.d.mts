@@ -165,6 +165,11 @@ export class Follower {
   readonly notes: { line: number; why: string }[];
   /** The events of the log as log bytes. */
   readonly log: Uint8Array;
+  /**
+   * What both sides chose for each update after the first, such as "move Body Slam" and "switch Bob". Null where the log doesn't say: for a side that had
+   * nothing to choose, or whose member did not act. An update of which the log has no end is left out.
+   */
+  readonly choices: [string | null, string | null][];
   /** The name, the number of members (null if the log does not have it), and the members' names of a side. */
   side(side: Side): { name: string; count: number | null; names: string[] };
   /** What the player knows after the log. Without the own team it has a team of the members that came out. */

@@ -424,6 +424,11 @@ export class Follower {
     return bytesOf(this.#read.log);
   }
 
+  /** What both sides chose for each update after the first, in words; null where the log doesn't say. */
+  get choices() {
+    return this.#read.choices;
+  }
+
   /** The name, the number of members, and the members' names of a side, as the log has them. */
   side(side) {
     const {player, count, names} = this.#read.sides[sideOf(side) - 1];

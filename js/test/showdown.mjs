@@ -129,6 +129,7 @@ function followed() {
       [["Tauros", "paralysis", [{name: "Body Slam", uses: 1}]]]);
   equal(ownPublic.members.map(({species, hp, moves}) => [species, hp, moves]),
       [["Chansey", 530, [{name: "Thunder Wave", uses: 1}]]]);
+  equal(follower.choices, [["move Body Slam", "move Thunder Wave"]]);
   follower.read("|-frobnicate|p1a: Bo");
   equal(follower.notes[0].line, 13);
 

@@ -397,19 +397,31 @@ def test_nothing_hidden_changes_the_lines_of_the_others():
     assert differed > 100 and went_on >= {"Wrap", "Clamp", "Thrash", "Petal Dance", "Rage", "Fly"}
 
 
+def said_of(choice, host, side, members):
+    """A choice in the words of `Follower.choices`. One that goes on with a move does not say which."""
+    if choice in (Choice.PASS, Choice.MOVE_0):
+        return None if choice == Choice.PASS else "move "
+    if choice >= 0x20:
+        return f"switch {members.names[int(choice) - 0x21]}"
+    return f"move {host.message(side).own.active.moves[int(choice) - 0x11].label}"
+
+
 def test_a_log_that_is_read_back_is_what_the_player_was_sent():
-    dice = random.Random(8)
+    dice, told, counts = random.Random(8), 0, 0
     for _ in range(15):
-        teams = [mixed(dice), mixed(dice)]
+        teams, chosen = [mixed(dice), mixed(dice)], []
         host, lines, _ = hosted(teams, exact_hp=False)
         players = {side: Player(side, own.team, foes=3) for side, own in zip(Side, teams)}
         for side, player in players.items():
             player.feed(host.message(side).log)
         for _ in range(40):
-            for side in list(filter(host.awaits, Side)):
-                host.submit(side, host.number, dice.choice(host.message(side).choices))
+            pair = {side: dice.choice(host.message(side).choices) for side in Side if host.awaits(side)}
             if host.is_closed:
                 break
+            both = [pair.get(side, Choice.PASS) for side in Side]
+            chosen.append([said_of(it, host, side, own) for it, side, own in zip(both, Side, teams)])
+            for side, choice in pair.items():
+                host.submit(side, host.number, choice)
             lines.report(host)
             for side, player in players.items():
                 player.feed(host.message(side).log)
@@ -418,6 +430,11 @@ def test_a_log_that_is_read_back_is_what_the_player_was_sent():
             follower.read(lines.text(Viewer(f"p{side:d}")))
             assert follower.player == players[side] and follower.notes == ()
             assert [follower.name(it) for it in Side] == ["Alice", "Eve"] and follower.count(1) == 3
+            assert len(follower.choices) == len(chosen)
+            for found, due in zip(sum(follower.choices, ()), sum(chosen, [])):
+                assert found is None or found == due or due == "move " and found.startswith(due)
+                told, counts = told + (found is not None), counts + (due is not None)
+    assert counts * 0.7 < told < counts
 
 
 def test_a_log_of_the_document():
@@ -427,7 +444,7 @@ def test_a_log_of_the_document():
     player = follower.player
     assert player.turn == 2 and player.foe.active.hp == 100 and player.foe.active.moves[0].move is Move.BODY_SLAM
     assert follower.names(1) == ("Bo",) and follower.count(1) == 6 and follower.name(2) == "Bob"
-    assert lines(follower.log)[-1] == "|turn|2"
+    assert lines(follower.log)[-1] == "|turn|2" and follower.choices == (("move Body Slam", "move Thunder Wave"),)
     follower.read("|dance|p1a: Bo\n")
     assert [(it.line, it.why) for it in follower.notes] == [(13, 'the word "dance" is unknown; did you mean "cant"?')]
     follower.read("|turn|9\n")

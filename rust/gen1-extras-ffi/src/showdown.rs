@@ -4,8 +4,8 @@
 use gen1::{Battle, LogFault, MemberSpec, Message, Notice, Rules, Side, Team, TeamRefusal};
 use gen1_showdown::reading::Typed;
 use gen1_showdown::{
-    Complaint, EndingClauses, Fault, Follower, Formats, Heading, Hp, LineWriter, Members, Note,
-    Options, Seat, Simulator, Viewer, agree, choice_in, commit, names_of, request,
+    Chosen, Complaint, EndingClauses, Fault, Follower, Formats, Heading, Hp, LineWriter, Members,
+    Note, Options, Seat, Simulator, Viewer, agree, choice_in, commit, names_of, request,
 };
 use serde::Deserialize;
 use serde_json::{Value, json};
@@ -630,7 +630,24 @@ fn followed(
     let own = follower.player()?;
     let seen = own.public(side).members.iter().filter(|it| it.species != 0);
     let seen: Vec<_> = seen.map(|it| (it.species, it.level)).collect();
-    Ok(json!({"notes": notes, "sides": of_sides, "seen": seen, "log": hex(&follower.log())}))
+    let choices = follower.choices();
+    let choices: Vec<_> = choices.iter().map(|both| words(&follower, both)).collect();
+    Ok(json!({
+        "notes": notes, "sides": of_sides, "seen": seen, "log": hex(&follower.log()), "choices": choices,
+    }))
+}
+
+/// What both sides chose, in words.
+fn words(follower: &Follower, both: &[Option<Chosen>; 2]) -> [Option<String>; 2] {
+    Side::BOTH.map(|side| {
+        Some(match both[usize::from(side.number()) - 1]? {
+            Chosen::Move(id) => format!("move {id}"),
+            Chosen::Switch(place) => {
+                let name = follower.members(side).nth(usize::from(place.number()) - 1);
+                format!("switch {}", name.unwrap_or_default())
+            }
+        })
+    })
 }
 
 fn side_of(number: u8) -> Result<Side, Refused> {

@@ -41,7 +41,7 @@ mod texts;
 mod variants;
 mod words;
 
-pub use follow::{Follower, Note};
+pub use follow::{Chosen, Follower, Note};
 pub use formats::{Complaint, Formats};
 pub use lines::{Heading, LineWriter, Viewer};
 pub use members::{Members, names_of, numbered};

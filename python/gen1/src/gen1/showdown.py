@@ -624,6 +624,15 @@ class Follower:
         """The events of the log."""
         return events(self.log)
 
+    @property
+    def choices(self) -> tuple[tuple[str | None, str | None], ...]:
+        """What both sides chose for each update after the first, such as
+        `move Body Slam` and `switch Bob`. None where the log doesn't say:
+        for a side that had nothing to choose, or whose member did not act.
+        An update of which the log has no end is left out.
+        """
+        return tuple([(one, two) for one, two in self._read["choices"]])
+
     def name(self, side: Side | int) -> str:
         """The name of a side's player; empty if the log has none. Raises
         `BadArgument`, `BadType`, `ProtocolFault`.

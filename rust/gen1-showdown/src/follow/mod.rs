@@ -6,7 +6,10 @@ mod request;
 mod roster;
 
 use crate::{Fault, Members, index, names_of, player_of, team};
-use gen1::{Battle, Event, EventList, LogBuf, Player, Side, Team, member, write_log};
+use gen1::{
+    Battle, Event, EventList, LogBuf, MoveId, Place, Player, Side, Team, Volatile, member,
+    write_log,
+};
 use reader::Reader;
 use roster::Roster;
 use std::borrow::Cow;
@@ -18,6 +21,15 @@ pub struct Note {
     pub line: usize,
     /// What it is.
     pub why: String,
+}
+
+/// What a side chose, as far as a log says.
+#[derive(Clone, Copy, Debug, PartialEq, Eq)]
+pub enum Chosen {
+    /// It used a move, or went on with one.
+    Move(MoveId),
+    /// It sent out the member at a place of [`Player::public`].
+    Switch(Place),
 }
 
 /// A battle log, as a player of a side reads it.
@@ -100,6 +112,32 @@ impl Follower {
         entries.map(|entry| entry.name.as_str())
     }
 
+    /// What both sides chose for each update after the first. `None` where the log doesn't say: for a side that had nothing to choose, or whose
+    /// member did not act. An update of which the log has no end is left out.
+    #[must_use]
+    pub fn choices(&self) -> Vec<[Option<Chosen>; 2]> {
+        let (mut all, mut now, mut has_fallen) = (Vec::new(), None, false);
+        let mut before = None;
+        for event in &self.read.events {
+            let is_over = matches!(event, Event::Win(_) | Event::Tie | Event::Fault(_));
+            let ends = is_over || matches!(event, Event::Turn(_));
+            // After a fall a member is sent out in an update of its own.
+            let replaces = has_fallen && matches!(event, Event::Switch(..));
+            if ends || replaces {
+                // A forfeit is no update.
+                let is_forfeit = is_over && matches!(before, Some(Event::Turn(_)));
+                all.extend(now.replace([None; 2]).filter(|_| !is_forfeit));
+            }
+            has_fallen = matches!(event, Event::Faint(_)) || has_fallen && !ends && !replaces;
+            if let (Some(both), Some((side, chosen))) = (&mut now, chosen_in(event)) {
+                both[index(side)].get_or_insert(chosen);
+            }
+            before = Some(*event);
+        }
+        all.extend(now.filter(|_| has_fallen));
+        all
+    }
+
     /// What the player knows after the log. Without the own team it has a team of the members that came out, of which only what the log has
     /// is known.
     ///
@@ -137,6 +175,20 @@ impl Follower {
             battle::shown(&self.read, &player, team, &names_of(members)).map_err(refused)?;
         battle::fitting(player, &shown, &self.read, guess, seed)
     }
+}
+
+/// What an event says that a side chose.
+fn chosen_in(event: &Event) -> Option<(Side, Chosen)> {
+    let chosen = match *event {
+        Event::Switch(_, place, ..) => Chosen::Switch(place),
+        Event::Move(_, id, _) | Event::Prepare(_, id) => Chosen::Move(id),
+        Event::Start(_, it) | Event::Activate(_, it) | Event::End(_, it) => {
+            let bides = it == Volatile::Bide;
+            bides.then_some(Chosen::Move(MoveId::BIDE))?
+        }
+        _ => return None,
+    };
+    Some((event.who()?.side, chosen))
 }
 
 /// Reads all lines that a side sees. An error is a line's number and a sentence.
