@@ -10,7 +10,7 @@ use clap::{Args, ValueEnum};
 use gen1::{
     Announced, Battle, Conditions, Element, Kind, MoveId, Outcome, Player, PublicSide, Seen, Side,
 };
-use gen1_showdown::{Follower, Note};
+use gen1_showdown::{Chosen, Follower, Note};
 use serde::Serialize;
 use std::path::PathBuf;
 
@@ -131,6 +131,8 @@ pub struct Known {
     own: KnownSide,
     foe: KnownSide,
     events: Vec<EventObject>,
+    /// What both sides chose for each update after the first, in words.
+    choices: Vec<[Option<String>; 2]>,
 }
 
 /// A player's knowledge of a side.
@@ -183,6 +185,9 @@ impl Known {
                 active: active(public),
             }
         };
+        let words = |side, chosen: Option<Chosen>| Some(follower.words(side, chosen?));
+        let choices = follower.choices().into_iter();
+        let choices = choices.map(|[one, two]| [words(Side::One, one), words(Side::Two, two)]);
         Known {
             side: player.side().number(),
             turn: player.turn(),
@@ -190,6 +195,7 @@ impl Known {
             own: side(player.side()),
             foe: side(player.side().other()),
             events: follower.events().iter().map(EventObject::of).collect(),
+            choices: choices.collect(),
         }
     }
 }

@@ -300,6 +300,8 @@ fn other_forms_of_showdown_are_read() {
         "note: line 27: the word \"-transform\" is unknown\n"
     );
     assert_eq!(object["own"]["player"], "Alice");
+    let chosen = json!([["move Body Slam", "move Thunder Wave"]]);
+    assert_eq!(object["choices"], chosen);
     assert_eq!(
         (&object["foe"]["count"], &object["turn"]),
         (&json!(6), &json!(2))

@@ -241,6 +241,17 @@ fn a_team_is_checked_by_the_rules_of_a_format() {
         &["--formats", &own],
     );
     assert_eq!(found, due(why));
+    let own = r#"{"source": "a league", "date": "2026-01-01",
+        "clauses": [{"id": "trapping", "line": "No trapping", "moves": ["Wrap"]}],
+        "formats": [{"id": "one", "name": "One", "moves": [2, 3], "dvs": [8, 15], "exp": [0, 40000], "clauses": ["trapping"]}]}"#;
+    let own = file_with("ranges.json", own);
+    let fitting = "Tauros||||rest,surf||200,200,200,200,200,200||,16,16,16,16,16|||";
+    assert_eq!(fits(fitting, "one", &["--formats", &own]), legal);
+    // The experience of an EV is its square.
+    let why = "member 1 (Tauros): moves 2 to 3; found 1; member 1 (Tauros): DV 8 to 15; found 7 of Speed; \
+        member 1 (Tauros): stat experience 0 to 40000; found 63504 of HP; member 1 (Tauros): No trapping; found Wrap";
+    let team = "Tauros||||wrap||252,200,200,200,200,200||,16,16,16,16,14|||";
+    assert_eq!(fits(team, "one", &["--formats", &own]), due(why));
     let why = "expected one of gen1ou, gen1ubers, gen1uu, gen1customgame, found \"gen1oo\"";
     assert_eq!(fits("Tauros||||rest|||||||", "gen1oo", &[]), due(why));
 }

@@ -630,24 +630,13 @@ fn followed(
     let own = follower.player()?;
     let seen = own.public(side).members.iter().filter(|it| it.species != 0);
     let seen: Vec<_> = seen.map(|it| (it.species, it.level)).collect();
-    let choices = follower.choices();
-    let choices: Vec<_> = choices.iter().map(|both| words(&follower, both)).collect();
+    let words = |side, chosen: Option<Chosen>| Some(follower.words(side, chosen?));
+    let choices = follower.choices().into_iter();
+    let choices = choices.map(|[one, two]| [words(Side::One, one), words(Side::Two, two)]);
+    let choices: Vec<_> = choices.collect();
     Ok(json!({
         "notes": notes, "sides": of_sides, "seen": seen, "log": hex(&follower.log()), "choices": choices,
     }))
-}
-
-/// What both sides chose, in words.
-fn words(follower: &Follower, both: &[Option<Chosen>; 2]) -> [Option<String>; 2] {
-    Side::BOTH.map(|side| {
-        Some(match both[usize::from(side.number()) - 1]? {
-            Chosen::Move(id) => format!("move {id}"),
-            Chosen::Switch(place) => {
-                let name = follower.members(side).nth(usize::from(place.number()) - 1);
-                format!("switch {}", name.unwrap_or_default())
-            }
-        })
-    })
 }
 
 fn side_of(number: u8) -> Result<Side, Refused> {

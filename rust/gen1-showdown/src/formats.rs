@@ -48,6 +48,13 @@ struct Format {
     members: [usize; 2],
     #[serde(default = "any_level")]
     levels: [u8; 2],
+    /// The least and the most of a member's moves, of each DV but that of HP, which follows from the others, and of each stat experience.
+    #[serde(default = "one_to_four")]
+    moves: [usize; 2],
+    #[serde(default = "any_dv")]
+    dvs: [u8; 2],
+    #[serde(default = "any_experience")]
+    exp: [u16; 2],
     #[serde(default)]
     banned: Vec<Species>,
     clauses: Vec<String>,
@@ -59,6 +66,58 @@ fn one_to_six() -> [usize; 2] {
 
 fn any_level() -> [u8; 2] {
     [1, 100]
+}
+
+fn one_to_four() -> [usize; 2] {
+    [1, 4]
+}
+
+fn any_dv() -> [u8; 2] {
+    [0, 15]
+}
+
+fn any_experience() -> [u16; 2] {
+    [0, u16::MAX]
+}
+
+/// A complaint about a number that is out of a range.
+fn beyond<T: PartialOrd + fmt::Display>(
+    what: &str,
+    [least, most]: [T; 2],
+    found: T,
+    of: &str,
+) -> Option<(String, String)> {
+    let is_within = least <= found && found <= most;
+    (!is_within).then(|| (format!("{what} {least} to {most}"), format!("{found}{of}")))
+}
+
+const DVS: [&str; 4] = [" of Attack", " of Defense", " of Speed", " of Special"];
+const EXPERIENCES: [&str; 5] = [
+    " of HP",
+    " of Attack",
+    " of Defense",
+    " of Speed",
+    " of Special",
+];
+
+impl Format {
+    /// The numbers of a member that are out of their ranges.
+    fn beyond(&self, spec: &MemberSpec) -> Vec<(String, String)> {
+        let numbers = [
+            beyond("level", self.levels, spec.level, ""),
+            beyond("moves", self.moves, spec.moves.len(), ""),
+        ];
+        let dvs = spec.dvs.into_iter().zip(DVS);
+        let dvs = dvs.map(|(dv, of)| beyond("DV", self.dvs, dv, of));
+        let exp = spec.exp.into_iter().zip(EXPERIENCES);
+        let exp = exp.map(|(exp, of)| beyond("stat experience", self.exp, exp, of));
+        numbers
+            .into_iter()
+            .chain(dvs)
+            .chain(exp)
+            .flatten()
+            .collect()
+    }
 }
 
 /// A rule that a team breaks.
@@ -181,13 +240,11 @@ impl Formats {
         before: &[MemberSpec],
     ) -> Vec<(String, String)> {
         let mut found = Vec::new();
-        let (species, [least, most]) = (spec.species, format.levels);
+        let species = spec.species;
         if format.banned.contains(&species) {
             found.push(("species that are not banned".into(), species.to_string()));
         }
-        if !(least..=most).contains(&spec.level) {
-            found.push((format!("level {least} to {most}"), spec.level.to_string()));
-        }
+        found.extend(format.beyond(spec));
         let same = before.iter().any(|it| it.species == species);
         for clause in self.clauses(format) {
             if clause.one_of_each && same {

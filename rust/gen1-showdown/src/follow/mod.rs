@@ -138,6 +138,18 @@ impl Follower {
         all
     }
 
+    /// A choice of a side in words, such as `move Body Slam` or `switch Bob`.
+    #[must_use]
+    pub fn words(&self, side: Side, chosen: Chosen) -> String {
+        match chosen {
+            Chosen::Move(id) => format!("move {id}"),
+            Chosen::Switch(place) => {
+                let name = self.members(side).nth(usize::from(place.number()) - 1);
+                format!("switch {}", name.unwrap_or_default())
+            }
+        }
+    }
+
     /// What the player knows after the log. Without the own team it has a team of the members that came out, of which only what the log has
     /// is known.
     ///
