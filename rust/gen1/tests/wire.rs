@@ -212,6 +212,246 @@ fn a_player_within_an_event_goes_on() {
     }
 }
 
+/// The name of a field, and replacements of bytes that put it out of its range; "" where they are accepted.
+type Cases = &'static [(&'static str, &'static [&'static [(usize, u8)]])];
+
+const OF_A_PLAYER: Cases = {
+    const OWN: usize = 0;
+    const FOE: usize = 132;
+    const KNOWN: usize = 264;
+    const SHOWN: usize = 268;
+    &[
+        ("", &[&[], &[(OWN, 0), (OWN + 1, 0)]]),
+        ("hp", &[&[(OWN + 1, 3)], &[(FOE, 255), (FOE + 1, 1)]]),
+        (
+            "max",
+            &[
+                &[(OWN + 3, 4)],
+                &[(FOE, 0), (FOE + 1, 0), (FOE + 2, 10), (FOE + 3, 0)],
+            ],
+        ),
+        (
+            "species",
+            &[
+                &[(OWN + 4, 152)],
+                &[(OWN + 4, 0)],
+                &[(FOE + 18, 1)],
+                &[(SHOWN, 152)],
+                &[(SHOWN, 0)],
+            ],
+        ),
+        (
+            "level",
+            &[
+                &[(OWN + 5, 101)],
+                &[(OWN + 5, 0)],
+                &[(SHOWN + 1, 101)],
+                &[(SHOWN + 1, 0)],
+            ],
+        ),
+        ("status", &[&[(FOE + 6, 6)], &[(SHOWN + 2, 6)]]),
+        ("id", &[&[(FOE + 7, 166)], &[(FOE + 15, 166)]]),
+        ("uses", &[&[(FOE + 16, 1)]]),
+        (
+            "unused",
+            &[&[(FOE + 17, 1)], &[(SHOWN + 3, 1)], &[(455, 1)]],
+        ),
+        ("substitute", &[&[(FOE + 108, 2)]]),
+        ("recharging", &[&[(OWN + 120, 2)]]),
+        (
+            "stages",
+            &[&[(FOE + 121, 13)], &[(FOE + 126, 13)], &[(SHOWN + 161, 13)]],
+        ),
+        (
+            "place",
+            &[
+                &[(FOE + 127, 7)],
+                &[(FOE + 127, 2)],
+                &[(SHOWN + 158, 3)],
+                &[(SHOWN + 158, 7)],
+            ],
+        ),
+        ("first_type", &[&[(FOE + 128, 15)]]),
+        ("second_type", &[&[(FOE + 129, 15)]]),
+        ("last_move", &[&[(FOE + 130, 166)]]),
+        ("invulnerable", &[&[(FOE + 131, 2)]]),
+        (
+            "turn",
+            &[
+                &[(KNOWN, 16), (KNOWN + 1, 39)],
+                &[(SHOWN + 156, 16), (SHOWN + 157, 39)],
+            ],
+        ),
+        ("outcome", &[&[(KNOWN + 2, 6)], &[(SHOWN + 170, 6)]]),
+        ("may_hit_itself", &[&[(KNOWN + 3, 3)]]),
+        ("moves", &[&[(SHOWN + 4, 166)]]),
+        ("pp", &[&[(SHOWN + 8, 64)]]),
+        (
+            "max_hp",
+            &[&[
+                (SHOWN + 12, 0),
+                (SHOWN + 13, 0),
+                (SHOWN + 14, 10),
+                (SHOWN + 15, 0),
+            ]],
+        ),
+        (
+            "stats",
+            &[
+                &[(SHOWN + 17, 4)],
+                &[(SHOWN + 16, 4), (SHOWN + 17, 0)],
+                &[(SHOWN + 148, 0), (SHOWN + 149, 0)],
+            ],
+        ),
+        ("conditions", &[&[(SHOWN + 144, 8)], &[(SHOWN + 146, 2)]]),
+        ("types", &[&[(SHOWN + 159, 15)]]),
+        ("disabled_slot", &[&[(SHOWN + 167, 5)]]),
+        (
+            "held",
+            &[
+                &[(SHOWN + 168, 2)],
+                &[(445, 1)],
+                &[(444, 1), (445, 29)],
+                &[(444, 1), (445, 0x1b)],
+            ],
+        ),
+        ("request", &[&[(SHOWN + 169, 3)]]),
+        ("count", &[&[(SHOWN + 171, 7)], &[(SHOWN + 171, 0)]]),
+        (
+            "members",
+            &[
+                &[(SHOWN + 171, 1), (SHOWN + 158, 1)],
+                &[(SHOWN + 24 * 2 + 12, 1)],
+            ],
+        ),
+        ("offered", &[&[(441, 16)], &[(440, 255), (441, 3)]]),
+        ("side", &[&[(442, 0)], &[(442, 3)]]),
+        ("foes", &[&[(443, 7)]]),
+        ("held_count", &[&[(444, 10)]]),
+    ]
+};
+
+const OF_A_TELLER: Cases = {
+    &[
+        ("", &[&[], &[(3, 2)], &[(2, 0)], &[(2, 6), (3, 5)]]),
+        ("side", &[&[(0, 0)], &[(0, 3)]]),
+        ("pixels", &[&[(1, 2)]]),
+        (
+            "places",
+            &[&[(2, 7)], &[(3, 1)], &[(2, 0), (3, 1)], &[(7, 2)]],
+        ),
+    ]
+};
+
+const OF_A_SPECTATOR: Cases = {
+    const TWO: usize = 36;
+    &[
+        ("", &[&[], &[(0, 0), (1, 0)], &[(TWO + 2, 5)], &[(25, 0)]]),
+        ("hp", &[&[(1, 4)], &[(TWO + 5, 4)]]),
+        ("status", &[&[(2, 6)]]),
+        ("reserved", &[&[(TWO + 3, 1)]]),
+        ("members", &[&[(TWO + 8, 1)], &[(24, 1)]]),
+        (
+            "count",
+            &[&[(24, 7)], &[(24, 0), (0, 0), (1, 0), (4, 0), (5, 0)]],
+        ),
+        ("place", &[&[(25, 3)], &[(TWO + 25, 7)]]),
+        ("stages", &[&[(26, 13)], &[(TWO + 31, 13)]]),
+        ("substitute", &[&[(32, 2)]]),
+        ("confused", &[&[(33, 2)]]),
+        ("light_screen", &[&[(34, 2)]]),
+        ("reflect", &[&[(TWO + 35, 2)]]),
+        ("turn", &[&[(72, 16), (73, 39)]]),
+        ("outcome", &[&[(74, 6)]]),
+        ("held_count", &[&[(75, 1), (76, 1)], &[(75, 10)]]),
+        ("held", &[&[(76, 1)]]),
+    ]
+};
+
+const OF_A_ROOM: Cases = {
+    const NUMBER: usize = 384;
+    const LENGTH: usize = 388;
+    const ONE: usize = 390;
+    const TWO: usize = 391;
+    const SIDE: usize = 392;
+    const UNUSED: usize = 393;
+    const LOG: usize = 396;
+    &[
+        (
+            "",
+            &[
+                &[],
+                &[(NUMBER, 9)],
+                &[(ONE, 0x14)],
+                &[(TWO, 0x22)],
+                &[(LOG + 511, 200)],
+            ],
+        ),
+        ("battle", &[&[(0, 9)], &[(1, 255), (2, 255)]]),
+        ("number", &[&[(NUMBER, 10)], &[(NUMBER + 3, 255)]]),
+        (
+            "log",
+            &[
+                &[(LENGTH + 1, 3)],
+                &[(LOG, 0x1d)],
+                &[(LENGTH, 1), (LENGTH + 1, 0)],
+            ],
+        ),
+        (
+            "chosen",
+            &[
+                &[(ONE, 0)],
+                &[(ONE, 0x15)],
+                &[(TWO, 0x21)],
+                &[(TWO, 7)],
+                &[(ONE, 0x11), (TWO, 0x11)],
+            ],
+        ),
+        // A room with a forfeit that nobody made, with a choice missing.
+        ("number", &[&[(SIDE, 1)]]),
+        ("chosen", &[&[(SIDE, 1), (NUMBER, 1)]]),
+        ("forfeit", &[&[(SIDE, 3)]]),
+        ("unused", &[&[(UNUSED, 1)], &[(UNUSED + 2, 1)]]),
+    ]
+};
+
+const OF_A_LOST_ROOM: Cases = {
+    const NUMBER: usize = 384;
+    const LENGTH: usize = 388;
+    const ONE: usize = 390;
+    const TWO: usize = 391;
+    const SIDE: usize = 392;
+    const UNUSED: usize = 393;
+    const LOG: usize = 396;
+    &[
+        // Another pair, the other SIDE with its event, and bytes after the LOG.
+        (
+            "",
+            &[
+                &[],
+                &[(NUMBER, 10)],
+                &[(SIDE, 2), (LOG + 1, 1)],
+                &[(LOG + 2, 77)],
+            ],
+        ),
+        ("number", &[&[(NUMBER, 0)], &[(NUMBER, 11)]]),
+        (
+            "log",
+            &[
+                &[(LOG + 1, 1)],
+                &[(SIDE, 2)],
+                &[(LENGTH, 0)],
+                &[(LENGTH, 3)],
+                &[(LOG, 0x1b)],
+            ],
+        ),
+        ("chosen", &[&[(ONE, 255)], &[(TWO, 0x11)]]),
+        ("chosen", &[&[(SIDE, 0)]]),
+        ("forfeit", &[&[(SIDE, 3)]]),
+        ("unused", &[&[(UNUSED + 1, 1)]]),
+    ]
+};
+
 /// The names of the fields that are refused with some of the bytes replaced; "" where they are accepted.
 fn refused<const N: usize, T>(
     bytes: [u8; N],
@@ -232,116 +472,7 @@ fn each_field_of_a_player_has_its_range() {
     let mut table = known_table();
     table.submit(Side::One, Choice::MOVE_1);
     table.submit(Side::Two, Choice::MOVE_1);
-    let (own, foe, known, shown) = (0, 132, 264, 268);
-    let cases: &[(&str, &[&[(usize, u8)]])] = &[
-        ("", &[&[], &[(own, 0), (own + 1, 0)]]),
-        ("hp", &[&[(own + 1, 3)], &[(foe, 255), (foe + 1, 1)]]),
-        (
-            "max",
-            &[
-                &[(own + 3, 4)],
-                &[(foe, 0), (foe + 1, 0), (foe + 2, 10), (foe + 3, 0)],
-            ],
-        ),
-        (
-            "species",
-            &[
-                &[(own + 4, 152)],
-                &[(own + 4, 0)],
-                &[(foe + 18, 1)],
-                &[(shown, 152)],
-                &[(shown, 0)],
-            ],
-        ),
-        (
-            "level",
-            &[
-                &[(own + 5, 101)],
-                &[(own + 5, 0)],
-                &[(shown + 1, 101)],
-                &[(shown + 1, 0)],
-            ],
-        ),
-        ("status", &[&[(foe + 6, 6)], &[(shown + 2, 6)]]),
-        ("id", &[&[(foe + 7, 166)], &[(foe + 15, 166)]]),
-        ("uses", &[&[(foe + 16, 1)]]),
-        (
-            "unused",
-            &[&[(foe + 17, 1)], &[(shown + 3, 1)], &[(455, 1)]],
-        ),
-        ("substitute", &[&[(foe + 108, 2)]]),
-        ("recharging", &[&[(own + 120, 2)]]),
-        (
-            "stages",
-            &[&[(foe + 121, 13)], &[(foe + 126, 13)], &[(shown + 161, 13)]],
-        ),
-        (
-            "place",
-            &[
-                &[(foe + 127, 7)],
-                &[(foe + 127, 2)],
-                &[(shown + 158, 3)],
-                &[(shown + 158, 7)],
-            ],
-        ),
-        ("first_type", &[&[(foe + 128, 15)]]),
-        ("second_type", &[&[(foe + 129, 15)]]),
-        ("last_move", &[&[(foe + 130, 166)]]),
-        ("invulnerable", &[&[(foe + 131, 2)]]),
-        (
-            "turn",
-            &[
-                &[(known, 16), (known + 1, 39)],
-                &[(shown + 156, 16), (shown + 157, 39)],
-            ],
-        ),
-        ("outcome", &[&[(known + 2, 6)], &[(shown + 170, 6)]]),
-        ("may_hit_itself", &[&[(known + 3, 3)]]),
-        ("moves", &[&[(shown + 4, 166)]]),
-        ("pp", &[&[(shown + 8, 64)]]),
-        (
-            "max_hp",
-            &[&[
-                (shown + 12, 0),
-                (shown + 13, 0),
-                (shown + 14, 10),
-                (shown + 15, 0),
-            ]],
-        ),
-        (
-            "stats",
-            &[
-                &[(shown + 17, 4)],
-                &[(shown + 16, 4), (shown + 17, 0)],
-                &[(shown + 148, 0), (shown + 149, 0)],
-            ],
-        ),
-        ("conditions", &[&[(shown + 144, 8)], &[(shown + 146, 2)]]),
-        ("types", &[&[(shown + 159, 15)]]),
-        ("disabled_slot", &[&[(shown + 167, 5)]]),
-        (
-            "held",
-            &[
-                &[(shown + 168, 2)],
-                &[(445, 1)],
-                &[(444, 1), (445, 29)],
-                &[(444, 1), (445, 0x1b)],
-            ],
-        ),
-        ("request", &[&[(shown + 169, 3)]]),
-        ("count", &[&[(shown + 171, 7)], &[(shown + 171, 0)]]),
-        (
-            "members",
-            &[
-                &[(shown + 171, 1), (shown + 158, 1)],
-                &[(shown + 24 * 2 + 12, 1)],
-            ],
-        ),
-        ("offered", &[&[(441, 16)], &[(440, 255), (441, 3)]]),
-        ("side", &[&[(442, 0)], &[(442, 3)]]),
-        ("foes", &[&[(443, 7)]]),
-        ("held_count", &[&[(444, 10)]]),
-    ];
+    let cases = OF_A_PLAYER;
     for (field, edits) in cases {
         let found = refused(table.players[0].to_bytes(), Player::from_bytes, edits);
         assert!(found.iter().all(|it| it == field), "{field}: {found:?}");
@@ -351,41 +482,12 @@ fn each_field_of_a_player_has_its_range() {
 #[test]
 fn each_field_of_a_teller_and_of_a_spectator_has_its_range() {
     let table = known_table();
-    let cases: &[(&str, &[&[(usize, u8)]])] = &[
-        ("", &[&[], &[(3, 2)], &[(2, 0)], &[(2, 6), (3, 5)]]),
-        ("side", &[&[(0, 0)], &[(0, 3)]]),
-        ("pixels", &[&[(1, 2)]]),
-        (
-            "places",
-            &[&[(2, 7)], &[(3, 1)], &[(2, 0), (3, 1)], &[(7, 2)]],
-        ),
-    ];
+    let cases = OF_A_TELLER;
     for (field, edits) in cases {
         let found = refused(table.tellers[0].to_bytes(), Teller::from_bytes, edits);
         assert!(found.iter().all(|it| it == field), "{field}: {found:?}");
     }
-    let two = 36;
-    let cases: &[(&str, &[&[(usize, u8)]])] = &[
-        ("", &[&[], &[(0, 0), (1, 0)], &[(two + 2, 5)], &[(25, 0)]]),
-        ("hp", &[&[(1, 4)], &[(two + 5, 4)]]),
-        ("status", &[&[(2, 6)]]),
-        ("reserved", &[&[(two + 3, 1)]]),
-        ("members", &[&[(two + 8, 1)], &[(24, 1)]]),
-        (
-            "count",
-            &[&[(24, 7)], &[(24, 0), (0, 0), (1, 0), (4, 0), (5, 0)]],
-        ),
-        ("place", &[&[(25, 3)], &[(two + 25, 7)]]),
-        ("stages", &[&[(26, 13)], &[(two + 31, 13)]]),
-        ("substitute", &[&[(32, 2)]]),
-        ("confused", &[&[(33, 2)]]),
-        ("light_screen", &[&[(34, 2)]]),
-        ("reflect", &[&[(two + 35, 2)]]),
-        ("turn", &[&[(72, 16), (73, 39)]]),
-        ("outcome", &[&[(74, 6)]]),
-        ("held_count", &[&[(75, 1), (76, 1)], &[(75, 10)]]),
-        ("held", &[&[(76, 1)]]),
-    ];
+    let cases = OF_A_SPECTATOR;
     for (field, edits) in cases {
         let found = refused(table.spectator.to_bytes(), Spectator::from_bytes, edits);
         assert!(found.iter().all(|it| it == field), "{field}: {found:?}");
@@ -395,44 +497,7 @@ fn each_field_of_a_teller_and_of_a_spectator_has_its_range() {
 /// Those of gen1_room: at turn 1 of 1,000 with one member on each bench, 1 + 999 + 2 pairs may come, of 1,011.
 #[test]
 fn bytes_of_no_room_are_refused_by_their_field() {
-    let (number, length, one, two, side, unused, log) = (384, 388, 390, 391, 392, 393, 396);
-    let cases: &[(&str, &[&[(usize, u8)]])] = &[
-        (
-            "",
-            &[
-                &[],
-                &[(number, 9)],
-                &[(one, 0x14)],
-                &[(two, 0x22)],
-                &[(log + 511, 200)],
-            ],
-        ),
-        ("battle", &[&[(0, 9)], &[(1, 255), (2, 255)]]),
-        ("number", &[&[(number, 10)], &[(number + 3, 255)]]),
-        (
-            "log",
-            &[
-                &[(length + 1, 3)],
-                &[(log, 0x1d)],
-                &[(length, 1), (length + 1, 0)],
-            ],
-        ),
-        (
-            "chosen",
-            &[
-                &[(one, 0)],
-                &[(one, 0x15)],
-                &[(two, 0x21)],
-                &[(two, 7)],
-                &[(one, 0x11), (two, 0x11)],
-            ],
-        ),
-        // A room with a forfeit that nobody made, with a choice missing.
-        ("number", &[&[(side, 1)]]),
-        ("chosen", &[&[(side, 1), (number, 1)]]),
-        ("forfeit", &[&[(side, 3)]]),
-        ("unused", &[&[(unused, 1)], &[(unused + 2, 1)]]),
-    ];
+    let cases = OF_A_ROOM;
     for (field, edits) in cases {
         let found = refused(known_table().room.to_bytes(), Room::from_bytes, edits);
         assert!(found.iter().all(|it| it == field), "{field}: {found:?}");
@@ -440,33 +505,7 @@ fn bytes_of_no_room_are_refused_by_their_field() {
     let mut lost = known_table().room;
     lost.submit(Side::One, 0, Choice::MOVE_1).unwrap();
     lost.forfeit(Side::One).unwrap();
-    let cases: &[(&str, &[&[(usize, u8)]])] = &[
-        // Another pair, the other side with its event, and bytes after the log.
-        (
-            "",
-            &[
-                &[],
-                &[(number, 10)],
-                &[(side, 2), (log + 1, 1)],
-                &[(log + 2, 77)],
-            ],
-        ),
-        ("number", &[&[(number, 0)], &[(number, 11)]]),
-        (
-            "log",
-            &[
-                &[(log + 1, 1)],
-                &[(side, 2)],
-                &[(length, 0)],
-                &[(length, 3)],
-                &[(log, 0x1b)],
-            ],
-        ),
-        ("chosen", &[&[(one, 255)], &[(two, 0x11)]]),
-        ("chosen", &[&[(side, 0)]]),
-        ("forfeit", &[&[(side, 3)]]),
-        ("unused", &[&[(unused + 1, 1)]]),
-    ];
+    let cases = OF_A_LOST_ROOM;
     for (field, edits) in cases {
         let found = refused(lost.to_bytes(), Room::from_bytes, edits);
         assert!(found.iter().all(|it| it == field), "{field}: {found:?}");
