@@ -491,8 +491,9 @@ export class Showdown {
 
   /** The commitment of player 1 or 2 to its secret, both of 32 bytes. */
   commit(battle, player, secret) {
-    const asked = {battle: lineOf(battle, "battle"), player: within(player, "player", 1, 2)};
-    return bytesOf(this.#module.call("commit", {...asked, secret: hashOf(secret, "secret")}).commitment);
+    const at = within(player, "player", 1, 2) - 1;
+    const asked = {battle: lineOf(battle, "battle"), commitments: [], secrets: Array(2).fill(hashOf(secret, "secret"))};
+    return bytesOf(this.#module.call("agree", asked).commitments[at]);
   }
 
   /** What the secrets of both players decide: the seed of the battle, and the side of each player, by lot. */

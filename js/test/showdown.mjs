@@ -1,6 +1,4 @@
 // Tests of showdown.mjs under Node: node test/showdown.mjs. Expected texts are those of docs/PROGRAM.md and of Showdown's documents.
-import {createHash, randomBytes} from "node:crypto";
-
 import {ArgumentError, ArgumentTypeError, FreedError, load, Row, TeamError} from "../gen1.mjs";
 import {ChoiceError, CommitmentError, loadShowdown, ProtocolError} from "../showdown.mjs";
 
@@ -162,22 +160,23 @@ function judged() {
   thrown(() => showdown.endingClauses(/** @type {any} */ ({slep: true})), ArgumentError, /did you mean "sleep"/);
 }
 
-// The hashes are those of Node's crypto.
+// The hashes were made by sha256sum of coreutils.
 function agreed() {
-  const hash = (...parts) => parts.reduce((all, part) => all.update(part), createHash("sha256")).digest();
-  for (let at = 0; at < 8; at++) {
-    const [name, secrets] = [`room ${at} \u00fc`, [Uint8Array.from(randomBytes(32)), new Uint8Array(32).fill(at)]];
-    const commitments = secrets.map((secret, player) => showdown.commit(name, player + 1, secret));
-    equal(commitments.map((it) => Buffer.from(it)),
-        secrets.map((it, player) => hash("gen1 commitment\0", Uint8Array.of(player + 1), it, name)));
-    const due = hash("gen1 agreement\0", ...secrets, name);
-    const {seed, sides} = showdown.agree(name, commitments, secrets);
-    equal([Buffer.from(seed), sides], [due.subarray(0, 10), due[10] % 2 ? [2, 1] : [1, 2]]);
-    const broken =
-        thrown(() => showdown.agree(name, commitments, [secrets[0], secrets[0]]), CommitmentError, /player 2/);
-    equal(broken.player, 2);
-  }
-  thrown(() => showdown.commit("a", 3, new Uint8Array(32)), ArgumentError, /player/);
+  const hex = (/** @type {Uint8Array} */ bytes) =>
+      Array.from(bytes, (byte) => byte.toString(16).padStart(2, "0")).join("");
+  /** @type {[Uint8Array, Uint8Array]} */
+  const secrets = [new Uint8Array(32).fill(7), Uint8Array.from({length: 32}, (_, at) => at)];
+  /** @type {[Uint8Array, Uint8Array]} */
+  const commitments = [showdown.commit("K\u00f6ln 3", 1, secrets[0]), showdown.commit("K\u00f6ln 3", 2, secrets[1])];
+  equal(commitments.map(hex), [
+    "ab01c0f56c322c723362ae2507b44f9cd312e5262163a5721fcaae38854111ea",
+    "5b5d84ce672fcfcd169c13df96a947083fed47bc519d70eb77f7568b57d60e95",
+  ]);
+  const {seed, sides} = showdown.agree("K\u00f6ln 3", commitments, secrets);
+  equal([hex(seed), sides], ["6d0a1f3027908fea9444", [1, 2]]);
+  thrown(() => showdown.agree("K\u00f6ln 3", commitments, [secrets[0], secrets[0]]), CommitmentError, /player 2/);
+  thrown(() => showdown.agree("Bonn", commitments, secrets), CommitmentError, /player 1/);
+  thrown(() => showdown.commit("a", /** @type {any} */ (3), new Uint8Array(32)), ArgumentError, /player/);
   thrown(() => showdown.commit("a", 1, new Uint8Array(31)), ArgumentError, /31 bytes, not 32/);
 }
 

@@ -117,17 +117,11 @@ enum Ask {
         sleep: bool,
         freeze: bool,
     },
-    /// The commitment of a player, 1 or 2, to its secret.
-    Commit {
-        battle: String,
-        player: u8,
-        secret: String,
-    },
-    /// What two secrets decide.
+    /// The commitments of player 1 and 2 to their secrets; with commitments, what the secrets decide.
     Agree {
         battle: String,
-        commitments: [String; 2],
-        secrets: [String; 2],
+        commitments: Vec<String>,
+        secrets: Vec<String>,
     },
     /// Takes in the log of a pair, and returns the side that has lost.
     Judge {
@@ -289,14 +283,6 @@ fn done(ask: Ask) -> Result<Value, Refused> {
             Ok(kept(Object::Clauses(Box::new(clauses))))
         }
         Ask::Judge { of, log } => judged(of, &bytes_in(&log)?),
-        Ask::Commit {
-            battle,
-            player,
-            secret,
-        } => {
-            let commitment = commit(&battle, player, &hash_in(&secret)?);
-            Ok(json!({"commitment": hex(&commitment)}))
-        }
         Ask::Agree {
             battle,
             commitments,
@@ -731,14 +717,23 @@ fn hash_in(text: &str) -> Result<[u8; 32], Refused> {
         .map_err(|_| Refused::of("call", "expected 32 bytes"))
 }
 
-/// What two secrets decide: the seed, and the side of each player.
-fn agreed(
-    battle: &str,
-    commitments: &[String; 2],
-    secrets: &[String; 2],
-) -> Result<Value, Refused> {
-    let both = |[one, two]: &[String; 2]| Ok::<_, Refused>([hash_in(one)?, hash_in(two)?]);
-    let agreed = agree(battle, &both(commitments)?, &both(secrets)?);
+/// The commitments to secrets; or with commitments what they decide, the seed and the side of each player.
+fn agreed(battle: &str, commitments: &[String], secrets: &[String]) -> Result<Value, Refused> {
+    let hashes = |texts: &[String]| {
+        texts
+            .iter()
+            .map(|it| hash_in(it))
+            .collect::<Result<Vec<_>, _>>()
+    };
+    let (commitments, secrets) = (hashes(commitments)?, hashes(secrets)?);
+    let ([Some(one), Some(two)], Some(both)) =
+        ([0, 1].map(|at| secrets.get(at)), commitments.first_chunk())
+    else {
+        let each = (1..).zip(&secrets);
+        let each = each.map(|(player, secret)| hex(&commit(battle, player, secret)));
+        return Ok(json!({"commitments": each.collect::<Vec<_>>()}));
+    };
+    let agreed = agree(battle, both, &[*one, *two]);
     let agreed = agreed.map_err(|why| {
         Refused(json!({"kind": "commitment", "player": why.player, "why": why.to_string()}))
     })?;

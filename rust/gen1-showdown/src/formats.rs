@@ -45,49 +45,50 @@ struct Format {
     id: String,
     name: String,
     #[serde(default = "one_to_six")]
-    members: [usize; 2],
+    members: [u32; 2],
     #[serde(default = "any_level")]
-    levels: [u8; 2],
+    levels: [u32; 2],
     /// The least and the most of a member's moves, of each DV but that of HP, which follows from the others, and of each stat experience.
     #[serde(default = "one_to_four")]
-    moves: [usize; 2],
+    moves: [u32; 2],
     #[serde(default = "any_dv")]
-    dvs: [u8; 2],
+    dvs: [u32; 2],
     #[serde(default = "any_experience")]
-    exp: [u16; 2],
+    exp: [u32; 2],
     #[serde(default)]
     banned: Vec<Species>,
     clauses: Vec<String>,
 }
 
-fn one_to_six() -> [usize; 2] {
+fn one_to_six() -> [u32; 2] {
     [1, 6]
 }
 
-fn any_level() -> [u8; 2] {
+fn any_level() -> [u32; 2] {
     [1, 100]
 }
 
-fn one_to_four() -> [usize; 2] {
+fn one_to_four() -> [u32; 2] {
     [1, 4]
 }
 
-fn any_dv() -> [u8; 2] {
+fn any_dv() -> [u32; 2] {
     [0, 15]
 }
 
-fn any_experience() -> [u16; 2] {
-    [0, u16::MAX]
+fn any_experience() -> [u32; 2] {
+    [0, 65535]
 }
 
 /// A complaint about a number that is out of a range.
-fn beyond<T: PartialOrd + fmt::Display>(
+fn beyond(
     what: &str,
-    [least, most]: [T; 2],
-    found: T,
+    [least, most]: [u32; 2],
+    found: impl Into<u32>,
     of: &str,
 ) -> Option<(String, String)> {
-    let is_within = least <= found && found <= most;
+    let found = found.into();
+    let is_within = (least..=most).contains(&found);
     (!is_within).then(|| (format!("{what} {least} to {most}"), format!("{found}{of}")))
 }
 
@@ -105,7 +106,7 @@ impl Format {
     fn beyond(&self, spec: &MemberSpec) -> Vec<(String, String)> {
         let numbers = [
             beyond("level", self.levels, spec.level, ""),
-            beyond("moves", self.moves, spec.moves.len(), ""),
+            beyond("moves", self.moves, spec.moves.len() as u32, ""),
         ];
         let dvs = spec.dvs.into_iter().zip(DVS);
         let dvs = dvs.map(|(dv, of)| beyond("DV", self.dvs, dv, of));
@@ -221,7 +222,7 @@ impl Formats {
                 value,
             }));
         }
-        let ([least, most], count) = (format.members, members.specs.len());
+        let ([least, most], count) = (format.members, members.specs.len() as u32);
         if !(least..=most).contains(&count) {
             found.push(Complaint {
                 member: None,

@@ -501,8 +501,8 @@ def commit(battle: str, player: int, secret: ReadableBuffer) -> bytes:
 
     Raises `BadArgument`, `BadType`.
     """
-    asked = {"battle": _text(battle, "battle"), "player": within(player, "player", 1, 2)}
-    return bytes.fromhex(_call("commit", secret=_hash(secret, "secret"), **asked)["commitment"])
+    at, name, given = within(player, "player", 1, 2) - 1, _text(battle, "battle"), _hash(secret, "secret")
+    return bytes.fromhex(_call("agree", battle=name, commitments=[], secrets=[given] * 2)["commitments"][at])
 
 
 def agree(battle: str, commitments: Sequence[ReadableBuffer], secrets: Sequence[ReadableBuffer]) -> Agreement:
