@@ -271,12 +271,12 @@ export class Lines extends Kept {
 
   /** Ends the battle by a win of a side, or with null by a tie. */
   end(winner) {
-    this._ask("end", {winner: winner === null ? null : sideOf(winner)});
+    this._ask("end", {winner: winner === null ? null : sideOf(winner), by_forfeit: false});
   }
 
   /** Ends the battle by a forfeit of a side. */
   forfeit(side) {
-    this._ask("forfeit", {side: sideOf(side)});
+    this._ask("end", {winner: 3 - sideOf(side), by_forfeit: true});
   }
 
   /** Adds a line that everyone sees, without its first bar. */
@@ -379,7 +379,7 @@ export class EndingClauses extends Kept {
 
   /** Takes in the log of a pair: each once, in order. Returns the first side that broke a clause so far, or null. */
   hear(log) {
-    return this._ask("judge", {log: hexOf(octets(log, "log"))}).loser;
+    return this._ask("hear", {log: hexOf(octets(log, "log")), side: null, message: null, time: null}).loser;
   }
 }
 
@@ -501,8 +501,8 @@ export class Showdown {
     const [committed, revealed] = [[commitments, "commitments"], [secrets, "secrets"]].map(
         ([given, what]) => both(given, what).map((it) => hashOf(it, what)));
     const asked = {battle: lineOf(battle, "battle"), commitments: committed, secrets: revealed};
-    const {seed, sides} = this.#module.call("agree", asked);
-    return {seed: Uint8Array.from(seed), sides};
+    const {seed, first} = this.#module.call("agree", asked);
+    return {seed: bytesOf(seed), sides: [first, 3 - first]};
   }
 
   follower(options) {

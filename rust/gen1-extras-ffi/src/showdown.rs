@@ -58,7 +58,8 @@ enum Ask {
         notice: String,
         time: Option<u64>,
     },
-    /// Adds the lines of a pair as it was told to a side or to the audience; or has a seat hear it. A side's message says what it is shown.
+    /// Adds the lines of a pair as it was told to a side or to the audience; or has a seat hear it, or clauses, which return the side that has
+    /// lost. A side's message says what it is shown.
     Hear {
         of: u64,
         log: String,
@@ -66,14 +67,11 @@ enum Ask {
         message: Option<String>,
         time: Option<u64>,
     },
-    /// Ends the battle by a win of a side, or by a tie.
+    /// Ends the battle by a win of a side, which may be by a forfeit of the other, or by a tie.
     End {
         of: u64,
         winner: Option<u8>,
-    },
-    Forfeit {
-        of: u64,
-        side: u8,
+        by_forfeit: bool,
     },
     Line {
         of: u64,
@@ -122,11 +120,6 @@ enum Ask {
         battle: String,
         commitments: Vec<String>,
         secrets: Vec<String>,
-    },
-    /// Takes in the log of a pair, and returns the side that has lost.
-    Judge {
-        of: u64,
-        log: String,
     },
     NewSimulator {
         hp: Option<String>,
@@ -282,7 +275,6 @@ fn done(ask: Ask) -> Result<Value, Refused> {
             let clauses = EndingClauses::new(sleep, freeze);
             Ok(kept(Object::Clauses(Box::new(clauses))))
         }
-        Ask::Judge { of, log } => judged(of, &bytes_in(&log)?),
         Ask::Agree {
             battle,
             commitments,
@@ -374,16 +366,6 @@ fn taken(of: u64, line: &str) -> Result<Value, Refused> {
     })
 }
 
-fn judged(of: u64, log: &[u8]) -> Result<Value, Refused> {
-    with(of, |object| match object {
-        Object::Clauses(clauses) => {
-            let loser = clauses.hear(log)?;
-            Ok(json!({"loser": loser.map(Side::number)}))
-        }
-        _ => Err(Refused::of("call", "the object has no clauses")),
-    })
-}
-
 fn heard(
     object: &mut Object,
     log: &[u8],
@@ -396,9 +378,11 @@ fn heard(
             lines.hear(log, own, time)?;
         }
         Object::Seat(seat) => seat.hear(log)?,
-        Object::Simulator(_) | Object::Clauses(_) => {
-            return Err(Refused::of("call", "the object hears nothing"));
+        Object::Clauses(clauses) => {
+            let loser = clauses.hear(log)?;
+            return Ok(json!({"loser": loser.map(Side::number)}));
         }
+        Object::Simulator(_) => return Err(Refused::of("call", "the object hears nothing")),
     }
     Ok(json!({}))
 }
@@ -449,17 +433,18 @@ fn on_lines(ask: Ask) -> Result<Value, Refused> {
                 Ok(lines.report([&messages[0], &messages[1]], &notice, time)?)
             })?;
         }
-        Ask::End { of, winner } => {
+        Ask::End {
+            of,
+            winner,
+            by_forfeit,
+        } => {
             let winner = winner.map(side_of).transpose()?;
+            let loser = winner.map(Side::other).filter(|_| by_forfeit);
             with_lines(of, |lines| {
-                lines.end(winner);
-                Ok(())
-            })?;
-        }
-        Ask::Forfeit { of, side } => {
-            let side = side_of(side)?;
-            with_lines(of, |lines| {
-                lines.forfeit(side);
+                match loser {
+                    Some(side) => lines.forfeit(side),
+                    None => lines.end(winner),
+                }
                 Ok(())
             })?;
         }
@@ -737,7 +722,7 @@ fn agreed(battle: &str, commitments: &[String], secrets: &[String]) -> Result<Va
     let agreed = agreed.map_err(|why| {
         Refused(json!({"kind": "commitment", "player": why.player, "why": why.to_string()}))
     })?;
-    Ok(json!({"seed": agreed.seed, "sides": agreed.sides.map(Side::number)}))
+    Ok(json!({"seed": hex(&agreed.seed), "first": agreed.sides[0].number()}))
 }
 
 fn battle_in(text: &str) -> Result<Battle, Refused> {

@@ -342,13 +342,13 @@ class Lines(_Kept):
         """Ends the battle by a win of a side, or by a tie. Raises
         `BadArgument`, `BadType`.
         """
-        self._ask("end", winner=None if winner is None else a_side(winner))
+        self._ask("end", winner=None if winner is None else a_side(winner), by_forfeit=False)
 
     def forfeit(self, side: Side | int) -> None:
         """Ends the battle by a forfeit of a side. Raises `BadArgument`,
         `BadType`.
         """
-        self._ask("forfeit", side=a_side(side))
+        self._ask("end", winner=3 - a_side(side), by_forfeit=True)
 
     def line(self, text: str) -> None:
         """Adds a line that everyone sees, without its first bar. Raises
@@ -456,7 +456,7 @@ class EndingClauses(_Kept):
         for `Row.forfeit`. Raises `BadArgument` for bytes that are not a
         log, `BadType`.
         """
-        loser = self._ask("judge", log=octets(log, "log").hex())["loser"]
+        loser = self._ask("hear", log=octets(log, "log").hex(), side=None, message=None, time=None)["loser"]
         return None if loser is None else Side(loser)
 
 
@@ -517,8 +517,7 @@ def agree(battle: str, commitments: Sequence[ReadableBuffer], secrets: Sequence[
         what: [_hash(it, f"{what}[{at}]") for at, it in enumerate(_both(both, what))] for what, both in given.items()
     }
     found = _call("agree", battle=_text(battle, "battle"), **asked)
-    one, two = found["sides"]
-    return Agreement(bytes(found["seed"]), (Side(one), Side(two)))
+    return Agreement(bytes.fromhex(found["seed"]), (Side(found["first"]), Side(3 - found["first"])))
 
 
 @dataclass(frozen=True)
