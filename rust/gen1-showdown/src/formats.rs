@@ -151,7 +151,8 @@ impl Default for Formats {
 }
 
 impl Formats {
-    /// Reads a file of formats, in the form of formats.json. It may also have `learnsets`, an object of lists of moves by species.
+    /// Reads a file of formats, in the form of formats.json. It may also have `learnsets`, an object of lists of moves by species, such as
+    /// `{"Tauros": ["Body Slam"]}`. Like `levels`, a format may have the least and the most of a member's `moves`, `dvs` and `exp`.
     ///
     /// # Errors
     ///
