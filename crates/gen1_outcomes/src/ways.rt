@@ -102,6 +102,8 @@ impl Ways {
             → AreOffered s self.old.one self.old.two → IfOk result (λ way. IfSome way (λ _.
             CanFollow s self.old.one self.old.two battle.new (S.tells events.new))) }
         ensures next { IfOk result (λ way. PlaysNext way self.old self.new) }
+        ensures size { IsOkUnless result Size }
+        ensures large { IfErr result (λ _. IsTooLarge self.new.nodes) }
     {
         if self.over {
             return Ok(None);
