@@ -1,5 +1,5 @@
 //! A search from what one side knows, with guesses of the rest.
-use crate::tree::{Sum, Tree, way_from};
+use crate::tree::{Root, Sum, Tree, way_from};
 use crate::{Dice, Prior, leaf};
 use alloc::string::String;
 use alloc::vec::Vec;
@@ -285,18 +285,20 @@ fn guesses(
     }
 }
 
-/// A tree that was searched.
-struct Searched<'a> {
-    tree: Tree<'a>,
+/// What is kept of a tree that was searched. The tree itself has up to 800 bytes for each node.
+struct Searched {
+    root: Root,
     nodes: u64,
     /// What the side got in the second half, in batches.
     batches: Vec<Sum>,
+    /// How play continues after each choice, by the first tree; none by others.
+    lines: Vec<Vec<[String; 2]>>,
 }
 
 type Guesses = (Vec<Battle>, u64);
 
 #[cfg(feature = "threads")]
-fn searched<'a>(side: Side, sets: &'a [Guesses], options: &ThinkOptions<'_>) -> Vec<Searched<'a>> {
+fn searched(side: Side, sets: &[Guesses], options: &ThinkOptions<'_>) -> Vec<Searched> {
     use rayon::prelude::*;
     // A single tree is searched by this thread, so that `stop` can ask how much of the processor the thread has used.
     if let [only] = sets {
@@ -316,7 +318,7 @@ fn searched<'a>(side: Side, sets: &'a [Guesses], options: &ThinkOptions<'_>) -> 
 }
 
 #[cfg(not(feature = "threads"))]
-fn searched<'a>(side: Side, sets: &'a [Guesses], options: &ThinkOptions<'_>) -> Vec<Searched<'a>> {
+fn searched(side: Side, sets: &[Guesses], options: &ThinkOptions<'_>) -> Vec<Searched> {
     let all = sets.iter().enumerate();
     all.map(|(at, set)| search(side, set, options, Share::new(options, at, sets.len(), 1)))
         .collect()
@@ -325,6 +327,7 @@ fn searched<'a>(side: Side, sets: &'a [Guesses], options: &ThinkOptions<'_>) -> 
 /// The part of the budget that one tree has.
 struct Share {
     nodes: u64,
+    is_first: bool,
     #[cfg(feature = "std")]
     time: Option<core::time::Duration>,
     #[cfg(feature = "std")]
@@ -339,6 +342,7 @@ impl Share {
         let more = u64::from((at as u64) < options.nodes % trees as u64);
         Share {
             nodes: options.nodes / trees as u64 + more,
+            is_first: at == 0,
             #[cfg(feature = "std")]
             time: options.time.map(|time| time / rounds),
             #[cfg(feature = "std")]
@@ -357,44 +361,47 @@ impl Share {
     }
 }
 
-fn search<'a>(
-    side: Side,
-    set: &'a Guesses,
-    options: &ThinkOptions<'_>,
-    share: Share,
-) -> Searched<'a> {
-    let mut found = Searched {
-        tree: Tree::new(side, &set.0, set.1),
-        nodes: 0,
-        batches: alloc::vec![Sum::default(); BATCHES],
-    };
-    let mut used = 0.0;
-    while found.nodes < share.nodes && used < 1.0 {
-        let got = found.tree.pass(used >= 0.5);
-        found.nodes += 1;
+fn search(side: Side, set: &Guesses, options: &ThinkOptions<'_>, share: Share) -> Searched {
+    let mut batches = alloc::vec![Sum::default(); BATCHES];
+    let mut tree = Tree::new(side, &set.0, set.1, share.nodes);
+    let (mut nodes, mut used) = (0, 0.0);
+    while nodes < share.nodes && used < 1.0 {
+        let got = tree.pass(used >= 0.5);
+        nodes += 1;
         if used >= 0.5 {
             let batch = (2.0 * (used - 0.5) * BATCHES as f64) as usize;
-            found.batches[batch.min(BATCHES - 1)].add(got);
+            batches[batch.min(BATCHES - 1)].add(got);
         }
-        if found.nodes % 16 == 0 {
-            used = share.used(found.nodes);
+        if nodes % 16 == 0 {
+            used = share.used(nodes);
             if options.stop.is_some_and(|stop| stop()) {
                 break;
             }
         }
     }
-    found
+    let choices = if share.is_first {
+        tree.root.strategy.len()
+    } else {
+        0
+    };
+    let lines = (0..choices).map(|at| line(&tree, &set.0[0], side, at));
+    Searched {
+        lines: lines.collect(),
+        root: tree.root,
+        nodes,
+        batches,
+    }
 }
 
 /// The result of all trees: sums in the order of the trees.
-fn merged(side: Side, offered: &Choices, guesses: &[Battle], searched: &[Searched<'_>]) -> Thought {
-    let weight = |at: usize| -> f64 { searched.iter().map(|it| it.tree.root.strategy[at]).sum() };
+fn merged(side: Side, offered: &Choices, guesses: &[Battle], searched: &[Searched]) -> Thought {
+    let weight = |at: usize| -> f64 { searched.iter().map(|it| it.root.strategy[at]).sum() };
     let sum: f64 = (0..offered.len()).map(weight).sum();
     let considered = |at: usize| {
         let mut got = Sum::default();
-        for Searched { tree, .. } in searched {
-            got.count += tree.root.got[at].count;
-            got.sum += tree.root.got[at].sum;
+        for Searched { root, .. } in searched {
+            got.count += root.got[at].count;
+            got.sum += root.got[at].sum;
         }
         let even = 1.0 / offered.len() as f64;
         Considered {
@@ -402,7 +409,7 @@ fn merged(side: Side, offered: &Choices, guesses: &[Battle], searched: &[Searche
             words: choice_words(&guesses[0], side, offered[at]),
             probability: if sum > 0.0 { weight(at) / sum } else { even },
             value: got.mean(),
-            line: line(&searched[0].tree, &guesses[0], side, at),
+            line: searched[0].lines[at].clone(),
         }
     };
     let mut choices: Vec<Considered> = (0..offered.len()).map(considered).collect();

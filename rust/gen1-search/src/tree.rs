@@ -12,6 +12,8 @@ use gen1::{ArrayVec, Battle, OfferedMask, Side};
 
 /// The most updates of one pass.
 const DEPTH: usize = 64;
+/// Up to so many nodes have their memory from the start. A search by time, which may have any number, takes it as it is needed.
+const MOST_EXPECTED: u64 = 1 << 16;
 /// How often a side explores, by any of its choices.
 const EXPLORED: f32 = 0.1;
 
@@ -77,21 +79,29 @@ impl Root {
 }
 
 /// A tree over some guesses of a battle.
+///
+/// The lists are dropped in the reverse of the order in which they are made, and the longest one is the last to be made: the module for
+/// pages has an allocator that can free and extend only what it handed out last.
 pub struct Tree<'a> {
     side: Side,
     guesses: &'a [Battle],
-    pub root: Root,
-    nodes: Vec<Node>,
     numbers: Vec<f32>,
     /// Open addressing by the hash of a node: the hash, and the number of the node.
     slots: Vec<(u64, u32)>,
+    nodes: Vec<Node>,
+    pub root: Root,
     dice: Dice,
 }
 
 impl<'a> Tree<'a> {
-    /// A tree without passes. In each guess `side` is offered the same number of choices.
-    pub fn new(side: Side, guesses: &'a [Battle], seed: u64) -> Self {
+    /// A tree without passes, with memory for so many nodes. In each guess `side` is offered the same number of choices.
+    pub fn new(side: Side, guesses: &'a [Battle], seed: u64, nodes: u64) -> Self {
         let choices = guesses.first().map_or(0, |it| it.offered_mask(side).len());
+        let expected = if nodes <= MOST_EXPECTED {
+            nodes as usize
+        } else {
+            0
+        };
         Tree {
             side,
             guesses,
@@ -101,9 +111,9 @@ impl<'a> Tree<'a> {
                 strategy: alloc::vec![0.0; choices],
                 got: alloc::vec![Sum::default(); choices],
             },
-            nodes: Vec::new(),
+            nodes: Vec::with_capacity(expected),
+            slots: alloc::vec![(0, 0); (2 * expected + 1).next_power_of_two().max(1 << 10)],
             numbers: Vec::new(),
-            slots: alloc::vec![(0, 0); 1 << 10],
             dice: Dice::new(seed),
         }
     }
