@@ -38,7 +38,7 @@ LAYERS = (
     (
         "Representations",
         "where fields are in the 384 bytes, and which are valid; events as bytes, lines, a view; not what an update does",
-        ("gen1_states", "gen1_layout", "gen1_spectator", "gen1_printer", "gen1_events"),
+        ("gen1_states", "gen1_layout", "gen1_spectator", "gen1_sentences", "gen1_printer", "gen1_events"),
     ),
     (
         "Machine",

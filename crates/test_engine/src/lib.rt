@@ -1,5 +1,5 @@
-//! Tests of `gen1_offers`, `gen1_switching`, `gen1_turn`, `gen1_engine`, `gen1_events` and `gen1_printer`, through their public
-//! functions. They are in a crate of their own because a crate with tests is proved twice. Most are rows: tables of battles
+//! Tests of `gen1_offers`, `gen1_switching`, `gen1_turn`, `gen1_engine`, `gen1_events`, `gen1_printer` and `gen1_sentences`, through
+//! their public functions. They are in a crate of their own because a crate with tests is proved twice. Most are rows: tables of battles
 //! and calls that a few functions play, since a row costs the prover next to nothing.
 //!
 //! - `rows`: what a row is, and how it is played
@@ -14,6 +14,7 @@
 //! - `replays`: a run that is replayed to writers, also to some that fail
 //! - `events`: codes, cuts and errors of log bytes
 //! - `lines`: lines, cuts and errors
+//! - `sentences`: sentences for a spectator and for a side
 #![tactic(auto)]
 
 #[cfg(test)]
@@ -36,6 +37,8 @@ mod recorded_battles;
 mod replays;
 #[cfg(test)]
 mod rows;
+#[cfg(test)]
+mod sentences;
 #[cfg(test)]
 mod switching_in;
 #[cfg(test)]

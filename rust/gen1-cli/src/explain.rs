@@ -6,10 +6,9 @@ use crate::files::put;
 use crate::game::{self, NUMBERS, Step, drawn, with_draw};
 use crate::input::Given;
 use crate::screen;
-use crate::sentences::sentence;
 use crate::words::Battle;
 use clap::Args;
-use gen1::{Event, EventList, Side};
+use gen1::{Event, EventList, Narrator, Side};
 
 /// The arguments of `explain`.
 #[derive(Args)]
@@ -25,32 +24,34 @@ const RANGES: usize = 8;
 pub fn explain(given: &Given) -> Result<(), Fault> {
     let (start, pairs) = given.start_and_choices()?;
     let mut battle = start.battle;
-    game::play(&mut battle, &pairs, |step| put(update(step)))
+    let mut narrator = Narrator::default();
+    game::play(&mut battle, &pairs, |step| put(update(step, &mut narrator)))
 }
 
 /// An update: its choices, its events in sentences, and its draws.
-fn update(step: &Step) -> String {
+fn update(step: &Step, narrator: &mut Narrator) -> String {
     let [one, two] = step.choices;
     let named = |side, choice| screen::named(step.before, side, choice);
     let (one, two) = (named(Side::One, one), named(Side::Two, two));
     let gap = if step.number > 0 { "\n" } else { "" };
     let mut text = format!("{gap}Update {}: side 1 {one}, side 2 {two}.\n", step.number);
+    let before = narrator.clone();
     for event in step.events {
-        text += &format!("  {}\n", sentence(event));
+        text += &format!("  {}\n", narrator.say(event));
     }
     for (at, byte) in drawn(step.before, step.after).into_iter().enumerate() {
         text += &format!("    draw {} is {byte}", at + 1);
-        text += &decided(step, at);
+        text += &decided(step, &before, at);
     }
     text
 }
 
 /// The effect of a draw.
-fn decided(step: &Step, at: usize) -> String {
+fn decided(step: &Step, before: &Narrator, at: usize) -> String {
     if at >= NUMBERS {
         return ": a number of this update again, renewed\n".into();
     }
-    let others = others(step, at);
+    let others = others(step, before, at);
     if others.is_empty() {
         return ": no other byte would have changed the events\n".into();
     }
@@ -61,7 +62,7 @@ fn decided(step: &Step, at: usize) -> String {
 }
 
 /// The effects that other bytes would have had, in the order of their first bytes.
-fn others(step: &Step, at: usize) -> Vec<(String, Vec<u8>)> {
+fn others(step: &Step, before: &Narrator, at: usize) -> Vec<(String, Vec<u8>)> {
     let mut ways: Vec<(String, Vec<u8>)> = Vec::new();
     let mut events = EventList::new();
     for byte in 0..=255 {
@@ -73,7 +74,7 @@ fn others(step: &Step, at: usize) -> Vec<(String, Vec<u8>)> {
         if battle.update_with(one, two, &mut events).is_err() {
             continue;
         }
-        let said = difference(step.events, &events);
+        let said = difference(before.clone(), step.events, &events);
         match ways.iter_mut().find(|(known, _)| *known == said) {
             _ if said.is_empty() => (),
             Some((_, bytes)) => bytes.push(byte),
@@ -84,21 +85,27 @@ fn others(step: &Step, at: usize) -> Vec<(String, Vec<u8>)> {
 }
 
 /// The first difference between two lists of events; empty if they are the same.
-fn difference(told: &[Event], other: &[Event]) -> String {
-    if let Some((one, two)) = told.iter().zip(other).find(|(one, two)| one != two) {
-        let changes_hp = |it: &Event| matches!(it, Event::Damage(..) | Event::Heal(..));
-        if changes_hp(one) && changes_hp(two) && one.who() == two.who() {
-            return one.who().map_or_else(String::new, |who| {
+fn difference(mut narrator: Narrator, told: &[Event], other: &[Event]) -> String {
+    let same = told.iter().zip(other).take_while(|(one, two)| one == two);
+    let count = same.map(|(event, _)| narrator.say(event)).count();
+    match (told.get(count), other.get(count)) {
+        (Some(one), Some(two)) if changes_hp(one) && changes_hp(two) && one.who() == two.who() => {
+            one.who().map_or_else(String::new, |who| {
                 format!("side {}'s {} has other HP", who.side, who.species)
-            });
+            })
         }
-        return format!("instead of \"{}\": {}", sentence(one), sentence(two));
-    }
-    match (told.get(other.len()), other.get(told.len())) {
-        (Some(more), _) => format!("without \"{}\"", sentence(more)),
-        (None, Some(more)) => format!("then also: {}", sentence(more)),
+        (Some(one), Some(two)) => {
+            let instead = narrator.clone().say(two);
+            format!("instead of \"{}\": {instead}", narrator.say(one))
+        }
+        (Some(more), None) => format!("without \"{}\"", narrator.say(more)),
+        (None, Some(more)) => format!("then also: {}", narrator.say(more)),
         (None, None) => String::new(),
     }
+}
+
+fn changes_hp(event: &Event) -> bool {
+    matches!(event, Event::Damage(..) | Event::Heal(..))
 }
 
 /// Numbers in rising order as ranges, `0-56, 60`; of many ranges only the first few.

@@ -21,7 +21,6 @@ mod random;
 mod replay;
 mod screen;
 mod search;
-mod sentences;
 mod shell;
 mod showdown;
 mod team;

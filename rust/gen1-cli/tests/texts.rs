@@ -113,7 +113,9 @@ fn a_draw_is_explained_by_other_bytes() {
         Side 2's Tauros uses Strength.\n";
     assert!(text.contains(first), "{text}");
     // Strength misses at 255 alone ("Hit test"), and a draw of another update is not one of this.
-    assert!(text.contains("      255: instead of \"The hit on side 2's Tauros is critical.\": Side 1's Tauros misses.\n"));
+    assert!(text.contains(
+        "      255: instead of \"Side 2's Tauros takes a critical hit.\": Side 1's Tauros misses.\n"
+    ));
     assert_eq!(text.matches("    draw ").count(), 8);
 }
 

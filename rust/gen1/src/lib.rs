@@ -29,7 +29,7 @@
 //! | For | Look at |
 //! |---|---|
 //! | teams | [`member`], [`MemberSpec`], [`Team`], [`Species`], [`MoveId`], [`text`] |
-//! | battles | [`Battle`], [`Choice`], [`Update`], [`Event`], [`Line`] |
+//! | battles | [`Battle`], [`Choice`], [`Update`], [`Event`], [`Line`], [`Narrator`] |
 //! | the whole state of a battle | [`Battle::state`], [`State`], [`Battle::from_state`], [`Battle::with_hp`] |
 //! | damage and exact chances | [`Battle::damage`], [`Battle::odds`], [`Battle::knock_out`], [`Battle::knock_out_in_three`] |
 //! | all outcomes of an update, with exact probabilities | `Battle::outcomes`, [`Battle::outcomes_into`], [`Battle::ways`] |
@@ -106,6 +106,7 @@ mod outcomes;
 mod player;
 mod playouts;
 mod room;
+mod sentences;
 #[cfg(feature = "serde")]
 mod serde_impls;
 mod spectator;
@@ -161,6 +162,7 @@ pub use outcomes::{NotProbability, OutcomeOptions, Way, Ways};
 pub use player::{Player, ReportFault, Teller};
 pub use playouts::seed_from_number;
 pub use room::Room;
+pub use sentences::{Narrator, Sentence};
 pub use spectator::Spectator;
 pub use state::{ActiveState, MemberState, SideState, State};
 pub use teams::{NameFault, member};

@@ -18,7 +18,7 @@ impl Line {
     /// The line of an event.
     #[must_use]
     pub fn of(event: &Event) -> Self {
-        let mut text = Text(ArrayString::new());
+        let mut text = Text::<LENGTH>(ArrayString::new());
         // No line is longer than the buffer, so no write fails.
         let _ = crate::generated::printer::print_line(event, &mut text);
         if text.0.ends_with('\n') {
@@ -60,10 +60,10 @@ impl fmt::Debug for Line {
     }
 }
 
-/// The text of a line while it is written.
-struct Text(ArrayString<LENGTH>);
+/// The text of a line or a sentence while it is written.
+pub(crate) struct Text<const LENGTH: usize>(pub(crate) ArrayString<LENGTH>);
 
-impl Sink for Text {
+impl<const LENGTH: usize> Sink for Text<LENGTH> {
     fn write(&mut self, bytes: &[u8]) -> Result<usize, DeviceFault> {
         let text = core::str::from_utf8(bytes).map_err(|_| DeviceFault)?;
         self.0.try_push_str(text).map_err(|_| DeviceFault)?;

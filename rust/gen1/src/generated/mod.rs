@@ -21,6 +21,7 @@ pub mod playouts;
 pub mod printer;
 pub mod rolls;
 pub mod room;
+pub mod sentences;
 pub mod spectator;
 pub mod states;
 pub mod stats;

@@ -1,0 +1,2 @@
+-- Each sentence ends with a full stop.
+pub mod Stops

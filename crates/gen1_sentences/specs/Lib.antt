@@ -1,0 +1,4 @@
+-- The sentence of an event, and what it needs of the events before.
+pub mod Laws
+pub mod Narrators
+pub mod Sentences
