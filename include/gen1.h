@@ -72,6 +72,9 @@ typedef struct gen1_team {
 /* The size of a buffer that holds any line of gen1_next_line and its NUL. */
 #define GEN1_LINE_ROOM 96
 
+/* The size of a buffer that holds any sentence of gen1_next_sentence and its NUL. */
+#define GEN1_SENTENCE_ROOM 128
+
 /* The two sides. */
 enum { GEN1_ONE = 1, GEN1_TWO = 2 };
 
@@ -528,6 +531,37 @@ uint8_t gen1_event_bytes(const gen1_event *event, uint8_t bytes[10], size_t *len
  * GEN1_ERROR_SMALL_TEXT.
  */
 uint8_t gen1_next_line(const uint8_t *log, size_t count, size_t *at, char *text, size_t room, size_t *length);
+
+/* The member of a side that is out, as the events so far told it. */
+typedef struct gen1_told {
+    uint16_t hp;        /* its HP, in the units of the log */
+    uint8_t species;    /* 0 before the first came out */
+    uint8_t in_percent; /* not 0: the HP of this side are said in per cent */
+} gen1_told;
+
+/*
+ * Who is told, and which members are out. Any bytes are a narrator; zeros are that of a spectator, before a battle. For a log of
+ * gen1_tell, in which HP of the foe are 48ths, set `you`, and `in_percent` of the foe.
+ */
+typedef struct gen1_narrator {
+    gen1_told one;    /* of side 1 */
+    gen1_told two;    /* of side 2 */
+    uint8_t you;      /* the side that is told, 1 or 2: "Your Tauros", "The foe's Tauros"; else "Side 1's Tauros" */
+    uint8_t reserved; /* ignored */
+} gen1_narrator;
+
+#define GEN1_NARRATOR_SIZE 10 /* the size of a gen1_narrator, for other languages; its alignment is 2 */
+
+/*
+ * Reads an event like gen1_next_event, writes it as a sentence, such as "Side 1's Tauros loses 120 HP, down to 233 of 353 HP.",
+ * and notes in the narrator which members are out, so that later sentences can say what is lost and who is withdrawn. Each
+ * sentence ends with a full stop.
+ *
+ * `text`, `room` and `*length` are as with gen1_next_line; GEN1_SENTENCE_ROOM is always enough. Returns 0, a code of
+ * gen1_next_event, or GEN1_ERROR_SMALL_TEXT. If it returns a code, nothing has changed.
+ */
+uint8_t gen1_next_sentence(const uint8_t *log, size_t count, size_t *at, gen1_narrator *narrator, char *text, size_t room,
+                           size_t *length);
 
 /* ---- calculating ---- */
 

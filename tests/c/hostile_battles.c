@@ -276,7 +276,7 @@ static void try_update_offered_silent(void) {
          got == want && is_same && (got == 0 ? changed_only(0, sizeof from) : unchanged()), got, want);
 }
 
-/* ---- gen1_next_event, gen1_next_line ---- */
+/* ---- gen1_next_event, gen1_next_line, gen1_next_sentence ---- */
 
 /* A log of lawful play, some of its bytes changed, or any bytes; in the block 0. */
 const uint8_t *some_log(size_t *count) {
@@ -366,6 +366,34 @@ static void try_next_line(void) {
     tell("gen1_next_line", got == want && is_kept, got, want);
 }
 
+/* Any bytes are a narrator, and a sentence that is told again in as much room as it needs is the same. */
+static void try_next_sentence(void) {
+    size_t count, length = 0;
+    const uint8_t *log = some_log(&count);
+    size_t from = some_place(count), end = from, room = one_in(2) ? draw(GEN1_SENTENCE_ROOM) : GEN1_SENTENCE_ROOM;
+    gen1_narrator *narrator = block(4, sizeof *narrator), knew, knows;
+    for (size_t at = 0; at < sizeof *narrator; at++)
+        ((uint8_t *)narrator)[at] = one_in(2) ? (uint8_t)draw(3) : any_byte();
+    knew = knows = *narrator;
+    char sentence[GEN1_SENTENCE_ROOM];
+    uint8_t whole = gen1_next_sentence(log, count, &end, &knows, sentence, sizeof sentence, &length);
+    size_t *at = block_of(1, &from, sizeof from), *written = block(3, sizeof *written);
+    char *text = block(2, room);
+    note();
+    uint8_t got =
+        gen1_next_sentence(count == 0 ? NULL : log, count, at, narrator, room == 0 ? NULL : text, room, written);
+    uint8_t want = fault_of_place(log, count, from, whole == 0 && length >= room ? GEN1_ERROR_SMALL_TEXT : whole);
+    bool is_kept = unchanged();
+    if (got == 0) {
+        is_kept = *at == end && *written == length && memcmp(text, sentence, length + 1) == 0 && text[length] == '\0' &&
+                  length > 1 && text[length - 1] == '.' && memcmp(narrator, &knows, sizeof knows) == 0;
+        memcpy(at, &from, sizeof from);
+        memcpy(narrator, &knew, sizeof knew);
+        is_kept &= changed_only_two(2, length + 1, 3, sizeof *written);
+    }
+    tell("gen1_next_sentence", got == want && is_kept, got, want);
+}
+
 /* ---- gen1_damage ---- */
 
 static void try_damage(void) {
@@ -392,8 +420,18 @@ static void try_damage(void) {
 }
 
 try_call *const tries_of_battles[] = {
-    try_new,        try_load,          try_choices,        try_result,
-    try_update,     try_update_silent, try_update_offered, try_update_offered_silent,
-    try_next_event, try_event_bytes,   try_next_line,      try_damage,
+    try_new,
+    try_load,
+    try_choices,
+    try_result,
+    try_update,
+    try_update_silent,
+    try_update_offered,
+    try_update_offered_silent,
+    try_next_event,
+    try_event_bytes,
+    try_next_line,
+    try_next_sentence,
+    try_damage,
     NULL,
 };

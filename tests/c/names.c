@@ -15,6 +15,7 @@ _Static_assert(sizeof(gen1_battle) == 384 && _Alignof(gen1_battle) == 1, "a batt
 _Static_assert(sizeof(gen1_room) == GEN1_ROOM_SIZE && _Alignof(gen1_room) == 4, "the size of a room");
 _Static_assert(sizeof(gen1_spectator) == GEN1_SPECTATOR_SIZE && _Alignof(gen1_spectator) == 2,
                "the size of a spectator");
+_Static_assert(sizeof(gen1_narrator) == GEN1_NARRATOR_SIZE && _Alignof(gen1_narrator) == 2, "the size of a narrator");
 _Static_assert(sizeof(gen1_host) == GEN1_HOST_SIZE && _Alignof(gen1_host) == 4, "the size of a host");
 _Static_assert(sizeof(gen1_row) == GEN1_ROW_SIZE && _Alignof(gen1_row) == 4, "the size of a row");
 _Static_assert(sizeof(gen1_message) == GEN1_MESSAGE_SIZE && _Alignof(gen1_message) == 4, "the size of a message");

@@ -16,6 +16,8 @@ pub mod OneByOne
 pub mod Stepping
 -- No line of an event has more than 95 bytes.
 pub mod ShortLines
+-- No sentence of an event has more than 127 bytes.
+pub mod ShortSentences
 -- Texts that are expected, and so are written.
 pub mod Writing
 -- Sides by their numbers, and a room's replies.

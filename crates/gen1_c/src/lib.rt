@@ -15,6 +15,7 @@
 //! - `events`: the events of a log
 //! - `event_bytes`: the bytes of an event
 //! - `lines`: the lines of a log's events
+//! - `sentences`: their sentences
 //! - `damage`: the damage of a hit
 //! - `codes`: the codes that functions return
 //! - `names`: names of species, moves and types, and their rows of the tables
@@ -57,6 +58,7 @@ pub mod playouts;
 pub mod random_steps;
 pub mod reseed;
 pub mod rooms;
+pub mod sentences;
 pub mod spectators;
 pub mod team_text;
 mod teams;
