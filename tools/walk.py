@@ -1,6 +1,6 @@
-"""Walks over the phases of the battle machine (docs/PROOFS.md, "Walks"): Free.antt, SoundWalk.antt and Steady.antt of gen1_machine.
+"""Walks over the phases of gen1_machine (docs/PROOFS.md, "Walks"): Free.antt, SoundWalk.antt, Steady.antt and TreeWalk.antt.
 
-For each phase of the specifications that a walk names there is one lemma: the phase keeps a fact if its parts do. The lemma
+For each phase of the specifications that a walk names there is one lemma: the phase keeps a fact, or has a tree, if its parts do. It
 is proved by `search` over the rules for the combinators, the rules for the changes, and the lemmas of the phases that its
 clauses name. The lemmas of sound_lemmas.txt and steady_lemmas.txt in the crate's folder are taken as they are.
 
@@ -127,7 +127,7 @@ def lemma(word, arguments, clauses, fact, known, rules, depth, extra, asked=()):
     )
     result = ["  pub %s-%s : %s" % (word, fact, kind), "  unfolding %s" % word]
     for patterns, body in clauses:
-        used = [w for w in dict.fromkeys(re.findall(WORD, body)) if w in known and w != word]
+        used = [w for w in dict.fromkeys(re.findall(r"(?<![\w.])" + WORD, body)) if w in known and w != word]
         listed = rules + ["%s-%s" % (w, fact) for w in used]
         for premise, fact_of in premises:
             if premise == "ruling":
@@ -308,10 +308,10 @@ def written_imports(text, places, aliases, extra):
     return lines
 
 
-def vocabulary(places, aliases):
+def vocabulary(places, aliases, files=FILES):
     """The module of each word of a walk."""
     words = {}
-    names = FILES + ["Conditions", "State", "CurrentStats", "Picks", "Moves", "Valid", "SwitchingIn", "Turn"]
+    names = files + ["Conditions", "State", "CurrentStats", "Picks", "Moves", "Valid", "SwitchingIn", "Turn"]
     for name in names:
         found, named = imports_of(name)
         aliases.update(named)
@@ -639,6 +639,84 @@ def steady():
     return written("Steady", body, written_imports(body, words, aliases, {}))
 
 
+TREE_HEAD = """-- Each phase has a tree of draws. tools/gen writes this file.
+%s
+use Rattle.gen1_machine.proofs.Trees.{after-tree, choose-tree, drawless-tree, given-tree, tree_rules, stay-tree, then-tree, Blind, HasTree, RulingHasTrees}
+
+"""
+
+# The ways to combine phases that Trees.antt has rules for.
+TREE_RULES = "stay unless_stopped choose given stop draw draw_until on_field note told on_action".split()
+
+TREE_BY_HAND = {
+    "fails_if": [
+        "pub fails_if-tree : (s : Side) {test : Progress → Bool} → Blind test → HasTree (fails_if s test)",
+        "unfolding fails_if",
+        "fails_if-tree s blind = choose-tree blind (fail-tree s) stay-tree",
+    ],
+    "hit_again": [
+        "pub hit_again-tree : (n : ℕ) (s : Side) (move : Move) → HasTree (hit_again n s move)",
+        "unfolding hit_again",
+        "hit_again-tree zero s move = stay-tree",
+        "hit_again-tree (suc k) s move = choose-tree (λ p s n. refl) stay-tree (then-tree (hit_once-tree s move) (hit_again-tree k s move))",
+    ],
+    "set_skips": [
+        "pub set_skips-tree : (skips : Bool) → HasTree (set_skips skips)",
+        "unfolding set_skips",
+        "set_skips-tree skips = drawless-tree (λ p s n. refl)",
+    ],
+    "resume": [
+        "pub resume-tree : HasTree resume",
+        "unfolding resume",
+        "resume-tree = drawless-tree (λ p s n. refl)",
+    ],
+    "act": [
+        "pub act-tree : (r : Ruling) (s : Side) (pick : Pick) → RulingHasTrees r → HasTree (act r s pick)",
+        "unfolding act",
+        "act-tree r s pick ruling =",
+        "    after-tree (after-tree (after-tree (begin-tree s) (action_parts-tree r s pick ruling)) (keep_accuracy-tree s)) resume-tree",
+    ],
+    "do_parts": [
+        "pub do_parts-tree : (r : Ruling) (parts : List Part) → RulingHasTrees r → HasTree (do_parts r parts)",
+        "unfolding do_parts",
+        "do_parts-tree r [] ruling = end_turn-tree",
+        "do_parts-tree r (part ∷ rest) ruling =",
+        "    then-tree (do_part-tree r part ruling) (choose-tree (λ p s n. refl) stay-tree (do_parts-tree r rest ruling))",
+    ],
+    "close_update": [
+        "restarted-tree : HasTree (λ p. record p { stopped = false })",
+        "restarted-tree = drawless-tree (λ p s n. refl)",
+        "",
+        "pub close_update-tree : (r : Ruling) → RulingHasTrees r → HasTree (close_update r)",
+        "unfolding close_update given",
+        "close_update-tree r ruling =",
+        "    after-tree restarted-tree (given-tree {read = λ p. p.field.outcome} (λ p s n. refl) (λ outcome. close-tree r outcome ruling))",
+    ],
+    "update": [
+        "pub update-tree : (r : Ruling) (one two : Choice) → RulingHasTrees r → HasTree (update r one two)",
+        "unfolding update given",
+        "update-tree r one two ruling = after-tree (given-tree {A = Request × Request}",
+        "    {read = λ p. (p.field.request_one, p.field.request_two)} (λ p s n. refl)",
+        "    (λ due. update_for-tree r due.0 due.1 one two ruling)) (close_update-tree r ruling)",
+    ],
+}
+
+TREE_TAIL = """
+pub ruling-tree : (terms : Terms) → RulingHasTrees (ruling_of terms)
+ruling-tree terms = record { sleeps = sleeps_under-tree terms.rules.sleep_clause; freezes = freezes_under-tree terms.rules.freeze_clause }
+"""
+
+
+def trees():
+    """The walk up to a whole update. A phase has a tree by itself, so that `HasTree` is in the place of `Keeps P`."""
+    files = FILES + "SwitchingIn TurnOrder Turn Falls Step".split()
+    lines, _, places, aliases = walk(files, "tree", ["tree_rules"], TREE_RULES, TREE_BY_HAND)
+    body = "\n".join(lines).replace("Keeps P", "HasTree").replace("KeepsRuling P", "RulingHasTrees")
+    body = TREE_HEAD + re.sub("^  (?=pub|unfolding|%s-tree )" % WORD, "", body, flags=re.M) + "\n" + TREE_TAIL
+    parts = dict.fromkeys(("Sends", "Acts", "Suffers"), "Rattle.gen1_machine.specs.Turn")
+    return written("TreeWalk", body, written_imports(body, vocabulary(places, aliases, files), aliases, parts))
+
+
 def imported(text):
     """Each import of a text: a module with one of its words, or with its alias."""
     found = set()
@@ -659,4 +737,4 @@ def is_same(there, text):
 
 def generated():
     """The text of each file."""
-    return {Path(file).resolve(): text for file, text in (free(), sound(), steady())}
+    return {Path(file).resolve(): text for file, text in (free(), sound(), steady(), trees())}

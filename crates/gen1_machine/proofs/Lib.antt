@@ -1,9 +1,11 @@
 -- The laws of the battle machine, from draws up to valid states, and worked examples.
 mod Rows
 -- The laws of steps, runs and draws.
-pub mod Draws
 pub mod Runs
 pub mod Rooms
+-- An update is a tree of draws.
+pub mod Trees
+pub mod TreeWalk
 -- The highest cost of an update.
 pub mod Costs
 pub mod GateCosts

@@ -1,12 +1,15 @@
 -- The laws of steps and runs.
-use Rattle.std.proofs.Common.{Bool, List, [], ap, false, refl, true, ◌∙◌, ◌∷◌, ◌≡◌}
+use Rattle.std.proofs.Common.{Bool, List, [], ap, false, arith, inl, refl, sym, true, ℕ, ◌<◌, ◌∙◌, ◌∷◌, ◌≡◌, ◌≤◌}
 use Rattle.gen1_machine.specs.declared.side.Side.TheVariants.{One, Two}
 use Rattle.gen1_machine.specs.declared.choice.Choice.{Choice}
+use Rattle.gen1_rolls.specs.Streams.{byte_at, Link}
 use Rattle.gen1_machine.specs.State.{is_over, usual_terms, Terms, State}
 use Rattle.gen1_machine.specs.Progress.{Progress}
 use Rattle.gen1_machine.specs.Ruling.{sleeps_under, freezes_under, ruling_of, ruling_without_clauses, ruling_with_clauses, Ruling}
-use Rattle.gen1_machine.specs.Step.{opened, update, events_of, refused, answered, offers, step_by, step, step_before, step_two, and_then_ran, run_by, run, Refusal, Stepped, Ran, Over, Refused}
-use Rattle.gen1_machine.specs.Laws.{OverStaysOver, RefusalChangesNothing, TermsStay, RunsAppend, SameAsBeforeRules, SameAsFixedLimit}
+use Rattle.gen1_machine.specs.Step.{opened, update, events_of, accepted, refused, answered, offers, step_by, step, step_before, step_two, and_then_ran, run_by, run, Refusal, Stepped, Ran, Over, Refused}
+use Rattle.gen1_machine.specs.Laws.{with_seed, OverStaysOver, RefusalChangesNothing, TermsStay, RunsAppend, RunsAreLocal, SameAsBeforeRules, SameAsFixedLimit, UpdatesAreLocal, UpdatesAreTrees}
+use Rattle.gen1_machine.proofs.Trees.{phase-local, phase-onward}
+use Rattle.gen1_machine.proofs.TreeWalk.{ruling-tree, update-tree}
 
 -- An update by a ruling, in the form that `answered` takes.
 abbrev made : Ruling → State → Choice → Choice → Progress
@@ -93,3 +96,62 @@ unfolding step step_before sleeps_under freezes_under
 same_as_before_rules = runs-agree step step_before (λ s. s.terms ≡ usual_terms)
     (λ s one two h. step_by-agree ruling_of (λ terms. ruling_without_clauses) s one two (ap ruling_of h))
     (λ s one two h. step_by-terms (λ terms. ruling_without_clauses) s one two ∙ h)
+
+-- Draws
+
+pub updates_are_trees : UpdatesAreTrees
+updates_are_trees terms one two p = let k = update-tree (ruling_of terms) one two (ruling-tree terms) in (k.tree p, k.leads p)
+
+pub updates_are_local : UpdatesAreLocal
+updates_are_local terms one two = phase-local (update-tree (ruling_of terms) one two (ruling-tree terms))
+
+-- A stream that has the same bytes from one place up to another as that of a state.
+abbrev SameBytes : List ℕ → State → ℕ → Type 0
+SameBytes seed s m = (k : ℕ) → s.drawn ≤ k → k < m → byte_at (Link seed) k ≡ byte_at (Link s.seed) k
+
+abbrev seeded_step : List ℕ → Stepped → Stepped
+seeded_step seed one = record { answer = one.answer; state = with_seed seed one.state }
+
+step-local : (s : State) (one two : Choice) (seed : List ℕ) → SameBytes seed s (step s one two).state.drawn
+    → step (with_seed seed s) one two ≡ seeded_step seed (step s one two)
+unfolding step step_by answered
+step-local s one two seed = by (is_over s.field.outcome) (offers s One one) (offers s Two two)
+  where
+    by : (over first second : Bool)
+        → SameBytes seed s (answered s over first second (made (ruling_of s.terms) s one two)).state.drawn
+        → answered (with_seed seed s) over first second (made (ruling_of s.terms) (with_seed seed s) one two)
+        ≡ seeded_step seed (answered s over first second (made (ruling_of s.terms) s one two))
+    by true first second h = refl
+    by false false second h = refl
+    by false true false h = refl
+    by false true true h = ap (λ p. accepted (with_seed seed s) p)
+        (updates_are_local s.terms one two (opened s) (Link seed) (record { bytes = h; spans = inl refl }))
+
+step-onward : (s : State) (one two : Choice) → s.drawn ≤ (step s one two).state.drawn
+unfolding step step_by answered
+step-onward s one two = by (is_over s.field.outcome) (offers s One one) (offers s Two two)
+  where
+    by : (over first second : Bool) → s.drawn ≤ (answered s over first second (made (ruling_of s.terms) s one two)).state.drawn
+    by true first second = omega arith
+    by false false second = omega arith
+    by false true false = omega arith
+    by false true true = phase-onward (update-tree (ruling_of s.terms) one two (ruling-tree s.terms)) (opened s)
+
+run-onward : (s : State) (pairs : List (Choice × Choice)) → s.drawn ≤ (run s pairs).state.drawn
+unfolding run_by
+run-onward s [] = omega arith
+run-onward s (pair ∷ pairs) =
+    let next = (step s pair.0 pair.1).state in
+    omega (arith, step-onward s pair.0 pair.1, run-onward next pairs)
+
+pub runs_are_local : RunsAreLocal
+unfolding run_by
+runs_are_local s [] seed h = refl
+runs_are_local s (pair ∷ pairs) seed h =
+    let one = step s pair.0 pair.1 in
+    let later = run-onward one.state pairs in
+    let early = step-onward s pair.0 pair.1 in
+    ap (λ (x : Stepped). and_then_ran x.answer (run x.state pairs))
+    (step-local s pair.0 pair.1 seed (λ k from to. h k from (omega (arith, to, later))))
+    ∙ ap (λ (r : Ran). and_then_ran one.answer r)
+    (runs_are_local one.state pairs seed (λ k from to. h k (omega (arith, early, from)) to ∙ ap (λ x. byte_at (Link x) k) (sym (terms_stay s pair.0 pair.1).1)))

@@ -1,10 +1,12 @@
 -- Laws of steps, of runs and of draws (docs/PROOFS.md, "Laws"). Each is the contract of a function in src/laws.rt.
-use Rattle.std.specs.Prelude.{All, Bool, IsTrue, List, Some, [], count_by, false, map, true, ℕ, ◌++◌, ◌+◌, ◌<◌, ◌≡◌, ◌≤◌, ◌⊎◌}
+use Rattle.std.specs.Prelude.{All, Bool, IsTrue, List, None, Some, [], count_by, false, map, true, ℕ, ◌++◌, ◌+◌, ◌<◌, ◌≡◌, ◌≤◌, ◌⊎◌}
 use Rattle.gen1_machine.specs.declared.choice.Choice.{Choice}
-use Rattle.gen1_rolls.specs.Streams.{span, IsStream, first, IsFirst, Link, Stream}
+use Rattle.gen1_rolls.specs.Streams.{byte_at, span, IsStream, first, IsFirst, Link, Stream}
 use Rattle.gen1_stats.specs.Members.{IsTeam, Member}
 use Rattle.gen1_machine.specs.State.{first_state, is_over, usual_terms, State, Terms}
-use Rattle.gen1_machine.specs.Step.{events_of, step, step_before, step_two, run_by, run, Accepted, Answer, Refusal, Over, Refused}
+use Rattle.gen1_machine.specs.Progress.{Progress}
+use Rattle.gen1_machine.specs.Ruling.{ruling_of}
+use Rattle.gen1_machine.specs.Step.{events_of, update, step, step_before, step_two, run_by, run, Accepted, Answer, Refusal, Over, Refused}
 use Rattle.gen1_machine.specs.Room.{accepted_pairs, course_of, Submission, Course}
 use Rattle.gen1_machine.specs.Layout.{bytes_of}
 use Rattle.gen1_machine.specs.Valid.{IsField, IsState, IsTerms, IsUnstarted}
@@ -94,3 +96,54 @@ StatesStayValid = (s : State) (pairs : List (Choice × Choice)) → IsState s �
 -- Each number of a valid state fits its bytes.
 abbrev pub StatesFit : Type 0
 StatesFit = (s : State) → IsState s → All (λ b. b < 256) (bytes_of s)
+
+-- What is to be drawn, and what each draw leads to: nothing more, the next byte, or the first byte that passes a test, if there is one.
+pub data Tree : Type 0 where
+  Done : (left : Progress) → Tree
+  Draw : (next : ℕ → Tree) → Tree
+  Search : (test : ℕ → Bool) → (found : ℕ → Tree) → (none : Tree) → Tree
+
+-- The same battle, with draws from a place of a stream.
+abbrev pub drawing_from : Stream → ℕ → Progress → Progress
+drawing_from s n p = record p { stream = s; drawn = n }
+
+-- Where a tree leads with the draws of a stream from a place on.
+unfoldable pub leads_to : Tree → Stream → ℕ → Progress
+leads_to (Done left) s n = drawing_from s n left
+leads_to (Draw next) s n = leads_to (next (byte_at s n)) s (n + 1)
+leads_to (Search test found none) s n = elim (first s n test) [
+  | Some m ↦ leads_to (found (byte_at s m)) s (m + 1)
+  | None ↦ leads_to none s (n + span s)
+]
+
+-- An update is a tree of draws, of which each branch ends: on each stream, from each place on, it leads where the tree does.
+abbrev pub UpdatesAreTrees : Type 0
+UpdatesAreTrees = (terms : Terms) (one two : Choice) (p : Progress)
+    → (tree : Tree) × ((s : Stream) (n : ℕ) → update (ruling_of terms) one two (drawing_from s n p) ≡ leads_to tree s n)
+
+-- Two streams have the same bytes from one place up to another, and a search among those goes equally far in both: their spans are
+-- equal, or each is more than so many bytes.
+pub record Agree (s w : Stream) (n m : ℕ) : Type 0 where
+  pub bytes : (k : ℕ) → n ≤ k → k < m → byte_at w k ≡ byte_at s k
+  pub spans : (span w ≡ span s) ⊎ ((m < n + span s) × (m < n + span w))
+
+-- The same battle, with draws from another stream.
+abbrev pub on_stream : Stream → Progress → Progress
+on_stream w p = record p { stream = w }
+
+-- An update depends on the bytes that it draws alone: a stream that agrees on them leads to the same field, by the same events and as
+-- many draws.
+abbrev pub UpdatesAreLocal : Type 0
+UpdatesAreLocal = (terms : Terms) (one two : Choice) (p : Progress) (w : Stream)
+    → Agree p.stream w p.drawn (update (ruling_of terms) one two p).drawn
+    → update (ruling_of terms) one two (on_stream w p) ≡ on_stream w (update (ruling_of terms) one two p)
+
+abbrev pub with_seed : List ℕ → State → State
+with_seed seed s = record s { seed = seed }
+
+-- A replay depends on the bytes that it draws alone: with another seed that draws them it has the same results, and ends in the same
+-- field after as many draws.
+abbrev pub RunsAreLocal : Type 0
+RunsAreLocal = (s : State) (pairs : List (Choice × Choice)) (seed : List ℕ)
+    → ((k : ℕ) → s.drawn ≤ k → k < (run s pairs).state.drawn → byte_at (Link seed) k ≡ byte_at (Link s.seed) k)
+    → run (with_seed seed s) pairs ≡ record { answers = (run s pairs).answers; state = with_seed seed (run s pairs).state }

@@ -1,6 +1,6 @@
 //! Laws of the battle machine (docs/PROVED.md, "Laws"). Each function has an empty body. Its contract is the law.
 ghost use Rattle.gen1_machine.specs.Bounds.{ActIsBounded, EndIsBounded, OrderIsBounded, ResidualIsBounded, StepIsBounded, SwitchIsBounded, TurnIsBounded, UpdateIsBounded};
-ghost use Rattle.gen1_machine.specs.Laws.{OverStaysOver, RefusalChangesNothing, TermsStay, RunsAppend, SameAsBeforeRules, SameAsFixedLimit, RoomRuns, FirstIsLeast, FirstExists, FirstStatesAreValid, RunsEnd, FieldsStayValid, StatesFit, StatesStayValid};
+ghost use Rattle.gen1_machine.specs.Laws.{OverStaysOver, RefusalChangesNothing, TermsStay, RunsAppend, SameAsBeforeRules, SameAsFixedLimit, RoomRuns, FirstIsLeast, FirstExists, FirstStatesAreValid, RunsEnd, RunsAreLocal, UpdatesAreLocal, UpdatesAreTrees, FieldsStayValid, StatesFit, StatesStayValid};
 ghost use Rattle.gen1_machine.specs.Spectator.{WatcherKnows};
 
 /// Once a battle is over, every pair of choices is refused, and nothing changes (docs/MECHANICS.md, "Falls and
@@ -58,6 +58,31 @@ pub fn first_is_least()
 /// If some byte of a stream passes a test, there is a first that does (docs/MECHANICS.md, "Link numbers").
 pub fn first_exists()
     ensures { FirstExists }
+{}
+
+/// An update is a tree of draws: on each stream and from each place on, it leads where the tree does with the bytes that come
+/// next (docs/MECHANICS.md, "Link numbers").
+///
+/// Each draw of the tree takes the next byte, or the first that passes a test. Each branch ends.
+#[tactic(auto, using(crate::proofs::Runs::updates_are_trees))]
+pub fn updates_are_trees()
+    ensures { UpdatesAreTrees }
+{}
+
+/// An update depends on the bytes that it draws alone: another stream with these bytes and the same span leads to the same
+/// battle, by the same events and as many draws (docs/MECHANICS.md, "Link numbers").
+///
+/// The spans may differ if each is more than the number of bytes that the update draws.
+#[tactic(auto, using(crate::proofs::Runs::updates_are_local))]
+pub fn updates_are_local()
+    ensures { UpdatesAreLocal }
+{}
+
+/// A replay depends on the bytes that it draws alone: with another seed that draws them it has the same answers, and leads to
+/// the same state apart from the seed (docs/MECHANICS.md, "Link numbers").
+#[tactic(auto, using(crate::proofs::Runs::runs_are_local))]
+pub fn runs_are_local()
+    ensures { RunsAreLocal }
 {}
 
 /// A battle of two teams is valid before its first update (docs/MECHANICS.md, "Teams").

@@ -1,5 +1,5 @@
-use Rattle.gen1_machine.proofs.Draws.{first_exists}
+use Rattle.gen1_rolls.proofs.First.{first-exists}
 use Rattle.gen1_machine.proofs.laws.first_exists.Goals as goal
 
 pub returns : goal.returns
-returns c = first_exists
+returns c = first-exists

@@ -1,5 +1,5 @@
-use Rattle.gen1_machine.proofs.Draws.{first_is_least}
+use Rattle.gen1_rolls.proofs.First.{first-finds, first-within}
 use Rattle.gen1_machine.proofs.laws.first_is_least.Goals as goal
 
 pub returns : goal.returns
-returns c = first_is_least
+returns c s n test m found = (first-finds s n test m found, first-within s n test m found)
