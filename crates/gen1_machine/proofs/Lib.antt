@@ -2,10 +2,10 @@
 mod Rows
 -- The laws of steps, runs and draws.
 pub mod Runs
-pub mod Rooms
 -- An update is a tree of draws.
 pub mod Trees
 pub mod TreeWalk
+pub mod Shares
 -- The highest cost of an update.
 pub mod Costs
 pub mod GateCosts
@@ -19,7 +19,6 @@ pub mod Showing
 pub mod Watching
 pub mod WatchedGate
 pub mod WatchedEffects
-mod ShiftingMoves
 pub mod WatchedActions
 pub mod WatchedSwitches
 pub mod WatchedTurns

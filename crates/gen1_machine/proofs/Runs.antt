@@ -1,5 +1,5 @@
--- The laws of steps and runs.
-use Rattle.std.proofs.Common.{Bool, List, [], ap, false, arith, inl, refl, sym, true, ℕ, ◌<◌, ◌∙◌, ◌∷◌, ◌≡◌, ◌≤◌}
+-- The laws of steps, of runs and of rooms.
+use Rattle.std.proofs.Common.{Bool, List, None, Option, Some, [], ap, arith, false, if◌then◌else◌, inl, refl, sym, true, ℕ, ◌<◌, ◌∙◌, ◌∷◌, ◌≡◌, ◌≤◌}
 use Rattle.gen1_machine.specs.declared.side.Side.TheVariants.{One, Two}
 use Rattle.gen1_machine.specs.declared.choice.Choice.{Choice}
 use Rattle.gen1_rolls.specs.Streams.{byte_at, Link}
@@ -7,7 +7,8 @@ use Rattle.gen1_machine.specs.State.{is_over, usual_terms, Terms, State}
 use Rattle.gen1_machine.specs.Progress.{Progress}
 use Rattle.gen1_machine.specs.Ruling.{sleeps_under, freezes_under, ruling_of, ruling_without_clauses, ruling_with_clauses, Ruling}
 use Rattle.gen1_machine.specs.Step.{opened, update, events_of, accepted, refused, answered, offers, step_by, step, step_before, step_two, and_then_ran, run_by, run, Refusal, Stepped, Ran, Over, Refused}
-use Rattle.gen1_machine.specs.Laws.{with_seed, OverStaysOver, RefusalChangesNothing, TermsStay, RunsAppend, RunsAreLocal, SameAsBeforeRules, SameAsFixedLimit, UpdatesAreLocal, UpdatesAreTrees}
+use Rattle.gen1_machine.specs.Room.{chosen, ended_by, with_submission, after, pair_of, pair_ended, accepted_pairs, course_of, Submission, Course}
+use Rattle.gen1_machine.specs.Laws.{with_seed, OverStaysOver, RefusalChangesNothing, RoomRuns, TermsStay, RunsAppend, RunsAreLocal, SameAsBeforeRules, SameAsFixedLimit, UpdatesAreLocal, UpdatesAreTrees}
 use Rattle.gen1_machine.proofs.Trees.{phase-local, phase-onward}
 use Rattle.gen1_machine.proofs.TreeWalk.{ruling-tree, update-tree}
 
@@ -96,6 +97,35 @@ unfolding step step_before sleeps_under freezes_under
 same_as_before_rules = runs-agree step step_before (λ s. s.terms ≡ usual_terms)
     (λ s one two h. step_by-agree ruling_of (λ terms. ruling_without_clauses) s one two (ap ruling_of h))
     (λ s one two h. step_by-terms (λ terms. ruling_without_clauses) s one two ∙ h)
+
+-- A room's battle is the run over the pairs that its submissions completed.
+
+ended-run : (c : Course) (one two : Option Choice) → (ended_by c one two).state ≡ (run c.state (pair_of one two)).state
+unfolding run_by
+ended-run c (Some one) (Some two) = refl
+ended-run c (Some one) None = refl
+ended-run c None (Some two) = refl
+ended-run c None None = refl
+
+after-if : (over : Bool) (c : Course) (submission : Submission) (one two : Option Choice)
+    → (if over then c else ended_by (with_submission c submission) one two).state
+    ≡ (run c.state (if over then [] else pair_of one two)).state
+unfolding run_by
+after-if true c submission one two = refl
+after-if false c submission one two = ended-run (with_submission c submission) one two
+
+after-run : (c : Course) (submission : Submission) → (after c submission).state ≡ (run c.state (pair_ended c submission)).state
+unfolding after
+after-run c submission = let d = with_submission c submission in
+    after-if (is_over c.state.field.outcome) c submission (chosen One d) (chosen Two d)
+
+pub room_runs : RoomRuns
+unfolding course_of accepted_pairs run_by
+room_runs c [] = refl
+room_runs c (submission ∷ more) =
+    room_runs (after c submission) more
+    ∙ ap (λ s. (run s (accepted_pairs (after c submission) more)).state) (after-run c submission)
+    ∙ sym (ap (λ (r : Ran). r.state) (runs_append c.state (pair_ended c submission) (accepted_pairs (after c submission) more)))
 
 -- Draws
 

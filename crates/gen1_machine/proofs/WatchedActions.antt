@@ -1,5 +1,9 @@
 -- A spectator can follow an action.
-use Rattle.std.proofs.Common.{Bool, List, None, Option, Some, ap, false, lit≤, refl, suc, sym, true, true≢false, zero, ℕ, ◌+◌, ◌∙◌, ◌≡◌}
+use Rattle.std.proofs.Common.{Bool, List, None, Option, Some, ap, false, lit≤, refl, suc, sym, true, true≢false, zero, ℕ, ◌+◌, ◌∙◌, ◌≡◌, [], ◌&&◌, ◌-◌, ◌∷◌}
+use Rattle.std.specs.Prelude.{slice_index_or}
+use Rattle.gen1_tables.specs.declared.element.Element.TheVariants.{Normal}
+use Rattle.gen1_tables.specs.declared.effect.Effect.TheVariants.{DamageOnly}
+use Rattle.gen1_tables.specs.Moves.{move_rows, move_row, MoveRow}
 use Rattle.gen1_tables.specs.declared.effect.Stat.TheVariants.{Attack}
 use Rattle.gen1_tables.specs.declared.effect.Effect.{Effect}
 use Rattle.gen1_tables.specs.declared.effect.Effect.TheVariants as effects
@@ -13,7 +17,7 @@ use Rattle.gen1_machine.specs.Sides.{other}
 use Rattle.gen1_machine.specs.Conditions.{without_seed, Storing}
 use Rattle.gen1_machine.specs.State.{changed_active, changed_conditions, changed_member, fallen, with_kept_accuracy, is_over, Field}
 use Rattle.gen1_tables.specs.Effects.{explodes, hits_more}
-use Rattle.gen1_machine.specs.Moves.{Move}
+use Rattle.gen1_machine.specs.Moves.{move_at, Move}
 use Rattle.gen1_machine.specs.Progress.{Phase, given, on_field, on_active, on_conditions, on_member, on_action, active, member, Progress}
 use Rattle.gen1_machine.specs.CriticalHits.{set_critical, critical_by, roll_critical}
 use Rattle.gen1_machine.specs.Damage.{before_types, is_factor, type_steps, varied_by, vary, set_through_types, damage_from, roll_damage, DamageNumbers}
@@ -28,11 +32,34 @@ use Rattle.gen1_machine.specs.ManyHits.{crash, missed_move, note_effectiveness, 
 use Rattle.gen1_machine.specs.Ruling.{Ruling}
 use Rattle.gen1_machine.specs.Action.{set_going_on, see_if_going_on, gate_or_held, move_taken_in, spend_pp, use_move, prelude, lead_up, usual_damage, damage_of, strike, carry_out, action_parts, accuracy_to_keep, keep_accuracy, begin, resume, act}
 use Rattle.gen1_machine.specs.View.{on_shown, not_shown, shows, View}
+use Rattle.gen1_machine.proofs.Costs.{and-left, and-right}
 use Rattle.gen1_machine.proofs.Showing.{AllOut, kept, keeps-member, Silent, silent-active, silent-conditions, told-member}
 use Rattle.gen1_machine.proofs.Watching.{seeing, Runs, Rests, Lands, Leads, Seen, Halted, Still, Broken, Tells, Anything, fallen_view, Fell, Stands, Fallen, MayFall, Faulted, after-leads, before-leads, ◌⊳◌, choose-tells, if-sees, given-tells, draw-tells, until-tells, stay-tells, stop-leads, stop-tells, fault-tells, action-tells, active-tells, conditions-tells, member-tells, damage-tells, field-ahead, still-ahead, note-tells, starts-tells, ends-tells, lasts-tells, lose-tells, gain-tells}
 use Rattle.gen1_machine.proofs.WatchedGate.{missed-tells, cant-tells, gate-tells, land-tells, hit_or_miss-tells, note_miss-tells}
 use Rattle.gen1_machine.proofs.WatchedEffects.{shifts_well, RulingTells, Lags, apart-fallen, on-side-same, raise-lags, raise-tells, confuse-tells, early_effect-tells, late_effect-tells, side_effect-tells}
-use Rattle.gen1_machine.proofs.ShiftingMoves.{moves-shift}
+
+-- The moves of the table that shift a stage shift it by at least one.
+
+abbrev all_shift : List MoveRow → Bool
+all_shift [] = true
+all_shift (row ∷ rows) = shifts_well row.effect && all_shift rows
+
+rows-shift : all_shift move_rows ≡ true
+unfolding move_rows
+rows-shift = refl
+
+at-shift : (rows : List MoveRow) (i : ℕ) (default : MoveRow) → all_shift rows ≡ true → shifts_well default.effect ≡ true
+    → shifts_well (slice_index_or rows i default).effect ≡ true
+at-shift [] i default e d = d
+at-shift (row ∷ rows) zero default e d = and-left (shifts_well row.effect) (all_shift rows) e
+at-shift (row ∷ rows) (suc i) default e d = at-shift rows i default (and-right (shifts_well row.effect) (all_shift rows) e) d
+
+row-shifts : (n : ℕ) → shifts_well (move_row n).effect ≡ true
+unfolding move_row
+row-shifts n = at-shift move_rows (n - 1) (record { kind = Normal; power = 0; accuracy = 0; pp = 0; effect = DamageOnly }) rows-shift refl
+
+moves-shift : (n : ℕ) → shifts_well (move_at n).effect ≡ true
+moves-shift n = row-shifts n
 
 one-explosion : (e : Effect) → explodes e ≡ true → hits_more e ≡ false
 one-explosion effects.Explode h = refl

@@ -1,9 +1,9 @@
 -- Laws of steps, of runs and of draws (docs/PROOFS.md, "Laws"). Each is the contract of a function in src/laws.rt.
-use Rattle.std.specs.Prelude.{All, Bool, IsTrue, List, None, Some, [], count_by, false, map, true, ℕ, ◌++◌, ◌+◌, ◌<◌, ◌≡◌, ◌≤◌, ◌⊎◌}
+use Rattle.std.specs.Prelude.{All, Bool, IsTrue, List, None, Some, [], count_by, false, if◌then◌else◌, map, suc, true, zero, ℕ, ◌*◌, ◌++◌, ◌+◌, ◌<◌, ◌≡◌, ◌≤◌, ◌⊎◌, ◌||◌}
 use Rattle.gen1_machine.specs.declared.choice.Choice.{Choice}
-use Rattle.gen1_rolls.specs.Streams.{byte_at, span, IsStream, first, IsFirst, Link, Stream}
+use Rattle.gen1_rolls.specs.Streams.{byte_at, span, IsStream, first, Drawn, IsFirst, Link, Stream}
 use Rattle.gen1_stats.specs.Members.{IsTeam, Member}
-use Rattle.gen1_machine.specs.State.{first_state, is_over, usual_terms, State, Terms}
+use Rattle.gen1_machine.specs.State.{first_state, is_over, usual_terms, Field, State, Terms}
 use Rattle.gen1_machine.specs.Progress.{Progress}
 use Rattle.gen1_machine.specs.Ruling.{ruling_of}
 use Rattle.gen1_machine.specs.Step.{events_of, update, step, step_before, step_two, run_by, run, Accepted, Answer, Refusal, Over, Refused}
@@ -120,6 +120,52 @@ leads_to (Search test found none) s n = elim (first s n test) [
 abbrev pub UpdatesAreTrees : Type 0
 UpdatesAreTrees = (terms : Terms) (one two : Choice) (p : Progress)
     → (tree : Tree) × ((s : Stream) (n : ℕ) → update (ruling_of terms) one two (drawing_from s n p) ≡ leads_to tree s n)
+
+-- f 0 + f 1 + .. + f (n - 1).
+unfoldable pub sum_below : ℕ → (ℕ → ℕ) → ℕ
+sum_below zero f = 0
+sum_below (suc n) f = sum_below n f + f n
+
+-- A sum over the bytes that pass a test, and how many there are.
+
+abbrev pub sum_over : (ℕ → Bool) → (ℕ → ℕ) → ℕ
+sum_over test f = sum_below 256 λ b. if test b then f b else 0
+
+abbrev pub count_of : (ℕ → Bool) → ℕ
+count_of test = sum_over test λ b. 1
+
+-- A whole is dealt out to the bytes that pass a test, the same to each. What is kept of it is the sum of their parts.
+pub record IsDealt (test : ℕ → Bool) (IsPart : ℕ → ℕ → ℕ → Type 0) (whole kept : ℕ) : Type 0 where
+  pub each : ℕ
+  pub part : ℕ → ℕ
+  pub equal : count_of test * each ≡ whole
+  pub parts : (b : ℕ) → b < 256 → IsTrue (test b) → IsPart b each (part b)
+  pub sum : sum_over test part ≡ kept
+
+-- The probability that a tree leads to a field which passes a test is this share of a whole, if each draw is a uniform byte and
+-- independent of the others. What a search finds is a uniform one of the bytes that pass its test.
+unfoldable pub IsShare : Tree → (Field → Bool) → ℕ → ℕ → Type 0
+IsShare (Done left) passes whole share = share ≡ (if passes left.field then whole else 0)
+IsShare (Draw next) passes whole share = IsDealt (λ b. true) (λ b. IsShare (next b) passes) whole share
+IsShare (Search test found none) passes whole share =
+    ((0 < count_of test) × IsDealt test (λ b. IsShare (found b) passes) whole share)
+    ⊎ ((count_of test ≡ 0) × IsShare none passes whole share)
+
+-- Shares are probabilities: of some whole there are shares; of each whole there is one; all fields together have the whole; shares of what
+-- excludes each other add up; some bytes lead to what has a share above 0, on a stream of any span; and what a stream leads to has one.
+pub record AreProbabilities (t : Tree) : Type 0 where
+  pub some : (whole : ℕ) × ((0 < whole) × ((passes : Field → Bool) → (n : ℕ) × IsShare t passes whole n))
+  pub one : (passes : Field → Bool) (whole m n : ℕ) → IsShare t passes whole m → IsShare t passes whole n → m ≡ n
+  pub all : (whole n : ℕ) → IsShare t (λ f. true) whole n → n ≡ whole
+  pub sum : (one other : Field → Bool) (whole m n : ℕ) → ((f : Field) → one f ≡ true → other f ≡ false)
+      → IsShare t one whole m → IsShare t other whole n → IsShare t (λ f. one f || other f) whole (m + n)
+  pub led : (passes : Field → Bool) (whole n : ℕ) → IsShare t passes whole n → 0 < n → (width : ℕ) → 0 < width
+      → (bytes : ℕ → ℕ) × (((i : ℕ) → bytes i < 256) × (passes (leads_to t (Drawn bytes width) 0).field ≡ true))
+  pub leads : (passes : Field → Bool) (whole n : ℕ) → IsShare t passes whole n → 0 < whole
+      → (s : Stream) (k : ℕ) → IsStream s → passes (leads_to t s k).field ≡ true → 0 < n
+
+abbrev pub SharesAreProbabilities : Type 0
+SharesAreProbabilities = (t : Tree) → AreProbabilities t
 
 -- Two streams have the same bytes from one place up to another, and a search among those goes equally far in both: their spans are
 -- equal, or each is more than so many bytes.

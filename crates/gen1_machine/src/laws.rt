@@ -1,6 +1,6 @@
 //! Laws of the battle machine (docs/PROVED.md, "Laws"). Each function has an empty body. Its contract is the law.
 ghost use Rattle.gen1_machine.specs.Bounds.{ActIsBounded, EndIsBounded, OrderIsBounded, ResidualIsBounded, StepIsBounded, SwitchIsBounded, TurnIsBounded, UpdateIsBounded};
-ghost use Rattle.gen1_machine.specs.Laws.{OverStaysOver, RefusalChangesNothing, TermsStay, RunsAppend, SameAsBeforeRules, SameAsFixedLimit, RoomRuns, FirstIsLeast, FirstExists, FirstStatesAreValid, RunsEnd, RunsAreLocal, UpdatesAreLocal, UpdatesAreTrees, FieldsStayValid, StatesFit, StatesStayValid};
+ghost use Rattle.gen1_machine.specs.Laws.{OverStaysOver, SharesAreProbabilities, RefusalChangesNothing, TermsStay, RunsAppend, SameAsBeforeRules, SameAsFixedLimit, RoomRuns, FirstIsLeast, FirstExists, FirstStatesAreValid, RunsEnd, RunsAreLocal, UpdatesAreLocal, UpdatesAreTrees, FieldsStayValid, StatesFit, StatesStayValid};
 ghost use Rattle.gen1_machine.specs.Spectator.{WatcherKnows};
 
 /// Once a battle is over, every pair of choices is refused, and nothing changes (docs/MECHANICS.md, "Falls and
@@ -44,7 +44,7 @@ pub fn same_as_fixed_limit()
 {}
 
 /// The battle of a room is the run over the pairs that its submissions completed (docs/MECHANICS.md, "Rooms").
-#[tactic(auto, using(crate::proofs::Rooms::room_runs))]
+#[tactic(auto, using(crate::proofs::Runs::room_runs))]
 pub fn room_runs()
     ensures { RoomRuns }
 {}
@@ -67,6 +67,15 @@ pub fn first_exists()
 #[tactic(auto, using(crate::proofs::Runs::updates_are_trees))]
 pub fn updates_are_trees()
     ensures { UpdatesAreTrees }
+{}
+
+/// The shares that a tree of draws gives to fields are probabilities, if each draw is a uniform byte and independent of the
+/// others (docs/MECHANICS.md, "Link numbers").
+///
+/// There are shares of some whole, and of each whole at most one. All fields together have the whole, and shares of fields that
+/// exclude each other add up. If there is a share above 0, some bytes lead there; and what a stream leads to has one.
+pub fn shares_are_probabilities()
+    ensures { SharesAreProbabilities }
 {}
 
 /// An update depends on the bytes that it draws alone: another stream with these bytes and the same span leads to the same
