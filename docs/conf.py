@@ -37,7 +37,7 @@ TOPICS = {
     "battles": ("Battles", "battle choices recorder"),
     "teams": ("Teams and tables", "teams samples team_text tables"),
     "states": ("States, odds and outcomes", "states _odds _outcomes"),
-    "events": ("Events and logs", "events"),
+    "events": ("Events and logs", "_events sentences"),
     "players": ("Players, hosts and spectators", "players own_sides guesses rooms hosts messages spectators"),
     "arrays": ("Arrays", "arrays player_arrays outcome_arrays encodings observations layout"),
     "environments": ("Environments", "environments vectors opponents"),
@@ -48,7 +48,7 @@ TOPICS = {
 }
 # Modules with public names that gen1 itself does not have, and such names of another module.
 WHOLE = ("draws", "layout", "observations", "opponents", "search", "showdown", "team_text")
-MORE = {"encodings": ["encodings.Column", "encodings.described"]}
+MORE = {"encodings": ["encodings.Column", "encodings.described"], "sentences": ["sentences.sentence"]}
 INDEX = """Python reference
 ================
 

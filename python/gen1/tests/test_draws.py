@@ -4,10 +4,9 @@ import io
 
 import pytest
 from conftest import RECORDED, random_team, recorded_only
-from gen1 import Battle, Choice
+from gen1 import BadArgument, BadLog, BadType, Battle, Choice, Narrator
 from gen1.draws import drawn, explained, ranges
 from gen1.progress import progress
-from gen1.sentences import sentence
 
 if RECORDED.is_dir():
     from battles import cases, recorded, traces
@@ -51,26 +50,83 @@ def test_random_battles_explained():
 
     dice = random.Random(7)
     for _ in range(3):
-        battle = Battle(random_team(dice), random_team(dice), dice.randbytes(10), limit=4)
+        battle, narrator = Battle(random_team(dice), random_team(dice), dice.randbytes(10), limit=4), Narrator()
         while not battle.result.is_over:
             pair = [dice.choice(battle.choices(side)) for side in (1, 2)]
-            after, told, draws = explained(battle, *pair)
+            after, told, draws = explained(battle, *pair, narrator)
             battle.update_silent(*pair)
-            assert battle == after and all(map(sentence, told)) and all(said for it in draws for _, said in it.others)
+            assert (
+                battle == after and all(map(narrator.say, told)) and all(said for it in draws for _, said in it.others)
+            )
+
+
+# Side 1's Tauros comes out with 353 of 353 HP, uses Body Slam, has 233 HP left, and is not affected. Side 2 wins.
+OUT = bytes.fromhex("02 01 80 01 64 6101 6101 00")
+LOG = OUT + bytes.fromhex("03 01 80 22 02 78  05 01 80 e900 6101 00 00  0a 01 80  1a 02")
+# A log as side 2 is told it: HP of its foe are 48ths.
+TOLD = bytes.fromhex("05 01 80 1800 3000 00 00  05 01 80 0000 3000 00 04  1a 02")
+
+
+def test_sentences_by_hand():
+    """Sentences that were worked out from docs/MECHANICS.md and the specification."""
+    assert Narrator().sentences(LOG) == [
+        "Side 1 sends out Tauros.",
+        "Side 1's Tauros uses Body Slam.",
+        "Side 1's Tauros loses 120 HP, down to 233 of 353 HP.",
+        "Side 1's Tauros is not affected.",
+        "Side 2 wins.",
+    ]
+    assert Narrator(1).sentences(LOG)[2:] == [
+        "Your Tauros loses 120 HP, down to 233 of 353 HP.",
+        "Your Tauros is not affected.",
+        "The foe wins.",
+    ]
+    assert Narrator(you=2, in_percent=(True, False)).sentences(TOLD) == [
+        "The foe's Tauros is down to 50%.",
+        "The foe's Tauros loses its last 50% by recoil.",
+        "You win.",
+    ]
+
+
+def test_a_narrator_that_is_copied_or_refuses():
+    """A copy goes on alone, and a log that is refused changes nothing."""
+    narrator = Narrator()
+    assert narrator.sentences(OUT) == ["Side 1 sends out Tauros."]
+    copied = narrator.copy()
+    with pytest.raises(BadLog) as found:
+        narrator.sentences(bytes.fromhex("05 01 80 0000 6101 00 00  ff"))
+    assert found.value.at == 9
+    for of in (narrator, copied):
+        assert of.sentences(LOG[16:25]) == ["Side 1's Tauros loses 120 HP, down to 233 of 353 HP."]
+    for wrong in ((3,), (0,), (None, (True,)), (None, (True, False, False))):
+        with pytest.raises(BadArgument):
+            Narrator(*wrong)
+    for wrong in (("1",), (None, 1), (None, (1, 0))):
+        with pytest.raises(BadType):
+            Narrator(*wrong)
+    with pytest.raises(BadType):
+        narrator.say("Tauros")
+
+
+def test_a_sentence_alone():
+    from gen1 import events
+    from gen1.sentences import sentence
+
+    assert sentence(events(LOG)[2]) == "Side 1's Tauros is down to 233 of 353 HP."
 
 
 @recorded_only
-def test_sentences_for_every_event():
-    """Each kind of event of the recorded battles in a sentence with a full stop."""
+def test_sentences_of_every_event():
+    """Each kind of event of the recorded battles in a sentence, event by event as by the whole log."""
     from gen1 import events
 
     logs = [bytes.fromhex(it["hex"]) for it in cases(recorded("print.jsonl")) if "hex" in it and not it.get("stderr")]
     logs += [bytes.fromhex(it["log"] or "") for battle in traces(recorded("corners.jsonl")) for it in battle["updates"]]
-    kinds = set()
-    for event in (event for log in logs for event in events(log)):
-        text = sentence(event)
-        assert text[0].isupper() and text.endswith(".") and "{" not in text and "None" not in text
-        kinds.add(event.kind)
+    kinds, whole, one_by_one = set(), Narrator(), Narrator()
+    for log in logs:
+        told = events(log)
+        assert whole.sentences(log) == [one_by_one.say(event) for event in told]
+        kinds |= {event.kind for event in told}
     assert len(kinds) == 28
 
 

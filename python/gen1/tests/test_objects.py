@@ -185,14 +185,11 @@ def test_without_numpy():
 
 
 def test_the_classes_of_events_are_exported():
-    from gen1.events import DamageEvent, Who
+    from gen1 import _events
+    from gen1.events import DamageEvent  # the name of the module in 1.0.0
 
-    assert gen1.DamageEvent is DamageEvent and gen1.Who is Who and callable(gen1.events)
-    kinds = {
-        it
-        for it in vars(sys.modules["gen1.events"]).values()
-        if isinstance(it, type) and it.__module__ == "gen1.events"
-    }
+    assert gen1.DamageEvent is DamageEvent and callable(gen1.events)
+    kinds = {it for it in vars(_events).values() if isinstance(it, type) and it.__module__ == "gen1._events"}
     assert len(kinds) == 32 and all(getattr(gen1, it.__name__) is it and it.__name__ in gen1.__all__ for it in kinds)
 
 
@@ -294,7 +291,7 @@ def test_events_are_those_of_the_log():
 
 def test_events_that_are_kept_are_those_that_the_library_reads():
     """A log is read from the events that came before where it can be, and from the library where it cannot: with the same result."""
-    read = sys.modules["gen1.events"]
+    read = sys.modules["gen1._events"]
     for _, update in battles():
         told, lines = gen1.events(update.log), update.lines
         assert (told, lines) == (gen1.events(update.log), update.lines)

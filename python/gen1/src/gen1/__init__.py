@@ -22,6 +22,7 @@ Use help(gen1.Battle) for one class. The main names:
                                  of them is sent
     Player, Teller               a player's view of a battle
     Spectator                    a spectator's view of a battle
+    Narrator                     the events of a battle in sentences
     Error                        the base class of all errors
     BattleArray                  many battles at once (needs numpy)
     BattleEnv, TwoPlayerEnv      environments for learning (need numpy)
@@ -33,37 +34,14 @@ all of them. One is implemented in Python too: gen1.draws, which lists the
 draws of an update, steps the generator of link numbers.
 """
 
+import sys
 from importlib import import_module
 from importlib.metadata import PackageNotFoundError, version
 from importlib.util import find_spec
 from typing import TYPE_CHECKING
 
-from gen1._library import LIBRARY_BUILD as library_build
-from gen1._library import LIBRARY_VERSION as library_version
-from gen1._odds import Chances, Damages, HpChange, Odds, ThreeChances, damage, drained, odds, recoil
-from gen1._outcomes import Outcomes
-from gen1.battle import Battle, Playouts, Result, Update
-from gen1.choices import Choice, Rules, Side
-from gen1.errors import (
-    BadArgument,
-    BadBytes,
-    BadHost,
-    BadLog,
-    BadPlace,
-    BadState,
-    BadTeam,
-    BadText,
-    BadType,
-    Error,
-    HostRefused,
-    LibraryMissing,
-    NoDamage,
-    NumpyMissing,
-    Refused,
-    ResetNeeded,
-    RoomRefused,
-)
-from gen1.events import (
+from gen1 import _events
+from gen1._events import (
     ActivateEvent,
     BoostEvent,
     CantEvent,
@@ -100,6 +78,31 @@ from gen1.events import (
     lines,
     log_bytes,
 )
+from gen1._library import LIBRARY_BUILD as library_build
+from gen1._library import LIBRARY_VERSION as library_version
+from gen1._odds import Chances, Damages, HpChange, Odds, ThreeChances, damage, drained, odds, recoil
+from gen1._outcomes import Outcomes
+from gen1.battle import Battle, Playouts, Result, Update
+from gen1.choices import Choice, Rules, Side
+from gen1.errors import (
+    BadArgument,
+    BadBytes,
+    BadHost,
+    BadLog,
+    BadPlace,
+    BadState,
+    BadTeam,
+    BadText,
+    BadType,
+    Error,
+    HostRefused,
+    LibraryMissing,
+    NoDamage,
+    NumpyMissing,
+    Refused,
+    ResetNeeded,
+    RoomRefused,
+)
 from gen1.hosts import Host, Row
 from gen1.messages import Message, Notice
 from gen1.names import (
@@ -134,11 +137,14 @@ from gen1.players import Announced, Player, PublicSide, Seen, SeenMove, Teller
 from gen1.recorder import Recorder
 from gen1.rooms import Room
 from gen1.samples import random_team, sample_sets, sample_teams
+from gen1.sentences import Narrator
 from gen1.spectators import ShownMember, ShownSide, ShownState, Spectator
 from gen1.states import ActiveState, MemberState, SideState, State
 from gen1.tables import Base, MoveData, base, effectiveness, move_data
 from gen1.teams import Member, Team
 
+# Pickles of 1.0.0 name the classes of events by this module, which `gen1.events`, a function, hid.
+sys.modules["gen1.events"] = _events
 try:
     __version__ = version("gen1")
 except PackageNotFoundError:
@@ -235,6 +241,7 @@ __all__ = [
     "MoveData",
     "MoveEvent",
     "MustRechargeEvent",
+    "Narrator",
     "NewFault",
     "NoDamage",
     "Notice",

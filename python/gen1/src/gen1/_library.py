@@ -21,6 +21,7 @@ from gen1._structs import (
     HostStruct,
     MessageStruct,
     MoveStruct,
+    NarratorStruct,
     NoticeStruct,
     OddsStruct,
     OutcomeListStruct,
@@ -43,6 +44,7 @@ from gen1.names import HEADER_VERSION
 
 BATTLE_BYTES = 384
 LINE_ROOM = 96
+SENTENCE_ROOM = 128
 WORDS_ROOM = 32
 LOG_END = 35
 WORDS_CHOICE = 43
@@ -171,6 +173,9 @@ result = bind("gen1_result", c_uint8, _BATTLE)
 next_event = bind("gen1_next_event", c_uint8, _BYTES, c_size_t, _SIZES, POINTER(EventStruct))
 event_bytes = bind("gen1_event_bytes", c_uint8, POINTER(EventStruct), c_uint8 * 10, _SIZES)
 next_line = bind("gen1_next_line", c_uint8, _BYTES, c_size_t, _SIZES, _TEXT, c_size_t, _SIZES)
+next_sentence = bind(
+    "gen1_next_sentence", c_uint8, _BYTES, c_size_t, _SIZES, POINTER(NarratorStruct), _TEXT, c_size_t, _SIZES
+)
 damage = bind("gen1_damage", c_uint8, _BATTLE, c_uint8, c_uint8, c_bool, c_uint16 * DAMAGES)
 odds_now = bind("gen1_odds_now", c_uint8, _BATTLE, c_uint8, c_uint8, POINTER(OddsStruct))
 knock_out = bind("gen1_knock_out", c_uint8, _BATTLE, c_uint8, c_uint8, POINTER(ChancesStruct))

@@ -249,6 +249,18 @@ class ShownSideStruct(Structure):
     ]
 
 
+class ToldStruct(Structure):
+    """gen1_told."""
+
+    _fields_ = [("hp", c_uint16), ("species", c_uint8), ("in_percent", c_uint8)]
+
+
+class NarratorStruct(Structure):
+    """gen1_narrator."""
+
+    _fields_ = [("one", ToldStruct), ("two", ToldStruct), ("you", c_uint8), ("reserved", c_uint8)]
+
+
 class SpectatorStruct(Structure):
     """gen1_spectator."""
 

@@ -41,7 +41,7 @@ from gen1._structs import (
 )
 from gen1.choices import Choice, Rules, Side, a_choice, a_side, choice_text, not_offered
 from gen1.errors import BadArgument, BadBytes, BadTeam, BadType, NoDamage, Refused
-from gen1.events import Event, events, lines
+from gen1._events import Event, events, lines
 from gen1.names import DamageFault, LoadFault, Move, NewFault, Outcome, Refusal, Request, Stat, Status
 from gen1.own_sides import OwnSide, own_side_of
 from gen1.states import State, changed, state_of, struct_of_state
@@ -178,12 +178,12 @@ class Battle:
 
     @classmethod
     def from_player(
-        cls: type[B], player: Player, foes: TeamLike, seed: SeedLike, rules: int = 0, limit: int = 1000
+        cls: type[B], player: Player, team: TeamLike, seed: SeedLike, rules: int = 0, limit: int = 1000
     ) -> B:
         """A battle that fits a player's knowledge, with a guess of the rest:
         the base of a search that doesn't cheat.
 
-        `foes` is the guess of the foe's team: first the members that have
+        `team` is the guess of the foe's team: first the members that have
         appeared, in the order in which they did, then the others. `seed`
         has the numbers to draw; `rules` and `limit` are as in `Battle(..)`.
         The player's own side is as it was shown. The foe's members have the
@@ -199,7 +199,7 @@ class Battle:
         """
         from gen1.guesses import guessed
 
-        return cls.from_state(guessed(player, as_team(foes), seed_bytes(seed), rules, limit))
+        return cls.from_state(guessed(player, as_team(team), seed_bytes(seed), rules, limit))
 
     @property
     def bytes(self) -> bytes:

@@ -14,15 +14,16 @@ from __future__ import annotations
 from collections import defaultdict
 from collections.abc import Iterator
 from dataclasses import dataclass
-from itertools import groupby
+from itertools import groupby, takewhile
 
 from gen1.battle import Battle
 from gen1.errors import Refused
-from gen1.events import DamageEvent, Event, HealEvent
-from gen1.sentences import sentence
+from gen1._events import DamageEvent, Event, HealEvent
+from gen1.sentences import Narrator
 
 # How many numbers are drawn in turn; and a limit above the number of draws of any update.
 NUMBERS, MOST = 9, 4700
+_HP = DamageEvent, HealEvent
 
 
 @dataclass(frozen=True)
@@ -61,57 +62,73 @@ def _drawing(battle: Battle) -> tuple[int, list[int]]:
     return state.index, list(state.numbers[:NUMBERS])
 
 
-def explained(before: Battle, one: int, two: int) -> tuple[Battle, list[Event], list[Draw]]:
+def explained(
+    before: Battle, one: int, two: int, narrator: Narrator | None = None
+) -> tuple[Battle, list[Event], list[Draw]]:
     """Makes an update on a copy: the battle after it, its events, and its
-    draws. Raises `Refused`.
+    draws. `narrator` is one that was told all events before, and is not
+    changed; without it, sentences don't say how much HP is lost. Raises
+    `Refused`.
     """
     after = before.copy()
     told = list(after.update(one, two).events)
-    numbers = drawn(before, after)
+    drawing, narrator = _Drawing(before, one, two, told), narrator or Narrator()
     draws = []
-    for at, byte in enumerate(numbers):
-        others = () if at >= NUMBERS else tuple(_others(before, one, two, at, told))
+    for at, byte in enumerate(drawn(before, after)):
+        others = () if at >= NUMBERS else tuple(drawing.others(at, narrator))
         draws.append(Draw(at + 1, byte, others, at >= NUMBERS))
     return after, told, draws
 
 
-def _others(before: Battle, one: int, two: int, at: int, told: list[Event]) -> Iterator[tuple[str, str]]:
-    """The effects that other bytes at a draw would have had, by ranges."""
-    state = before.state
-    index, seed = state.index, bytearray(state.numbers)
-    place = (index + at) % NUMBERS
-    # Draws after the ninth number are renewed. This inverts the renewal, to find the byte that becomes `byte` there.
-    renewed = index + at >= NUMBERS
-    ways = defaultdict(list)
-    for byte in range(256):
-        seed[place] = (byte - 1) * 205 % 256 if renewed else byte
-        copy = before.copy()
-        copy.reseed(bytes(seed), index)
-        try:
-            ways[_difference(told, list(copy.update(one, two).events))].append(byte)
-        except Refused:
-            ways["the update is refused"].append(byte)
-    for said, found in ways.items():
-        if said:
-            yield ranges(found), said
+@dataclass(frozen=True)
+class _Drawing:
+    """An update whose draws are replaced: the battle before it, its choices,
+    and its events.
+    """
+
+    before: Battle
+    one: int
+    two: int
+    told: list[Event]
+
+    def others(self, at: int, narrator: Narrator) -> Iterator[tuple[str, str]]:
+        """The effects that other bytes at a draw would have had, by ranges."""
+        ways = defaultdict(list)
+        for byte in range(256):
+            copy = self.before.copy()
+            copy.reseed(*self._with_draw(at, byte))
+            try:
+                events = list(copy.update(self.one, self.two).events)
+                ways[_difference(self.told, events, narrator.copy())].append(byte)
+            except Refused:
+                ways["the update is refused"].append(byte)
+        for said, found in ways.items():
+            if said:
+                yield ranges(found), said
+
+    def _with_draw(self, at: int, byte: int) -> tuple[bytes, int]:
+        """The seed and index from which a draw gives this byte."""
+        state = self.before.state
+        index, seed = state.index, bytearray(state.numbers)
+        # Draws after the ninth number are renewed. This inverts the renewal, to find the byte that becomes `byte` there.
+        renewed = index + at >= NUMBERS
+        seed[(index + at) % NUMBERS] = (byte - 1) * 205 % 256 if renewed else byte
+        return bytes(seed), index
 
 
-def _difference(told: list[Event], other: list[Event]) -> str:
+def _difference(told: list[Event], other: list[Event], narrator: Narrator) -> str:
     """The first difference between two lists of events; empty if they are the same."""
-    for one, two in zip(told, other):
-        if one != two:
-            if (
-                isinstance(one, (DamageEvent, HealEvent))
-                and isinstance(two, (DamageEvent, HealEvent))
-                and one.who == two.who
-            ):
-                return f"{one.who} has other HP"
-            return f"instead of {sentence(one)!r}: {sentence(two)}"
-    if len(told) == len(other):
-        return ""
-    longer = told if len(told) > len(other) else other
-    after = sentence(longer[min(len(told), len(other))])
-    return f"without {after!r}" if longer is told else f"then also: {after}"
+    same = [one for one, _ in takewhile(lambda pair: pair[0] == pair[1], zip(told, other))]
+    for event in same:
+        narrator.say(event)
+    one, two = (of[len(same)] if len(same) < len(of) else None for of in (told, other))
+    if one and two:
+        if isinstance(one, _HP) and isinstance(two, _HP) and one.who == two.who:
+            return f"{one.who} has other HP"
+        return f'instead of "{narrator.copy().say(one)}": {narrator.say(two)}'
+    if one:
+        return f'without "{narrator.say(one)}"'
+    return f"then also: {narrator.say(two)}" if two else ""
 
 
 def ranges(numbers: list[int]) -> str:

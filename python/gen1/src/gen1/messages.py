@@ -12,7 +12,7 @@ from gen1._check import shown, struct_from, within
 from gen1._structs import LOG_ROOM, MessageStruct, NoticeStruct, OwnSideStruct
 from gen1.choices import Choice, Side, a_side
 from gen1.errors import BadArgument, BadLog, BadType
-from gen1.events import Event, events
+from gen1._events import Event, events
 from gen1.names import Outcome
 from gen1.own_sides import OwnSide, mask_fault, own_fault, own_side_from
 

@@ -1,123 +1,93 @@
-"""Events in plain sentences."""
+"""Events in sentences, to a spectator or to a side.
 
-from gen1.events import (
-    ActivateEvent,
-    BoostEvent,
-    CantEvent,
-    CureEvent,
-    DamageEvent,
-    EndEvent,
-    Event,
-    FaultEvent,
-    Health,
-    HealEvent,
-    HitCountEvent,
-    MoveEvent,
-    OfOne,
-    PrepareEvent,
-    StartEvent,
-    StatusEvent,
-    SwitchEvent,
-    TurnEvent,
-    UnboostEvent,
-    WinEvent,
-)
-from gen1.names import EventKind, Reason, Source, Status
+>>> from gen1 import Battle, Member, Narrator
+>>> tauros = Member("Tauros", ["Body Slam"])
+>>> update = Battle([tauros], [tauros], seed=7).update(0, 0)
+>>> Narrator().sentences(update.log)[0]
+'Side 1 sends out Tauros.'
+>>> Narrator(1).sentences(update.log)[:2]
+['You send out Tauros.', 'The foe sends out Tauros.']
+"""
 
-CANT = {
-    Reason.ASLEEP: "is asleep",
-    Reason.FROZEN: "is frozen",
-    Reason.PARTIALLY_TRAPPED: "is trapped and cannot act",
-    Reason.FLINCHED: "flinches",
-    Reason.RECHARGING: "has to recharge",
-    Reason.DISABLED: "cannot use its disabled move",
-    Reason.PARALYSED: "is fully paralysed",
-}
-AILS = {
-    Status.NONE: "",
-    Status.SLEEP: "asleep",
-    Status.POISON: "poisoned",
-    Status.BURN: "burned",
-    Status.FREEZE: "frozen",
-    Status.PARALYSIS: "paralysed",
-}
-SOURCES = {
-    Source.DIRECT: "",
-    Source.POISON: " by poison",
-    Source.BURN: " by its burn",
-    Source.LEECH_SEED: " by Leech Seed",
-    Source.RECOIL: " by recoil",
-    Source.CONFUSION: " by hitting itself in its confusion",
-}
-ALONE = {
-    EventKind.CRIT: "The hit on {} is critical.",
-    EventKind.SUPER_EFFECTIVE: "It is super effective on {}.",
-    EventKind.RESISTED: "{} resists it.",
-    EventKind.IMMUNE: "{} is immune.",
-    EventKind.MISS: "{} misses.",
-    EventKind.FAIL: "The action of {} fails.",
-    EventKind.MUST_RECHARGE: "{} has to recharge.",
-    EventKind.FAINT: "{} faints.",
-}
-OF_ALL = {
-    EventKind.CLEAR_ALL: "All stages of both sides are reset.",
-    EventKind.ONE_HIT: "It is a one-hit knock-out.",
-    EventKind.TIED: "The battle is a tie.",
-}
+from __future__ import annotations
+
+from ctypes import byref, c_size_t, create_string_buffer
+from typing import TYPE_CHECKING
+
+from gen1 import _library
+from gen1._check import listed, octets, truth
+from gen1._events import Event, log_bytes
+from gen1._structs import NarratorStruct
+from gen1.choices import Side, a_side
+from gen1.errors import BadArgument, BadLog
+from gen1.names import LogFault
+
+if TYPE_CHECKING:
+    from collections.abc import Iterable
+
+    from _typeshed import ReadableBuffer
+
+
+class Narrator:
+    """Tells the events of a battle in sentences.
+
+    It keeps which members are active, and their HP, so that a sentence can
+    say how much HP is lost and who is withdrawn: pass it all events of a
+    battle, in their order. A narrator must be used by one thread at a time.
+    """
+
+    __slots__ = ("_held",)
+
+    def __init__(self, you: Side | int | None = None, in_percent: Iterable[bool] = (False, False)) -> None:
+        """Creates a narrator before a battle.
+
+        `you` is the side that is told, "Your Tauros" and "The foe's Tauros";
+        with None, "Side 1's Tauros". `in_percent` says for side 1 and side 2
+        whether HP are said in per cent: those of the foe in a log of
+        `Teller.tell`, which reports them in 48ths. Raises `BadArgument`,
+        `BadType`.
+        """
+        given = [truth(it, "in_percent") for it in listed(in_percent, "in_percent", 2)]
+        if len(given) != 2:
+            raise BadArgument(f"in_percent must have 2 items, for side 1 and side 2, not {len(given)}")
+        self._held = NarratorStruct(you=0 if you is None else a_side(you))
+        self._held.one.in_percent, self._held.two.in_percent = given
+
+    def say(self, event: Event) -> str:
+        """The sentence of the next event, with its full stop. Raises
+        `BadArgument` for a field that is out of its range, `BadType`.
+        """
+        return self.sentences(log_bytes([event]))[0]
+
+    def sentences(self, log: ReadableBuffer) -> list[str]:
+        """The sentence of each event of the log of one or more updates.
+        Raises `BadLog`, `BadType`; then the narrator is unchanged.
+        """
+        given, held = octets(log, "log"), NarratorStruct.from_buffer_copy(self._held)
+        text, length, at = create_string_buffer(_library.SENTENCE_ROOM), c_size_t(0), c_size_t(0)
+        found = []
+        while at.value < len(given):
+            code = _library.next_sentence(given, len(given), at, byref(held), text, len(text), length)
+            if code:
+                raise BadLog(LogFault(code), at.value)
+            found.append(text.raw[: length.value].decode("ascii"))
+        self._held = held
+        return found
+
+    def copy(self) -> Narrator:
+        """An independent copy."""
+        made = Narrator.__new__(Narrator)
+        made._held = NarratorStruct.from_buffer_copy(self._held)
+        return made
+
+    __copy__ = copy
+
+    def __deepcopy__(self, _: object) -> Narrator:
+        return self.copy()
 
 
 def sentence(event: Event) -> str:
-    """An event as a sentence, such as "Side 1's Tauros uses Body Slam."."""
-    if isinstance(event, OfOne):
-        text = ALONE.get(event.kind, "{}").format(event.who)
-        text = text if event.kind in ALONE else f"{event.who} {_does(event)}."
-    elif isinstance(event, TurnEvent):
-        text = f"Turn {event.turn} begins."
-    elif isinstance(event, WinEvent):
-        text = f"{event.side.label} wins."
-    elif isinstance(event, FaultEvent):
-        text = f"The battle cannot go on: fault {event.fault}."
-    else:
-        text = OF_ALL[event.kind]
-    return text[0].upper() + text[1:]
-
-
-def _does(event: OfOne) -> str:
-    """The words for an event about a member, after its name."""
-    if isinstance(event, SwitchEvent):
-        return f"comes out from place {event.place} at level {event.level} with {health(event.health)}"
-    if isinstance(event, MoveEvent):
-        return f"uses {event.move}"
-    if isinstance(event, CantEvent):
-        return CANT[event.reason]
-    if isinstance(event, DamageEvent):
-        return f"loses HP{SOURCES[event.source]}: {health(event.health)} left"
-    if isinstance(event, HealEvent):
-        return f"gains HP: {health(event.health)} now"
-    if isinstance(event, StatusEvent):
-        return f"is {AILS[event.status]} now"
-    if isinstance(event, CureEvent):
-        return f"is no longer {AILS[event.status]}"
-    return _changes(event)
-
-
-def _changes(event: OfOne) -> str:
-    """The words for an event that begins, ends, rises or falls."""
-    if isinstance(event, (BoostEvent, UnboostEvent)):
-        way = "rises" if isinstance(event, BoostEvent) else "falls"
-        return f"has a stat that {way}: {event.stat} by {event.stages}"
-    if isinstance(event, StartEvent):
-        return f"is under {event.volatile} now"
-    if isinstance(event, EndEvent):
-        return f"is no longer under {event.volatile}"
-    if isinstance(event, ActivateEvent):
-        return f"is under {event.volatile} still"
-    if isinstance(event, PrepareEvent):
-        return f"prepares {event.move}"
-    assert isinstance(event, HitCountEvent)
-    return f"was hit {event.hits} time{'s' * (event.hits != 1)}"
-
-
-def health(of: Health) -> str:
-    """HP in words, such as "120 of 353 HP, paralysed"."""
-    return f"{of.hp} of {of.max_hp} HP" + (f", {AILS[of.status]}" if of.status else "")
+    """The sentence of an event alone, to a spectator. Raises as
+    `Narrator.say`.
+    """
+    return Narrator().say(event)

@@ -39,7 +39,7 @@ from gen1._extras import extras
 from gen1.battle import Battle, SeedLike
 from gen1.choices import Choice, Rules, Side, a_side
 from gen1.errors import BadArgument, BadTeam, BadType, Error
-from gen1.events import Event, events
+from gen1._events import Event, events
 from gen1.hosts import Host
 from gen1.messages import Message, Notice, a_message
 from gen1.names import Species
