@@ -39,11 +39,14 @@ export function guessOf(library, guess) {
  * The state that fits a player's knowledge. `fresh` has the members of the guessed team, unhurt. Battle.fromPlayer lists the values filled in.
  */
 export function stateGuessed(library, player, {seed, rules, limit}, fresh) {
-  const {side, own, ownPublic, foe, outcome} = player.view;
+  const {side, own, ownPublic, foe, foes: count, outcome} = player.view;
   if (!own?.active || !foe.active || outcome !== "ongoing")
     throw new ArgumentError("player must be in a battle that has begun and is not over", "player");
+  if (fresh.length !== (count ?? fresh.length))
+    throw new ArgumentError(
+        `guess.team must have ${count} members, as many as the foe has, not ${fresh.length}`, "guess.team");
   const mine = {members: own.members.map(ownMember), active: ownActive(library, own, ownPublic.active?.lastMove)};
-  const members = foes(foe, fresh);
+  const members = guessedMembers(foe, fresh);
   const member = members[foe.active.place - 1];
   const theirs = {members, active: foeActive(library, foe.active, member, own.active.held)};
   const asked = own.request === "move" ? "move" : member.hp === 0 ? "switch" : "pass";
@@ -68,7 +71,7 @@ function ownMember(member) {
 }
 
 // The guessed members; those that have appeared have their public values.
-function foes({members: seen}, fresh) {
+function guessedMembers({members: seen}, fresh) {
   if (fresh.length < seen.length)
     throw new ArgumentError(
         `guess.team must have the ${seen.length} members that have appeared, not ${fresh.length}`, "guess.team");

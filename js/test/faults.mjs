@@ -491,6 +491,10 @@ function guesses(gen1, check) {
     const more = player.clone();
     more.feed(Uint8Array.of(2, 2, 113, 2, 100, 191, 2, 191, 2, 0));
     outside(() => guessed({}, more), /^guess\.team must have the 2 members that have appeared, not 1$/);
+    const counting = gen1.player({side: 1, team: [TAUROS], foes: 3});
+    gen1.teller({side: 1}).report(
+        battle, gen1.battle({one: [TAUROS], two: [alakazam], seed: SEED}).update("pass", "pass").log, counting);
+    outside(() => guessed({}, counting), /^guess\.team must have 3 members, as many as the foe has, not 1$/);
     const over = player.clone();
     over.feed(Uint8Array.of(26, 1));
     for (const it of [over, gen1.player({side: 1, team: [TAUROS]})])

@@ -128,12 +128,12 @@ def agrees(copy, battle, side, places):
 def test_guesses_that_do_not_fit(player):
     before = player.copy()
     for foes, said in (
-        ([CHANSEY], "foes: member 1 must be Alakazam of level 100, which appeared, not Chansey of level 100"),
+        ([CHANSEY], "team: member 1 must be Alakazam of level 100, which appeared, not Chansey of level 100"),
         (
             [Member("Alakazam", ["Psychic"], level=99)],
-            "foes: member 1 must be Alakazam of level 100, which appeared, not Alakazam of level 99",
+            "team: member 1 must be Alakazam of level 100, which appeared, not Alakazam of level 99",
         ),
-        ([Member("Alakazam", ["Recover"])], "foes: member 1 must know Psychic, which it was seen to use"),
+        ([Member("Alakazam", ["Recover"])], "team: member 1 must know Psychic, which it was seen to use"),
     ):
         with pytest.raises(BadArgument) as fault:
             Battle.from_player(player, foes, SEED)
@@ -142,13 +142,24 @@ def test_guesses_that_do_not_fit(player):
     more.feed(bytes([2, 2, 113, 2, 100, 191, 2, 191, 2, 0]))
     with pytest.raises(BadArgument) as fault:
         Battle.from_player(more, [ALAKAZAM], SEED)
-    assert str(fault.value) == "foes must have the 2 members that have appeared, not 1"
+    assert str(fault.value) == "team must have the 2 members that have appeared, not 1"
     over = player.copy()
     over.feed(bytes([26, 1]))
     for it in (over, Player(1, [TAUROS])):
         with pytest.raises(BadArgument) as fault:
             Battle.from_player(it, [ALAKAZAM], SEED)
         assert str(fault.value) == "player must be in a battle that has begun and is not over"
+
+
+def test_a_guess_of_another_number_of_members():
+    """A player that knows that the foe has two members takes guesses of two."""
+    battle, teller, player = Battle([TAUROS], [ALAKAZAM, CHANSEY], SEED), Teller(1), Player(1, [TAUROS], foes=2)
+    teller.report(battle, battle.update(0, 0).log, player)
+    for team in ([ALAKAZAM], [ALAKAZAM, CHANSEY, TAUROS]):
+        with pytest.raises(BadArgument) as fault:
+            Battle.from_player(player, team, SEED)
+        assert str(fault.value) == f"team must have 2 members, as many as the foe has, not {len(team)}"
+    assert Battle.from_player(player, [ALAKAZAM, TAUROS], SEED).choices(1) == player.choices
 
 
 def test_wrong_arguments(player):

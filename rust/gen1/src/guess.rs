@@ -45,6 +45,8 @@ impl Guess {
 pub enum GuessFault {
     /// The battle has not begun, or it is over.
     NotGoingOn,
+    /// The player knows that the foe has this many members, and the guess has another number of them.
+    Count(u8),
     /// The member that appeared with this number, from 1, has another species or level in the guess, or is not in it.
     Member(u8),
     /// The member that appeared with this number was seen to use this move, but doesn't know it in the guess.
@@ -57,6 +59,12 @@ impl fmt::Display for GuessFault {
     fn fmt(&self, f: &mut fmt::Formatter<'_>) -> fmt::Result {
         match self {
             GuessFault::NotGoingOn => f.write_str("the battle has not begun, or it is over"),
+            GuessFault::Count(count) => {
+                write!(
+                    f,
+                    "the guessed team must have {count} members, as many as the foe has"
+                )
+            }
             GuessFault::Member(number) => {
                 write!(
                     f,
@@ -108,6 +116,12 @@ impl Battle {
         let (own, foe) = (player.own(), player.foe());
         if own.place == 0 || foe.place == 0 || player.outcome() != Outcome::Ongoing {
             return Err(GuessFault::NotGoingOn);
+        }
+        if let Some(count) = player
+            .foes()
+            .filter(|it| usize::from(*it) != guess.team.members().len())
+        {
+            return Err(GuessFault::Count(count));
         }
         let own_side = SideState {
             members: own.members[..usize::from(own.count).min(6)]

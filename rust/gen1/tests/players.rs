@@ -1,7 +1,8 @@
 //! Players: battles of a player's view are accepted and offer the same, and nothing hidden reaches a player.
 use gen1::{
-    Battle, Choice, Conditions, DamageSource, Event, Guess, LogBuf, LogFault, MemberSpec, MoveId,
-    Player, ReportFault, Side, Species, State, Team, Teller, UsedMove, Volatile, Who, member,
+    Battle, Choice, Conditions, DamageSource, Event, Guess, GuessFault, LogBuf, LogFault,
+    MemberSpec, MoveId, Player, ReportFault, Side, Species, State, Team, Teller, UsedMove,
+    Volatile, Who, member,
 };
 
 /// Knuth's generator: the upper bits of its states.
@@ -65,6 +66,28 @@ impl Appearance {
             .map(|at| self.specs[at].clone())
             .collect();
         Team::new(&members).unwrap()
+    }
+}
+
+#[test]
+fn a_guess_has_as_many_members_as_the_foe() {
+    let team = |count: usize| {
+        let specs: Vec<MemberSpec> = vec![member("Tauros", &["Body Slam"]).unwrap(); count];
+        Team::new(&specs).unwrap()
+    };
+    let mut battle = Battle::new(&team(1), &team(2), [7; 10]);
+    let mut player = Player::with_foes(Side::One, &team(1), 2);
+    let update = battle.update(Choice::Pass, Choice::Pass).unwrap();
+    Teller::new(Side::One)
+        .report(&battle, &update.log(), &mut player)
+        .unwrap();
+    for (count, fault) in [
+        (1, Some(GuessFault::Count(2))),
+        (2, None),
+        (3, Some(GuessFault::Count(2))),
+    ] {
+        let guessed = Battle::from_player(&player, &Guess::new(team(count), [9; 10]));
+        assert_eq!(guessed.err(), fault, "{count} members");
     }
 }
 

@@ -57,11 +57,13 @@ def guessed(player: Player, team: Team, numbers: bytes, rules: int, limit: int) 
     """The state of a battle that fits a player's knowledge. `Battle.from_player` lists the values that are filled in."""
     if not isinstance(player, Player):
         raise BadType(f"player must be a Player, not {shown(player)}")
-    own, foe = player.own, player.foe
+    own, foe, count = player.own, player.foe, player.foes or len(team)
     if not own.place or not foe.place or player.outcome is not Outcome.ONGOING:
         raise BadArgument("player must be in a battle that has begun and is not over")
+    if len(team) != count:
+        raise BadArgument(f"team must have {count} members, as many as the foe has, not {len(team)}")
     mine = SideState(tuple(map(_own_member, own.members)), _own_active(own, player.public(player.side).last_move))
-    members = _foes(foe, team)
+    members = _members(foe, team)
     theirs = SideState(members, _foe_active(foe, members[foe.place - 1], own.held))
     asked = [own.request, own.request]
     if own.request is not Request.MOVE:
@@ -87,10 +89,10 @@ def _own_member(of: OwnMember) -> MemberState:
     return MemberState(of.species, of.level, of.status, sleep, False, of.moves, of.pp, of.hp, of.max_hp, of.stats)
 
 
-def _foes(foe: PublicSide, team: Team) -> tuple[MemberState, ...]:
+def _members(foe: PublicSide, team: Team) -> tuple[MemberState, ...]:
     """The guessed members; those that have appeared have their public values."""
     if len(team) < len(foe.members):
-        raise BadArgument(f"foes must have the {len(foe.members)} members that have appeared, not {len(team)}")
+        raise BadArgument(f"team must have the {len(foe.members)} members that have appeared, not {len(team)}")
     fresh = Battle(team, team, bytes(10)).state.one.members
     seen = [_appeared(at, member, it) for at, (member, it) in enumerate(zip(fresh, foe.members), 1)]
     return (*seen, *fresh[len(seen) :])
@@ -100,14 +102,14 @@ def _appeared(place: int, member: MemberState, seen: Seen) -> MemberState:
     """A guessed member with its public values. HP reported in 48ths is rounded up."""
     if (member.species, member.level) != (seen.species, seen.level):
         wanted = f"{seen.species.label} of level {seen.level}, which appeared"
-        raise BadArgument(f"foes: member {place} must be {wanted}, not {member.species.label} of level {member.level}")
+        raise BadArgument(f"team: member {place} must be {wanted}, not {member.species.label} of level {member.level}")
     pp = list(member.pp)
     for it in seen.moves:
         if it.move in member.moves:
             at = member.moves.index(it.move)
             pp[at] = max(0, pp[at] - it.uses)
         elif it.move is not Move.STRUGGLE:
-            raise BadArgument(f"foes: member {place} must know {it.move.label}, which it was seen to use")
+            raise BadArgument(f"team: member {place} must know {it.move.label}, which it was seen to use")
     hp = -(-seen.hp * member.max_hp // seen.max_hp)
     return replace(member, pp=tuple(pp), hp=hp, status=seen.status, sleep=ASLEEP if seen.status is Status.SLEEP else 0)
 
