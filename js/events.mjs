@@ -123,6 +123,19 @@ export function linesOf(library, log) {
   });
 }
 
+/** The sentences of log bytes, and the narrator after them, both from the bytes of a gen1_narrator. */
+export function sentencesOf(library, log, narrator) {
+  let pointer;
+  const sentences = told(library, log, (...given) => {
+    const [text, length] = [library.room(CODES.SENTENCE_ROOM), library.room(8)];
+    pointer = library.put(narrator);
+    const next = () => library.textAt(text, library.sizeAt(length));
+    const room = library.size(CODES.SENTENCE_ROOM);
+    return () => [library.calls.gen1_next_sentence(...given, pointer, text, room, length), next];
+  });
+  return {sentences, narrator: library.read(pointer, narrator.length)};
+}
+
 /** The error for bytes that do not continue a log after `held`, the bytes of an incomplete event. */
 export function logErrorAfter(library, code, held, given) {
   const all = new Uint8Array(held.length + given.length);

@@ -919,6 +919,20 @@ export class Teller {
   report(battle: Battle, log: Uint8Array | ArrayBuffer, player: Player): void;
 }
 
+/**
+ * Tells the events of a battle in sentences, each with a full stop, such as "Your Tauros loses 120 HP, down to 233 of 353 HP." It notes which members
+ * are out, so it can tell what is lost and who is withdrawn. `gen1.narrator` creates it.
+ */
+export class Narrator {
+  private constructor();
+  clone(): Narrator;
+  /**
+   * The sentences of the next bytes of a battle's log, one for each event. The bytes hold whole events, such as the log of an update. Throws LogError, and
+   * then the narrator is unchanged.
+   */
+  sentences(log: Uint8Array | ArrayBuffer): string[];
+}
+
 /** The library. `load` creates it. Its calls throw ArgumentTypeError and ArgumentError for invalid arguments. */
 export class Gen1 {
   private constructor();
@@ -1002,6 +1016,11 @@ export class Gen1 {
   events(log: Uint8Array | ArrayBuffer): GameEvent[];
   /** The lines of log bytes, without line feeds. Throws LogError. */
   lines(log: Uint8Array | ArrayBuffer): string[];
+  /**
+   * Creates a narrator of a battle, before its first event. `you` is the side that it tells; without it, it tells a spectator. `inPercent` says
+   * whether HP of side 1 and of side 2 are told in per cent: those of the foe where the log is from a teller with `pixels`.
+   */
+  narrator(terms?: { you?: Side | null; inPercent?: readonly [boolean, boolean] }): Narrator;
   /** The log bytes of events, from which `events` reads the same events. A `size` is ignored. Throws ArgumentError for a field out of range. */
   logBytes(events: readonly (EventFields & { size?: number })[]): Uint8Array;
 }

@@ -20,7 +20,7 @@ import {Outcomes} from "./outcomes.mjs";
 import {Player, playerOf, Teller, tellerOf} from "./players.mjs";
 import {Room, roomOf} from "./room.mjs";
 import {Row, ROW_KINDS} from "./row.mjs";
-import {Spectator, spectatorOf} from "./spectator.mjs";
+import {Narrator, narratorOf, Spectator, spectatorOf} from "./spectator.mjs";
 import {blockOfState} from "./states.mjs";
 import {MOVES, SPECIES, TYPES} from "./tables.mjs";
 import {baseOf, effectivenessOf, memberBytes, membersFrom, moveDataOf, moveOf, sharedOf, statsOf, Team, teamError} from "./teams.mjs";
@@ -253,6 +253,11 @@ export class Gen1 {
     return linesOf(this.#library, octets(log, "log"));
   }
 
+  /** Creates a narrator of a battle before its first event: for a side, or for a spectator. */
+  narrator(terms = {}) {
+    return new Narrator(this.#library, narratorOf(this.#library, terms));
+  }
+
   /** The log bytes of events, from which `events` reads the same events. */
   logBytes(events) {
     return logBytesOf(this.#library, events);
@@ -289,6 +294,7 @@ export {
   Host,
   Message,
   MOVES,
+  Narrator,
   Notice,
   Outcomes,
   OUTCOMES,

@@ -1,8 +1,9 @@
-// A spectator's knowledge of a battle, from both teams and the log alone (docs/MECHANICS.md, "Spectator's view").
-import {inspected, octets} from "./arguments.mjs";
-import {logErrorAfter} from "./events.mjs";
+// A spectator's knowledge of a battle, from both teams and the log alone (docs/MECHANICS.md, "Spectator's view"), and a battle in sentences.
+import {inspected, list, octets, record, sideOf, truth} from "./arguments.mjs";
+import {ArgumentError} from "./errors.mjs";
+import {logErrorAfter, sentencesOf} from "./events.mjs";
 import {fieldOf, layoutOf, readStruct} from "./structs.mjs";
-import {teamAt, teamError, teamGiven} from "./teams.mjs";
+import {bytesOf, teamAt, teamError, teamGiven} from "./teams.mjs";
 import {made} from "./update.mjs";
 import {shownOf} from "./views.mjs";
 
@@ -68,5 +69,37 @@ export class Spectator {
 
   [Symbol.for("nodejs.util.inspect.custom")](depth, options, inspect) {
     return inspected("Spectator", this.state, options, inspect);
+  }
+}
+
+/** The bytes of a narrator before a battle. */
+export function narratorOf(library, terms) {
+  const {you = null, inPercent = [false, false]} = record(terms, "terms", "an object", ["you", "inPercent"]);
+  const {length} = list(inPercent, "inPercent", "a list of two, for side 1 and side 2");
+  if (length !== 2) throw new ArgumentError(`inPercent has ${length} values, not 2`, "inPercent");
+  const [one, two] = Array.from(inPercent, (value, at) => ({inPercent: truth(value, `inPercent[${at}]`) ? 1 : 0}));
+  return bytesOf("gen1_narrator", library.isLong, {one, two, you: you === null ? 0 : sideOf(you, "you")});
+}
+
+/** Tells the events of a battle in sentences, to a spectator or to a side. */
+export class Narrator {
+  #library;
+  #bytes;
+
+  constructor(library, bytes) {
+    this.#library = made(library, "Narrator", "gen1.narrator");
+    this.#bytes = bytes;
+  }
+
+  /** An independent copy. */
+  clone() {
+    return new Narrator(this.#library, this.#bytes.slice());
+  }
+
+  /** The sentences of the next log bytes, which hold whole events. */
+  sentences(log) {
+    const {sentences, narrator} = sentencesOf(this.#library, octets(log, "log"), this.#bytes);
+    this.#bytes = narrator;
+    return sentences;
   }
 }

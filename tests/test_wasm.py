@@ -1,11 +1,14 @@
 """The plain module of WebAssembly and its JavaScript package, under Node: recorded and random battles, and bad input."""
 
+import ctypes
 import json
 import re
 import shutil
 import subprocess
+from itertools import zip_longest
 
 import pytest
+from battles import recorded, traces
 from cargo import want_cargo
 from processes import add_counts, has, ran
 from repository import ROOT
@@ -79,6 +82,48 @@ def test_json_of_hosts(package):
     assert values[: len(wanted)] == wanted and len(values) > 1000
     for name, value in values:
         validators[name].validate(value)
+
+
+SAID = """
+import {readFileSync} from "node:fs";
+import {load} from "./gen1.mjs";
+const [gen1, logs] = [await load(readFileSync("gen1.wasm")), JSON.parse(readFileSync(0, "utf8"))];
+const voices = [{}, {you: 1, inPercent: [false, true]}, {you: 2, inPercent: [true, false]}];
+const said = logs.map((log) => voices.map((voice) => gen1.narrator(voice).sentences(Uint8Array.from(Buffer.from(log, "hex")))));
+process.stdout.write(JSON.stringify(said));
+"""
+
+
+def test_sentences(package, archive, room, compared, needs):
+    """Each event of the recorded battles has the sentence of the C library, for a spectator and for each side."""
+    needs("cc")
+    shared = room / "libgen1_sentences.so"
+    ran("cc", "-shared", "-o", shared, "-Wl,--whole-archive", archive, "-Wl,--no-whole-archive")
+    library, size = ctypes.CDLL(str(shared)), ctypes.c_size_t
+    logs = [
+        "".join(update["log"] for update in battle["updates"])
+        for name in ("traces", "corners")
+        for battle in traces(recorded(f"{name}.jsonl"))
+    ]
+    words = ["node", "--input-type=module", "--eval", SAID]
+    done = subprocess.run(words, cwd=package, input=json.dumps(logs), capture_output=True, text=True, check=True)
+    said, faults = [], []
+    for log, told in zip(map(bytes.fromhex, logs), json.loads(done.stdout), strict=True):
+        for voice, sentences in enumerate(told):
+            # A gen1_narrator: for each side its HP, its species, and whether they are told in per cent; the side that is told.
+            narrator = bytearray(10)
+            narrator[3], narrator[7], narrator[8] = voice == 2, voice == 1, voice
+            held, at, length = (ctypes.c_char * 10).from_buffer(narrator), size(), size()
+            text = ctypes.create_string_buffer(128)
+            due = []
+            while not library.gen1_next_sentence(
+                log, size(len(log)), ctypes.byref(at), held, text, size(128), ctypes.byref(length)
+            ):
+                due.append(text.value.decode())
+            said += due
+            faults += [f"{one!r}, not {two!r}" for one, two in zip_longest(sentences, due) if one != two]
+    assert len(said) > 90_000
+    compared(len(said), faults)
 
 
 def test_random_bytes(package):

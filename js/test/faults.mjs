@@ -658,6 +658,32 @@ function players(gen1, check) {
   });
 }
 
+function narrators(gen1, check) {
+  check("narrators that are none", () => {
+    for (const it of NO_OBJECTS.filter((it) => it !== undefined))
+      wrong(() => gen1.narrator(it), /^terms is .*, not an object$/);
+    outside(() => gen1.narrator({inPercents: [true, true]}), /"inPercents"; did you mean "inPercent"\?$/);
+    for (const you of [0, 3, ...BIG]) outside(() => gen1.narrator({you}), /^you is -?\d.*, not 1 or 2$/);
+    for (const you of ["1", true, {}]) wrong(() => gen1.narrator({you}), /^you is .*, not a whole number$/);
+    for (const it of [null, true, 5, {}])
+      wrong(() => gen1.narrator({inPercent: it}), /^inPercent is .*, not a list of two, for side 1 and side 2$/);
+    for (const count of [0, 1, 3])
+      outside(() => gen1.narrator({inPercent: Array(count).fill(true)}),
+          new RegExp(`^inPercent has ${count} values, not 2$`));
+    wrong(() => gen1.narrator({inPercent: [true, 1]}), /^inPercent\[1\] is 1, not true or false$/);
+  });
+  check("what a narrator refuses", () => {
+    const narrator = gen1.narrator();
+    const {log} = gen1.battle(TERMS).update("pass", "pass");
+    for (const it of [undefined, null, 5, "a log", [1]])
+      wrong(() => narrator.sentences(it), /^log is .*, not bytes, as a Uint8Array$/);
+    // The first event of the log is whole, and not told.
+    const {at} =
+        thrown(() => narrator.sentences(log.subarray(0, 13)), LogError, /^byte 10: the bytes end within an event/);
+    equal([at, narrator.sentences(log)], [10, gen1.narrator().sentences(log)]);
+  });
+}
+
 // Calls on a battle that has begun.
 function calls(gen1, check) {
   const battle = gen1.battle(TERMS);
@@ -714,8 +740,8 @@ function rooms(gen1, check) {
     equal([spectator.state, spectator.held], [gen1.spectator([TAUROS], [TAUROS]).state, new Uint8Array(0)]);
   });
   check("constructors", () => {
-    for (const kind of [library.Gen1, library.Battle, library.Update, library.Room, library.Spectator, library.Player,
-             library.Teller, library.Team, library.BattleArray])
+    for (const kind of [library.Gen1, library.Narrator, library.Battle, library.Update, library.Room, library.Spectator,
+             library.Player, library.Teller, library.Team, library.BattleArray])
       wrong(() => new kind(), /is created by .*, not by new/);
   });
 }
@@ -744,6 +770,7 @@ export async function badSources(check) {
 
 /** Runs all checks of bad input. */
 export function badInput(gen1, check) {
-  for (const part of [members, teams, terms, arrays, guesses, bytes, reasons, calls, rows, rooms, badHosts, players])
+  for (const part of [members, teams, terms, arrays, guesses, bytes, reasons, calls, rows, rooms, badHosts, players,
+           narrators])
     part(gen1, check);
 }

@@ -1,10 +1,10 @@
-// Uses of hosts and rooms that are checked twice, as those of uses.mjs.
+// Uses of hosts, rooms, spectators and narrators that are checked twice, as those of uses.mjs.
 import * as library from "../gen1.mjs";
 
 import {equal, holds} from "./holding.mjs";
 
 /** @template T @typedef {Exclude<keyof T, symbol>} Named the keys that are texts */
-const {Battle, Host, Message, Notice, Room, Row} = library;
+const {Battle, Host, Message, Narrator, Notice, Room, Row, Spectator} = library;
 
 /** @type {Record<Named<import("../gen1.mjs").Host>, true>} */
 const OF_HOST = {
@@ -77,6 +77,37 @@ const OF_ROOM = {
   forfeited: true,
   toJSON: true
 };
+/** @type {Record<Named<import("../gen1.mjs").Spectator>, true>} */
+const OF_SPECTATOR = {
+  bytes: true,
+  state: true,
+  held: true,
+  clone: true,
+  feed: true,
+  toJSON: true
+};
+/** @type {Record<Named<import("../gen1.mjs").ShownState>, true>} */
+const OF_SHOWN = {
+  one: true,
+  two: true,
+  turn: true,
+  outcome: true
+};
+/** @type {Record<Named<import("../gen1.mjs").ShownSide>, true>} */
+const OF_SHOWN_SIDE = {
+  members: true,
+  place: true,
+  stages: true,
+  substitute: true,
+  confused: true,
+  lightScreen: true,
+  reflect: true
+};
+/** @type {Record<Named<import("../gen1.mjs").Narrator>, true>} */
+const OF_NARRATOR = {
+  clone: true,
+  sentences: true
+};
 /**
  * Uses of hosts, rows and messages. `offers` compares the members of an object with those of its type.
  * @param {import("../gen1.mjs").Gen1} gen1
@@ -114,9 +145,36 @@ export function usesOfHosts(gen1, offers) {
  * @param {import("../gen1.mjs").Room} room
  * @param {(one: object, wanted: Record<string, true>) => void} offers
  */
-export function usesOfRooms(room, offers) {
+function usesOfRooms(room, offers) {
   offers(room, OF_ROOM);
   /** @type {import("../gen1.mjs").Update | null} */
   const waiting = room.submit(1, room.number, room.choices(1)[0]);
   holds(waiting === null && room.clone() instanceof Room, "another room");
+}
+
+/**
+ * Uses of a room, a spectator and a narrator.
+ * @param {import("../gen1.mjs").Gen1} gen1
+ * @param {import("../gen1.mjs").Terms} terms
+ * @param {(one: object, wanted: Record<string, true>) => void} offers
+ */
+export function usesOfViewers(gen1, terms, offers) {
+  const room = gen1.room(gen1.battle(terms));
+  const spectator = gen1.spectator(terms.one, terms.two);
+  offers(spectator, OF_SPECTATOR);
+  usesOfRooms(room, offers);
+  const log = room.submit(2, 0, "move 1")?.log ?? new Uint8Array(0);
+  spectator.feed(log);
+  holds(spectator.state.one.place === 0 && spectator.clone() instanceof Spectator, "another spectator");
+  for (const [one, wanted] of /** @type {[object, Record<string, true>][]} */ ([
+         [spectator.state, OF_SHOWN], [spectator.state.two, OF_SHOWN_SIDE],
+         [spectator.state.two.members[0], {hp: true, status: true}]
+       ]))
+    equal(Object.keys(one).sort(), Object.keys(wanted).sort());
+  const narrator = gen1.narrator({you: 2, inPercent: [true, false]});
+  offers(narrator, OF_NARRATOR);
+  /** @type {string[][]} */
+  const told = [gen1.narrator(), gen1.narrator({you: null}), narrator.clone()].map((it) => it.sentences(log));
+  holds(narrator instanceof Narrator && told.every((sentences) => sentences.length === gen1.events(log).length),
+      "another narrator");
 }

@@ -3,7 +3,7 @@
 import * as library from "../gen1.mjs";
 
 import {equal, holds, thrown} from "./holding.mjs";
-import {usesOfHosts, usesOfRooms} from "./host_uses.mjs";
+import {usesOfHosts, usesOfViewers} from "./host_uses.mjs";
 
 /** @typedef {import("../gen1.mjs").Gen1} Gen1 */
 /** @template T @typedef {Exclude<keyof T, symbol>} Named the keys that are texts */
@@ -22,7 +22,6 @@ const {
   REQUESTS,
   Room,
   Row,
-  Spectator,
   STATS,
   STATUSES,
   Team,
@@ -60,6 +59,7 @@ const EXPORTS = {
   Message: true,
   ModuleError: true,
   MOVES: true,
+  Narrator: true,
   Notice: true,
   Outcomes: true,
   OUTCOMES: true,
@@ -123,6 +123,7 @@ const OF_GEN1 = {
   recoil: true,
   events: true,
   lines: true,
+  narrator: true,
   logBytes: true,
 };
 /** @type {Record<Named<import("../gen1.mjs").Battle>, true>} */
@@ -166,15 +167,6 @@ const OF_OUTCOME = {
   battle: true,
   probability: true,
   weight: true
-};
-/** @type {Record<Named<import("../gen1.mjs").Spectator>, true>} */
-const OF_SPECTATOR = {
-  bytes: true,
-  state: true,
-  held: true,
-  clone: true,
-  feed: true,
-  toJSON: true
 };
 /** @type {Record<Named<import("../gen1.mjs").Player>, true>} */
 const OF_PLAYER = {
@@ -342,23 +334,6 @@ const OF_ACTIVE = {
   badPoison: true,
   turns: true,
   energy: true,
-};
-/** @type {Record<Named<import("../gen1.mjs").ShownState>, true>} */
-const OF_SHOWN = {
-  one: true,
-  two: true,
-  turn: true,
-  outcome: true
-};
-/** @type {Record<Named<import("../gen1.mjs").ShownSide>, true>} */
-const OF_SHOWN_SIDE = {
-  members: true,
-  place: true,
-  stages: true,
-  substitute: true,
-  confused: true,
-  lightScreen: true,
-  reflect: true
 };
 /** @type {Record<Named<import("../gen1.mjs").Odds>, true>} */
 const OF_ODDS = {
@@ -648,19 +623,6 @@ function battles(gen1) {
 }
 
 /** @param {Gen1} gen1 */
-function spectators(gen1) {
-  const room = gen1.room(gen1.battle(TERMS));
-  const spectator = gen1.spectator(TERMS.one, TERMS.two);
-  offers(spectator, OF_SPECTATOR);
-  usesOfRooms(room, offers);
-  spectator.feed(room.submit(2, 0, "move 1")?.log ?? new Uint8Array(0));
-  holds(spectator.state.one.place === 0 && spectator.clone() instanceof Spectator, "another spectator");
-  hasKeys(spectator.state, OF_SHOWN);
-  hasKeys(spectator.state.two, OF_SHOWN_SIDE);
-  hasKeys(spectator.state.two.members[0], {hp: true, status: true});
-}
-
-/** @param {Gen1} gen1 */
 function statesAndPlayers(gen1) {
   const battle = gen1.battle(TERMS);
   const [player, teller] = [gen1.player({side: 1, team: TERMS.one, foes: 2}), gen1.teller({side: 1, pixels: true})];
@@ -719,7 +681,9 @@ const NO_CONSTRUCTORS = [
   // @ts-expect-error
   () => new Room(),
   // @ts-expect-error
-  () => new Spectator(),
+  () => new library.Narrator(),
+  // @ts-expect-error
+  () => new library.Spectator(),
   // @ts-expect-error
   () => new Update(),
   // @ts-expect-error
@@ -751,6 +715,8 @@ function refused(gen1) {
     () => gen1.player({side: 1}),
     // @ts-expect-error
     () => gen1.teller({side: 3}),
+    // @ts-expect-error
+    () => gen1.narrator({inPercent: true}),
     // @ts-expect-error
     () => gen1.battleOfState({...battle.state, outcome: "won"}),
     // @ts-expect-error
@@ -795,8 +761,8 @@ function refused(gen1) {
 export function uses(gen1) {
   lists();
   battles(gen1);
-  spectators(gen1);
   usesOfHosts(gen1, offers);
+  usesOfViewers(gen1, TERMS, offers);
   statesAndPlayers(gen1);
   arrays(gen1);
   refused(gen1);

@@ -105,6 +105,86 @@ function logs(gen1, check) {
   });
 }
 
+// Bytes of events (docs/MECHANICS.md, "Log bytes"), each with its sentence for a spectator.
+const TOLD = [
+  [[2, 1, 128, 1, 100, 97, 1, 97, 1, 0], "Side 1 sends out Tauros."],
+  [[2, 2, 121, 1, 50, 100, 0, 200, 0, 5], "Side 2 sends out Starmie, level 50, with 100 of 200 HP, paralysed."],
+  [[1, 15, 39], "Turn 9999 begins."],
+  [[3, 1, 128, 70, 2, 121], "Side 1's Tauros uses Strength."],
+  [[4, 1, 128, 7], "Side 1's Tauros is fully paralysed."],
+  [[5, 2, 121, 30, 0, 200, 0, 5, 3], "Side 2's Starmie loses 70 HP by Leech Seed, down to 30 of 200 HP."],
+  [[6, 2, 121, 130, 0, 200, 0, 5], "Side 2's Starmie gains 100 HP, up to 130 of 200 HP."],
+  [[7, 2, 121], "Side 2's Starmie takes a critical hit."],
+  [[8, 2, 121], "It is super effective."],
+  [[9, 2, 121], "It is not very effective."],
+  [[10, 2, 121], "Side 2's Starmie is not affected."],
+  [[11, 1, 128], "Side 1's Tauros misses."],
+  [[12, 1, 128], "Side 1's Tauros fails."],
+  [[13, 1, 128, 3], "Side 1's Tauros is burned."],
+  [[14, 1, 128, 3], "Side 1's Tauros is no longer burned."],
+  [[15, 2, 121, 6, 2], "Side 2's Starmie's evasion rises by 2 stages."],
+  [[16, 2, 121, 1, 1], "Side 2's Starmie's Attack falls by 1 stage."],
+  [[17], "All stages go back to 0."],
+  [[18, 1, 128, 1], "Side 1's Tauros becomes confused."],
+  [[19, 1, 128, 3], "Side 1's Tauros loses its Substitute."],
+  [[20, 1, 128, 13], "Side 1's Tauros splashes: nothing happens."],
+  [[21, 1, 128, 19], "Side 1's Tauros prepares Fly."],
+  [[22, 1, 128], "Side 1's Tauros will have to recharge."],
+  [[23, 2, 121, 1], "Side 2's Starmie was hit once."],
+  [[24], "It is a one-hit knock-out."],
+  [[2, 1, 151, 2, 100, 44, 1, 97, 1, 0], "Side 1 withdraws Tauros and sends out Mew, with 300 of 353 HP."],
+  [[5, 2, 121, 0, 0, 200, 0, 5, 1], "Side 2's Starmie loses its last 130 HP by poison."],
+  [[25, 2, 121], "Side 2's Starmie faints."],
+  [[2, 2, 113, 2, 100, 191, 2, 191, 2, 0], "Side 2 sends out Chansey."],
+  [[28, 1], "The battle stopped by a division by 0."],
+  [[26, 2], "Side 2 wins."],
+  [[27], "The battle is a tie."],
+];
+// The same for side 2, which is told HP of side 1 in 48ths.
+const TOLD_TO_TWO = [
+  [[5, 1, 128, 24, 0, 48, 0, 0, 2], "The foe's Tauros is down to 50% by its burn."],
+  [[6, 2, 121, 130, 0, 200, 0, 5], "Your Starmie is healed to 130 of 200 HP."],
+  [[2, 2, 128, 1, 100, 97, 1, 97, 1, 0], "You withdraw Starmie and send out Tauros."],
+  [[5, 1, 128, 1, 0, 48, 0, 0, 0], "The foe's Tauros loses 48%, down to 2%."],
+  [[2, 1, 151, 2, 99, 47, 0, 48, 0, 1], "The foe withdraws Tauros and sends out Mew, level 99, with 97%, asleep."],
+  [[5, 1, 151, 0, 0, 48, 0, 1, 0], "The foe's Mew loses its last 97%."],
+  [[26, 2], "You win."],
+];
+// The battle of README.md.
+const SAID = [
+  "Side 1 sends out Tauros.",
+  "Side 2 sends out Tauros.",
+  "Turn 1 begins.",
+  "Side 1's Tauros uses Strength.",
+  "Side 2's Tauros takes a critical hit.",
+  "Side 2's Tauros loses 204 HP, down to 149 of 353 HP.",
+  "Side 2's Tauros uses Strength.",
+  "Side 1's Tauros loses 90 HP, down to 263 of 353 HP.",
+  "Turn 2 begins.",
+  "Side 1's Tauros uses Strength.",
+  "Side 2's Tauros takes a critical hit.",
+  "Side 2's Tauros loses its last 149 HP.",
+  "Side 2's Tauros faints.",
+  "Side 1 wins.",
+];
+
+// Sentences (docs/MECHANICS.md, "Events").
+function sentences(gen1, check) {
+  check("sentences for a spectator and for a side", () => {
+    const voices = [[gen1.narrator(), TOLD], [gen1.narrator({you: 2, inPercent: [true, false]}), TOLD_TO_TWO]];
+    for (const [narrator, told] of voices)
+      for (const [bytes, sentence] of told) equal(narrator.sentences(Uint8Array.from(bytes)), [sentence]);
+    equal(new Set(TOLD.map(([[tag]]) => tag)).size, library.EVENT_KINDS.length);
+  });
+  check("the battle of README.md in sentences", () => {
+    const [narrator, parts] = [gen1.narrator(), gen1.narrator({you: null})];
+    equal([narrator.sentences(LOG), parts.sentences(LOG.buffer.slice(0, 41)), parts.sentences(new Uint8Array())],
+        [SAID, SAID.slice(0, 6), []]);
+    const [copy, rest] = [parts.clone(), LOG.subarray(41)];
+    equal([parts.sentences(rest), copy.sentences(rest)], [SAID.slice(6), SAID.slice(6)]);
+  });
+}
+
 // States that are changed. A Tauros has Attack 298, Defense 288, Speed 318, Special 238 (docs/MECHANICS.md, "Stats" to "Penalties").
 function states(gen1, check) {
   const battle = begun(gen1, "Tauros", "Tauros", ["Splash", "Strength"]);
@@ -690,8 +770,8 @@ function seeds(gen1, check) {
 
 /** Runs all worked examples. */
 export function worked(gen1, check) {
-  for (const part of [logs, chances, states, players, guesses, rooms, hosts, spectators, texts, rows, arrays, searching,
-           seeds])
+  for (const part of [logs, sentences, chances, states, players, guesses, rooms, hosts, spectators, texts, rows, arrays,
+           searching, seeds])
     part(gen1, check);
   layouts(check);
 }
