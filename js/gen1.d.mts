@@ -1030,7 +1030,7 @@ export type Source = URL | string | BufferSource;
 
 /**
  * Loads the library: the module of this package, or one from its URL, its path in Node, or its bytes. With two modules, it loads the proved one if
- * this host has 64-bit memories, else the plain one. Rejects with ArgumentTypeError, ModuleError.
+ * this host has 64-bit memories, else the plain one. Rejects with ArgumentTypeError, ArgumentError, ModuleError.
  */
 export function load(source?: Source | { proved?: Source; plain: Source }): Promise<Gen1>;
 /** Whether this host has 64-bit memories. */

@@ -7,7 +7,7 @@
 //
 // The 384 bytes of a battle are in the module's memory. The garbage collector frees them, or `battle.free()` frees them at once.
 // JavaScript contains no rules of battle.
-import {byteOf, choiceOf, CHOICES, octets, truth, wrongType} from "./arguments.mjs";
+import {byteOf, choiceOf, CHOICES, octets, record, truth, wrongType} from "./arguments.mjs";
 import {arrayOf, BattleArray} from "./array.mjs";
 import {Battle, blockOfTerms, damageError, loadError} from "./battle.mjs";
 import {ModuleError} from "./errors.mjs";
@@ -273,6 +273,7 @@ export const HAS_LONG_MEMORIES = WebAssembly.validate(Uint8Array.of(0, 0x61, 0x7
  */
 export async function load(source = new URL("./gen1.wasm", import.meta.url)) {
   const isNamed = source?.proved !== undefined || source?.plain !== undefined;
+  if (isNamed) record(source, "source", "an object with proved and plain", ["proved", "plain"]);
   const build = !isNamed ? null : source.proved !== undefined && HAS_LONG_MEMORIES ? "proved" : "plain";
   const what = build ? `source.${build}` : "source";
   return new Gen1(new Library(await instanceOf(build ? source[build] : source, what)), build);

@@ -84,8 +84,12 @@ function followingPair(last, number) {
   throw new ArgumentError(`pair ${last} came last, so the next one must be ${last + 1}, not ${number}`, "number");
 }
 
+const MEMBER = ["species", "level", "dvs", "exp", "moves"];
+
 // A member in the module's form. A move alone has three PP ups, and what is left out is at its maximum.
-function memberOf({species, level = 100, dvs = [15, 15, 15, 15], exp = Array(5).fill(65535), moves}) {
+function memberOf(given, place) {
+  const it = record(given, `team[${place}]`, "a member: an object with species and moves", MEMBER);
+  const {species, level = 100, dvs = [15, 15, 15, 15], exp = Array(5).fill(65535), moves} = it;
   const pairs = Array.from(list(moves, "moves"), (move) => (typeof move === "string" ? [move, 3] : move));
   return {species, level, dvs: Array.from(dvs), exp: Array.from(exp), moves: pairs};
 }

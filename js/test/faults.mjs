@@ -750,6 +750,10 @@ function rooms(gen1, check) {
 const SOURCES = [
   ...[null, 5, true, {}, [1], {plain: 5}].map(
       (it) => [it, ArgumentTypeError, /^source(\.plain)? is .*, not a module: a URL, a path or their text/]),
+  [
+    {plain: "gen1.wasm", prove: "gen1_c.wasm"}, ArgumentError,
+    /^source has the unknown key "prove"; did you mean "proved"\?$/
+  ],
   [new URL("data:text/plain,none"), ModuleError, /^source, data:.* is not a module that can run here: /],
   [{plain: Uint8Array.of(1, 2, 3)}, ModuleError, /^source\.plain is not a module that can run here: /],
   [

@@ -35,6 +35,8 @@ function teams() {
   thrown(() => showdown.members("Taurus||||bodyslam|||||||"), TeamError, /"Taurus"; did you mean "Tauros"/);
   thrown(() => showdown.members("Tauros\n- Body Slum"), TeamError, /^line 2: .*did you mean "Body Slam"/);
   thrown(() => showdown.members([]), TeamError, /no member/);
+  const wrong = /** @type {any} */ ([{species: "Tauros", lvl: 50, moves: ["Body Slam"]}]);
+  thrown(() => showdown.members(wrong), ArgumentError, /^team\[0\] has the unknown key "lvl"; did you mean "level"\?$/);
   thrown(() => showdown.members(TAUROS, ["Bob"]), TeamError, /expected 2 nicknames.*found 1/);
   thrown(() => showdown.members(/** @type {any} */ (5)), ArgumentTypeError, /^team is 5/);
 }
