@@ -8,6 +8,8 @@ from selenium.webdriver.common.action_chains import ActionChains
 from selenium.webdriver.chrome.service import Service
 from selenium.webdriver.common.by import By
 
+from checks.cases import lines_in
+
 # The width and height of a desktop's and of a phone's screen.
 SIZES = {"wide": (1280, 800), "narrow": (390, 844)}
 
@@ -111,11 +113,9 @@ class Browser:
         ActionChains(self.driver, duration=0).send_keys(key).perform()
 
     def lines(self, selector):
-        """The lines of a list, as the program prints them."""
-        return self.run(
-            "return [...document.querySelectorAll(arguments[0] + ' [data-line]')].map((it) => it.dataset.line)",
-            selector,
-        )
+        """The events of a list as lines, as the program prints them."""
+        codes = "return [...document.querySelectorAll(arguments[0] + ' [data-code]')].map((it) => it.dataset.code)"
+        return lines_in(self.run(codes, selector))
 
     def words(self, selector):
         """The texts of elements, as a person reads them."""

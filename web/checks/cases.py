@@ -7,9 +7,10 @@ from functools import cache
 from pathlib import Path
 
 ROOT = Path(__file__).resolve().parent.parent.parent
-sys.path.insert(0, str(ROOT / "tools"))
+sys.path[:0] = [str(ROOT / "tools"), str(ROOT / "tests")]
 
 import battles  # noqa: E402
+import log_lines  # noqa: E402
 
 
 @cache
@@ -24,6 +25,11 @@ def traces():
 
 def lines_of(case):
     return case["stdout"].splitlines()
+
+
+def lines_in(codes):
+    """The lines of events, of which the page has the log bytes as hexadecimal digits."""
+    return [log_lines.line(bytes.fromhex(code)) for code in codes]
 
 
 @cache

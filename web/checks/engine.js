@@ -31,6 +31,9 @@ function equal(found, wanted) {
   if (one !== two) throw new Error(`found ${one}, not ${two}`);
 }
 
+// The line of an event.
+const lineOf = ({code}) => engine.gen1.lines(code)[0];
+
 function message(call) {
   try {
     call();
@@ -65,11 +68,11 @@ check("each species but Ditto has a usual set, which the engine takes", () => {
 check("a battle has the lines of the documents", () => {
   const first = begun("Strength");
   const events = engine.events(first.log);
-  equal(events.map(({size, line}) => [size, line]),
+  equal(events.map((event) => [event.size, lineOf(event)]),
       [[10, "|switch|p1a: Tauros|Tauros|353/353"], [10, "|switch|p2a: Tauros|Tauros|353/353"], [3, "|turn|1"]]);
   equal([events[1].side, events[1].place], [2, 1]);
   equal(engine.events(engine.update(first.battle, MOVE, MOVE).log)
-            .some(({line}) => line === "|-damage|p2a: Tauros|149/353"),
+            .some((event) => lineOf(event) === "|-damage|p2a: Tauros|149/353"),
       true);
 });
 
@@ -259,10 +262,11 @@ const below = (bound) => Math.floor((drawn = (drawn * 48271) % 0x7fffffff) / 0x7
 
 // What became of the use at a place in updates that came to it in the same way; of a knock-out with the same HP.
 function sampled(battle, pair, events, at, word) {
-  const isBegin = ({kind, line}) => ["move", "switch", "cant"].includes(kind) || /^.-activate.*confusion$/.test(line);
+  const isBegin = ({kind, volatile}) => ["move", "switch", "cant"].includes(kind) ||
+      (kind === "activate" && volatile === "confusion");
   const from = events.map(isBegin).lastIndexOf(true, at);
   const past = (list) =>
-      list.slice(0, from).map(({line}) => (word === "KO" ? line : line.replace(/\d+\/\d+.*/, ""))).join();
+      list.slice(0, from).map(lineOf).map((line) => (word === "KO" ? line : line.replace(/\d+\/\d+.*/, ""))).join();
   const counts = {hit: 0, miss: 0, crit: 0, KO: 0};
   let [all, hits] = [0, 0];
   for (let run = 0; run < 400; run++) {
@@ -270,16 +274,16 @@ function sampled(battle, pair, events, at, word) {
     copy.reseed(Array.from({length: 10}, () => below(256)));
     const found = engine.events(copy.update(...pair).log);
     copy.free();
-    if (past(found) !== past(events) || found[from]?.line !== events[from].line) continue;
+    if (past(found) !== past(events) || !found[from] || lineOf(found[from]) !== lineOf(events[from])) continue;
     const next = found.findIndex((event, place) => place > from && (isBegin(event) || event.kind === "turn"));
     const act = found.slice(from, next < 0 ? undefined : next);
     const kinds = act.map(({kind}) => kind);
     all++;
-    const isHit = !["-miss", "-fail", "-immune", "-prepare"].some((kind) => kinds.includes(kind));
+    const isHit = !["miss", "fail", "immune", "prepare"].some((kind) => kinds.includes(kind));
     if (isHit) hits++;
     if (isHit) counts.hit++;
-    if (kinds.includes("-miss")) counts.miss++;
-    if (kinds.includes("-crit")) counts.crit++;
+    if (kinds.includes("miss")) counts.miss++;
+    if (kinds.includes("crit")) counts.crit++;
     if (act.some(({kind, side}) => kind === "faint" && side !== events[from].side)) counts.KO++;
   }
   const of = word === "crit" ? hits : all;
@@ -354,7 +358,7 @@ check("the chances of a replay are those of a sample", () => {
         // The bytes of a link battle are not quite independent.
         const most = 4.5 * Math.sqrt(Math.max(chance * (1 - chance), 0.004) / of) + 0.015;
         if (Math.abs(share - chance) > most)
-          throw new Error(`${events[at].line}: ${text}, ${share} of ${of}; ${events.map(({line}) => line).join(" ")}`);
+          throw new Error(`${lineOf(events[at])}: ${text}, ${share} of ${of}; ${events.map(lineOf).join(" ")}`);
         found[word]++;
       }
     }

@@ -8,7 +8,7 @@ from selenium.webdriver.common.action_chains import ActionChains
 from selenium.webdriver.common.keys import Keys
 
 from checks.browser import SIZES
-from checks.cases import address_of, cases, lines_of, traces
+from checks.cases import address_of, cases, lines_in, lines_of, traces
 from checks.replay import battle
 
 UPDATES = "return Number(document.getElementById('play-game').dataset.updates)"
@@ -340,8 +340,10 @@ def the_log_is_whole_and_searched(browser):
     assert browser.lines("#play-lines") == lines_of(case)
     wanted = [line for line in lines_of(case) if line.startswith("|faint|")]
     browser.fill("#play-search", "faints")
-    seen = "return [...document.querySelectorAll('#play-lines li:not(.turn)')].filter((it) => it.checkVisibility()).map((it) => it.dataset.line)"
-    assert wanted and browser.run(seen) == wanted and browser.text("#play-found").split()[0] == str(len(wanted))
+    seen = "return [...document.querySelectorAll('#play-lines li:not(.turn)')].filter((it) => it.checkVisibility()).map((it) => it.dataset.code)"
+    assert (
+        wanted and lines_in(browser.run(seen)) == wanted and browser.text("#play-found").split()[0] == str(len(wanted))
+    )
     browser.fill("#play-search", "")
     assert len(browser.run(seen)) == len([line for line in lines_of(case) if not line.startswith("|turn|")])
 
@@ -430,7 +432,7 @@ def a_battle_that_was_played_is_watched(browser):
     browser.click("#play-menu summary")
     browser.click("#play-watch")
     browser.click("#replay-whole summary")
-    browser.wait("return document.querySelector('#replay-whole-lines [data-line]')")
+    browser.wait("return document.querySelector('#replay-whole-lines [data-code]')")
     assert browser.lines("#replay-whole-lines") == lines_of(case)
 
 

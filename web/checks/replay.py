@@ -9,7 +9,7 @@ from pathlib import Path
 from selenium.webdriver.common.keys import Keys
 
 from checks.browser import SIZES
-from checks.cases import ROOT, cases, lines_of
+from checks.cases import ROOT, cases, lines_in, lines_of
 
 
 def battle(least, most):
@@ -23,16 +23,15 @@ def battle(least, most):
 
 def steps(browser):
     """Goes forward to the end, and collects the lines of each update."""
-    return browser.run(
-        """
+    codes = """
         const found = [];
         const forward = document.getElementById('replay-forward');
         for (;;) {
-          for (const it of document.querySelectorAll('#replay-lines [data-line]')) found.push(it.dataset.line);
+          for (const it of document.querySelectorAll('#replay-lines [data-code]')) found.push(it.dataset.code);
           if (forward.getAttribute('aria-disabled') === 'true') return found;
           forward.click();
         }"""
-    )
+    return lines_in(browser.run(codes))
 
 
 def shown(browser, content, name="battle.json"):
@@ -61,7 +60,7 @@ def the_longest_recorded_battle_is_whole_at_its_end(browser):
     shown(browser, case["input"])
     browser.click("#replay-last")
     browser.click("#replay-whole summary")
-    browser.wait("return document.querySelector('#replay-whole-lines [data-line]')")
+    browser.wait("return document.querySelector('#replay-whole-lines [data-code]')")
     assert browser.lines("#replay-whole-lines") == lines_of(case)
 
 
@@ -150,14 +149,14 @@ def lines_are_replayed(browser):
         shown(browser, content, name)
         browser.click("#replay-last")
         browser.click("#replay-whole summary")
-        browser.wait("return document.querySelector('#replay-whole-lines [data-line]')")
+        browser.wait("return document.querySelector('#replay-whole-lines [data-code]')")
         assert browser.words("#replay-whole-lines li")[2:] == [
-            "Turn 1",
+            "Turn 1 begins.",
             "Side 1's Tauros uses Body Slam.",
             "Side 2's Starmie loses 30%, down to 70%.",
             "Side 2's Starmie is paralysed.",
             "Side 2's Starmie is fully paralysed.",
-            "Turn 2",
+            "Turn 2 begins.",
             "Side 2's Starmie uses Recover.",
             "Side 2's Starmie gains 30%, up to 100%.",
             "Side 1 withdraws Tauros and sends out Exeggutor, level 90.",
@@ -242,13 +241,14 @@ def chances_are_beside_lines(browser):
     browser.click("#replay-example")
     browser.click("#replay-last")
     browser.run("document.getElementById('replay-whole').open = true")
-    whole = "return [...document.querySelectorAll('#replay-whole-lines .chance')].map((it) => [it.closest('li').dataset.line.split('|')[1], it.textContent])"
+    whole = "return [...document.querySelectorAll('#replay-whole-lines .chance')].map((it) => [it.closest('li').dataset.code, it.textContent])"
     browser.wait("return document.querySelectorAll('#replay-whole-lines .chance').length > 10")
     said = browser.run(whole)
     words = {"move": "hit", "-miss": "miss", "-crit": "crit", "faint": "KO"}
-    for kind, text in said:
+    kinds = [line.split("|")[1] for line in lines_in(code for code, _ in said)]
+    for kind, (_, text) in zip(kinds, said):
         assert re.fullmatch(rf"{words[kind]} at [<>]?[0-9.]+%", text) and text != "hit at 99.6%", (kind, text)
-    assert {kind for kind, _ in said} == set(words), said
+    assert set(kinds) == set(words), said
     for field, value, other in (("#replay-see", "spectator", "all"), ("#replay-raw", "raw", "words")):
         browser.fill(field, value)
         assert not browser.run("return document.querySelectorAll('#panel-replay .chance').length"), value

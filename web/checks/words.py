@@ -1,4 +1,4 @@
-"""Sentences for the lines of each kind of event, compared with written ones."""
+"""Sentences of each kind of event, compared with written ones."""
 from checks.cases import names
 from checks.replay import shown
 
@@ -43,7 +43,7 @@ ENTER = [
         b"\x02" + who(2) + bytes([1, 50]) + health(100, 200, 5),
         "Side 2 sends out Starmie, level 50, with 100 of 200 HP, paralysed.",
     ),
-    (b"\x01\x01\x00", "Turn 1"),
+    (b"\x01\x01\x00", "Turn 1 begins."),
 ]
 ACTIONS = [
     (b"\x03" + who(1) + move("Strength") + who(2), "Side 1's Tauros uses Strength."),
@@ -77,7 +77,7 @@ HITS = [
         )
     ],
     (b"\x06" + who(2) + health(150, 200), "Side 2's Starmie gains 65 HP, up to 150 of 200 HP."),
-    *plain(0x07, 2, "It is a critical hit on side 2's Starmie."),
+    *plain(0x07, 2, "Side 2's Starmie takes a critical hit."),
     *plain(0x08, 2, "It is super effective."),
     *plain(0x09, 2, "It is not very effective."),
     (b"\x18", "It is a one-hit knock-out."),
@@ -114,13 +114,13 @@ EFFECTS = [
         0x12,
         1,
         (
-            "Side 1's Tauros is confused.",
+            "Side 1's Tauros becomes confused.",
             "Side 1's Tauros begins to bide.",
             "Side 1's Tauros puts up a Substitute.",
             "Side 1's Tauros is seeded.",
             "Side 1's Tauros is shrouded in Mist.",
             "Side 1's Tauros focuses its energy.",
-            "Side 1's Tauros is behind a Light Screen.",
+            "Side 1's Tauros is behind Light Screen.",
             "Side 1's Tauros is behind Reflect.",
             "Side 1's Tauros has a move disabled.",
             "Side 1's Tauros takes its foe's types.",

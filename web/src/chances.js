@@ -1,8 +1,9 @@
 // The chances beside the lines of an update: that a move hit, missed, was critical or knocked out. They are the library's odds at the moment of the
 // use; those of a use whose moment is not known are left out.
-import {StateError} from "gen1";
+import {StateError, STATS} from "gen1";
 
 import {percent} from "./calculation.js";
+import {sideOf} from "./words.js";
 
 /**
  * @typedef {import("./engine.js").GameEvent} GameEvent
@@ -15,11 +16,10 @@ const GOING = ["bide", "thrash", "trapping", "rage"];
 /** The conditions of a side that end, or begin to matter, as it acts before its foe. */
 const PASSING = ["bide", "charging", "invulnerable", "recharge"];
 /** Kinds of events after which the stats that a use has are not known from the position before the update. */
-const CHANGING = ["-status", "-curestatus", "-boost", "-unboost", "-clearallboost", "-start", "-end"];
+const CHANGING = ["status", "cure", "boost", "unboost", "clear all", "start", "end"];
 const BEGINNING = ["move", "switch", "cant"];
 /** The events of a use that has not hit. */
-const NO_HIT = ["-miss", "-fail", "-immune", "-prepare"];
-const STAGES = ["atk", "def", "spe", "spc", "acc", "eva"];
+const NO_HIT = ["miss", "fail", "immune", "prepare"];
 /** The chance to hit of a move with full accuracy, which is not said. */
 const FULL = 255 / 256;
 
@@ -41,17 +41,17 @@ function fresh(place, types) {
  * Applies what an event says about members that are out, their HP and their stages.
  * @param {import("gen1").State} state @param {GameEvent} event @param {import("gen1").Gen1} gen1
  */
-function apply(state, {kind, side, place, line}, gen1) {
-  const [, , , what, by] = line.split("|");
-  if (kind === "-clearallboost")
+function apply(state, event, gen1) {
+  if (event.kind === "clear all")
     for (const {active} of [state.one, state.two]) active?.stages.fill(0);
-  if (!side) return;
-  const it = sideIn(state, side);
-  if (kind === "switch") it.active = fresh(place, gen1.base(it.members[place - 1].species).types);
+  if (!("side" in event)) return;
+  const it = sideIn(state, event.side);
+  if (event.kind === "switch") it.active = fresh(event.place, gen1.base(event.species).types);
   const {active} = it;
-  if (active && (kind === "-damage" || kind === "-heal")) it.members[active.place - 1].hp = parseInt(what);
-  if (active && (kind === "-boost" || kind === "-unboost")) {
-    const [at, more] = [STAGES.indexOf(what), (kind === "-boost" ? 1 : -1) * Number(by)];
+  if (!active) return;
+  if (event.kind === "damage" || event.kind === "heal") it.members[active.place - 1].hp = event.hp;
+  if (event.kind === "boost" || event.kind === "unboost") {
+    const [at, more] = [STATS.indexOf(event.stat), event.kind === "boost" ? event.stages : -event.stages];
     active.stages[at] = Math.max(-6, Math.min(6, active.stages[at] + more));
   }
 }
@@ -59,13 +59,13 @@ function apply(state, {kind, side, place, line}, gen1) {
 /** @param {GameEvent[]} events @returns {Act[]} */
 function actsOf(events) {
   // A member that is confused may hit itself, without a move.
-  const isBegin = (/** @type {GameEvent} */ {kind, line}) =>
-      BEGINNING.includes(kind) || (kind === "-activate" && line.endsWith("|confusion"));
+  const isBegin = (/** @type {GameEvent} */ event) =>
+      BEGINNING.includes(event.kind) || (event.kind === "activate" && event.volatile === "confusion");
   const begins = events.flatMap((event, at) => (isBegin(event) ? [at] : []));
   return begins.flatMap((from, at) => {
-    const {kind, side, line} = events[from];
-    if (kind !== "move" || (side !== 1 && side !== 2)) return [];
-    return [{side, move: line.split("|")[3], events: events.slice(from, begins[at + 1]), from}];
+    const event = events[from];
+    if (event.kind !== "move") return [];
+    return [{side: event.side, move: event.move, events: events.slice(from, begins[at + 1]), from}];
   });
 }
 
@@ -78,7 +78,7 @@ function atMoment(engine, before, past, side) {
   const [user, foe] = [sideIn(state, side).active, sideIn(state, 3 - side).active];
   if (!user || !foe || user.conditions.some((it) => GOING.includes(it))) return null;
   if (!past.length) return before;
-  if (past.some(({kind}) => kind === "-prepare") || foe.conditions.some((it) => PASSING.includes(it))) return null;
+  if (past.some(({kind}) => kind === "prepare") || foe.conditions.some((it) => PASSING.includes(it))) return null;
   try {
     return before.withState((it) => past.forEach((event) => apply(it, event, engine.gen1)));
   } catch (error) {
@@ -99,15 +99,17 @@ function spoken(battle, {side, move, events}, isExact) {
   const isTested = takesHitTest && hitChance < 1;
   // A knock-out by the use itself: the last damage to the foe has no source.
   const isByUse = (/** @type {number} */ at) => {
-    const hurt = events.slice(0, at).filter((it) => it.kind === "-damage" && it.side === events[at].side).pop();
-    return events[at].side !== side && hurt !== undefined && !hurt.line.includes("[from]");
+    let source = "";
+    for (const event of events.slice(0, at))
+      if (event.kind === "damage" && event.side !== side) source = event.source;
+    return sideOf(events[at]) !== side && source === "direct";
   };
   return kinds.map((kind, at) => {
     if (kind === "move")
       return isTested && hitChance < FULL && !kinds.some((it) => NO_HIT.includes(it)) ? `hit at ${percent(hitChance)}` :
                                                                                         "";
-    if (kind === "-miss") return isTested ? `miss at ${percent(1 - hitChance)}` : "";
-    if (kind === "-crit") return `crit at ${percent(criticalChance)}`;
+    if (kind === "miss") return isTested ? `miss at ${percent(1 - hitChance)}` : "";
+    if (kind === "crit") return `crit at ${percent(criticalChance)}`;
     if (kind === "faint" && isExact && isByUse(at)) return `KO at ${percent(battle.knockOut(side, move).chanceOnce)}`;
     return "";
   });

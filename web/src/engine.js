@@ -2,7 +2,6 @@
 import {ArgumentError, ArgumentTypeError, byteOf, load, LogError, MOVES, RefusedError, SPECIES, StateError, TeamError, TextError} from "gen1";
 
 import {Problem} from "./dom.js";
-import {kindOf} from "./words.js";
 
 /**
  * @typedef {import("gen1").Gen1} Gen1
@@ -10,8 +9,8 @@ import {kindOf} from "./words.js";
  * @typedef {{ species: Record<string, readonly [string, string]>, moves: Record<string, Move> }} Tables the types of each species, and the moves
  * @typedef {{ species: string | number, level: number, dvs: number[], exp: number[], moves: [string | number, number][] }} Member
  * @typedef {{ seed: number[], one: Member[], two: Member[], rules: number, limit: number }} Terms
- * @typedef {{ kind: string, side: number, place: number, size: number, line: string, reason?: string }} GameEvent the kind is the first word of
- *   the line; and why a move fails, if that is known
+ * @typedef {import("gen1").GameEvent & { code: Uint8Array, why?: string }} GameEvent an event with its log bytes, and why a move fails, if that is
+ *   known
  * @typedef {import("gen1").SideState & { choices: number[] }} SideState
  * @typedef {import("gen1").State & { sides: SideState[] }} State
  * @typedef {import("gen1").ShownState & { sides: import("gen1").ShownSide[] }} View
@@ -183,15 +182,9 @@ export class Engine {
    */
   events(log, before = 0) {
     testLength(log, "The log");
+    let at = 0;
     try {
-      const lines = this.gen1.lines(log);
-      return this.gen1.events(log).map((event, at) => ({
-        kind: kindOf(lines[at]),
-        side: "side" in event ? event.side : 0,
-        place: event.kind === "switch" ? event.place : 0,
-        size: event.size,
-        line: lines[at],
-      }));
+      return this.gen1.events(log).map((event) => ({...event, code: log.subarray(at, (at += event.size))}));
     } catch (error) {
       if (error instanceof LogError)
         throw new Problem(`This is not the log of a battle: ${error.reason} (at byte ${before + error.at}).`);

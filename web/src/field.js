@@ -1,8 +1,10 @@
 // The field: both active members with their tokens, and the changes that an event makes.
+import {STATS} from "gen1";
+
 import {make} from "./dom.js";
 import {badge, STAGES} from "./sides.js";
 import {token} from "./tokens.js";
-import {percentage, STATUS_WORDS} from "./words.js";
+import {percentage, STATUS_TAGS, STATUS_WORDS} from "./words.js";
 
 /**
  * @typedef {import("./sides.js").Shown} Shown
@@ -11,20 +13,38 @@ import {percentage, STATUS_WORDS} from "./words.js";
  * @typedef {"" | "under" | "above"} Hidden where a member is that cannot be reached
  */
 
-/** @type {Record<string, string>} */
+/** @type {Partial<Record<import("gen1").Volatile, string>>} */
 const STARTED = {
   confusion: "Confused",
-  Bide: "Bide",
-  Substitute: "Substitute",
-  "Leech Seed": "Seeded",
-  Mist: "Mist",
-  "Focus Energy": "Focus Energy",
-  "Light Screen": "Light Screen",
-  Reflect: "Reflect",
-  Disable: "A move is disabled",
-  Rage: "Rage",
+  bide: "Bide",
+  substitute: "Substitute",
+  "leech seed": "Seeded",
+  mist: "Mist",
+  "focus energy": "Focus Energy",
+  "light screen": "Light Screen",
+  reflect: "Reflect",
+  disable: "A move is disabled",
+  rage: "Rage",
 };
-const STATS = ["atk", "def", "spe", "spc", "acc", "eva"];
+/**
+ * Where a move that was prepared hides its user.
+ * @type {Record<string, Hidden>}
+ */
+export const HIDDEN = {
+  Dig: "under",
+  Fly: "above"
+};
+
+/**
+ * The last move that a side prepares in some events; empty if it prepares none.
+ * @param {number} side @param {GameEvent[]} events
+ */
+export function preparedBy(side, events) {
+  let move = "";
+  for (const event of events)
+    if (event.kind === "prepare" && event.side === side) move = event.move;
+  return move;
+}
 
 /** One side of the field. */
 class Stand {
@@ -223,13 +243,13 @@ class Stand {
 
 /** @type {Record<string, string>} */
 const FLOATING = {
-  "-crit": "Critical!",
-  "-supereffective": "Super effective!",
-  "-resisted": "Not very effective",
-  "-immune": "No effect",
-  "-miss": "Missed",
-  "-fail": "Failed",
-  "-ohko": "One-hit knock-out!",
+  crit: "Critical!",
+  "super effective": "Super effective!",
+  resisted: "Not very effective",
+  immune: "No effect",
+  miss: "Missed",
+  fail: "Failed",
+  "one hit knock out": "One-hit knock-out!",
 };
 
 /** The field of a battle. */
@@ -273,109 +293,100 @@ export class Field {
    * @param {GameEvent} event @param {number} time in milliseconds
    */
   apply(event, time) {
-    if (event.kind === "-clearallboost")
+    if (event.kind === "clear all")
       for (const shown of this.shown) shown.stages = shown.stages.map(() => 0);
-    if (!event.side) return;
+    if (!("side" in event)) return;
     const stand = this.stands[event.side - 1];
     const before = stand.hp;
     const [how, text] = this.change(event, this.shown[event.side - 1]);
     this.draw(event.side);
     if (!time) return;
     stand.move(how, time, text);
-    if (event.kind === "-damage" || event.kind === "-heal") stand.count(before, stand.hp, time * 0.8);
+    if (event.kind === "damage" || event.kind === "heal") stand.count(before, stand.hp, time * 0.8);
   }
 
   /**
-   * Applies an event to the shown side, and returns how the token moves, and a text.
-   * @param {GameEvent} event @param {Shown} shown
+   * Applies an event of a side to its shown values, and returns how the token moves, and a text.
+   * @param {GameEvent & { side: number }} event @param {Shown} shown
    * @returns {[string, string?]}
    */
   change(event, shown) {
-    const [, , , what, ...rest] = event.line.split("|");
     const member = shown.members[shown.active - 1];
     switch (event.kind) {
       case "switch":
-        this.send(event, shown, what, rest[0]);
+        this.send(event, shown);
         return ["enter"];
       case "move":
         this.hidden[event.side - 1] = "";
-        if (member?.used && !member.used.includes(what)) member.used.push(what);
-        return ["lunge", what];
-      case "-prepare":
-        this.hidden[event.side - 1] = what === "Dig" ? "under" : what === "Fly" ? "above" : "";
-        return ["rise", what];
-      case "-damage":
-        heal(member, what);
-        return ["hit"];
-      case "-heal":
-        heal(member, what);
-        return ["rise"];
+        if (member?.used && !member.used.includes(event.move)) member.used.push(event.move);
+        return ["lunge", event.move];
+      case "prepare":
+        this.hidden[event.side - 1] = HIDDEN[event.move] ?? "";
+        return ["rise", event.move];
+      case "damage":
+      case "heal":
+        heal(member, event);
+        return [event.kind === "heal" ? "rise" : "hit"];
       case "faint":
         if (member) [member.hp, member.status] = [0, ""];
         return ["fall"];
       default:
-        return this.affect(event, shown, what, rest[0]);
+        return member ? this.affect(event, shown, member) : [""];
     }
   }
 
-  /** @param {GameEvent} event @param {Shown} shown @param {string} what @param {string} by @returns {[string, string?]} */
-  affect({kind}, shown, what, by) {
-    const member = shown.members[shown.active - 1];
-    if (!member) return [""];
-    if (kind === "-status" || kind === "-curestatus") {
-      member.status = kind === "-status" ? what : "";
-      return [kind === "-status" ? "sink" : "rise", kind === "-status" ? STATUS_WORDS[what] : "cured"];
+  /** @param {GameEvent} event @param {Shown} shown @param {ShownMember} member @returns {[string, string?]} */
+  affect(event, shown, member) {
+    switch (event.kind) {
+      case "status":
+        member.status = STATUS_TAGS[event.status];
+        return ["sink", STATUS_WORDS[member.status]];
+      case "cure":
+        member.status = "";
+        return ["rise", "cured"];
+      case "boost":
+      case "unboost": {
+        const [at, by] = [STATS.indexOf(event.stat), event.kind === "boost" ? event.stages : -event.stages];
+        shown.stages =
+            shown.stages.map((stage, place) => (place === at ? Math.max(-6, Math.min(6, stage + by)) : stage));
+        return [by > 0 ? "rise" : "sink", `${by > 0 ? "▲" : "▼"} ${STAGES[at]}`];
+      }
+      case "start":
+      case "end":
+      case "activate": {
+        const name = STARTED[event.volatile];
+        if (event.kind === "start" && name) shown.conditions = [...new Set([...shown.conditions, name])];
+        if (event.kind === "end" && name) shown.conditions = shown.conditions.filter((it) => !it.startsWith(name));
+        return [event.kind === "end" ? "sink" : "rise", name];
+      }
+      default:
+        return ["", FLOATING[event.kind]];
     }
-    if (kind === "-boost" || kind === "-unboost") {
-      const [at, isUp] = [STATS.indexOf(what), kind === "-boost"];
-      shown.stages = shown.stages.map(
-          (stage, place) => (place === at ? Math.max(-6, Math.min(6, stage + (isUp ? 1 : -1) * Number(by))) : stage));
-      return [isUp ? "rise" : "sink", `${isUp ? "▲" : "▼"} ${STAGES[at]}`];
-    }
-    const started = STARTED[what];
-    if (kind === "-start" && started) shown.conditions = [...new Set([...shown.conditions, started])];
-    if (kind === "-end" && started) shown.conditions = shown.conditions.filter((it) => !it.startsWith(started));
-    if (kind === "-start" || kind === "-end" || kind === "-activate")
-      return [kind === "-end" ? "sink" : "rise", started];
-    return ["", FLOATING[kind]];
   }
 
-  /** @param {GameEvent} event @param {Shown} shown @param {string} name as "Tauros, L50" @param {string} health */
-  send({side, place}, shown, name, health) {
-    const [species, level] = name.split(", L");
+  /** @param {Extract<GameEvent, { kind: "switch" }>} event @param {Shown} shown */
+  send(event, shown) {
+    const {side, place, species, level} = event;
     const types = this.engine.tables.species[species];
     const known = shown.members[place - 1];
     if (!known?.isKnown) {
-      shown.members = shown.members.map((it, at) => at === place - 1 ? {
-        species,
-        types,
-        level: Number(level ?? 100),
-        hp: 0,
-        max: 0,
-        status: "",
-        moves: [],
-        used: [],
-        isKnown: true,
-        hasPixels: true
-      } :
-                                                                       it);
+      shown.members = shown.members.map((it, at) => at === place - 1 ?
+              {species, types, level, hp: 0, max: 0, status: "", moves: [], used: [], isKnown: true, hasPixels: true} :
+              it);
     }
     Object.assign(shown, {active: place, types, stages: Array(6).fill(0), conditions: []});
-    heal(shown.members[place - 1], health);
+    heal(shown.members[place - 1], event);
     this.hidden[side - 1] = "";
   }
 }
 
 /**
- * Sets a member's HP and status from a line.
+ * Sets a member's HP and status from an event.
  * @param {ShownMember | undefined} member
- * @param {string} health as "120/353 par" or "0 fnt"
+ * @param {{ hp: number, maxHp: number, status: import("gen1").Status }} health
  */
-function heal(member, health) {
+function heal(member, {hp, maxHp, status}) {
   if (!member) return;
-  const [numbers, status] = health.split(" ");
-  const [now, most] = numbers.split("/").map(Number);
-  member.hp = now;
-  if (most) member.max = most;
-  member.status = status && status !== "fnt" ? status : "";
+  [member.hp, member.max] = [hp, maxHp];
+  member.status = hp ? STATUS_TAGS[status] : "";
 }

@@ -1,6 +1,7 @@
 // The running log: all lines of a battle, turn by turn, which can be searched.
+import {digits} from "./bytes.js";
 import {make} from "./dom.js";
-import {Narrator, sideOf} from "./words.js";
+import {sideOf, told} from "./words.js";
 
 /** @typedef {import("./engine.js").GameEvent} GameEvent */
 
@@ -9,10 +10,11 @@ import {Narrator, sideOf} from "./words.js";
  * @param {GameEvent[]} events @param {string[]} texts of the events @param {string[]} [chances] of the events, where there are any
  */
 export function lineItems(events, texts, chances = []) {
-  return events.map(({kind, line}, at) => {
+  return events.map((event, at) => {
     const chance = chances[at] ? [" ", make("span", {class: "chance"}, chances[at])] : [];
-    return make("li", {class: `line side-${sideOf(line)}${kind === "turn" ? " turn" : ""}`, "data-line": line},
-        texts[at], ...chance);
+    const turn = event.kind === "turn" ? {"data-turn": event.turn} : {};
+    const kind = `line side-${sideOf(event)}${event.kind === "turn" ? " turn" : ""}`;
+    return make("li", {class: kind, "data-code": digits(event.code), ...turn}, texts[at], ...chance);
   });
 }
 
@@ -23,16 +25,17 @@ export class Log {
     this.list = list;
     this.search = search;
     this.count = count;
-    this.narrator = new Narrator();
+    /** @type {import("gen1").Narrator | null} */
+    this.narrator = null;
     this.isScrolling = false;
     search.addEventListener("input", () => this.find());
     // A phone's keyboard or a turned screen changes the height.
     new ResizeObserver(() => this.toEnd()).observe(list);
   }
 
-  /** @param {import("./words.js").Voice} voice the point of view of the lines */
-  clear(voice) {
-    this.narrator = new Narrator(voice);
+  /** @param {import("gen1").Narrator} narrator tells the events that are added */
+  clear(narrator) {
+    this.narrator = narrator;
     this.search.value = "";
     this.list.replaceChildren();
     this.find();
@@ -40,8 +43,9 @@ export class Log {
 
   /** @param {GameEvent[]} events */
   add(events) {
-    const items = lineItems(events, events.map((event) => this.narrator.say(event)));
-    this.list.append(...items);
+    const {narrator} = this;
+    if (!narrator) return;
+    this.list.append(...lineItems(events, events.map((event) => told(narrator, event))));
     if (this.search.value) this.find();
     this.toEnd();
   }
@@ -61,7 +65,7 @@ export class Log {
    * @param {number} turn
    */
   toTurn(turn) {
-    const line = this.list.querySelector(`[data-line="|turn|${turn}"]`);
+    const line = this.list.querySelector(`[data-turn="${turn}"]`);
     if (line instanceof HTMLElement)
       this.list.scrollTop = line.offsetTop - this.list.offsetTop;
     else

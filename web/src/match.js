@@ -4,6 +4,7 @@ import {byteOf, HostError, REASONS} from "gen1";
 import {joined} from "./bytes.js";
 import {Problem} from "./dom.js";
 import {guessed} from "./guesses.js";
+import {sideOf} from "./words.js";
 
 /**
  * @typedef {import("./engine.js").GameEvent} GameEvent
@@ -138,11 +139,10 @@ export class Match {
     let mover = 0;
     for (const event of this.engine.events(told)) {
       if (event.kind === "move") mover = event.side;
-      if (event.side !== 3 - side) continue;
-      const isOfSleep = event.line.endsWith("|slp");
+      if (sideOf(event) !== 3 - side) continue;
       if (event.kind === "switch") foe = event.place;
-      if (event.kind === "-status" && isOfSleep && mover === side) places = [...places, foe];
-      if (event.kind === "faint" || (event.kind === "-curestatus" && isOfSleep))
+      if (event.kind === "status" && event.status === "sleep" && mover === side) places = [...places, foe];
+      if (event.kind === "faint" || (event.kind === "cure" && event.status === "sleep"))
         places = places.filter((it) => it !== foe);
     }
     return places;
@@ -154,13 +154,14 @@ export class Match {
    * @param {S} step @param {Viewer} viewer @param {GameEvent[]} events
    */
   explained(step, viewer, events) {
-    let [acts, move] = [0, ""];
+    let acts = 0;
+    let move = "";
     for (const event of events) {
       if (event.kind === "move" || event.kind === "switch") acts++;
-      if (event.kind === "move") move = event.line.split("|")[3];
-      if (event.kind !== "-fail" || !viewer) continue;
+      if (event.kind === "move") move = event.move;
+      if (event.kind !== "fail" || !viewer) continue;
       const at = acts > 1 ? step : this.steps[this.steps.indexOf(step) - 1];
-      event.reason = this.reason(at, viewer, event.side === 1 ? 1 : 2, move);
+      event.why = this.reason(at, viewer, event.side, move);
     }
     return events;
   }
@@ -181,13 +182,19 @@ export class Match {
   }
 
   /**
+   * The log of an update, as it is reported to a viewer.
+   * @param {S} step @param {Viewer} viewer
+   */
+  told(step, viewer) {
+    return step.told[viewer === 2 ? 1 : 0];
+  }
+
+  /**
    * The events of an update, as they are reported to a viewer.
-   * @param {S} step
-   * @param {Viewer} viewer
-   * @returns {GameEvent[]}
+   * @param {S} step @param {Viewer} viewer
    */
   events(step, viewer) {
-    return this.explained(step, viewer, this.engine.events(step.told[viewer === 2 ? 1 : 0]));
+    return this.explained(step, viewer, this.engine.events(this.told(step, viewer)));
   }
 
   /**
@@ -195,7 +202,7 @@ export class Match {
    * @param {Viewer} viewer
    */
   log(viewer) {
-    return joined(...this.steps.map((step) => step.told[viewer === 2 ? 1 : 0]));
+    return joined(...this.steps.map((step) => this.told(step, viewer)));
   }
 }
 
@@ -328,29 +335,13 @@ export class LocalMatch extends Match {
     return viewer === "all" ? this.battle(step) : super.basis(viewer, step);
   }
 
-  /** @param {Step} step @param {Viewer} viewer @returns {GameEvent[]} */
-  events(step, viewer) {
-    if (viewer === "all") return this.explained(step, viewer, this.engine.events(this.whole(step)));
-    if (viewer) return super.events(step, viewer);
+  /** @param {Step} step @param {Viewer} viewer */
+  told(step, viewer) {
+    if (viewer === "all") return this.whole(step);
+    if (viewer) return super.told(step, viewer);
     // Both sides know what is reported about a side to the other side.
     const [one, two] = step.told.map((told) => this.engine.events(told));
-    return one.map((event, at) => (event.side === 1 ? two[at] : event));
-  }
-
-  /** @param {Viewer} viewer */
-  log(viewer) {
-    if (viewer === "all") return joined(...this.steps.map((step) => this.whole(step)));
-    return viewer ? super.log(viewer) : joined(...this.steps.flatMap((step) => this.pieces(step)));
-  }
-
-  /**
-   * The events that both sides know, as bytes.
-   * @param {Step} step
-   */
-  pieces(step) {
-    let at = 0;
-    return this.engine.events(step.told[0]).map(({side,
-      size}) => step.told[side === 1 ? 1 : 0].slice(at, (at += size)));
+    return joined(...one.map((event, at) => (sideOf(event) === 1 ? two[at].code : event.code)));
   }
 
   /** @returns {import("./inputs.js").Input} */

@@ -6,13 +6,13 @@
 const TIMES = {
   switch: 550,
   move: 480,
-  "-damage": 700,
-  "-heal": 600,
+  damage: 700,
+  heal: 600,
   faint: 700,
   turn: 150,
-  "-status": 500,
-  "-boost": 500,
-  "-unboost": 500
+  status: 500,
+  boost: 500,
+  unboost: 500
 };
 const USUAL = 420;
 /** @type {Record<string, number>} */
@@ -28,14 +28,14 @@ const REDUCED = window.matchMedia("(prefers-reduced-motion: reduce)");
 const SOUNDS = {
   switch: ["triangle", 330, 660, 0.18],
   move: ["square", 240, 180, 0.08],
-  "-damage": ["sawtooth", 190, 60, 0.22],
-  "-heal": ["sine", 440, 880, 0.3],
-  "-crit": ["square", 880, 440, 0.15],
-  "-supereffective": ["square", 520, 700, 0.16],
-  "-miss": ["sine", 500, 350, 0.12],
-  "-status": ["triangle", 300, 150, 0.25],
-  "-boost": ["sine", 400, 700, 0.2],
-  "-unboost": ["sine", 500, 250, 0.2],
+  damage: ["sawtooth", 190, 60, 0.22],
+  heal: ["sine", 440, 880, 0.3],
+  crit: ["square", 880, 440, 0.15],
+  "super effective": ["square", 520, 700, 0.16],
+  miss: ["sine", 500, 350, 0.12],
+  status: ["triangle", 300, 150, 0.25],
+  boost: ["sine", 400, 700, 0.2],
+  unboost: ["sine", 500, 250, 0.2],
   faint: ["triangle", 400, 50, 0.55],
   win: ["triangle", 523, 1046, 0.5],
 };

@@ -4,7 +4,7 @@ import {Card} from "./card.js";
 import {areOut, sceneOf, standingIn} from "./carried.js";
 import {choiceButtons, damageOf, detail, forecast, keyOf} from "./choices.js";
 import {find, guarded, keepForTab, keepingFocus, kept, make, Problem} from "./dom.js";
-import {Field} from "./field.js";
+import {Field, HIDDEN, preparedBy} from "./field.js";
 import {Hint} from "./hint.js";
 import {ofAddress, toAddress} from "./inputs.js";
 import {Log} from "./log.js";
@@ -213,8 +213,9 @@ export class Play {
   /** Writes the log anew. */
   retell() {
     const {game, teller} = this;
-    const you = typeof teller === "number" ? teller : 0;
-    this.log.clear({you, inPixels: teller === "all" ? [] : SIDES.filter((side) => side !== you)});
+    const isInPixels = (/** @type {Side} */ side) => teller !== "all" && side !== teller;
+    const you = teller === 1 || teller === 2 ? teller : null;
+    this.log.clear(this.engine.gen1.narrator({you, inPercent: [isInPixels(1), isInPixels(2)]}));
     this.log.add(game.steps.flatMap((step) => game.events(step, teller)));
   }
 
@@ -423,9 +424,7 @@ export class Play {
     const {game, step} = this;
     // The view says that it is out of reach, and not where.
     if (!game.seen(side, step).active?.announced.includes("invulnerable")) return "";
-    const events = game.events(step, this.teller);
-    const prepared = events.find((event) => event.kind === "-prepare" && event.side === side)?.line.split("|")[3];
-    return prepared === "Fly" ? "above" : prepared === "Dig" ? "under" : "";
+    return HIDDEN[preparedBy(side, game.events(step, this.teller))] ?? "";
   }
 
   /** The names of the sides. */
@@ -694,11 +693,9 @@ export class Play {
     if (conditions.includes("recharge")) return "Recharge";
     if (!conditions.some((it) => GOING.includes(it))) return "";
     // A move that is charged is not the last one that was used.
-    const prepared = game.steps.flatMap((step) => game.events(step, side))
-                         .filter((event) => event.kind === "-prepare" && event.side === side)
-                         .pop();
-    const move =
-        conditions.includes("charging") ? prepared?.line.split("|")[3] : game.view(side).ownPublic.active?.lastMove;
+    const move = conditions.includes("charging") ?
+        preparedBy(side, game.steps.flatMap((step) => game.events(step, side))) :
+        game.view(side).ownPublic.active?.lastMove;
     return move ? `Continue ${move}` : "";
   }
 

@@ -1,7 +1,7 @@
 // A recorded battle: its state after each update, from an input or from log bytes.
 import {chancesOf} from "./chances.js";
 import {Problem} from "./dom.js";
-import {Narrator} from "./words.js";
+import {told} from "./words.js";
 
 /**
  * @typedef {import("./engine.js").Engine} Engine
@@ -42,18 +42,6 @@ function updatesOf(events) {
   return updates;
 }
 
-/**
- * A member as a switch in a frame shows it.
- * @param {string} line
- * @param {number} since
- * @returns {Known}
- */
-function toldBy(line, since) {
-  const [, , , name, health] = line.split("|");
-  const [species, level] = name.split(", L");
-  return {species, level: Number(level ?? 100), max: Number(health.split(" ")[0].split("/")[1] ?? 0), since};
-}
-
 /** A battle with all its frames. `begun` and then `steps` make it, in pieces of work that take about a millisecond each. */
 export class Recording {
   /** @param {Engine} engine @param {Recorded} recorded */
@@ -66,7 +54,7 @@ export class Recording {
     this.fault = "";
     /** @type {number[]} the sides whose HP are shares, in a log as it was reported to the other side */
     this.inPixels = [];
-    this.narrator = new Narrator();
+    this.narrator = engine.gen1.narrator();
     /** @type {string[][]} the sentences of the first frames */
     this.said = [];
     /** @type {string[][]} the chances of updates that were shown */
@@ -124,7 +112,7 @@ export class Recording {
     }
     if (!this.told.size) throw new Problem("The log begins in the middle of a battle: no member is sent out in it.");
     this.inPixels = [1, 2].filter((side) => this.isInPixels(side));
-    this.narrator = new Narrator({you: 0, inPixels: this.inPixels});
+    this.narrator = this.engine.gen1.narrator({inPercent: [this.inPixels.includes(1), this.inPixels.includes(2)]});
   }
 
   /**
@@ -141,20 +129,30 @@ export class Recording {
   /** @param {Uint8Array} log @param {GameEvent[]} events @param {Uint8Array | null} battle */
   add(log, events, battle) {
     for (const event of events) {
-      const key = `${event.side} ${event.place}`;
-      if (event.kind === "switch" && !this.told.has(key)) this.told.set(key, toldBy(event.line, this.frames.length));
+      if (event.kind !== "switch") continue;
+      const {side, place, species, level, maxHp} = event;
+      const key = `${side} ${place}`;
+      if (!this.told.has(key)) this.told.set(key, {species, level, max: maxHp, since: this.frames.length});
     }
     this.frames.push({log, events, battle, view: this.engine.watch(this.spectator, log)});
   }
 
   /**
-   * The lines of an update in words. They depend on all lines before.
+   * The events of an update as sentences. They depend on all events before.
    * @param {number} update
    */
   sentences(update) {
     while (this.said.length <= update)
-      this.said.push(this.frames[this.said.length].events.map((event) => this.narrator.say(event)));
+      this.said.push(this.frames[this.said.length].events.map((event) => told(this.narrator, event)));
     return this.said[update];
+  }
+
+  /**
+   * The events of an update as lines.
+   * @param {number} update
+   */
+  lines(update) {
+    return this.engine.gen1.lines(this.frames[update].log);
   }
 
   /**

@@ -3,7 +3,7 @@ import {link, setAddress} from "./address.js";
 import {Card} from "./card.js";
 import {areOut, sceneOf, standingIn, standingSeen} from "./carried.js";
 import {find, guarded, inField, keepingFocus, make, Problem} from "./dom.js";
-import {Field} from "./field.js";
+import {Field, HIDDEN, preparedBy} from "./field.js";
 import {isShort, mayBeShort, ofAddress, toAddress} from "./inputs.js";
 import {lineItems} from "./log.js";
 import {Motion} from "./motion.js";
@@ -244,9 +244,7 @@ export class Replay {
    * @returns {import("./field.js").Hidden}
    */
   hiddenOf(side) {
-    const events = this.recording?.frames[this.at].events ?? [];
-    const prepared = events.find((event) => event.kind === "-prepare" && event.side === side)?.line.split("|")[3];
-    return prepared === "Fly" ? "above" : prepared === "Dig" ? "under" : "";
+    return HIDDEN[preparedBy(side, this.recording?.frames[this.at].events ?? [])] ?? "";
   }
 
   /**
@@ -309,7 +307,7 @@ export class Replay {
   items(at) {
     const recording = /** @type {Recording} */ (this.recording);
     const {events} = recording.frames[at];
-    if (this.raw.value === "raw") return lineItems(events, events.map(({line}) => line));
+    if (this.raw.value === "raw") return lineItems(events, recording.lines(at));
     return lineItems(events, recording.sentences(at), this.see.value === "all" ? recording.chances(at) : []);
   }
 
