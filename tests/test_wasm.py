@@ -8,7 +8,7 @@ import subprocess
 from itertools import zip_longest
 
 import pytest
-from battles import recorded, traces
+from battles import cases, recorded, traces
 from cargo import want_cargo
 from processes import add_counts, has, ran
 from repository import ROOT
@@ -100,11 +100,9 @@ def test_sentences(package, archive, room, compared, needs):
     shared = room / "libgen1_sentences.so"
     ran("cc", "-shared", "-o", shared, "-Wl,--whole-archive", archive, "-Wl,--no-whole-archive")
     library, size = ctypes.CDLL(str(shared)), ctypes.c_size_t
-    logs = [
-        "".join(update["log"] for update in battle["updates"])
-        for name in ("traces", "corners")
-        for battle in traces(recorded(f"{name}.jsonl"))
-    ]
+    played = [battle for name in ("traces", "corners") for battle in traces(recorded(f"{name}.jsonl"))]
+    logs = ["".join(update["log"] for update in battle["updates"]) for battle in played]
+    logs += [case["hex"] for case in cases(recorded("print.jsonl")) if not case["stderr"]]
     words = ["node", "--input-type=module", "--eval", SAID]
     done = subprocess.run(words, cwd=package, input=json.dumps(logs), capture_output=True, text=True, check=True)
     said, faults = [], []

@@ -8,6 +8,7 @@ import {choose, scores} from "../src/computer.js";
 import {Engine} from "../src/engine.js";
 import {guessed, playerOf} from "../src/guesses.js";
 import {LocalMatch} from "../src/match.js";
+import {Recording} from "../src/recording.js";
 import {usualMoves} from "../src/sets.js";
 import {conditionWords, whole} from "../src/sides.js";
 
@@ -55,7 +56,11 @@ const asked = (moves, player) => {
   const match = new LocalMatch(engine, terms([tauros(...moves)], [tauros(...moves)]), [player, "random"]);
   return match.question(1, 1);
 };
-const begun = (...moves) => engine.update(engine.begin(terms([tauros(...moves)], [tauros(...moves)])), 0, 0);
+// A battle of two Tauros after its start, and the log.
+const begun = (...moves) => {
+  const battle = engine.begin(terms([tauros(...moves)], [tauros(...moves)]));
+  return {battle, log: engine.update(battle, 0, 0).log};
+};
 
 check("each species but Ditto has a usual set, which the engine takes", () => {
   for (const species of Object.keys(engine.tables.species)) {
@@ -74,6 +79,20 @@ check("a battle has the lines of the documents", () => {
   equal(engine.events(engine.update(first.battle, MOVE, MOVE).log)
             .some((event) => lineOf(event) === "|-damage|p2a: Tauros|149/353"),
       true);
+});
+
+check("a replay says why a move fails", () => {
+  // Leech Seed fails against a seeded foe (docs/MECHANICS.md, "Side effects"); with 90 % accuracy one of a few uses hits.
+  const input = {
+    ...terms([tauros("Leech Seed")], [tauros("Splash")]),
+    choices: [[0, 0], ...Array(6).fill([MOVE, MOVE])]
+  };
+  const recording = new Recording(engine, {input});
+  for (const share of recording.steps()) equal(share < 1, true);
+  const said = recording.frames.flatMap((frame, at) => recording.sentences(at));
+  const failures = said.filter((sentence) => sentence.startsWith("Side 1's Tauros fails"));
+  equal([said.includes("Side 2's Tauros is seeded."), failures.length > 1, new Set(failures).size], [true, true, 1]);
+  equal(failures[0], "Side 1's Tauros fails: the foe is seeded.");
 });
 
 check("errors are explained", () => {
@@ -112,18 +131,18 @@ check("a spectator knows what the log shows", () => {
 check("a status is shown as the lines write it", () => {
   // The status of side 1's first member (docs/LAYOUT.md, "Member").
   for (const [byte, word] of [[0, ""], [1, "slp"], [8, "psn"], [16, "brn"], [32, "frz"], [64, "par"]]) {
-    const {battle} = begun("Strength");
-    battle[24 + 14] = byte;
-    equal(whole(engine.tables, engine.state(battle).sides[0]).members[0].status, word);
+    const {bytes} = begun("Strength").battle;
+    bytes[24 + 14] = byte;
+    equal(whole(engine.tables, engine.state(bytes).sides[0]).members[0].status, word);
   }
 });
 
 check("conditions are shown with their numbers", () => {
-  const {battle} = begun("Strength");
+  const {bytes} = begun("Strength").battle;
   // Side 1's condition bits that don't depend on a move, and their numbers (docs/LAYOUT.md, "Active block").
-  battle.set([0xe8, 0xf3, 1], 168 + 17);
-  battle.set([30, 3, 1, 2, 5], 168 + 21);
-  equal(conditionWords(engine.state(battle).sides[0].active), [
+  bytes.set([0xe8, 0xf3, 1], 168 + 17);
+  bytes.set([30, 3, 1, 2, 5], 168 + 21);
+  equal(conditionWords(engine.state(bytes).sides[0].active), [
     "Flinches", "Out of reach", "Confused, 3 more", "Mist", "Focus Energy", "Substitute, 30 HP", "Seeded",
     "Bad poison, 5", "Light Screen", "Reflect", "Move 1 disabled"
   ]);
@@ -184,7 +203,7 @@ check("the computer chooses the offered choice with the most damage", () => {
 check("playouts do not know what the battle will draw", () => {
   const {battle} = begun("Strength", "Body Slam");
   const found = [Array(10).fill(0), Array(10).fill(255), [9, 200, 31, 4, 77, 128, 3, 250, 66, 5]].map((numbers) => {
-    const copy = engine.gen1.load(battle);
+    const copy = battle.clone();
     copy.reseed(numbers, numbers[9] % 9);
     return scores(copy, 1, 50, 7);
   });
@@ -193,7 +212,7 @@ check("playouts do not know what the battle will draw", () => {
 
 check("playouts differ from each other", () => {
   // With one move a side, two battles differ only in their draws.
-  const [score] = scores(engine.gen1.load(begun("Strength").battle), 1, 50, 7);
+  const [score] = scores(begun("Strength").battle, 1, 50, 7);
   equal(score >= 20 && score <= 80, true);
 });
 

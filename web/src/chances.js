@@ -1,6 +1,6 @@
 // The chances beside the lines of an update: that a move hit, missed, was critical or knocked out. They are the library's odds at the moment of the
 // use; those of a use whose moment is not known are left out.
-import {StateError, STATS} from "gen1";
+import {REASONS, StateError, STATS} from "gen1";
 
 import {percent} from "./calculation.js";
 import {sideOf} from "./words.js";
@@ -20,6 +20,8 @@ const CHANGING = ["status", "cure", "boost", "unboost", "clear all", "start", "e
 const BEGINNING = ["move", "switch", "cant"];
 /** The events of a use that has not hit. */
 const NO_HIT = ["miss", "fail", "immune", "prepare"];
+/** The reasons for a failure that follow from what both sides see. */
+export const SEEN_REASONS = REASONS.slice(REASONS.indexOf("the foe is awake"));
 /** The chance to hit of a move with full accuracy, which is not said. */
 const FULL = 255 / 256;
 
@@ -133,4 +135,20 @@ export function chancesOf(engine, battle, events) {
     for (const [at, text] of now ? spoken(now, act, isExact).entries() : []) found[act.from + at] = text;
   }
   return found;
+}
+
+/**
+ * Notes in the events of an update why moves fail: the library's reason at the moment of the use, where both sides see it.
+ * @param {import("./engine.js").Engine} engine
+ * @param {Uint8Array} battle before the update
+ * @param {GameEvent[]} events
+ */
+export function explain(engine, battle, events) {
+  if (!events.some(({kind}) => kind === "fail")) return;
+  const before = engine.gen1.load(battle);
+  for (const {side, move, events: own, from} of actsOf(events)) {
+    const failure = own.find((event) => event.kind === "fail" && event.side === side);
+    const reason = failure && atMoment(engine, before, events.slice(0, from), side)?.odds(side, move).reason;
+    if (reason && SEEN_REASONS.includes(reason)) failure.why = reason;
+  }
 }

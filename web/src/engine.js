@@ -154,22 +154,20 @@ export class Engine {
    */
   begin(terms) {
     const {one, two, seed, rules, limit} = terms;
-    return testingTeams(() => this.gen1.battle({one, two, seed, rules, limit})).bytes;
+    return testingTeams(() => this.gen1.battle({one, two, seed, rules, limit}));
   }
 
   /**
-   * The battle after a pair of choices, and the log; or why the pair is refused.
-   * @param {Uint8Array} battle
+   * Updates a battle by a pair of choices, and returns the log; or why the pair is refused.
+   * @param {import("gen1").Battle} battle
    * @param {number} one
    * @param {number} two
    */
   update(battle, one, two) {
-    const next = this.gen1.load(battle);
     try {
-      const {log} = next.update(one, two);
-      return {refused: "", battle: next.bytes, log};
+      return {refused: "", log: battle.update(one, two).log};
     } catch (error) {
-      if (error instanceof RefusedError) return {refused: error.reason, battle, log: new Uint8Array()};
+      if (error instanceof RefusedError) return {refused: error.reason, log: new Uint8Array()};
       throw error;
     }
   }
@@ -238,14 +236,8 @@ export class Engine {
 
   /**
    * The odds of the moves of a side's active member; none before the first update.
-   * @param {Uint8Array} battle
-   * @param {1 | 2} side
+   * @param {import("gen1").Battle} battle @param {1 | 2} side @returns {Odds[]}
    */
-  odds(battle, side) {
-    return this.oddsOf(this.gen1.load(battle), side);
-  }
-
-  /** @param {import("gen1").Battle} battle @param {1 | 2} side @returns {Odds[]} */
   oddsOf(battle, side) {
     const {members, active} = battle.state[side === 1 ? "one" : "two"];
     return active ? members[active.place - 1].moves.map((move, at) => this.oddsWith(battle, side, at + 1, move)) : [];

@@ -207,7 +207,7 @@ export class Inputs {
   pairs(terms, values) {
     const lists = values.map((pair, place) => list(pair, `choices[${place}]`, 2));
     const last = Math.max(-1, ...lists.flatMap((pair, at) => (pair.some((it) => typeof it === "string") ? [at] : [])));
-    const battle = last < 0 ? null : this.engine.gen1.load(this.engine.begin(terms));
+    const battle = last < 0 ? null : this.engine.begin(terms);
     let isRefused = false;
     return lists.map((pair, place) => {
       const bytes = pair.map((it, at) => {

@@ -1,7 +1,8 @@
 // A battle that is shown while it is played: its updates, and what each side knows of them. The page plays it itself, or a server does (remote.js).
-import {byteOf, HostError, REASONS} from "gen1";
+import {byteOf, HostError} from "gen1";
 
 import {joined} from "./bytes.js";
+import {SEEN_REASONS} from "./chances.js";
 import {Problem} from "./dom.js";
 import {guessed} from "./guesses.js";
 import {sideOf} from "./words.js";
@@ -19,8 +20,6 @@ import {sideOf} from "./words.js";
 
 /** @type {Side[]} */
 export const SIDES = [1, 2];
-/** The reasons for a failure that follow from what both sides see. */
-const SEEN_REASONS = REASONS.slice(REASONS.indexOf("the foe is awake"));
 
 /**
  * What each side knows of a battle, update by update. This is all that the page shows of a battle in covered hands.
@@ -216,7 +215,7 @@ export class LocalMatch extends Match {
     super(engine, terms, who);
     const [one, two] = [terms.one, terms.two];
     /** The table with the choices for the current pair. */
-    this.host = engine.gen1.host(engine.gen1.load(engine.begin(terms)), {mayCancel: true});
+    this.host = engine.gen1.host(engine.begin(terms), {mayCancel: true});
     this.add([0, 0],
         SIDES.map(
             (side) => engine.gen1.player({side, team: side === 1 ? one : two, foes: (side === 1 ? two : one).length})));
@@ -293,7 +292,7 @@ export class LocalMatch extends Match {
    */
   whole(step) {
     const before = this.steps[this.steps.indexOf(step) - 1];
-    const battle = before ? this.battle(before).bytes : this.engine.begin(this.terms);
+    const battle = before ? this.battle(before) : this.engine.begin(this.terms);
     return (step.log ??= this.engine.update(battle, step.pair[0], step.pair[1]).log);
   }
 

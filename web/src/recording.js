@@ -1,5 +1,5 @@
 // A recorded battle: its state after each update, from an input or from log bytes.
-import {chancesOf} from "./chances.js";
+import {chancesOf, explain} from "./chances.js";
 import {Problem} from "./dom.js";
 import {told} from "./words.js";
 
@@ -79,17 +79,16 @@ export class Recording {
 
   /** @param {import("./inputs.js").Input} input @returns {Generator<number>} */
   * play(input) {
-    let battle = this.engine.begin(input);
-    this.add(new Uint8Array(), [], battle);
+    const battle = this.engine.begin(input);
+    this.add(new Uint8Array(), [], battle.bytes);
     for (const [number, [one, two]] of input.choices.entries()) {
-      const update = this.engine.update(battle, one, two);
-      if (update.refused) {
+      const {refused, log} = this.engine.update(battle, one, two);
+      if (refused) {
         this.fault = `Pair ${number} of the choices (${one}, ${two}) is refused: ${
-            update.refused}. The battle is shown up to that pair.`;
+            refused}. The battle is shown up to that pair.`;
         return;
       }
-      battle = update.battle;
-      this.add(update.log, this.engine.events(update.log), battle);
+      this.add(log, this.engine.events(log), battle.bytes);
       yield number / input.choices.length;
     }
   }
@@ -142,8 +141,11 @@ export class Recording {
    * @param {number} update
    */
   sentences(update) {
-    while (this.said.length <= update)
-      this.said.push(this.frames[this.said.length].events.map((event) => told(this.narrator, event)));
+    for (let at = this.said.length; at <= update; at++) {
+      const [before, {events}] = [this.frames[at - 1]?.battle, this.frames[at]];
+      if (before) explain(this.engine, before, events);
+      this.said.push(events.map((event) => told(this.narrator, event)));
+    }
     return this.said[update];
   }
 
