@@ -3,7 +3,7 @@ import json
 import random
 import re
 
-from checks.cases import address_of, names
+from checks.cases import address_of, lines_in, names
 from checks.play import OFFERED, UPDATES
 from checks.tabs import COPIES
 
@@ -42,6 +42,7 @@ FOE_MOVES = (
     "Aurora Beam",
     "Stomp",
 )
+# The events in the log, and all that the page holds, at one moment.
 SEEN = """
 const form = [...document.querySelectorAll('#panel-play input, #panel-play textarea')].map((it) => it.value).join(' ');
 const shown = document.getElementById('panel-play').cloneNode(true);
@@ -51,7 +52,8 @@ const card = document.getElementById('play-card').cloneNode(true);
 // What a species may know is from the sample teams, whatever this foe knows.
 for (const it of card.querySelectorAll('[data-part^="May know"]')) it.remove();
 document.dispatchEvent(new KeyboardEvent('keydown', {key: 'Escape'}));
-return [shown.outerHTML, card.outerHTML, form, document.title, location.href, document.getElementById('messages').textContent, JSON.stringify(history.state), JSON.stringify(localStorage)].join(' ');
+const codes = [...document.querySelectorAll('#play-lines [data-code]')].map((it) => it.dataset.code);
+return [codes, [shown.outerHTML, card.outerHTML, form, document.title, location.href, document.getElementById('messages').textContent, JSON.stringify(history.state), JSON.stringify(localStorage)].join(' ')];
 """
 
 
@@ -129,7 +131,8 @@ def what_a_player_may_not_know_is_nowhere(browser):
         # The form's own sample team is not this battle's.
         browser.run(f"document.getElementById('play-team-1').value = ''; {COPIES}")
         for turn in range(TURNS):
-            lines, text = browser.lines("#play-lines"), browser.run(SEEN)
+            codes, text = browser.run(SEEN)
+            lines = lines_in(codes)
             if lines[-1].startswith(("|win|", "|tie")):
                 # After the battle, everything is shown.
                 break
