@@ -5,6 +5,7 @@ import re
 
 from checks.cases import address_of, lines_in, names
 from checks.play import OFFERED, UPDATES
+from checks.replay import PARTIES
 from checks.tabs import COPIES
 
 BATTLES, TURNS, EXPORTS = 50, 5, 10
@@ -110,16 +111,18 @@ def test_exports(browser, asked, lines):
     (page, held, log), link = exports(browser)
     # Of the page, only the battle that it holds differs from the page that everybody has.
     battle = re.search(r'<script id="battle" type="application/json">(.*?)</script>', page.decode())[1]
-    assert json.loads(battle) == json.loads(held) == {"log": log.hex()}
+    sizes = [len(asked[side]) for side in ("one", "two")]
+    assert json.loads(battle) == json.loads(held) == {"log": log.hex(), "sizes": sizes}
     species = names("Species")
     for it in asked["two"]:
         if f"|{it['species']}" not in "\n".join(lines):
             assert bytes([2, 2, species.index(it["species"]) + 1]) not in log
-    assert re.fullmatch(r"[^#]*#replay\?b=l[\w-]+", link), link
+    assert re.fullmatch(r"[^#]*#replay\?b=s[\w-]+", link), link
     browser.open(f"#{link.partition('#')[2]}&u=9999")
     browser.click("#replay-whole summary")
     browser.wait("return document.querySelector('#replay-whole-lines li')")
     assert browser.lines("#replay-whole-lines") == lines
+    assert [count for count, _ in browser.run(PARTIES)] == sizes
 
 
 def what_a_player_may_not_know_is_nowhere(browser):

@@ -103,6 +103,8 @@ SHOWDOWN = """
 |j|Red
 |player|p1|Red|1|
 |player|p2|Blue|2|
+|teamsize|p1|3
+|teamsize|p2|6
 |gen|1
 |start
 |switch|p1a: Bull|Tauros|353/353
@@ -137,6 +139,10 @@ def what_the_program_takes_is_replayed(browser):
     browser.wait("return document.getElementById('replay-fault').textContent.startsWith('Pair 1 ')")
 
 
+# The members of each side in the arena, and how many of them have not been seen.
+PARTIES = "return [1, 2].map((side) => ['', '.unknown'].map((kind) => document.querySelectorAll(`#replay-field .side-${side} .ball${kind}`).length))"
+
+
 def lines_are_replayed(browser):
     """Printed lines, a log of Showdown with names and HP in per cent, and one as Showdown saves it."""
     case = battle(25, 40)
@@ -163,6 +169,8 @@ def lines_are_replayed(browser):
             "Side 1's Exeggutor's Special rises by 2 stages.",
             "Side 1 wins.",
         ]
+        # All members are there, also those that have not come out.
+        assert browser.run(PARTIES) == [[3, 1], [6, 5]]
     for text, word in (
         ("|j|Red", "hold no battle"),
         ("|switch|p1a: X|Pichu|1/1", "Pichu"),
@@ -380,16 +388,28 @@ def what_a_spectator_shares_is_the_log(browser):
     )
     browser.fill("#replay-see", "spectator")
     log = browser.saved("#replay-share [data-share=log]", "battle.log")
-    assert json.loads(browser.saved("#replay-input", "battle.json")) == {"log": log.hex()}
+    sizes = [len(json.loads(case["input"])[side]) for side in ("one", "two")]
+    held = {"log": log.hex(), "sizes": sizes}
+    assert json.loads(browser.saved("#replay-input", "battle.json")) == held
     assert (
-        json.dumps({"log": log.hex()}, separators=(",", ":"))
+        json.dumps(held, separators=(",", ":"))
         in browser.saved("#replay-share [data-share=page]", "battle.html").decode()
     )
     browser.click("#replay-share [data-share=link]")
     link = browser.wait("return window.copied").partition("#")[2]
-    assert re.fullmatch(r"replay\?b=l[\w-]+&u=\d+", link), link
+    assert re.fullmatch(r"replay\?b=s[\w-]+&u=\d+", link), link
     browser.open(f"#{link}")
     assert steps(browser) and browser.run("return document.getElementById('replay-see').value") == "spectator"
+    assert [count for count, _ in browser.run(PARTIES)] == sizes
+    # A link without the sizes ends with the last member that came out.
+    browser.open("#replay?b=l" + base64.urlsafe_b64encode(log).decode().rstrip("="))
+    browser.click("#replay-last")
+    assert not browser.run("return document.querySelectorAll('#replay-field .party li:last-child .unknown').length")
+    for sizes in ([1], [0, 3], [3, "3"], 6):
+        browser.file("wrong.json", json.dumps({**held, "sizes": sizes}))
+        message = browser.wait("const it = document.getElementById('notice'); return !it.hidden && it.textContent")
+        assert "sizes" in message, message
+        browser.run("document.getElementById('notice-close').click()")
 
 
 def a_text_is_dropped_on_a_field(browser):

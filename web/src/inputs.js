@@ -11,7 +11,8 @@ import {eventsOfLines} from "./showdown.js";
  * @typedef {import("./engine.js").Member} Member
  * @typedef {import("./engine.js").Terms} Terms
  * @typedef {Terms & { choices: number[][] }} Input
- * @typedef {{ input: Input } | { log: Uint8Array }} Recorded the source of a battle
+ * @typedef {{ log: Uint8Array, sizes?: number[] }} Logged a log, and how many members each side has, where that is known
+ * @typedef {{ input: Input } | Logged} Recorded the source of a battle
  */
 
 /** @param {unknown} value @param {string} what @param {number} most @param {number} [least] @returns {number} */
@@ -40,6 +41,15 @@ function named(value, names, what) {
   if (typeof value !== "string" || !names.includes(value))
     throw new Problem(`${what} is ${JSON.stringify(value) ?? "missing"}, which is not a name in docs/TABLES.md.`);
   return value;
+}
+
+/**
+ * How many members each side has; undefined if that is not said.
+ * @param {unknown} value
+ */
+function sizesOf(value) {
+  if (value === undefined) return undefined;
+  return list(value, "sizes", 2).map((it, at) => whole(it, `sizes[${at}]`, 6, 1));
 }
 
 /** A byte that is no choice. */
@@ -140,9 +150,9 @@ export class Inputs {
    */
   lines(text) {
     testLength(new TextEncoder().encode(text), "The log");
-    const events = eventsOfLines(text, this.engine.tables);
+    const {events, sizes} = eventsOfLines(text, this.engine.tables);
     try {
-      return this.log(this.engine.gen1.logBytes(events));
+      return this.log(this.engine.gen1.logBytes(events), sizes);
     } catch (error) {
       if (!(error instanceof ArgumentError)) throw error;
       throw new Problem(`The lines hold no battle: ${error.message}.`);
@@ -150,7 +160,7 @@ export class Inputs {
   }
 
   /**
-   * A battle in JSON: an input, {"log": hexadecimal digits}, or {"log": lines} as Showdown saves a replay; or lines alone.
+   * A battle in JSON: an input, {"log": hexadecimal digits, "sizes": members of each side}, or {"log": lines} as Showdown saves a replay; or lines alone.
    * @param {string} text
    * @returns {Recorded}
    */
@@ -168,15 +178,15 @@ export class Inputs {
           found} in JSON. A battle is an object: {"seed": .., "one": .., "two": .., "choices": ..}, or {"log": ..}.`);
     }
     if (typeof value.log === "string" && value.choices === undefined)
-      return value.log.includes("|") ? this.lines(value.log) : this.log(ofDigits(value.log));
+      return value.log.includes("|") ? this.lines(value.log) : this.log(ofDigits(value.log), sizesOf(value.sizes));
     return {input: this.input(value)};
   }
 
-  /** @param {Uint8Array} log @returns {Recorded} */
-  log(log) {
+  /** @param {Uint8Array} log @param {number[]} [sizes] @returns {Logged} */
+  log(log, sizes) {
     testLength(log, "The log");
     if (!log.length) throw new Problem("The log has no events.");
-    return {log};
+    return sizes ? {log, sizes} : {log};
   }
 
   /** @param {any} value @returns {Input} */
@@ -242,7 +252,7 @@ export class Inputs {
    * @param {Recorded} recorded
    */
   text(recorded) {
-    if ("log" in recorded) return JSON.stringify({log: digits(recorded.log)});
+    if ("log" in recorded) return JSON.stringify({log: digits(recorded.log), sizes: recorded.sizes});
     const {seed, one, two, rules, limit, choices} = recorded.input;
     return JSON.stringify({seed, one, two, rules, limit, choices});
   }
@@ -268,11 +278,14 @@ export function isShort(code) {
 }
 
 /**
- * A battle in the form for an address: i and an input (seed, rules, limit, both teams, pairs), or l and a log.
+ * A battle in the form for an address: i and an input (seed, rules, limit, both teams, pairs), l and a log, or s, both sizes of teams and a log.
  * @param {Recorded} recorded
  */
 export function toAddress(recorded) {
-  if ("log" in recorded) return `l${encoded(recorded.log)}`;
+  if ("log" in recorded) {
+    const {log, sizes} = recorded;
+    return sizes ? `s${encoded(joined(sizes, log))}` : `l${encoded(log)}`;
+  }
   const {seed, one, two, rules, limit, choices} = recorded.input;
   const teams = [one, two].map((team) => joined([team.length], ...team.map(memberBytes)));
   return `i${encoded(joined(seed, [rules, limit & 255, limit >> 8], ...teams, choices.flat()))}`;
@@ -282,6 +295,7 @@ export function toAddress(recorded) {
 export function ofAddress(text, inputs) {
   const bytes = decoded(text.slice(1));
   if (text[0] === "l") return inputs.log(bytes);
+  if (text[0] === "s") return inputs.log(bytes.subarray(2), sizesOf([...bytes.subarray(0, 2)]));
   const damaged = () => new Problem("The address is damaged: it does not hold a battle.");
   let at = 13;
   const teams = [0, 1].map(() => {

@@ -35,6 +35,8 @@ export class Match {
     this.engine = engine;
     this.terms = terms;
     this.who = who;
+    /** How many members each side has. */
+    this.sizes = [terms.one.length, terms.two.length];
     /** @type {S[]} */
     this.steps = [];
     /** The part of the page that shows it. */

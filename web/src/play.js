@@ -139,7 +139,8 @@ export class Play {
 
   /** @returns {import("./inputs.js").Recorded} */
   recorded() {
-    return this.isBare ? {input: this.local.input()} : {log: this.game.log(this.teller)};
+    const {game, teller} = this;
+    return this.isBare ? {input: this.local.input()} : {log: game.log(teller), sizes: game.sizes};
   }
 
   link() {

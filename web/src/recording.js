@@ -77,6 +77,12 @@ export class Recording {
     return this.frames.length - 1;
   }
 
+  /** How many members each side has; undefined if a log does not say it. */
+  get sizes() {
+    const {recorded} = this;
+    return "input" in recorded ? [recorded.input.one.length, recorded.input.two.length] : recorded.sizes;
+  }
+
   /** @param {import("./inputs.js").Input} input @returns {Generator<number>} */
   * play(input) {
     const battle = this.engine.begin(input);

@@ -39,6 +39,7 @@ export class RemoteMatch extends Match {
         SIDES.map((side) => (side === room.side ? "person" : "remote")));
     this.tab = "online";
     this.names = room.names;
+    this.sizes = room.sizes;
     this.address = {r: room.room};
     this.room = room.room;
     this.side = room.side;

@@ -87,7 +87,7 @@ export class Replay {
       if (!this.recording) throw new Problem("There is no battle yet.");
       const log = this.recording.wholeLog();
       // A battle shared in the spectator's view contains no seed, and no more of the teams than the log.
-      const recorded = this.see.value === "all" ? this.recording.recorded : {log};
+      const recorded = this.see.value === "all" ? this.recording.recorded : {log, sizes: this.recording.sizes};
       const values = this.see.value === "all" ? this.values() : {...this.values(), b: toAddress(recorded), see: ""};
       return {recorded, log, inputs: this.inputs, link: link("replay", values)};
     });
@@ -230,8 +230,9 @@ export class Replay {
       return watched(
           tables, view.sides[side - 1], members.map(({species, level, maxHp}) => ({species, level, max: maxHp})));
     }
+    const size = "log" in recorded && recorded.sizes ? recorded.sizes[side - 1] : 0;
     const places =
-        Math.max(0, ...[...told.keys()].filter((key) => key[0] === String(side)).map((key) => Number(key[2])));
+        Math.max(size, ...[...told.keys()].filter((key) => key[0] === String(side)).map((key) => Number(key[2])));
     return watched(tables, view.sides[side - 1], Array.from({length: places}, (_, place) => {
       const known = told.get(`${side} ${place + 1}`);
       return known && known.since <= this.at ? {...known, hasPixels: inPixels.includes(side)} : null;

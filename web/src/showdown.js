@@ -87,7 +87,8 @@ class LineReader {
     this.out = {};
     /** @type {Record<string, string>} the sides by the names of their players */
     this.players = {p1: "p1", p2: "p2"};
-    this.last = "";
+    /** How many members each side has; 0 where no line has said it. */
+    this.sizes = [0, 0];
   }
 
   /**
@@ -99,6 +100,7 @@ class LineReader {
     const [, tag = "", who = "", what = "", ...rest] = line.trim().split("|");
     const key = who.slice(0, 2);
     if (tag === "player" && what) this.players[what] = who;
+    if (tag === "teamsize" && /^p[12]$/.test(who)) this.sizes[Number(who[1]) - 1] = Number(what);
     if (tag === "turn") return {kind: "turn", turn: Number(who)};
     if (tag === "win") return {kind: "win", side: this.players[who] === "p2" ? 2 : 1};
     if (tag === "tie") return {kind: "tie"};
@@ -175,7 +177,7 @@ class LineReader {
 }
 
 /**
- * The events of lines. Lines that are no event of a battle, such as chat, are left out.
+ * The events of lines, and how many members each side has, if the lines say so. Lines that are no event of a battle, such as chat, are left out.
  * @param {string} text
  * @param {import("./engine.js").Tables} tables
  */
@@ -184,5 +186,5 @@ export function eventsOfLines(text, tables) {
   const events = text.split("\n").flatMap((line) => reader.event(line) ?? []);
   if (!events.some(({kind}) => kind === "switch"))
     throw new Problem("The lines hold no battle: no member is sent out in them.");
-  return events;
+  return {events, sizes: reader.sizes.every((it) => it >= 1 && it <= 6) ? reader.sizes : undefined};
 }
