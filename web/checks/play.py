@@ -548,7 +548,9 @@ def a_hit_has_its_share_of_the_hp(browser):
     level: 82 * 85 * 74 / 72 / 50 + 2 is 145, and 217 with its own type. Its chance is half the Speed of 110, of 256."""
     for is_open, sign in ((False, "≈ "), (True, "")):
         begin(browser, "Tauros\n- Body Slam", "Tauros\n- Body Slam", "playouts", is_open)
-        assert odds_of(browser, 17) == (f"{sign}26–31% · crit 21.5%: 52–61% · 99.6% to hit", "95–112 HP")
+        # Body Slam paralyses with 77 of 256 draws (docs/TABLES.md).
+        wanted = f"{sign}26–31% · crit 21.5%: 52–61% · 99.6% to hit · paralyses at 30.1%"
+        assert odds_of(browser, 17) == (wanted, "95–112 HP")
 
 
 def a_button_counts_hits_critical_hits_and_knock_outs(browser):
@@ -609,7 +611,7 @@ def a_move_that_must_fail_says_so(browser):
     jynx, foes = "Jynx\n- Lovely Kiss\n- Psychic\n- Rest", "Snorlax\n- Rest\n- Pound\n\nChansey\n- Pound\n- Strength"
     # Psychic, then Rest; the foe switches; its sleep does not count.
     play_scripted(browser, jynx, foes, [(18, 17), (19, 34)], "1 2 3 4 5 6 7 8 9 10")
-    assert "|-status|p2a: Snorlax|slp" in browser.lines("#play-lines") and odds_of(browser, 17)[0] == "74.6% to hit"
+    assert "|-status|p2a: Snorlax|slp" in browser.lines("#play-lines") and odds_of(browser, 17)[0] == "puts to sleep · 74.6% to hit"
     for first in range(1, 9):
         play_scripted(browser, jynx, foes, [(17, 18)], f"{first} 20 30 40 50 60 70 80 90 100")
         if "|-status|p2a: Snorlax|slp" in browser.lines("#play-lines"):
@@ -645,6 +647,10 @@ def a_member_has_a_card(browser):
                 break
             ActionChains(browser.driver).move_to_element(browser.find("h1")).perform()
         assert "Tauros" in card() and "24 PP" in card() and "Attack 298" in card(), (selector, card())
+        # The pointer may go on to the card, which closes when that is left.
+        ActionChains(browser.driver).move_to_element(browser.find("#play-card")).perform()
+        time.sleep(0.7)
+        assert "Tauros" in card()
         ActionChains(browser.driver).move_to_element(browser.find("h1")).perform()
         assert not card()
     browser.look(*SIZES["narrow"], "light")

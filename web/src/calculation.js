@@ -213,6 +213,69 @@ export function costs(odds, effect, user, foe) {
   }
 }
 
+/** @type {Record<string, string>} what moves do besides their damage (docs/TABLES.md, "Effects"), where nothing else says it */
+const EFFECTS = {
+  FreezeChance: "freezes at 10.2%",
+  Twineedle: "poisons at 20.3%",
+  AlwaysFails: "always fails",
+  ChargeInvulnerable: "out of reach meanwhile",
+  Trapping: "traps for 2–5 turns",
+  OneHitKnockOut: "not against a faster foe",
+  CrashOnMiss: "a miss costs 1 HP",
+  Recoil: "recoil of a quarter",
+  Thrash: "3–4 turns, then confused",
+  InflictSleep: "puts to sleep",
+  InflictConfusion: "confuses",
+  Disable: "disables a move",
+  Mist: "keeps stats from being lowered",
+  Recharge: "then recharges",
+  Counter: "twice the last damage, after the foe",
+  Drain: "heals half of the damage",
+  LeechSeed: "drains HP each turn",
+  InflictPoison: "poisons",
+  InflictParalysis: "paralyses",
+  Rage: "goes on to the end",
+  Heal: "heals half of the HP",
+  Haze: "resets stages, cures the foe",
+  FocusEnergy: "fewer critical hits",
+  Bide: "deals damage back after 2–3 turns",
+  Explode: "the user faints",
+  DreamEater: "heals half of the damage",
+  Splash: "does nothing",
+  Conversion: "takes the foe's types",
+  SuperFang: "half of the HP",
+  Substitute: "costs a quarter of the HP",
+};
+/** @type {Record<string, string>} those of moves that differ from others with their effect */
+const OWN_EFFECTS = {
+  Toxic: "poisons more each turn",
+  Rest: "heals all, sleeps",
+  Reflect: "doubles Defense",
+  "Light Screen": "doubles Special",
+  Struggle: "recoil of a half",
+};
+/** @type {Record<string, string>} effects with a chance, of 256 */
+const CHANCES = {
+  BurnChance: "burns",
+  ParalysisChance: "paralyses",
+  PoisonChance: "poisons",
+  FlinchChance: "flinches",
+  ConfusionChance: "confuses"
+};
+
+/**
+ * What a move does besides its damage, in a few words; empty for nothing, or if it is said elsewhere.
+ * @param {import("./engine.js").Move} move
+ */
+export function effectWords({name, effect}) {
+  const [, kind, one, two = "1"] = /^(\w+)(?:\((\w+)(?:, (\d))?\))?$/.exec(effect) ?? [];
+  if (CHANCES[kind]) return `${CHANCES[kind]} at ${percent(Number(one) / 256)}`;
+  if (kind === "StatUp") return `${one} +${two}`;
+  if (kind === "StatDown") return `foe's ${one} −${two}`;
+  if (kind === "StatDownChance") return `foe's ${one} −1 at 33.2%`;
+  return OWN_EFFECTS[name] ?? EFFECTS[kind] ?? "";
+}
+
 /**
  * A member's name with its level, if that is not 100.
  * @param {Standing} it

@@ -1,6 +1,7 @@
 // The card of a member: of the own side its moves, PP and stats, of the foe what was seen of it.
 import {TYPES} from "gen1";
 
+import {effectWords} from "./calculation.js";
 import {make} from "./dom.js";
 import {badge, STAGES} from "./sides.js";
 import {knownMoves} from "./team_lists.js";
@@ -16,6 +17,8 @@ import {percentage, STATUS_WORDS} from "./words.js";
  */
 
 const MAY_KNOW = "May know, as in usual sets";
+/** How many milliseconds a card stays after the pointer has left its button, so that it can reach the card. */
+const LEAVE = 500;
 /** The factors of the type chart that a card lists, the highest first. */
 const FACTORS = [4, 2, 0.5, 0.25, 0];
 
@@ -27,7 +30,8 @@ function part(title, ...children) {
 /** @param {Engine} engine @param {string} name @param {...string} notes */
 function moveItem({tables}, name, ...notes) {
   const {type, power, accuracy} = tables.moves[name];
-  const row = [power > 1 ? `power ${power}` : "", `accuracy ${accuracy}%`, ...notes].filter(Boolean);
+  const words = [power > 1 ? `power ${power}` : "", `accuracy ${accuracy}%`, effectWords(tables.moves[name]), ...notes];
+  const row = words.filter(Boolean);
   return make("li", {}, badge(type), make("strong", {}, ` ${name} `), make("span", {class: "quiet"}, row.join(" · ")));
 }
 
@@ -105,7 +109,11 @@ export class Card {
     this.opener = null;
     /** Whether the focus goes back to the opener, which shows no card then. */
     this.isReturning = false;
+    this.leaving = 0;
     this.close = make("button", {type: "button", class: "small", click: () => this.hide()}, "Close");
+    // The pointer may go from the button to the card.
+    place.addEventListener("pointerenter", () => window.clearTimeout(this.leaving));
+    place.addEventListener("pointerleave", () => this.opener || this.hide());
     place.addEventListener("focusout", ({relatedTarget}) => {
       if (this.opener && !(relatedTarget instanceof Node && place.contains(relatedTarget))) this.hide();
     });
@@ -127,7 +135,11 @@ export class Card {
         const isTouch = event instanceof PointerEvent && event.pointerType !== "mouse";
         if (!isTouch && !this.isReturning && this.room) this.show(side, at);
       });
-    for (const type of ["pointerleave", "blur"]) element.addEventListener(type, () => this.opener || this.hide());
+    element.addEventListener("blur", () => this.opener || this.hide());
+    element.addEventListener("pointerleave", () => {
+      window.clearTimeout(this.leaving);
+      this.leaving = window.setTimeout(() => this.opener || this.hide(), LEAVE);
+    });
     if (isPressed) element.addEventListener("click", () => this.open(element, side, at));
   }
 
@@ -148,6 +160,7 @@ export class Card {
 
   /** @param {number} side @param {number} at */
   show(side, at) {
+    window.clearTimeout(this.leaving);
     const facts = this.factsOf(side, at);
     if (!facts) return;
     this.opener = null;

@@ -1,5 +1,5 @@
 // The choices of a side as buttons: moves in a grid, and members to switch to in a row.
-import {percent} from "./calculation.js";
+import {effectWords, percent} from "./calculation.js";
 import {find, make} from "./dom.js";
 import {badge} from "./sides.js";
 import {token} from "./tokens.js";
@@ -102,13 +102,17 @@ function moveWords(offer, choice, tables) {
   const {moves, pp} = offer.members[offer.place - 1];
   if (choice === ONLY) return [make("strong", {}, offer.going || "The only possible action")];
   const [name, found] = [moves[choice - MOVE], offer.odds.find(({slot}) => slot === choice - MOVE + 1)];
+  const texts = found ? forecast(found, offer).map((text) => [text.startsWith("fails") ? "" : "fact", text]) : [];
+  const effect = found?.reason ? "" : effectWords(tables.moves[name]);
+  const isHarmful = found && damageOf(found);
+  // A move without damage is its effect, and one without a hit test is nothing else.
+  if (effect && !isHarmful) texts.splice(0, found?.hit === null ? 1 : 0, ["", effect]);
   return [
     make("strong", {}, name),
     make("span", {class: "pp"}, `${pp[choice - MOVE]} PP`),
     make("span", {class: "odds", title: (found && detail(found)) || undefined}, badge(tables.moves[name].type), " ",
-        ...(found ? forecast(found, offer) : [])
-            .flatMap((text) => [" · ", make("span", {class: text.startsWith("fails") ? "" : "fact"}, text)])
-            .slice(1)),
+        ...texts.flatMap(([kind, text], at) => [at ? " · " : "", make("span", {class: kind}, text)]),
+        effect && isHarmful ? make("span", {class: "effect"}, ` · ${effect}`) : null),
   ];
 }
 

@@ -48,7 +48,8 @@ export class Replay {
     this.see = find("replay-see", HTMLSelectElement);
     this.raw = find("replay-raw", HTMLSelectElement);
     this.speed = find("replay-speed", HTMLSelectElement);
-    this.card = new Card(engine, find("replay-card", HTMLElement), (side, at) => this.factsOf(side, at), null);
+    this.card = new Card(engine, find("replay-card", HTMLElement), (side, at) => this.factsOf(side, at),
+        document.querySelector(".watch-lines"));
     this.field = new Field(engine, find("replay-field", HTMLElement), this.card);
     this.motion = new Motion(this.field, this.speed, find("sounds", HTMLInputElement));
     this.slider = find("replay-slider", HTMLInputElement);
