@@ -184,7 +184,10 @@ def a_battle_is_played_by_keys_alone(browser):
     browser.press(Keys.ENTER)
     assert browser.run("return document.activeElement.id") == "play-teams"
     for side in (1, 2):
-        reach(f"play-team-{side}")
+        reach(f"play-pick-{side}")
+        # The last choice of the list opens the team as text.
+        browser.press(Keys.END)
+        assert browser.run("return document.activeElement.id") == f"play-team-{side}"
         browser.run("document.activeElement.select()")
         browser.press("Electrode\n- Explosion\n- Thunderbolt\n\nTauros\n- Body Slam\n- Hyper Beam")
     reach("play-start")

@@ -132,7 +132,8 @@ def what_a_player_may_not_know_is_nowhere(browser):
         browser.open(f"#play?b={address_of(asked, 1)}&p1=person&p2=random")
         browser.wait("return location.hash === '#play?u=1'")
         # The form's own sample team is not this battle's.
-        browser.run(f"document.getElementById('play-team-1').value = ''; {COPIES}")
+        browser.fill("#play-team-1", "")
+        browser.run(COPIES)
         for turn in range(TURNS):
             codes, text = browser.run(SEEN)
             lines = lines_in(codes)

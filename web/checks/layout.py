@@ -88,11 +88,16 @@ INSIDE = [
     (".topbar > *", "#play-game"),
     (".member-card:not([hidden])", "html"),
 ]
-# The boxes that must not move: the field, its plates, the log, the choices.
+# The boxes of elements.
 BOXES = """
-return [document.querySelectorAll('[data-busy]').length > 0, ...['#play-field', '.plate', '.journal', '.acts', '#play-choices-1 [data-choice]'].map((it) =>
-  [...document.querySelectorAll(it)].map((one) => one.getBoundingClientRect()).map((box) => [box.left, box.top, box.width, box.height].map(Math.round).join(' ')))];
+return arguments[0].map((it) => [...document.querySelectorAll(it)].filter((one) => one.checkVisibility()).map((one) => one.getBoundingClientRect())
+  .map((box) => [box.left, box.top, box.width, box.height].map(Math.round).join(' ')));
 """
+BUSY = "return document.querySelectorAll('[data-busy]').length > 0"
+# What must not move while a turn is shown: the field, its plates, the log, the choices; and in a replay the controls.
+FIXED = ["#play-field", "#play-field .plate", ".scroller", ".acts"]
+CHOICES = "#play-choices-1 [data-choice]"
+FIXED_REPLAY = ["#replay-field", "#replay-field .plate", ".watch-lines .lines", ".steps button", "#replay-slider"]
 # Members with long names and many states.
 LONG = (
     "Kangaskhan\n- Body Slam\n- Hyper Beam\n- Double Kick\n- Thunder Punch\n\nVictreebel\n- Razor Leaf\n- Sleep Powder\n- Stun Spore\n- Swords Dance\n\n"
@@ -101,12 +106,12 @@ LONG = (
 )
 
 
-def start(browser, seed="3 1 4 1 5 9 2 6 5 3"):
-    """Starts a battle of members with long names."""
+def start(browser, team=LONG):
+    """Starts a battle, at first of members with long names."""
     browser.open("#play")
     for side in (1, 2):
-        browser.fill(f"#play-team-{side}", LONG)
-    browser.fill("#play-seed", seed)
+        browser.fill(f"#play-team-{side}", team)
+    browser.fill("#play-seed", "3 1 4 1 5 9 2 6 5 3")
     browser.fill("#play-who-2", "greedy")
     browser.click("#play-start")
 
@@ -141,6 +146,38 @@ def nothing_overlaps_in_a_battle(browser):
     browser.look(*USUAL["wide"], "light")
 
 
+def a_hint_moves_no_choice(browser):
+    """It is on the screen, and covers no button."""
+    for name, size in SIZES.items():
+        browser.look(*size, "light")
+        start(browser)
+        before = browser.run(BOXES, [CHOICES])
+        browser.run("document.getElementById('play-hint').click()")
+        browser.wait("return document.querySelectorAll('#play-hinted li').length", 60)
+        test_boxes(browser, "#play-hinted", name)
+        assert browser.run(BOXES, [CHOICES]) == before, name
+        covered = browser.run(
+            "const hint = document.getElementById('play-hinted').getBoundingClientRect();"
+            "return [hint.top < 0 || hint.right > innerWidth, ...[...document.querySelectorAll('[data-choice]')].map((it) => it.getBoundingClientRect())"
+            ".map((it) => it.left < hint.right && hint.left < it.right && it.top < hint.bottom && hint.top < it.bottom)]"
+        )
+        assert len(covered) > 2 and not any(covered), (name, covered)
+        browser.run("document.getElementById('play-hint').click()")
+        assert not browser.run("return document.getElementById('play-hinted').checkVisibility()"), name
+    browser.look(*USUAL["wide"], "light")
+
+
+def nothing_overlaps_at_the_end(browser):
+    """The buttons after a battle, whose last members faint."""
+    for name, size in SIZES.items():
+        browser.look(*size, "light")
+        start(browser, team="Electrode\n- Explosion")
+        browser.run("document.querySelector('#play-choices-1 [data-choice]').click()")
+        browser.wait("return document.getElementById('play-end-watch') !== null")
+        test_boxes(browser, "#panel-play", name)
+    browser.look(*USUAL["wide"], "light")
+
+
 def nothing_overlaps_in_the_other_parts(browser):
     for name, size in SIZES.items():
         browser.look(*size, "light")
@@ -168,16 +205,44 @@ def nothing_moves_while_a_turn_is_shown(browser):
         browser.look(*size, "light", "no-preference")
         start(browser)
         browser.fill("#speed", "fast")
-        before = browser.run(BOXES)[1:]
+        before = browser.run(BOXES, [*FIXED, CHOICES])
         browser.run("document.querySelector('#play-choices-1 [data-choice]').click()")
-        browser.wait("return document.querySelectorAll('[data-busy]').length")
+        browser.wait(BUSY)
         during = 0
-        while (now := browser.run(BOXES))[0]:
-            assert now[1:] == before, (name, [pair for pair in zip(before, now[1:]) if pair[0] != pair[1]])
+        while browser.run(BUSY):
+            now = browser.run(BOXES, [*FIXED, CHOICES])
+            assert now == before or not browser.run(BUSY), (name, [pair for pair in zip(before, now) if pair[0] != pair[1]])
             during += 1
         assert during > 2, name
+        # Nor after it, when the other choices are there.
+        assert browser.run(BOXES, FIXED) == before[:-1], name
     browser.fill("#speed", "normal")
     browser.look(*USUAL["wide"], "light")
 
 
-CHECKS = [nothing_overlaps_in_a_battle, nothing_overlaps_in_the_other_parts, nothing_moves_while_a_turn_is_shown]
+def nothing_moves_in_a_replay(browser):
+    for name, size in SIZES.items():
+        browser.look(*size, "light", "no-preference")
+        browser.open("#replay")
+        browser.run("document.getElementById('replay-example').click()")
+        browser.fill("#replay-speed", "fast")
+        before = browser.run(BOXES, FIXED_REPLAY)
+        browser.run("document.getElementById('replay-play').click()")
+        for _ in range(12):
+            now = browser.run(BOXES, FIXED_REPLAY)
+            assert now == before, (name, [pair for pair in zip(before, now) if pair[0] != pair[1]])
+            browser.run("return new Promise((done) => setTimeout(done, 150))")
+        assert browser.run("return Number(document.getElementById('replay-slider').value)") > 1, name
+        browser.run("document.getElementById('replay-play').click()")
+    browser.fill("#replay-speed", "normal")
+    browser.look(*USUAL["wide"], "light")
+
+
+CHECKS = [
+    nothing_overlaps_in_a_battle,
+    a_hint_moves_no_choice,
+    nothing_overlaps_at_the_end,
+    nothing_overlaps_in_the_other_parts,
+    nothing_moves_while_a_turn_is_shown,
+    nothing_moves_in_a_replay,
+]

@@ -44,17 +44,24 @@ export class Hint {
 
   /** Hides the hint of an earlier position, and the button where no side chooses. */
   draw() {
-    this.count++;
     this.button.hidden = !this.asking();
-    this.place.hidden = true;
-    this.place.replaceChildren();
+    this.hide();
   }
 
+  hide() {
+    this.count++;
+    this.place.hidden = true;
+    this.place.replaceChildren();
+    this.button.setAttribute("aria-expanded", "false");
+  }
+
+  /** Shows a hint, or hides the one that is shown. */
   async ask() {
     const asking = this.asking();
-    if (!asking) return;
+    if (!asking || !this.place.hidden) return this.hide();
     const mine = ++this.count;
     this.place.hidden = false;
+    this.button.setAttribute("aria-expanded", "true");
     this.place.replaceChildren("Thinking.");
     const {match, side} = asking;
     const question = {...match.question(side, randomSeed()[0]), player: LEVEL, sight: match.sight(side), battle: null};

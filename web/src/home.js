@@ -1,6 +1,7 @@
 // The first page: a battle to watch, one to play, and a calculation, each with a working example.
-import {find, make} from "./dom.js";
+import {find, make, Problem} from "./dom.js";
 import {Field} from "./field.js";
+import {listPlayers, PLAYERS} from "./setup.js";
 import {watched} from "./sides.js";
 import {token} from "./tokens.js";
 import {shares} from "./words.js";
@@ -39,10 +40,30 @@ function drawScene(engine, place) {
  * @param {HTMLElement} place
  */
 function drawTeam(engine, place) {
-  const text = find("play-team-1", HTMLTextAreaElement).value;
-  place.replaceChildren(
-      ...engine.team(text, "Side 1's team", 1)
-          .map(({species}) => make("span", {class: "figure", title: String(species)}, token(engine, String(species)))));
+  const field = find("play-team-1", HTMLTextAreaElement);
+  const draw = () => {
+    try {
+      const species = engine.team(field.value, "Side 1's team", 1).map((it) => String(it.species));
+      place.replaceChildren(...species.map((it) => make("span", {class: "figure", title: it}, token(engine, it))));
+    } catch (error) {
+      // A team that is only partly typed.
+      if (!(error instanceof Problem)) throw error;
+    }
+  };
+  field.addEventListener("input", draw);
+  draw();
+}
+
+/** The list of the computer's levels, which is also in the form of Play. */
+function listLevels() {
+  const [level, form] = [find("home-level", HTMLSelectElement), find("play-who-2", HTMLSelectElement)];
+  const levels = Object.keys(PLAYERS).filter((it) => it.startsWith("level"));
+  listPlayers(level, levels, form.value);
+  for (const option of level.options) option.textContent = PLAYERS[option.value].replace("the computer, level ", "");
+  const follow = (/** @type {HTMLSelectElement} */ one, /** @type {HTMLSelectElement} */ other) =>
+      one.addEventListener("change", () => levels.includes(one.value) && (other.value = one.value));
+  follow(level, form);
+  follow(form, level);
 }
 
 /**
@@ -73,6 +94,7 @@ function drawCalculation(engine, place) {
 export function drawHome(engine, actions) {
   drawScene(engine, find("home-scene", HTMLElement));
   drawTeam(engine, find("home-team", HTMLElement));
+  listLevels();
   drawCalculation(engine, find("home-sum", HTMLElement));
   for (const [id, action] of Object.entries(actions)) find(id, HTMLButtonElement).addEventListener("click", action);
 }

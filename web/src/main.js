@@ -176,7 +176,7 @@ async function begin() {
     return replay.show(recorded, {at});
   }, calculate);
   const teams = new Teams(engine, (side, text) => {
-    find(`play-team-${side}`, HTMLTextAreaElement).value = text;
+    play.setup.put(side, text);
     open("play");
     done(`Side ${side} has the team.`);
   });
@@ -205,6 +205,7 @@ async function begin() {
       find("replay-file", HTMLInputElement).focus();
     },
     "home-play": () => {
+      play.setup.player(2).value = find("home-level", HTMLSelectElement).value;
       open("play");
       void guarded(() => play.start());
     },

@@ -11,7 +11,7 @@ import {Log} from "./log.js";
 import {LocalMatch, SIDES} from "./match.js";
 import {Motion} from "./motion.js";
 import {randomSeed} from "./random.js";
-import {Setup} from "./setup.js";
+import {PLAYERS, Setup} from "./setup.js";
 import {shareButtons} from "./share.js";
 import {own, seen, whole} from "./sides.js";
 import {OUTCOMES} from "./words.js";
@@ -24,8 +24,6 @@ import {OUTCOMES} from "./words.js";
 /** The conditions during which a member is in the middle of its current move (docs/LAYOUT.md, "Condition bits"). */
 const GOING = ["bide", "thrash", "trapping", "charging", "rage"];
 const KEYS = ["123456789", "qwertyuio"];
-const PLAYERS =
-    ["person", "random", "greedy", "playouts", "level1", "level2", "level3", "level4", "level5", "cheating"];
 const SAVED = "battle";
 const GUESSED = "The foe has its highest possible stats, and moves of a usual set where it has not shown them.";
 
@@ -232,7 +230,7 @@ export class Play {
     const recorded = ofAddress(code, this.inputs);
     if (!("input" in recorded)) throw new Problem("The address is damaged: a log cannot be played on.");
     const who = ["p1", "p2"].map(
-        (key, at) => (PLAYERS.includes(values.get(key) ?? "") ? String(values.get(key)) : this.setup.who[at]));
+        (key, at) => (Object.hasOwn(PLAYERS, values.get(key) ?? "") ? String(values.get(key)) : this.setup.who[at]));
     const {choices, ...terms} = recorded.input;
     this.begin(terms, choices.length ? choices : [[0, 0]], who, values.get("hands") === "open");
   }
@@ -382,6 +380,7 @@ export class Play {
       find("play-return", HTMLElement).hidden = false;
     });
     setAddress(tab, {});
+    this.setup.list();
     this.drawn();
   }
 
@@ -476,11 +475,12 @@ export class Play {
   drawCurious() {
     const place = find("play-curious", HTMLDetailsElement);
     place.hidden = !this.isBare;
-    const {terms} = this.game;
+    const {terms, who, persons} = this.game;
     const clauses =
         ["", " with the sleep clause", " with the freeze clause", " with the sleep and the freeze clause"][terms.rules];
+    const foe = this.isLocal && persons.length === 1 ? ` against ${PLAYERS[who[2 - persons[0]]]}` : "";
     find("play-rules", HTMLElement).textContent =
-        `A battle${clauses}, which ends at the latest after turn ${terms.limit}.`;
+        `A battle${foe}${clauses && foe ? "," : ""}${clauses}, which ends at the latest after turn ${terms.limit}.`;
     if (!this.isBare) return find("play-terms", HTMLElement).replaceChildren();
     const {numbers, index} = this.local.state();
     const texts = [
@@ -599,15 +599,16 @@ export class Play {
    * @param {HTMLElement} place
    */
   drawEnd(place) {
-    const watch = () => this.watch(this.recorded(), this.game.steps.length);
-    const buttons = [
-      make("button", {type: "button", id: "play-end-watch", click: watch}, "Watch as a replay"),
-      make("button", {type: "button", id: "play-end-other", click: () => void guarded(() => this.start())},
-          "Another foe"),
-    ];
+    const button = (/** @type {string} */ id, /** @type {string} */ text, /** @type {() => void} */ work) =>
+        make("button", {type: "button", id, click: () => void guarded(work)}, text);
+    const watch = () => void this.watch(this.recorded(), this.game.steps.length);
     const isAlone = this.isLocal && this.game.persons.length === 1 && !this.setup.field(2).value.trim();
-    place.replaceChildren(
-        make("p", {class: "end"}, this.ending()), make("div", {class: "row"}, ...buttons.slice(0, isAlone ? 2 : 1)));
+    const buttons = [
+      button("play-end-watch", "Watch as a replay", watch),
+      ...(isAlone ? [button("play-end-other", "Another foe", () => this.start())] : []),
+      ...(this.isLocal ? [button("play-end-change", "Change the teams or the level", () => this.leave())] : []),
+    ];
+    place.replaceChildren(make("p", {class: "end"}, this.ending()), make("div", {class: "row"}, ...buttons));
   }
 
   /**
@@ -720,7 +721,7 @@ export class Play {
    */
   toAddress(isNew) {
     const {match} = this;
-    if (!match) return;
+    if (!match) return this.setup.list();
     if (!(match instanceof LocalMatch)) return setAddress(match.tab, match.address, isNew);
     const {terms, who} = match;
     keepForTab(SAVED, JSON.stringify({terms, who, pairs: match.steps.map((step) => step.pair), isOpen: this.isOpen}));
