@@ -49,8 +49,8 @@ PLACES = {
     "message": ("#replay?b=zzzz", ""),
 }
 
-# The visible texts with too little contrast to their background (WCAG 2.1, AA).
-CONTRAST = """
+# Colours, and their contrast.
+COLOURS = """
 const parsed = (color) => (color.match(/[\\d.]+/g) ?? []).map(Number);
 const light = (rgb) => rgb.slice(0, 3).map((it) => it / 255).map((it) => (it <= .03928 ? it / 12.92 : ((it + .055) / 1.055) ** 2.4))
   .reduce((sum, it, at) => sum + it * [.2126, .7152, .0722][at], 0);
@@ -61,6 +61,12 @@ const behind = (element) => {
   }
   return [255, 255, 255];
 };
+const ratio = (one, two) => { const [high, low] = [light(one), light(two)].sort((a, b) => b - a); return (high + .05) / (low + .05); };
+"""
+# The visible texts with too little contrast to their background (WCAG 2.2, AA).
+CONTRAST = (
+    COLOURS
+    + """
 const low = [];
 const walker = document.createTreeWalker(document.body, NodeFilter.SHOW_TEXT);
 let count = 0;
@@ -68,14 +74,38 @@ while (walker.nextNode()) {
   const element = walker.currentNode.parentElement;
   if (!walker.currentNode.data.trim() || !element.checkVisibility() || element.closest('.unseen, script, option, datalist, :disabled')) continue;
   const style = getComputedStyle(element);
-  const [one, two] = [light(parsed(style.color)), light(behind(element))].sort((a, b) => b - a);
+  const found = ratio(parsed(style.color), behind(element));
   const size = parseFloat(style.fontSize);
   const wanted = size >= 24 || (size >= 18.66 && Number(style.fontWeight) >= 700) ? 3 : 4.5;
   count++;
-  if ((one + .05) / (two + .05) < wanted) low.push(`${walker.currentNode.data.trim().slice(0, 30)}: ${((one + .05) / (two + .05)).toFixed(2)}`);
+  if (found < wanted) low.push(`${walker.currentNode.data.trim().slice(0, 30)}: ${found.toFixed(2)}`);
 }
 return { count, low };
 """
+)
+# The fields whose edges have less than three times the contrast of what is around them.
+EDGES = (
+    COLOURS
+    + """
+return [...document.querySelectorAll('input:not([type=checkbox], [type=range], [type=file]), select, textarea')].filter((it) => it.checkVisibility())
+  .filter((it) => ratio(parsed(getComputedStyle(it).borderLeftColor), behind(it.parentElement)) < 3 && getComputedStyle(it).borderLeftWidth !== '0px')
+  .map((it) => it.outerHTML.slice(0, 120));
+"""
+)
+# The element with the focus, with what is wrong with it: it is not marked, or something covers it.
+FOCUS = (
+    COLOURS
+    + """
+const it = document.activeElement;
+if (it === document.body) return ['', ''];
+it.dataset.reached ??= String(Math.random());
+const [style, box] = [getComputedStyle(it), it.getBoundingClientRect()];
+const isMarked = style.outlineStyle !== 'none' && parseFloat(style.outlineWidth) >= 2 && ratio(parsed(style.outlineColor), behind(it.parentElement)) >= 3;
+const isShown = [[.5, .5], [.1, .5], [.9, .5], [.5, .1], [.5, .9]].some(([x, y]) => it.contains(document.elementFromPoint(box.left + x * box.width, box.top + y * box.height)));
+const fault = [isMarked ? '' : 'not marked', isShown ? '' : 'covered'].filter(Boolean).join(', ');
+return [it.dataset.reached, fault && `${fault}: ${it.outerHTML.slice(0, 120)}`];
+"""
+)
 
 # Rules of WCAG 2.2 AA over the elements that are shown: each returns those that break it.
 RULES = {
@@ -108,6 +138,67 @@ const ROLES = ['alert', 'button', 'combobox', 'dialog', 'group', 'img', 'listbox
 const all = (selector) => [...document.querySelectorAll(selector)].filter((it) => it.checkVisibility());
 return (%s).map((it) => it.outerHTML.slice(0, 160));
 """
+
+
+def nodes_of(browser):
+    """The nodes of the accessibility tree that are not ignored, with their properties, and the name of the group that they are in."""
+    found = browser.driver.execute_cdp_cmd("Accessibility.getFullAXTree", {})["nodes"]
+    by_id = {node["nodeId"]: node for node in found}
+    word = lambda node, key: str(node.get(key, {}).get("value", ""))
+
+    def group(node):
+        names = []
+        while node := by_id.get(node.get("parentId")):
+            if word(node, "role") in GROUPS:
+                names.append(word(node, "name"))
+        return tuple(names)
+
+    return [
+        {"role": word(node, "role"), "name": word(node, "name").strip(), "value": word(node, "value"), "group": group(node)}
+        | {it["name"]: it["value"].get("value") for it in node.get("properties", [])}
+        for node in found
+        if not node.get("ignored")
+    ]
+
+
+GROUPS = {"group", "list", "region", "table", "row", "tabpanel", "dialog", "radiogroup"}
+WIDGETS = {"button", "checkbox", "combobox", "searchbox", "slider", "spinbutton", "tab", "textbox"}
+# Rules of WCAG 2.2 AA over the accessibility tree: each returns the nodes that break it.
+TREE_RULES = {
+    "there is one banner and one main part": lambda them: [
+        it for it in ("banner", "main") if [node["role"] for node in them].count(it) != 1
+    ],
+    "what can have the focus has a role and a name": lambda them: [
+        it
+        for it in them
+        if it.get("focusable")
+        and it["role"] != "RootWebArea"
+        and (it["role"] in ("", "generic", "none") or not it["name"])
+    ],
+    "controls can have the focus": lambda them: [
+        it for it in them if it["role"] in WIDGETS - {"tab"} and not it.get("focusable") and not it.get("disabled")
+    ],
+    "controls of one group have different names": lambda them: [
+        it
+        for at, it in enumerate(them)
+        if it["role"] in WIDGETS
+        and (it["role"], it["name"], it["group"]) in [(one["role"], one["name"], one["group"]) for one in them[:at]]
+    ],
+    "headings have a level and a name": lambda them: [
+        it for it in them if it["role"] == "heading" and not (it["name"] and it.get("level"))
+    ],
+    "meters and sliders have a value": lambda them: [
+        it for it in them if it["role"] in ("meter", "slider") and not it["value"]
+    ],
+    "tabs say whether they are selected": lambda them: [it for it in them if it["role"] == "tab" and "selected" not in it],
+    "lists that open say whether they are open": lambda them: [
+        it for it in them if it["role"] == "combobox" and "expanded" not in it
+    ],
+    "messages are spoken": lambda them: [
+        it for it in them if it["role"] in ("log", "status", "alert") and it.get("live") not in ("polite", "assertive")
+    ],
+    "images have a name": lambda them: [it for it in them if it["role"] in ("img", "image") and not it["name"]],
+}
 
 REACHED = """
 return [...document.querySelectorAll('button, input, select, textarea, summary, [tabindex="0"]')]
@@ -156,13 +247,15 @@ def lines_are_read_out(browser):
 
 def the_rules_hold(browser):
     """Each rule in each part, in a wide and in a narrow page."""
-    assert len(RULES) >= 20
+    assert len(RULES) + len(TREE_RULES) >= 30
     failed = {}
     for size in SIZES:
         browser.look(*SIZES[size], "light")
         for name in PLACES:
             go(browser, name)
             found = {rule: browser.run(BROKEN % broken) for rule, broken in RULES.items()}
+            nodes = nodes_of(browser)
+            found |= {rule: broken(nodes) for rule, broken in TREE_RULES.items()}
             failed |= {(size, name, rule): them for rule, them in found.items() if them}
     browser.look(*SIZES["wide"], "light")
     assert not failed, failed
@@ -221,6 +314,8 @@ def contrast_is_enough(browser):
             go(browser, name)
             found = browser.run(CONTRAST)
             assert found["count"] > 10 and not found["low"], (scheme, name, found)
+            edges = browser.run(EDGES)
+            assert not edges, (scheme, name, edges)
     browser.look(*SIZES["wide"], "light")
 
 
@@ -238,21 +333,25 @@ def a_theme_can_be_chosen(browser):
 
 
 def keys_alone_reach_all(browser):
+    """The focus is marked wherever it is, and nothing covers it."""
     # A card closes when the focus leaves it.
-    for name in PLACES.keys() - {"card"}:
+    places = [("wide", name) for name in PLACES if name != "card"]
+    for size, name in places + [("narrow", name) for name in ("replay", "play", "calculator", "builder")]:
+        browser.look(*SIZES[size], "light")
         go(browser, name)
         browser.run("document.activeElement.blur(); window.scrollTo(0, 0)")
-        wanted, reached = browser.run(REACHED), set()
+        wanted, reached, faults = browser.run(REACHED), set(), set()
         for _ in range(wanted + 12):
             browser.press(Keys.TAB)
-            mark = browser.run(
-                "const it = document.activeElement; if (it === document.body) return ''; it.dataset.reached ??= String(Math.random()); return it.dataset.reached"
-            )
+            mark, fault = browser.run(FOCUS)
             if mark in reached and len(reached) >= wanted:
                 break
             reached.add(mark)
+            faults.add(fault)
         reached.discard("")
         assert len(reached) >= wanted, (name, len(reached), wanted)
+        assert faults <= {""}, (size, name, faults)
+    browser.look(*SIZES["wide"], "light")
 
 
 def a_phone_is_wide_enough(browser):

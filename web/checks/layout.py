@@ -1,5 +1,5 @@
 """Layout at twelve sizes: no text overlaps another or leaves its box, and nothing moves while a turn is shown. Boxes are compared, not pixels."""
-from checks.access import go
+from checks.access import PLACES, go
 from checks.browser import SIZES as USUAL
 
 SIZES = {
@@ -98,6 +98,12 @@ BUSY = "return document.querySelectorAll('[data-busy]').length > 0"
 FIXED = ["#play-field", "#play-field .plate", ".scroller", ".acts"]
 CHOICES = "#play-choices-1 [data-choice]"
 FIXED_REPLAY = ["#replay-field", "#replay-field .plate", ".watch-lines .lines", ".steps button", "#replay-slider"]
+# What a person may set for reading (WCAG 2.2, 1.4.12).
+SPACED = """
+const style = new CSSStyleSheet();
+style.replaceSync('* { line-height: 1.5 !important; letter-spacing: .12em !important; word-spacing: .16em !important } p { margin-bottom: 2em !important }');
+document.adoptedStyleSheets = [style];
+"""
 # Members with long names and many states.
 LONG = (
     "Kangaskhan\n- Body Slam\n- Hyper Beam\n- Double Kick\n- Thunder Punch\n\nVictreebel\n- Razor Leaf\n- Sleep Powder\n- Stun Spore\n- Swords Dance\n\n"
@@ -241,6 +247,17 @@ def nothing_moves_in_a_replay(browser):
     browser.look(*USUAL["wide"], "light")
 
 
+def texts_may_be_spaced(browser):
+    """With the spaces that a person may set, no text overlaps another or is wider than the page."""
+    browser.look(*USUAL["wide"], "light")
+    for name in PLACES:
+        go(browser, name)
+        browser.run(SPACED)
+        count, pairs = browser.run(OVERLAPS, "main")
+        width = browser.run("return document.documentElement.scrollWidth")
+        assert count > 5 and not pairs and width <= USUAL["wide"][0], (name, pairs, width)
+
+
 CHECKS = [
     nothing_overlaps_in_a_battle,
     a_hint_moves_no_choice,
@@ -248,4 +265,5 @@ CHECKS = [
     nothing_overlaps_in_the_other_parts,
     nothing_moves_while_a_turn_is_shown,
     nothing_moves_in_a_replay,
+    texts_may_be_spaced,
 ]

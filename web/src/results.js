@@ -204,7 +204,8 @@ export class Results {
     const rows = moves.map((odds) => this.row(odds, sides, at, odds === chosen && this.at === at));
     return make("section",
         {class: `side side-${at + 1}`, id: `calc-results-${at + 1}`, "aria-labelledby": `calc-head-${at + 1}`},
-        make("h3", {id: `calc-head-${at + 1}`}, `${names[at]} on ${names[1 - at]}`,
+        make("h3", {id: `calc-head-${at + 1}`}, make("span", {class: "unseen"}, `Side ${at + 1}: `),
+            `${names[at]} on ${names[1 - at]}`,
             make("span", {class: "quiet"},
                 substitute ? ` chance to break its Substitute, ${substitute} HP` : ` ${hp} of ${max} HP`)),
         rows.length ? make("table", {}, make("thead", {}, make("tr", {}, ...heads)), make("tbody", {}, ...rows)) :
