@@ -106,7 +106,7 @@ document.adoptedStyleSheets = [style];
 """
 # Members with long names and many states.
 LONG = (
-    "Kangaskhan\n- Body Slam\n- Hyper Beam\n- Double Kick\n- Thunder Punch\n\nVictreebel\n- Razor Leaf\n- Sleep Powder\n- Stun Spore\n- Swords Dance\n\n"
+    "Kangaskhan\n- Flamethrower\n- Hyper Beam\n- Thunderbolt\n- Thunder Punch\n\nVictreebel\n- Razor Leaf\n- Sleep Powder\n- Stun Spore\n- Swords Dance\n\n"
     "Weepinbell\n- Double-Edge\n- Sleep Powder\n- Stun Spore\n- Razor Leaf\n\nExeggutor\n- Sleep Powder\n- Psychic\n- Stun Spore\n- Explosion\n\n"
     "Tentacruel\n- Hydro Pump\n- Blizzard\n\nDragonite\n- Thunder Wave\n- Wrap\n"
 )
