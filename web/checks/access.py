@@ -154,7 +154,12 @@ def nodes_of(browser):
         return tuple(names)
 
     return [
-        {"role": word(node, "role"), "name": word(node, "name").strip(), "value": word(node, "value"), "group": group(node)}
+        {
+            "role": word(node, "role"),
+            "name": word(node, "name").strip(),
+            "value": word(node, "value"),
+            "group": group(node),
+        }
         | {it["name"]: it["value"].get("value") for it in node.get("properties", [])}
         for node in found
         if not node.get("ignored")
@@ -190,7 +195,9 @@ TREE_RULES = {
     "meters and sliders have a value": lambda them: [
         it for it in them if it["role"] in ("meter", "slider") and not it["value"]
     ],
-    "tabs say whether they are selected": lambda them: [it for it in them if it["role"] == "tab" and "selected" not in it],
+    "tabs say whether they are selected": lambda them: [
+        it for it in them if it["role"] == "tab" and "selected" not in it
+    ],
     "lists that open say whether they are open": lambda them: [
         it for it in them if it["role"] == "combobox" and "expanded" not in it
     ],

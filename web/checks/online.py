@@ -5,7 +5,10 @@ import sys
 import time
 from pathlib import Path
 
-from checks.access import BROKEN, CONTRAST, NAMED, RULES
+from selenium.webdriver.common.keys import Keys
+
+from checks import layout
+from checks.access import BROKEN, CONTRAST, EDGES, NAMED, RULES, TREE_RULES, nodes_of
 from checks.browser import SIZES, Browser
 
 ROOT = Path(__file__).resolve().parents[2]
@@ -127,6 +130,12 @@ def two_persons_play_to_the_end_and_a_third_watches(club):
         person.open(address)
         person.wait(SHOWN + " && " + OVER.removeprefix("return "))
         assert person.updates == ben.updates
+    # The foe's members have their cards after the end too.
+    ben.click("#play-field .far .party button")
+    assert "Moves seen" in ben.text("#play-card") and ben.run(
+        "return document.getElementById('play-card').checkVisibility()"
+    )
+    ben.press(Keys.ESCAPE)
     ben.click("#play-end-watch")
     assert "turn" in ben.text("#replay-now").lower(), ben.text("#replay-now")
     ann.press_text("#online-strip", "Back to the lobby")
@@ -369,10 +378,15 @@ def all_can_use_it(club):
             go(club, screen)
             lacking = [it for it, text in ann.tree() if it in NAMED and not text.strip() and it != "group"]
             broken = {rule: found for rule, it in RULES.items() if (found := ann.run(BROKEN % it))}
-            contrast = ann.run(CONTRAST)["low"]
+            nodes = nodes_of(ann)
+            broken |= {rule: found for rule, it in TREE_RULES.items() if (found := it(nodes))}
+            contrast = ann.run(CONTRAST)["low"] + ann.run(EDGES)
             width = ann.run("return document.documentElement.scrollWidth")
             assert not lacking and not broken and not contrast, (screen, size, scheme, lacking, broken, contrast)
             assert width <= SIZES[size][0], (screen, size, width)
+        for name, size in layout.SIZES.items():
+            ann.look(*size, "light")
+            layout.test_boxes(ann, "#panel-online", f"{screen}, {name}")
     ann.look(*SIZES["wide"], "light")
 
 

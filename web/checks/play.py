@@ -611,7 +611,10 @@ def a_move_that_must_fail_says_so(browser):
     jynx, foes = "Jynx\n- Lovely Kiss\n- Psychic\n- Rest", "Snorlax\n- Rest\n- Pound\n\nChansey\n- Pound\n- Strength"
     # Psychic, then Rest; the foe switches; its sleep does not count.
     play_scripted(browser, jynx, foes, [(18, 17), (19, 34)], "1 2 3 4 5 6 7 8 9 10")
-    assert "|-status|p2a: Snorlax|slp" in browser.lines("#play-lines") and odds_of(browser, 17)[0] == "puts to sleep · 74.6% to hit"
+    assert (
+        "|-status|p2a: Snorlax|slp" in browser.lines("#play-lines")
+        and odds_of(browser, 17)[0] == "puts to sleep · 74.6% to hit"
+    )
     for first in range(1, 9):
         play_scripted(browser, jynx, foes, [(17, 18)], f"{first} 20 30 40 50 60 70 80 90 100")
         if "|-status|p2a: Snorlax|slp" in browser.lines("#play-lines"):

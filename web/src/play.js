@@ -447,7 +447,7 @@ export class Play {
     if (!member?.isKnown) return null;
     const title = {"You": "Your member", "The foe": "The foe's member"}[this.titles[own - 1]] ??
         `Of ${this.game.names?.[own - 1] ?? `side ${own}`}`;
-    const hasGuess = member.hasPixels && this.game.view(other).own;
+    const hasGuess = member.hasPixels && this.game.view(other).own && !this.game.isOver;
     const guess = hasGuess ? this.game.usual(other).state[own === 1 ? "one" : "two"].members[at - 1] : null;
     const isAsked = this.showing.includes(own) && shown.active === at && member.hp > 0;
     const offer = isAsked ? this.offer(own) : null;

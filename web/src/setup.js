@@ -73,8 +73,7 @@ export class Setup {
     for (const side of SIDES) {
       listPlayers(this.player(side), Object.keys(PLAYERS), side === 1 ? "person" : "level3");
       this.player(side).addEventListener("change", () => this.list());
-      find(`play-random-${side}`, HTMLButtonElement)
-          .addEventListener("click", () => this.put(side, this.randomTeam()));
+      find(`play-random-${side}`, HTMLButtonElement).addEventListener("click", () => this.put(side, this.randomTeam()));
       this.picked(side).addEventListener("change", () => this.pick(side, this.picked(side).value));
       this.field(side).addEventListener("input", () => this.draw(side));
     }
@@ -106,11 +105,11 @@ export class Setup {
 
   /** Lists the teams that a side may have: the person's, and the sample teams. */
   list() {
-    const saved = savedTeams(this.engine)
-                      .filter(({members}) => members.length)
-                      .map(({name, members}) => ({name, text: textOf(members).trim()}));
+    const saved = savedTeams(this.engine).filter(({members}) => members.length).map(({name,
+      members}) => ({name, text: textOf(members).trim()}));
     const groups = Object.entries({"Your teams": saved, "Sample teams": sampleTeams()});
-    const listed = groups.map(([label, teams]) => teams.map(({name, text}, at) => ({key: `${label} ${at}`, name, text})));
+    const listed =
+        groups.map(([label, teams]) => teams.map(({name, text}, at) => ({key: `${label} ${at}`, name, text})));
     this.texts = Object.fromEntries(listed.flat().map(({key, text}) => [key, text]));
     for (const side of SIDES) {
       const made = listed.map((teams, at) => make("optgroup", {label: groups[at][0]},
