@@ -15,7 +15,7 @@ use Rattle.gen1_machine.specs.Moves.{toxic, Move}
 use Rattle.gen1_machine.specs.Rules.{bit_of}
 use Rattle.gen1_machine.specs.Sides.{other}
 use Rattle.gen1_machine.specs.Conditions.{after_haze, with_bad_poison, with_bide, with_recharge, without_seed, without_trapping, ActiveConditions}
-use Rattle.gen1_machine.specs.State.{active_in, changed_active, changed_conditions, changed_member, fallen, has_fallen_in, health_in, member_at, member_in, party, who_in, with_current_move, with_member, with_types_of, Active, Field, Party}
+use Rattle.gen1_machine.specs.State.{active_in, changed_active, changed_conditions, changed_member, fallen, has_fallen_in, health_in, member_at, member_in, party, who_in, with_current_move, with_member, with_pp_spent, with_types_of, Active, Field, Party}
 use Rattle.gen1_machine.specs.EarlyEffects.{with_levelled_stats}
 use Rattle.gen1_machine.specs.SwitchingIn.{switch_event, with_sent_out}
 use Rattle.gen1_machine.proofs.Showing.{member-after, BothOut, IsOut}
@@ -463,6 +463,7 @@ telling-outline : Outline telling
 unfolding telling with_current_move changed_active
 telling-outline = record {
   takes = λ s used f es m. both-takes s used f (told_by es) m;
+  spends = λ s move k used f es m. both-member s (with_pp_spent used) f (told_by es) m;
   mild = λ s change h f es m. both-conditions s change h f (told_by es) m;
   noise = λ e f h es m. noise-both e (noise-is f e h) f es m;
   acts = λ s move. tt;

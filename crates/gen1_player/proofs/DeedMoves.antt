@@ -353,7 +353,7 @@ letting-deeds : {n : Sizes} {pre : List Event} {K : Field → List Event → Typ
 unfolding set_letting_go on_action
 letting-deeds = record { leads = λ p r m. Runs r (m, refl) }
 
-of-bide : {A : Type 0} (move : Move) → bides move.effect ≡ true → (test : Effect → A) → test move.effect ≡ test effects.Bide
+pub of-bide : {A : Type 0} (move : Move) → bides move.effect ≡ true → (test : Effect → A) → test move.effect ≡ test effects.Bide
 of-bide move h test = ap test (is-bide move.effect h)
 
 lead-keeps : (s : Side) (pick : Pick) (move : Move) → bides move.effect ≡ true → Keeps Holds_back (lead_up s pick move)

@@ -6,7 +6,7 @@ use Rattle.gen1_tables.specs.Effects.{bides, recharges, thrashes, traps}
 use Rattle.std.proofs.Common.{[], Bool, List, ap, arith, false, flat_map, if◌then◌else◌, inl, inr, is_some, length, not, refl, subst, sym, true, true≢false, ℕ, ◌++◌, ◌&&◌, ◌==◌, ◌∙◌, ◌∷◌, ◌≡◌, ◌≢◌, ◌≤◌, ◌⊎◌, ◌||◌}
 use Rattle.std.proofs.lemmas.Bool.Decides.{eqb_tells}
 use Rattle.std.proofs.lemmas.List.{append-nil, append_assoc}
-use Rattle.gen1_stats.specs.Members.{is_living}
+use Rattle.gen1_stats.specs.Members.{is_living, IsTeam, Member}
 use Rattle.gen1_machine.specs.declared.side.Side.{Side}
 use Rattle.gen1_machine.specs.declared.side.Side.TheVariants.{One, Two}
 use Rattle.gen1_machine.specs.declared.choice.Choice.{Choice}
@@ -57,7 +57,7 @@ use Rattle.gen1_player.proofs.DeedTurns.{may-settling, now-settling, plain-switc
 abbrev Set : Field → List Event → Type 0
 Set f es = Even f (settled_by 0 (told_by es))
 
-abbrev Told : Field → List Event → Type 0
+abbrev pub Told : Field → List Event → Type 0
 Told f es = Tale Nothing_more f es ⊎ (is_fault f.outcome ≡ true)
 
 abbrev First : Side → Field → List Event → Type 0
@@ -212,7 +212,7 @@ module _ {n : Sizes} {pre : List Event} where
 -- An update
 
 -- The first place holds a member.
-first-fits : {n : Sizes} (f : Field) → Begun n f → (u : Side) → Fits n u 1
+pub first-fits : {n : Sizes} (f : Field) → Begun n f → (u : Side) → Fits n u 1
 first-fits f b One = let e = b.sized.one in (omega arith, omega (arith, e, b.both.one.placed, b.both.one.within))
 first-fits f b Two = let e = b.sized.two in (omega arith, omega (arith, e, b.both.two.placed, b.both.two.within))
 
@@ -230,7 +230,7 @@ not-true true e = refl
 not-true false e = absurd (true≢false e)
 
 -- If moves are asked for, both active members live.
-asked-lives : (t : Terms) (f : Field) (a b : Bool) → has_fallen_in One f ≡ a → has_fallen_in Two f ≡ b → requests.Move ≡ f.request_one → IsAsked a b t f
+pub asked-lives : (t : Terms) (f : Field) (a b : Bool) → has_fallen_in One f ≡ a → has_fallen_in Two f ≡ b → requests.Move ≡ f.request_one → IsAsked a b t f
     → (s : Side) → is_living (member_in s f) ≡ true
 asked-lives t f false false x y e h One = not-true _ x
 asked-lives t f false false x y e h Two = not-true _ y
@@ -238,7 +238,7 @@ asked-lives t f true false x y e h s = absurd (no-switch true (e ∙ h.0))
 asked-lives t f false true x y e h s = absurd (no-switch false (e ∙ h.0))
 asked-lives t f true true x y e h s = absurd (no-switch true (e ∙ h.0))
 
-going-on : (o : Outcome) (t : Terms) (f : Field) → is_over o ≡ false → StandsAs o t f → IsAsked (has_fallen_in One f) (has_fallen_in Two f) t f
+pub going-on : (o : Outcome) (t : Terms) (f : Field) → is_over o ≡ false → StandsAs o t f → IsAsked (has_fallen_in One f) (has_fallen_in Two f) t f
 going-on outcomes.Ongoing t f e h = h.2
 going-on outcomes.WinOne t f e h = absurd (true≢false e)
 going-on outcomes.WinTwo t f e h = absurd (true≢false e)
@@ -249,14 +249,14 @@ abbrev is_move : Request → Bool
 is_move requests.Move = true
 is_move _ = false
 
-started-of : (s : State) → IsState s → requests.Move ≡ s.field.request_one → IsStarted s.terms s.field
+pub started-of : (s : State) → IsState s → requests.Move ≡ s.field.request_one → IsStarted s.terms s.field
 started-of s h e = by h.field
   where
     by : IsUnstarted s.terms s.field ⊎ IsStarted s.terms s.field → IsStarted s.terms s.field
     by (inl u) = absurd (true≢false (ap is_move (e ∙ u.requests.one)))
     by (inr k) = k
 
-landed : {P : Progress → Type 0} (q : Progress) → Lands P P q → P q
+pub landed : {P : Progress → Type 0} (q : Progress) → Lands P P q → P q
 landed q (Runs r m) = m
 landed q (Rests r m) = m
 
@@ -299,18 +299,18 @@ module _ {n : Sizes} {pre : List Event} where
 
 -- Between two updates
 
-data Ready (n : Sizes) (pre : List Event) (f : Field) : Type 0 where
+pub data Ready (n : Sizes) (pre : List Event) (f : Field) : Type 0 where
   Goes : Begun n f → Told f (pre ++ []) → Ready n pre f
   Opens : Fresh plain_story n pre f [] → f.request_one ≡ requests.Pass → f.request_two ≡ requests.Pass → 1 ≤ n.one → 1 ≤ n.two → Ready n pre f
 
-faults-over : (o : Outcome) → is_over o ≡ false → is_fault o ≡ true → ⊥
+pub faults-over : (o : Outcome) → is_over o ≡ false → is_fault o ≡ true → ⊥
 faults-over (outcomes.Fault k) e h = true≢false e
 faults-over outcomes.Ongoing e h = true≢false (sym h)
 faults-over outcomes.WinOne e h = true≢false (sym h)
 faults-over outcomes.WinTwo e h = true≢false (sym h)
 faults-over outcomes.Tie e h = true≢false (sym h)
 
-stays : (s : State) (x y : Choice) → IsState s → IsState (step s x y).state
+pub stays : (s : State) (x y : Choice) → IsState s → IsState (step s x y).state
 unfolding run_by
 stays s x y h = states_stay_valid s ((x, y) ∷ []) h
 
@@ -345,7 +345,7 @@ module _ {n : Sizes} where
   answered-deeds pre s false true false p r h = subst (λ (l : List Event). Ready n l s.field) (sym (append-nil pre)) r
   answered-deeds pre s false true true p r h = told-goes pre p (h refl refl refl)
 
-  step-deeds : (pre : List Event) (s : State) (x y : Choice) → IsState s → Ready n pre s.field → Ready n (pre ++ events_of (step s x y).answer) (step s x y).state.field
+  pub step-deeds : (pre : List Event) (s : State) (x y : Choice) → IsState s → Ready n pre s.field → Ready n (pre ++ events_of (step s x y).answer) (step s x y).state.field
   unfolding step step_by
   step-deeds pre s x y h r = answered-deeds pre s (is_over s.field.outcome) (offers s One x) (offers s Two y) (update (ruling_of s.terms) x y (opened s)) r
       (λ over a b. accepted-deeds pre s x y h over a b r)
@@ -363,10 +363,10 @@ module _ {n : Sizes} where
 -- What is left of it
 
 -- Recharging, thrashing and trapping belong to the current move.
-record Tied (t : Party) : Type 0 where
-  recharge : t.active.conditions.underway.recharge ≡ true → recharges (move_at (current_of t)).effect ≡ true
-  thrash : is_some t.active.conditions.underway.thrash ≡ true → thrashes (move_at (current_of t)).effect ≡ true
-  trapping : is_some t.active.conditions.underway.trapping ≡ true → traps (move_at (current_of t)).effect ≡ true
+pub record Tied (t : Party) : Type 0 where
+  pub recharge : t.active.conditions.underway.recharge ≡ true → recharges (move_at (current_of t)).effect ≡ true
+  pub thrash : is_some t.active.conditions.underway.thrash ≡ true → thrashes (move_at (current_of t)).effect ≡ true
+  pub trapping : is_some t.active.conditions.underway.trapping ≡ true → traps (move_at (current_of t)).effect ≡ true
 
 none-tied : (t : Party) → t.active ≡ nobody_out → Tied t
 none-tied t e = record {
@@ -375,7 +375,7 @@ none-tied t e = record {
   trapping = λ h. absurd (true≢false (sym h ∙ ap (λ (a : Active). is_some a.conditions.underway.trapping) e));
 }
 
-valid-tied : (t : Party) → IsUnderway (move_at (current_of t)).effect t.active.conditions.underway → Tied t
+pub valid-tied : (t : Party) → IsUnderway (move_at (current_of t)).effect t.active.conditions.underway → Tied t
 valid-tied t h = record { recharge = h.recharge_tied; thrash = h.thrash_tied; trapping = h.trapping_tied }
 
 tied-of : (s : State) → IsState s → (u : Side) → Tied (party u s.field)
@@ -420,7 +420,7 @@ rage-going k x e = or-first _ _ (ap (λ (n : ℕ). not (n == 0)) e)
 move-going : (x : PublicSide) (t : Party) → Does x t → may_go_on (move_at (current_of t)).effect ≡ true → is_going_on (current_of t) x ≡ true
 move-going x t m e = or-second _ _ (both-true _ _ (same-number x.last_move (current_of t) (m.last (goes-not-bide _ e))) e)
 
-keeps-uncounted : (x : PublicSide) (t : Party) → x.announced.rage ≡ bit_of t.active.conditions.underway.rage → Tied t → Does x t
+pub keeps-uncounted : (x : PublicSide) (t : Party) → x.announced.rage ≡ bit_of t.active.conditions.underway.rage → Tied t → Does x t
     → keeps_going t.active.conditions.underway ≡ true → new_uses (current_of t) x ≡ 0
 keeps-uncounted x t rage r m e = ap (λ (b : Bool). if b then 0 else 1) (by _ _ _ refl refl refl e)
   where
@@ -457,11 +457,10 @@ ready-does pre f k r (Goes b (inl m)) e = tale-does f pre k r (subst (Tale Nothi
 ready-does pre f k r (Goes b (inr m)) e = absurd (true≢false (sym m ∙ e))
 ready-does pre f k r (Opens m a c d l) e = tale-does f pre k r (subst (Tale Nothing_more f) (append-nil pre) m.exact)
 
-pub actives_agree : ActivesAgree
+pub first-ready : (t : Terms) (one two : List Member) (seed : List ℕ) → IsTeam one → IsTeam two → Ready (sizes_of one two) [] (first_state t one two seed).field
 unfolding hears_all deeding
-actives_agree t one two seed pairs limit stream a b over =
-    let s : State = first_state t one two seed in
-    let start : Tale Nothing_more s.field [] = record {
+first-ready t one two seed a b =
+    let start : Tale Nothing_more (first_state t one two seed).field [] = record {
       even = record {
         one = record { same = refl; reach = λ i. absurd (i refl); last = λ c. refl; few = a.size.1 };
         two = record { same = refl; reach = λ i. absurd (i refl); last = λ c. refl; few = b.size.1 };
@@ -469,7 +468,11 @@ actives_agree t one two seed pairs limit stream a b over =
       quiet = refl;
       more = tt;
     } in
+    Opens (record { sized = record { one = refl; two = refl }; exact = start }) refl refl a.size.0 b.size.0
+
+pub actives_agree : ActivesAgree
+actives_agree t one two seed pairs limit stream a b over =
+    let s : State = first_state t one two seed in
     let valid : IsState s = first_states_are_valid t one two seed limit a b stream in
     ready-does (flat_map events_of (run s pairs).answers) (run s pairs).state.field (conditions_agree t one two seed pairs a b) (tied-of (run s pairs).state (states_stay_valid s pairs valid))
-    (run-deeds {n = sizes_of one two} [] s pairs valid
-    (Opens (record { sized = record { one = refl; two = refl }; exact = start }) refl refl a.size.0 b.size.0)) over
+    (run-deeds {n = sizes_of one two} [] s pairs valid (first-ready t one two seed a b)) over

@@ -22,7 +22,7 @@ use Rattle.gen1_machine.proofs.Showing.{BothOut}
 use Rattle.gen1_player.specs.declared.public.Public.{Public}
 use Rattle.gen1_player.specs.declared.public_side.PublicSide.{PublicSide}
 use Rattle.gen1_player.specs.Public.{acting, first_public, gets_status, hears_all, is_cleared, on_announced, on_out, on_seen, public_side, set_volatile, settled, takes_in, takes_types}
-use Rattle.gen1_player.proofs.Facts.{followed, is_dull, noted, starts-marks, with_cleared, Dull, Followed, Marks, Placid, Starts, Tame}
+use Rattle.gen1_player.proofs.Facts.{followed, is_dull, noted, sparing-tame, starts-marks, with_cleared, Dull, Followed, Marks, Placid, Starts, Tame}
 use Rattle.gen1_player.proofs.Stories.{sickened, Story}
 use Rattle.gen1_player.proofs.HeardSides.{clear-hears, end-hears, foe-side, hears-in, hears_all-last, out-side, quiet-side, settled-look, start-hears, starts-begins, types-hears, rest-hears}
 use Rattle.gen1_player.proofs.Deeds.{calm-bland, Bland, core_of, deeds, deeds_of, does-in, dull-fades, dull-quiet, even-active, even-apart, even-conditions, even-fades, even-member, even-party, even-quiet, pending-out, placed-in, with_active, with_conditions, Deeds, Does, Even}
@@ -61,6 +61,7 @@ marks-noted volatiles.Splash on change h c = h c
 abbrev with_deed : Volatile → ℕ → Deeds → Deeds
 with_deed volatiles.Substitute on k = record k { substitute = on }
 with_deed volatiles.Bide on k = record k { bide = on }
+with_deed volatiles.Rage on k = record k { rage = on }
 with_deed _ on k = k
 
 set-deeds : (what : Volatile) (on : ℕ) (x : PublicSide) → deeds (on_announced (set_volatile what on) x) ≡ with_deed what on (deeds x)
@@ -320,7 +321,7 @@ deeding U l = record {
   knows = λ s move. bides move.effect ≡ false;
   loosen = λ f es m. m;
   tighten = λ f es m a b. m;
-  member = λ s change h f es m. tale-member l s change h f es m;
+  member = λ s change h f es m. tale-member l s change (sparing-tame change h) f es m;
   active = λ s change h f es m. tale-active l s change h f es m;
   conditions = λ s change h f es m. tale-conditions l s change (calm-bland change h) f es m;
   apart = λ f g es a b m. tale-apart l f g es a b m;

@@ -124,7 +124,7 @@ plain-switches = record {
 
 -- Two facts at once
 
-with-leads : {P Q S : Progress → Type 0} {K L : Field → Action → Stream → Type 0} {f : Phase} → Leads P Q S f → steps.Leads K L f
+pub with-leads : {P Q S : Progress → Type 0} {K L : Field → Action → Stream → Type 0} {f : Phase} → Leads P Q S f → steps.Leads K L f
     → Leads (λ p. P p × K p.field p.action p.stream) (λ p. Q p × L p.field p.action p.stream) S f
 with-leads {P} {Q} {S} {K} {L} {f} h k = record { leads = λ p r m. both (f p) (h.leads p r m.0) (k.led p m.1) }
   where
@@ -177,11 +177,11 @@ module _ {n : Sizes} {pre : List Event} {S : Progress → Type 0} (b : Bool) (u 
 abbrev pub Settling : Field → List Event → Type 0
 Settling f es = Even f (settled_by 0 (told_by es)) ⊎ (is_fault f.outcome ≡ true)
 
-over-settling : (b : Bool) (s : Side) (f : Field) (es : List Event) → Over b s f es → Settling f es
+pub over-settling : (b : Bool) (s : Side) (f : Field) (es : List Event) → Over b s f es → Settling f es
 over-settling b s f es (inl m) = inl m.even
 over-settling b s f es (inr m) = inr m
 
-past-settling : (b : Bool) (s : Side) (f : Field) (es : List Event) → Past b s f es → Settling f es
+pub past-settling : (b : Bool) (s : Side) (f : Field) (es : List Event) → Past b s f es → Settling f es
 past-settling b s f es m = inl m.even
 
 pub now-settling : {n : Sizes} {pre : List Event} (p : Progress) → Now plain_story n pre p → In n pre Settling p
@@ -206,11 +206,11 @@ not-false : (c : Bool) → not c ≡ false → c ≡ true
 not-false true e = refl
 not-false false e = absurd (true≢false e)
 
-uncut-lives : (s : Side) (p : Progress) → is_cut p ≡ false → is_living (member_in s p.field) ≡ true
+pub uncut-lives : (s : Side) (p : Progress) → is_cut p ≡ false → is_living (member_in s p.field) ≡ true
 uncut-lives One p e = not-false _ (or-left (has_fallen One p) (has_fallen Two p) (or-left (has_fallen One p || has_fallen Two p) (is_over p.field.outcome) e))
 uncut-lives Two p e = not-false _ (or-right (has_fallen One p) (has_fallen Two p) (or-left (has_fallen One p || has_fallen Two p) (is_over p.field.outcome) e))
 
-uncut-past : {n : Sizes} {pre : List Event} (b : Bool) (s : Side) (p : Progress) → is_cut p ≡ false → In n pre (Over b s) p → In n pre (Past b s) p
+pub uncut-past : {n : Sizes} {pre : List Event} (b : Bool) (s : Side) (p : Progress) → is_cut p ≡ false → In n pre (Over b s) p → In n pre (Past b s) p
 uncut-past {n} {pre} b s p e m = record { begun = m.begun; is = by m.is }
   where
     by : Over b s p.field (pre ++ p.events) → Past b s p.field (pre ++ p.events)
@@ -218,23 +218,29 @@ uncut-past {n} {pre} b s p e m = record { begun = m.begun; is = by m.is }
     by (inr k) = absurd (faults-over p.field.outcome (uncut-over p e) k)
 
 -- The other side's act follows.
-next-opens : {n : Sizes} {pre : List Event} (s : Side) (p : Progress) → is_cut p ≡ false → In n pre (Past true s) p → In n pre (Opens false (other s)) p
+pub next-opens : {n : Sizes} {pre : List Event} (s : Side) (p : Progress) → is_cut p ≡ false → In n pre (Past true s) p → In n pre (Opens false (other s)) p
 next-opens s p e m = record { begun = m.begun; is = record { even = m.is.even; free = m.is.first refl; first = λ h. absurd (true≢false (sym h)); lives = uncut-lives (other s) p e } }
 
-now-opens : {n : Sizes} {pre : List Event} (b : Bool) (s : Side) (p : Progress) → is_living (member_in s p.field) ≡ true → Now plain_story n pre p → In n pre (Opens b s) p
+pub now-opens : {n : Sizes} {pre : List Event} (b : Bool) (s : Side) (p : Progress) → is_living (member_in s p.field) ≡ true → Now plain_story n pre p → In n pre (Opens b s) p
 unfolding deeding
 now-opens b s p l m = record { begun = m.begun; is = tale-opens b s p.field _ l m.exact }
 
 -- The parts of a turn
 
-abbrev Ends : Sizes → List Event → Progress → Type 0
+abbrev pub Ends : Sizes → List Event → Progress → Type 0
 Ends n pre = In n pre Settling
 
-abbrev Planned : Terms → (Side → Plan) → Progress → Type 0
+abbrev pub Planned : Terms → (Side → Plan) → Progress → Type 0
 Planned t plan p = IsPlanned t plan p.field p.action p.stream
 
+-- A part, and the rest unless it cuts them off
+pub then-part : (t : Terms) {P W E : Progress → Type 0} (part : Part) (rest : List Part) → Leads P W E (do_part (ruling_of t) part) → ((p : Progress) → W p → E p)
+    → Leads (λ p. W p × (is_cut p ≡ false)) E E (do_parts (ruling_of t) rest) → Leads P E E (do_parts (ruling_of t) (part ∷ rest))
+unfolding do_parts
+then-part t part rest h cut l = h ⊳ watching.choose-sees is_cut (before-leads (λ p m. cut p m.0) stay-tells) l
+
 module _ (t : Terms) {n : Sizes} {pre : List Event} where
-  begin-in : {K : Field → List Event → Type 0} {S : Progress → Type 0} (s : Side) → Leads (In n pre K) (In n pre K) S (begin s)
+  pub begin-in : {K : Field → List Event → Type 0} {S : Progress → Type 0} (s : Side) → Leads (In n pre K) (In n pre K) S (begin s)
   unfolding begin on_action
   begin-in s = record { leads = λ p r m. Runs r m }
 
@@ -244,31 +250,25 @@ module _ (t : Terms) {n : Sizes} {pre : List Event} where
   acts-part plan b s pick fits idle = with-keeps (begin-in s) (begin-keeps t plan s)
       ⊳ choose-tells _ (before-leads (λ p m. m.0) (after-leads (at-weak (λ f es m. inl (opens-past b s f es m))) stay-tells)) (act-deeds t plan b s pick fits idle)
 
-  act-part : (plan : Side → Plan) (b : Bool) (s : Side) (pick : Pick) → FitsPick pick (plan s) → IdleIsQuiet pick (plan s)
+  pub act-part : (plan : Side → Plan) (b : Bool) (s : Side) (pick : Pick) → FitsPick pick (plan s) → IdleIsQuiet pick (plan s)
       → Leads (λ p. In n pre (Opens b s) p × Planned t plan p) (λ p. In n pre (Over b s) p × Planned t (with_plan s Any plan) p) (Ends n pre) (do_part (ruling_of t) (Acts s pick))
   act-part plan b s pick fits idle = rests-leads (at-weak (λ f es m. over-settling b s f es m)) (joined-leads (acts-part plan b s pick fits idle) (act_part t plan s pick fits))
 
-  -- A part, and the rest unless it cuts them off
-  then-part : {P W : Progress → Type 0} (part : Part) (rest : List Part) → Leads P W (Ends n pre) (do_part (ruling_of t) part) → ((p : Progress) → W p → Ends n pre p)
-      → Leads (λ p. W p × (is_cut p ≡ false)) (Ends n pre) (Ends n pre) (do_parts (ruling_of t) rest) → Leads P (Ends n pre) (Ends n pre) (do_parts (ruling_of t) (part ∷ rest))
-  unfolding do_parts
-  then-part part rest h cut l = h ⊳ watching.choose-sees is_cut (before-leads (λ p m. cut p m.0) stay-tells) l
-
-  ends-deeds : {S : Progress → Type 0} (b : Bool) (s : Side) → Leads (In n pre (Past b s)) (Ends n pre) S (do_parts (ruling_of t) [])
+  pub ends-deeds : {S : Progress → Type 0} (b : Bool) (s : Side) → Leads (In n pre (Past b s)) (Ends n pre) S (do_parts (ruling_of t) [])
   unfolding do_parts end_turn end_spent_trapping
   ends-deeds b s = after-leads (at-weak (λ f es m. past-settling b s f es m))
       (choose-tells _ (at-conditions One without_trapping (λ f es o m. past-conditions b s One without_trapping trapping-bland f es m)) stay-tells
       ⊳ choose-tells _ (at-conditions Two without_trapping (λ f es o m. past-conditions b s Two without_trapping trapping-bland f es m)) stay-tells)
 
-  suffers-part : {S : Progress → Type 0} (b : Bool) (u s : Side) → Leads (In n pre (Past b u)) (In n pre (Past b u)) S (do_part (ruling_of t) (Suffers s))
+  pub suffers-part : {S : Progress → Type 0} (b : Bool) (u s : Side) → Leads (In n pre (Past b u)) (In n pre (Past b u)) S (do_part (ruling_of t) (Suffers s))
   unfolding do_part
   suffers-part b u s = past-residual b u s
 
   -- The last act of a turn
   last-act : (plan : Side → Plan) (b : Bool) (s : Side) (pick : Pick) → FitsPick pick (plan s) → IdleIsQuiet pick (plan s)
       → Leads (λ p. In n pre (Opens b s) p × Planned t plan p) (Ends n pre) (Ends n pre) (do_parts (ruling_of t) (Acts s pick ∷ Suffers s ∷ []))
-  last-act plan b s pick fits idle = then-part {W = In n pre (Over b s)} (Acts s pick) (Suffers s ∷ []) (after-leads (λ p m. m.0) (act-part plan b s pick fits idle)) (at-weak (λ f es m. over-settling b s f es m))
-      (then-part {W = In n pre (Past b s)} (Suffers s) [] (before-leads (λ p m. uncut-past b s p m.1 m.0) (suffers-part b s s)) (at-weak (λ f es m. past-settling b s f es m))
+  last-act plan b s pick fits idle = then-part t {W = In n pre (Over b s)} (Acts s pick) (Suffers s ∷ []) (after-leads (λ p m. m.0) (act-part plan b s pick fits idle)) (at-weak (λ f es m. over-settling b s f es m))
+      (then-part t {W = In n pre (Past b s)} (Suffers s) [] (before-leads (λ p m. uncut-past b s p m.1 m.0) (suffers-part b s s)) (at-weak (λ f es m. past-settling b s f es m))
       (before-leads (λ p m. m.0) (ends-deeds b s)))
 
   both-deeds : (plan : Side → Plan) (one two : Pick) → ((s : Side) → FitsPick (of_side s one two) (plan s)) → ((s : Side) → IdleIsQuiet (of_side s one two) (plan s)) → (s : Side)
@@ -276,8 +276,8 @@ module _ (t : Terms) {n : Sizes} {pre : List Event} where
   both-deeds plan one two fits idle s =
       let next : Side → Plan = with_plan s Any plan in
       let same : next (other s) ≡ plan (other s) = with_plan-other s Any plan in
-      then-part {W = λ p. In n pre (Over true s) p × Planned t next p} (Acts s (of_side s one two)) _ (act-part plan true s (of_side s one two) (fits s) (idle s)) (λ p m. at-weak (λ f es k. over-settling true s f es k) p m.0)
-      (then-part {W = λ p. In n pre (Past true s) p × Planned t next p} (Suffers s) _
+      then-part t {W = λ p. In n pre (Over true s) p × Planned t next p} (Acts s (of_side s one two)) _ (act-part plan true s (of_side s one two) (fits s) (idle s)) (λ p m. at-weak (λ f es k. over-settling true s f es k) p m.0)
+      (then-part t {W = λ p. In n pre (Past true s) p × Planned t next p} (Suffers s) _
       (before-leads (λ p m. (uncut-past true s p m.1 m.0.0, m.0.1)) (with-keeps (suffers-part true s s) (suffers_part t next s))) (λ p m. at-weak (λ f es k. past-settling true s f es k) p m.0)
       (before-leads (λ p m. (next-opens s p m.1 m.0.0, m.0.1))
       (last-act next false (other s) (of_side (other s) one two) (subst (λ (x : Plan). FitsPick (of_side (other s) one two) x) (sym same) (fits (other s)))
@@ -285,20 +285,20 @@ module _ (t : Terms) {n : Sizes} {pre : List Event} where
 
   -- Switches
 
-  send-part : (s : Side) (place : ℕ) → facts.Fits n s place → Leads (Now plain_story n pre) (Now plain_story n pre) (Ends n pre) (do_part (ruling_of t) (Sends s place))
+  pub send-part : (s : Side) (place : ℕ) → facts.Fits n s place → Leads (Now plain_story n pre) (Now plain_story n pre) (Ends n pre) (do_part (ruling_of t) (Sends s place))
   unfolding do_part
   send-part s place fits = rests-leads may-settling (begin-tells s ⊳ send_out-tells plain-switches s place fits)
 
-  hurts-part : (s : Side) → Leads (Now plain_story n pre) (Now plain_story n pre) (Ends n pre) (do_part (ruling_of t) (Suffers s))
+  pub hurts-part : (s : Side) → Leads (Now plain_story n pre) (Now plain_story n pre) (Ends n pre) (do_part (ruling_of t) (Suffers s))
   unfolding do_part
   hurts-part s = rests-leads may-settling (residual-tells s)
 
   switch-deeds : (plan : Side → Plan) (s : Side) (pick : Pick) (place : ℕ) → FitsPick pick (plan s) → IdleIsQuiet pick (plan s) → plan (other s) ≡ Any → facts.Fits n (other s) place
       → Leads (λ p. Now plain_story n pre p × (Planned t plan p × InRange (other s) place p.field)) (Ends n pre) (Ends n pre) (do_parts (ruling_of t) (switch_then_act s pick place))
   switch-deeds plan s pick place fits idle any room =
-      then-part {W = λ p. Now plain_story n pre p × Planned t plan p} (Sends (other s) place) _
+      then-part t {W = λ p. Now plain_story n pre p × Planned t plan p} (Sends (other s) place) _
       (with-leads {K = λ f a w. IsPlanned t plan f a w × InRange (other s) place f} (send-part (other s) place room) (send_part t plan (other s) place any)) (λ p m. now-settling p m.0)
-      (then-part {W = λ p. Now plain_story n pre p × Planned t plan p} (Suffers (other s)) _
+      (then-part t {W = λ p. Now plain_story n pre p × Planned t plan p} (Suffers (other s)) _
       (before-leads (λ p m. m.0) (with-keeps (hurts-part (other s)) (suffers_part t plan (other s)))) (λ p m. now-settling p m.0)
       (before-leads (λ p m. (now-opens false s p (uncut-lives s p m.1) m.0.0, m.0.1)) (last-act plan false s pick fits idle)))
 
@@ -308,10 +308,10 @@ module _ (t : Terms) {n : Sizes} {pre : List Event} where
 
   both_switch-deeds : (one two : ℕ) → facts.Fits n One one → facts.Fits n Two two → Leads (Now plain_story n pre) (Ends n pre) (Ends n pre) (do_parts (ruling_of t) (both_switch one two))
   both_switch-deeds one two a c =
-      then-part (Sends One one) _ (send-part One one a) now-settling
-      (then-part (Suffers One) _ (before-leads (λ p m. m.0) (hurts-part One)) now-settling
-      (then-part (Sends Two two) _ (before-leads (λ p m. m.0) (send-part Two two c)) now-settling
-      (then-part (Suffers Two) [] (before-leads (λ p m. m.0) (hurts-part Two)) now-settling
+      then-part t (Sends One one) _ (send-part One one a) now-settling
+      (then-part t (Suffers One) _ (before-leads (λ p m. m.0) (hurts-part One)) now-settling
+      (then-part t (Sends Two two) _ (before-leads (λ p m. m.0) (send-part Two two c)) now-settling
+      (then-part t (Suffers Two) [] (before-leads (λ p m. m.0) (hurts-part Two)) now-settling
       (before-leads (λ p m. m.0) now-ends))))
 
 -- Picks
@@ -330,14 +330,14 @@ plain-free u h =
     let f = never (is_some u.trapping) h.trapping_tied in
     rw (a, b, c, d, e, f) refl
 
-record Chosen (t : Terms) (plan : Side → Plan) (s : Side) (pick : Pick) (f : Field) (a : Action) (w : Stream) : Type 0 where
-  next : Side → Plan
-  planned : IsPlanned t next f a w
-  fits : FitsPick pick (next s)
-  idle : IdleIsQuiet pick (next s)
-  rest : next (other s) ≡ plan (other s)
+pub record Chosen (t : Terms) (plan : Side → Plan) (s : Side) (pick : Pick) (f : Field) (a : Action) (w : Stream) : Type 0 where
+  pub next : Side → Plan
+  pub planned : IsPlanned t next f a w
+  pub fits : FitsPick pick (next s)
+  pub idle : IdleIsQuiet pick (next s)
+  pub rest : next (other s) ≡ plan (other s)
 
-pick-chosen : {t : Terms} (plan : Side → Plan) (s : Side) (j : ℕ) (f : Field) (a : Action) (w : Stream) → PlanOf (choices.Move j) (plan s) → IsPlanned t plan f a w
+pub pick-chosen : {t : Terms} (plan : Side → Plan) (s : Side) (j : ℕ) (f : Field) (a : Action) (w : Stream) → PlanOf (choices.Move j) (plan s) → IsPlanned t plan f a w
     → Chosen t plan s (pick_in j s f) f a w
 pick-chosen plan s (suc k) f a w fits h = record { next = plan; planned = h; fits = (fits.0, fits.1, λ e. cc); idle = λ e. absurd (true≢false (sym e)); rest = refl }
 pick-chosen {t} plan s zero f a w fits h = by (must_continue (underway_in s f)) (sleeps_or_freezes (status_in s f)) (is_some (underway_in (other s) f).trapping) refl
@@ -410,17 +410,17 @@ begun-picked : {n : Sizes} (u : Side) (used : UsedMove) (f : Field) → Begun n 
 unfolding with_picked_move
 begun-picked u used f b = begun-active u (with_picked_move used) f (λ a. refl) b
 
-stood-opens : {n : Sizes} {pre : List Event} (b : Bool) (s : Side) (p : Progress) → In n pre Stood p → In n pre (Opens b s) p
+pub stood-opens : {n : Sizes} {pre : List Event} (b : Bool) (s : Side) (p : Progress) → In n pre Stood p → In n pre (Opens b s) p
 stood-opens b s p m = record { begun = m.begun; is = tale-opens b s p.field _ (m.is.lives s) m.is.tale }
 
-stood-now : {n : Sizes} {pre : List Event} (p : Progress) → In n pre Stood p → Now plain_story n pre p
+pub stood-now : {n : Sizes} {pre : List Event} (p : Progress) → In n pre Stood p → Now plain_story n pre p
 unfolding deeding
 stood-now p m = record { begun = m.begun; exact = m.is.tale }
 
-in-range : {n : Sizes} (s : Side) (place : ℕ) (f : Field) → Begun n f → facts.Fits n s place → InRange s place f
+pub in-range : {n : Sizes} (s : Side) (place : ℕ) (f : Field) → Begun n f → facts.Fits n s place → InRange s place f
 in-range {n} s place f b fits = let high = fits-now n f s place b.sized fits in (omega (arith, fits.0), omega (arith, fits.0, high))
 
-chosen-fits : {t : Terms} (plan : Side → Plan) (one two : Pick) (f : Field) (a : Action) (w : Stream) (first : Chosen t plan One one f a w) (second : Chosen t first.next Two two f a w)
+pub chosen-fits : {t : Terms} (plan : Side → Plan) (one two : Pick) (f : Field) (a : Action) (w : Stream) (first : Chosen t plan One one f a w) (second : Chosen t first.next Two two f a w)
     → ((s : Side) → FitsPick (of_side s one two) (second.next s)) × ((s : Side) → IdleIsQuiet (of_side s one two) (second.next s))
 chosen-fits plan one two f a w first second = (fits, idle)
   where
@@ -433,12 +433,12 @@ chosen-fits plan one two f a w first second = (fits, idle)
     idle Two = second.idle
 
 module _ (t : Terms) {n : Sizes} {pre : List Event} where
-  picks : {S : Progress → Type 0} (s : Side) (pick : Pick) → Leads (In n pre Stood) (In n pre Stood) S (set_picked s pick)
+  pub picks : {S : Progress → Type 0} (s : Side) (pick : Pick) → Leads (In n pre Stood) (In n pre Stood) S (set_picked s pick)
   unfolding set_picked on_active
   picks s pick = given-tells _ (λ a. at-field (changed_active s (with_picked_move _)) (begun-picked s _)
       (λ f es o m. record { tale = picked-tale s _ f es m.tale; lives = lives-picked s _ f m.lives }))
 
-  flinches : {S : Progress → Type 0} (s : Side) → Leads (In n pre Stood) (In n pre Stood) S (on_conditions s without_flinch)
+  pub flinches : {S : Progress → Type 0} (s : Side) → Leads (In n pre Stood) (In n pre Stood) S (on_conditions s without_flinch)
   flinches s = at-conditions s without_flinch (λ f es o m. record { tale = tale-conditions nothing-lasts s without_flinch flinch-bland f es m.tale; lives = lives-conditions s without_flinch f m.lives })
 
   draw-deeds : {plan : Side → Plan} {f : ℕ → Phase} → ((x : ℕ) → Leads (λ p. In n pre Stood p × Planned t plan p) (Ends n pre) (Ends n pre) (f x))

@@ -1,4 +1,4 @@
--- What the log tells of what the active members do: Bide, charging, reach, Substitute, bad poison, and the last move.
+-- What the log tells of what the active members do: Bide, charging, reach, Substitute, bad poison, rage, and the last move.
 use Rattle.std.proofs.Common.{Bool, List, ap, arith, false, if◌then◌else◌, length, length-set, map, not, refl, slice_index_or, subst, sym, true, true≢false, ℕ, ◌-◌, ◌==◌, ◌∙◌, ◌≡◌, ◌≢◌, ◌≤◌}
 use Rattle.std.proofs.Math.ListN.{get_or-map}
 use Rattle.std.proofs.Math.Seq.{map-set_same}
@@ -42,9 +42,10 @@ pub record Deeds : Type 0 where
   pub bide : ℕ
   pub charging : ℕ
   pub toxic : ℕ
+  pub rage : ℕ
 
 abbrev pub deeds : PublicSide → Deeds
-deeds x = let a = x.announced in record { place = x.place; substitute = a.substitute; bide = a.bide; charging = a.charging; toxic = a.toxic }
+deeds x = let a = x.announced in record { place = x.place; substitute = a.substitute; bide = a.bide; charging = a.charging; toxic = a.toxic; rage = a.rage }
 
 -- What is so.
 pub record Core : Type 0 where
@@ -53,15 +54,16 @@ pub record Core : Type 0 where
   pub charging : Bool
   pub invulnerable : Bool
   pub toxic : Bool
+  pub rage : Bool
 
 abbrev pub core_of : Followed → Core
-core_of x = record { substitute = x.substitute; bide = x.bide; charging = x.charging; invulnerable = x.invulnerable; toxic = x.toxic }
+core_of x = record { substitute = x.substitute; bide = x.bide; charging = x.charging; invulnerable = x.invulnerable; toxic = x.toxic; rage = x.rage }
 
 abbrev pub core : ActiveConditions → Core
 core c = core_of (followed c)
 
 abbrev pub deeds_of : ℕ → Core → Deeds
-deeds_of place c = record { place = place; substitute = bit_of c.substitute; bide = bit_of c.bide; charging = bit_of c.charging; toxic = bit_of c.toxic }
+deeds_of place c = record { place = place; substitute = bit_of c.substitute; bide = bit_of c.bide; charging = bit_of c.charging; toxic = bit_of c.toxic; rage = bit_of c.rage }
 
 -- The number of the current move.
 abbrev pub current_of : Party → ℕ

@@ -206,6 +206,26 @@ traits m = record { species = m.species; level = m.level; max = m.max; moves = m
 abbrev pub Tame : (Member → Member) → Type 0
 Tame change = (m : Member) → traits (change m) ≡ traits m
 
+-- What only the use of a move changes of a member: its moves with their PP.
+pub record Belongings : Type 0 where
+  pub species : ℕ
+  pub level : ℕ
+  pub max : ℕ
+  pub moves : List KnownMove
+
+abbrev pub belongings : Member → Belongings
+belongings m = record { species = m.species; level = m.level; max = m.max; moves = m.moves }
+
+-- A change that spends no PP.
+abbrev pub Sparing : (Member → Member) → Type 0
+Sparing change = (m : Member) → belongings (change m) ≡ belongings m
+
+abbrev traits_of : Belongings → Traits
+traits_of b = record { species = b.species; level = b.level; max = b.max; moves = map (λ (k : KnownMove). k.id) b.moves }
+
+pub sparing-tame : (change : Member → Member) → Sparing change → Tame change
+sparing-tame change h m = ap traits_of (h m)
+
 -- Events that tell nothing of what a story follows.
 abbrev pub is_noise : Event → Bool
 is_noise (events.Switch w place level h) = false

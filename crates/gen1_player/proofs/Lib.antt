@@ -43,6 +43,10 @@ pub mod DeedActs
 pub mod DeedMoves
 pub mod DeedTurns
 pub mod DeedRuns
+-- Uses of a move are at most the PP that it lost.
+pub mod Counting
+pub mod Spending
+pub mod SpendingTurns
 -- Worked examples.
 pub mod WorkedPlayers
 -- The player in two battles that give a side the same.

@@ -23,7 +23,7 @@ use Rattle.gen1_tables.specs.Types.{any}
 use Rattle.gen1_machine.specs.Moves.{move_at, toxic, Move}
 use Rattle.gen1_machine.specs.Sides.{other}
 use Rattle.gen1_machine.specs.Conditions.{after_haze, with_bad_poison, with_bide, with_recharge, without_seed, ActiveConditions}
-use Rattle.gen1_machine.specs.State.{first_state, active_in, changed_active, changed_conditions, changed_member, fallen, health_in, member_at, member_in, party, who_in, with_current_move, with_types_of, Active, Field, Party, Terms}
+use Rattle.gen1_machine.specs.State.{first_state, active_in, changed_active, changed_conditions, changed_member, fallen, health_in, member_at, member_in, party, who_in, with_current_move, with_pp_spent, with_types_of, Active, Field, Party, Terms}
 use Rattle.gen1_machine.specs.EarlyEffects.{with_levelled_stats}
 use Rattle.gen1_machine.specs.Picks.{number_in, used_by}
 use Rattle.gen1_machine.specs.Progress.{active, given, member, Progress}
@@ -37,10 +37,10 @@ use Rattle.gen1_player.specs.declared.public.Public.{Public}
 use Rattle.gen1_player.specs.declared.public_side.PublicSide.{PublicSide}
 use Rattle.gen1_player.specs.Public.{begins, bide, comes_out, first_public, hears_all, new_uses, not_seen, on_announced, seen_at, on_out, prepares, public_side, settled, starts_bide, takes_in, uses_move}
 use Rattle.gen1_player.specs.True.{events_in, public_of, MembersAgree, OfRuns, SideHasAppeared}
-use Rattle.gen1_player.proofs.Facts.{side_out, dull-noise, noise-is, sent-place, sent, traits, with_cleared, Noise, Sizes, Standing, Tame, Traits}
+use Rattle.gen1_player.proofs.Facts.{side_out, dull-noise, noise-is, sent-place, sent, sparing-tame, traits, with_cleared, Noise, Sizes, Standing, Tame, Traits}
 use Rattle.gen1_player.proofs.Stories.{sickened, MayFall, Outline, Story, Switching}
 use Rattle.gen1_player.proofs.ToldEffects.{ruling_of-tells}
-use Rattle.gen1_player.proofs.ToldActions.{carry_out-tells, Says}
+use Rattle.gen1_player.proofs.ToldActions.{carry_out-tells, spent-tame, Says}
 use Rattle.gen1_player.proofs.ToldRuns.{sizes_of, story-runs}
 use Rattle.gen1_player.proofs.Lenses.{tellable-last, AllTellable, Tellable}
 use Rattle.gen1_player.proofs.HeardSides.{bide-hears, clear-hears, clear-less, end-hears, end-less, less-path, move-less, noise-less, prepare-less, rest-hears, settled-less, start-less, Less, foe-side, hears-in, hears_all-last, move-hears, out-side, prepare-hears, switch-hears}
@@ -536,7 +536,7 @@ appearing k U u = record {
   knows = λ s move. ((f : Field) → U f → Usable k s move.number f) × (move.effect ≡ (move_at move.number).effect);
   loosen = λ f es m. m;
   tighten = λ f es m a b. m;
-  member = λ s change h f es m. with-member u s change h f es m;
+  member = λ s change h f es m. with-member u s change (sparing-tame change h) f es m;
   active = λ s change h f es m. with-active u s change (λ a. ap (λ (x : Standing). x.place) (h a)) f es m;
   conditions = λ s change h f es m. with-conditions u s change f es m;
   apart = λ f g es a b m. with-apart u f g es a b m;
@@ -561,6 +561,7 @@ appearing-outline : (k : Teams) (U : Field → Type 0) (u : Further U) → Outli
 unfolding appearing with_current_move
 appearing-outline k U u = record {
   takes = λ s used f es m. with-active u s (with_current_move used) (λ a. refl) f es m;
+  spends = λ s move k used f es m. with-member u s (with_pp_spent used) (spent-tame used) f es m;
   mild = λ s change h f es m. with-conditions u s change f es m;
   noise = λ e f h es m. with-noise u e f h es m;
   acts = λ s move. tt;

@@ -107,6 +107,7 @@ placing-outline : (n : Sizes) → Outline (placing n)
 unfolding placing changed_conditions
 placing-outline n = record {
   takes = λ s used f es m. placed-active s _ f es m;
+  spends = λ s move k used f es m. placed-member s _ f es m;
   mild = λ s change h f es m. placed-active s _ f es m;
   noise = λ e f h es m. placed-last n f es e (noise-fits n e (noise-is f e h)) m;
   acts = λ s move. tt;

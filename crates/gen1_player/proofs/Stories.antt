@@ -21,13 +21,13 @@ use Rattle.gen1_machine.specs.Sides.{other}
 use Rattle.gen1_machine.specs.Moves.{toxic, Move}
 use Rattle.gen1_tables.specs.Effects.{bides, recharges}
 use Rattle.gen1_machine.specs.Conditions.{with_bad_poison, with_bide, with_recharge, without_seed, ActiveConditions}
-use Rattle.gen1_machine.specs.State.{active_in, changed_active, changed_conditions, changed_member, fallen, has_fallen_in, healed_by, health_in, hurt_by, party, who_in, with_current_move, with_last_damage, with_outcome, with_status, with_types_of, Active, Field}
+use Rattle.gen1_machine.specs.State.{active_in, changed_active, changed_conditions, changed_member, fallen, has_fallen_in, healed_by, health_in, hurt_by, party, who_in, with_current_move, with_pp_spent, with_last_damage, with_outcome, with_status, with_types_of, Active, Field}
 use Rattle.gen1_machine.specs.CurrentStats.{with_penalty_of}
 use Rattle.gen1_machine.specs.Progress.{cure, stop, draw, draw_until, ends, fault, gain_hp, inflict, lasts, lose_hp, note, on_action, on_active, on_conditions, on_field, on_member, set_last_damage, starts, told, Action, Phase, Progress}
 use Rattle.gen1_machine.specs.SwitchingIn.{switch_event}
 use Rattle.gen1_machine.proofs.Showing.{keeps-active, keeps-member, BothOut}
 use Rattle.gen1_machine.proofs.Watching.{choose-tells, stay-tells, stop-leads, ◌⊳◌, Lands, Leads, Runs}
-use Rattle.gen1_player.proofs.Facts.{penalty-placid, still-is, Calm, Dull, Marks, Mild, Noise, Standing, Starts, Placid, Tame, is_own_damage, is_poison, is_still, with_cleared, sent, Sizes}
+use Rattle.gen1_player.proofs.Facts.{penalty-placid, still-is, Calm, Dull, Marks, Mild, Noise, Standing, Starts, Placid, Sparing, is_own_damage, is_poison, is_still, with_cleared, sent, Sizes}
 
 -- Stories
 
@@ -45,7 +45,7 @@ pub record Story : Type 1 where
   pub knows : Side → Move → Type 0  -- that its active member may use it
   pub loosen : (f : Field) (es : List Event) → exact f es → loose f es
   pub tighten : (f : Field) (es : List Event) → loose f es → has_fallen_in One f ≡ false → has_fallen_in Two f ≡ false → exact f es
-  pub member : (s : Side) (change : Member → Member) → Tame change → (f : Field) (es : List Event) → exact f es → exact (changed_member s change f) es
+  pub member : (s : Side) (change : Member → Member) → Sparing change → (f : Field) (es : List Event) → exact f es → exact (changed_member s change f) es
   pub active : (s : Side) (change : Active → Active) → Placid change → (f : Field) (es : List Event) → exact f es → exact (changed_active s change f) es
   pub conditions : (s : Side) (change : ActiveConditions → ActiveConditions) → Calm change → (f : Field) (es : List Event)
       → exact f es → exact (changed_conditions s change f) es
@@ -80,6 +80,7 @@ pub record Outline (v : Story) : Type 0 where
   pub mild : (s : Side) (change : ActiveConditions → ActiveConditions) → Mild change → (f : Field) (es : List Event)
       → v.exact f es → v.exact (changed_conditions s change f) es
   pub noise : (e : Event) (f : Field) → Noise f e → (es : List Event) → v.exact f es → v.exact f (es ++ e ∷ [])
+  pub spends : (s : Side) (move : Move) → v.said s move → (used : UsedMove) (f : Field) (es : List Event) → v.exact f es → v.exact (changed_member s (with_pp_spent used) f) es
   pub acts : (s : Side) (move : Move) → v.acted s move
   pub knows : (s : Side) (move : Move) → v.said s move → v.knows s move
 
@@ -162,7 +163,7 @@ module _ {v : Story} {n : Sizes} {pre : List Event} where
       → Holds v n pre f es → Holds v n pre (changed_conditions s change f) es
   holds-conditions s change h f es m = record { begun = begun-conditions s change f m.begun; exact = v.conditions s change h f (pre ++ es) m.exact }
 
-  pub holds-member : (s : Side) (change : Member → Member) → Tame change → (f : Field) (es : List Event) → Holds v n pre f es → Holds v n pre (changed_member s change f) es
+  pub holds-member : (s : Side) (change : Member → Member) → Sparing change → (f : Field) (es : List Event) → Holds v n pre f es → Holds v n pre (changed_member s change f) es
   holds-member s change h f es m = record { begun = begun-member s change f m.begun; exact = v.member s change h f (pre ++ es) m.exact }
 
   holds-health : (e : Event) (f : Field) → Dull f e → (es : List Event) → Holds v n pre f es → Holds v n pre f (es ++ e ∷ [])
@@ -227,7 +228,7 @@ module _ {v : Story} {n : Sizes} {pre : List Event} {S : Progress → Type 0} wh
   unfolding on_conditions
   conditions-tells s change h = field-tells _ (holds-conditions s change h)
 
-  pub member-tells : (s : Side) (change : Member → Member) → Tame change → Leads (Now v n pre) (Now v n pre) S (on_member s change)
+  pub member-tells : (s : Side) (change : Member → Member) → Sparing change → Leads (Now v n pre) (Now v n pre) S (on_member s change)
   unfolding on_member
   member-tells s change h = field-tells _ (holds-member s change h)
 
@@ -347,6 +348,10 @@ module _ {v : Story} {n : Sizes} {pre : List Event} (o : Outline v) where
     begun = begun-active s (with_current_move used) f (λ a. refl) m.begun;
     exact = o.takes s used f (pre ++ es) m.exact;
   })
+
+  pub pays-tells : {S : Progress → Type 0} (s : Side) (move : Move) → v.said s move → (used : UsedMove) → Leads (Now v n pre) (Now v n pre) S (on_member s (with_pp_spent used))
+  unfolding on_member
+  pays-tells s move k used = field-tells _ (λ f es m. record { begun = begun-member s (with_pp_spent used) f m.begun; exact = o.spends s move k used f (pre ++ es) m.exact })
 
   pub any-note : {S : Progress → Type 0} (event : Field → Event) → ((f : Field) → Noise f (event f)) → Leads (Now v n pre) (Now v n pre) S (note event)
   unfolding note

@@ -34,7 +34,7 @@ use Rattle.gen1_machine.specs.Action.{set_going_on, see_if_going_on, gate_or_hel
 use Rattle.gen1_machine.proofs.Watching.{seeing, Runs, Rests, Lands, Leads, after-leads, before-leads, ◌⊳◌, choose-tells, if-sees, given-tells, stay-tells, stop-leads}
 use Rattle.std.proofs.Math.Seq.{map-set_same}
 use Rattle.gen1_player.proofs.Facts.{storing-calm, Sizes, Tame, traits}
-use Rattle.gen1_player.proofs.Stories.{mild-tells, takes-tells, Outline, Story, May, Now, MayFall, Tells, at_end, begun-conditions, begun-member, may-active, loosened, draw-tells, until-tells, stop-tells, fault-tells, action-tells, active-tells, conditions-tells, member-tells, damage-tells, note-tells, starts-tells, ends-tells, lasts-tells, lose-tells, gain-tells}
+use Rattle.gen1_player.proofs.Stories.{mild-tells, takes-tells, Outline, Story, May, Now, MayFall, Tells, at_end, begun-conditions, begun-member, may-active, loosened, draw-tells, until-tells, stop-tells, fault-tells, action-tells, active-tells, conditions-tells, pays-tells, damage-tells, note-tells, starts-tells, ends-tells, lasts-tells, lose-tells, gain-tells}
 use Rattle.gen1_player.proofs.ToldGate.{missed-tells, cant-tells, gate-tells, land-tells, hit_or_miss-tells, note_miss-tells}
 use Rattle.gen1_player.proofs.ToldEffects.{may_poison_by, not-toxic, IsDue, Poisons, RulingTells, now-due, due-field, raise-tells, raise-falls, confuse-tells, early_effect-tells, late_effect-tells, side_effect-tells}
 
@@ -123,9 +123,9 @@ module _ {v : Story} {z : Sizes} {pre : List Event} (o : Outline v) where
   unfolding charge seeing
   charge-tells s pick move k = choose-tells _ (choose-tells _ (end_charge-tells s) (begin_charge-tells s pick move k)) stay-tells
 
-  pub spend-tells : (s : Side) → Tells v z pre (spend_pp s)
+  pub spend-tells : (s : Side) (move : Move) → v.said s move → Tells v z pre (spend_pp s)
   unfolding spend_pp seeing
-  spend-tells s = given-tells _ (λ used. member-tells s _ (spent-tame used))
+  spend-tells s move k = given-tells _ (λ used. pays-tells o s move k used)
 
   move-tells : {S : Progress → Type 0} (s : Side) (move : Move) → v.said s move
       → Leads (Now v z pre) (Now v z pre) S (note (λ f. events.Move (who_in s f) move.number (who_in (other s) f)))
@@ -138,7 +138,7 @@ module _ {v : Story} {z : Sizes} {pre : List Event} (o : Outline v) where
 
   pub use_move-tells : (s : Side) (pick : Pick) (move : Move) → v.said s move → Tells v z pre (use_move s pick move)
   unfolding use_move seeing
-  use_move-tells s pick move k = current-tells s pick ⊳ choose-tells _ stay-tells (spend-tells s) ⊳ choose-tells _ (move-tells s move k) stay-tells
+  use_move-tells s pick move k = current-tells s pick ⊳ choose-tells _ stay-tells (spend-tells s move k) ⊳ choose-tells _ (move-tells s move k) stay-tells
 
 module _ {v : Story} {z : Sizes} {pre : List Event} where
   pub begin-tells : (s : Side) → Tells v z pre (begin s)
@@ -464,7 +464,7 @@ landed : {v : Story} {z : Sizes} {pre : List Event} (q : Progress) → Lands (Ma
 landed q (Runs r m) = m
 landed q (Rests r m) = m
 
-resume-lands : {v : Story} {z : Sizes} {pre : List Event} (s : Side) (byte : ℕ) (q : Progress) → Lands (MayFall v z pre) (MayFall v z pre) q
+pub resume-lands : {v : Story} {z : Sizes} {pre : List Event} (s : Side) (byte : ℕ) (q : Progress) → Lands (MayFall v z pre) (MayFall v z pre) q
     → Lands (MayFall v z pre) (MayFall v z pre) (resume (on_active s (with_kept_accuracy byte) q))
 unfolding resume on_active on_field
 resume-lands s byte q l =

@@ -24,14 +24,14 @@ use Rattle.gen1_machine.specs.Landing.{set_broke, land_on_substitute, land_on_hp
 use Rattle.gen1_machine.specs.HitOnItself.{land_on_foes_substitute, hurt_itself_by, hurt_itself}
 use Rattle.gen1_machine.specs.Gate.{cant, wake, sleep_on, sleep_test, frozen_test, trapped_test, flinch_test, recharge_test, disable_count, may_hurt_itself, confusion_test, disabled_test, may_be_paralysed, paralysis_test, gate_of_status, gate_of_turn, gate_of_move, gate}
 use Rattle.gen1_machine.proofs.Watching.{seeing, ◌⊳◌, choose-tells, given-tells, stay-tells}
-use Rattle.gen1_player.proofs.Facts.{is_own_damage, is_still, Tame, Sizes, calm-mild, confusion-calm, substitute-calm, disable-calm}
+use Rattle.gen1_player.proofs.Facts.{is_own_damage, is_still, Sparing, Sizes, calm-mild, confusion-calm, substitute-calm, disable-calm}
 use Rattle.gen1_player.proofs.Stories.{Outline, Story, Tells, any-lasts, any-loses, any-note, mild-tells, holds-member, draw-tells, action-tells, told-noise, note-tells, conditions-tells, member-tells, damage-tells, ends-tells, lasts-tells, lose-tells, stop-tells, fault-tells}
 
 miss-noise : (b : Bool) (x y : Who) → is_still (if b then events.Immune x else events.Miss y) ≡ true
 miss-noise true x y = refl
 miss-noise false x y = refl
 
-sleep-tame : Tame with_sleep_one_less
+sleep-tame : Sparing with_sleep_one_less
 unfolding with_sleep_one_less
 sleep-tame m = refl
 

@@ -179,7 +179,7 @@ module _ {v : Story} {n : Sizes} {pre : List Event} where
   unfolding end_spent_trapping seeing
   spent-tells s = choose-tells _ (conditions-tells s _ (λ c. refl)) stay-tells
 
-  end_turn-tells : Tells v n pre end_turn
+  pub end_turn-tells : Tells v n pre end_turn
   unfolding end_turn
   end_turn-tells = spent-tells One ⊳ spent-tells Two
 
@@ -189,7 +189,7 @@ module _ {v : Story} {n : Sizes} {pre : List Event} where
   do_parts-tells r k (part ∷ rest) fit = do_part-tells r k part fit.0
       ⊳ choose-sees is_cut (before-leads (λ p m. m.0) stay-tells) (before-leads not-cut (do_parts-tells r k rest fit.1))
 
-  set_picked-tells : (s : Side) (pick : Pick) → Tells v n pre (set_picked s pick)
+  pub set_picked-tells : (s : Side) (pick : Pick) → Tells v n pre (set_picked s pick)
   unfolding set_picked seeing
   set_picked-tells s pick = given-tells _ (λ a. active-tells s _ (λ a. refl))
 

@@ -1,5 +1,5 @@
 -- What holds of all that a log makes public, after any run of a battle from its start, and of what a player holds of it.
-use Rattle.std.specs.Prelude.{All, Bool, List, None, [], false, if◌then◌else◌, is_some, map, replicate, true, ℕ, ◌+◌, ◌-◌, ◌==◌, ◌≡◌, ◌≢◌, ◌⊎◌, ◌∷◌}
+use Rattle.std.specs.Prelude.{All, Bool, List, None, [], false, if◌then◌else◌, is_some, map, nat_lt, replicate, true, ℕ, ◌*◌, ◌+◌, ◌-◌, ◌==◌, ◌≡◌, ◌≢◌, ◌≤◌, ◌⊎◌, ◌∷◌}
 use Rattle.std.specs.List.{flat_map}
 use Rattle.gen1_tables.specs.declared.effect.Effect.{Effect}
 use Rattle.gen1_tables.specs.Effects.{bides, recharges}
@@ -22,8 +22,8 @@ use Rattle.gen1_machine.specs.Numbers.{side_number}
 use Rattle.gen1_machine.specs.Picks.{number_in}
 use Rattle.gen1_machine.specs.Rules.{bit_of}
 use Rattle.gen1_machine.specs.Sides.{other}
-use Rattle.gen1_machine.specs.State.{first_state, member_at, Field, Party, Terms}
-use Rattle.gen1_machine.specs.Step.{events_of, run, Ran}
+use Rattle.gen1_machine.specs.State.{first_state, known_in, member_at, party, Field, Party, State, Terms}
+use Rattle.gen1_machine.specs.Step.{events_of, run, step, Ran}
 use Rattle.gen1_machine.specs.Valid.{IsTerms}
 use Rattle.gen1_machine.specs.View.{first_view, sees_all, shown_at, shows, Shown, SideView, View}
 use Rattle.gen1_player.specs.declared.public.Public.{Public}
@@ -35,7 +35,7 @@ use Rattle.gen1_player.specs.declared.player.Player.{Player}
 use Rattle.gen1_player.specs.declared.teller.Teller.{Teller}
 use Rattle.gen1_player.specs.Player.{IsPlayer, known_at}
 use Rattle.gen1_player.specs.Player as players
-use Rattle.gen1_player.specs.Public.{first_public, hears_all, new_uses, not_seen, on_public_side, seen_at}
+use Rattle.gen1_player.specs.Public.{first_public, hears_all, new_uses, not_seen, on_public_side, public_side, seen_at}
 use Rattle.gen1_player.specs.Telling.{health_told, meets_all, slot_of, told_all}
 
 -- All events that a run logged.
@@ -134,6 +134,36 @@ DoesOrFaults r = is_fault r.state.field.outcome ≡ false → BothDo (public_of 
 abbrev pub ActivesAgree : Type 0
 ActivesAgree = (t : Terms) (one two : List Member) (seed : List ℕ) (pairs : List (Choice × Choice))
     → IsTerms t → IsStream (Link seed) → IsTeam one → IsTeam two → DoesOrFaults (run (first_state t one two seed) pairs)
+
+-- Uses and PP
+
+-- The move in a slot of the member at a place, and its PP.
+abbrev pub move_in : Side → ℕ → ℕ → Field → KnownMove
+move_in s place slot f = known_in slot (member_at place (party s f)).moves
+
+abbrev pub pp_in : Side → ℕ → ℕ → State → ℕ
+pp_in s place slot b = (move_in s place slot b.field).pp
+
+-- PP rise only from 0 to 63, as a move without PP is used. This counts the updates of a run in which they do.
+abbrev pub rise : ℕ → ℕ → ℕ
+rise before after = if nat_lt before after then 1 else 0
+
+unfoldable pub rises : (State → ℕ) → State → List (Choice × Choice) → ℕ
+rises pp b [] = 0
+rises pp b (pair ∷ pairs) = let next = (step b pair.0 pair.1).state in rise (pp b) (pp next) + rises pp next pairs
+
+-- The uses that were counted of a member's move are at most the PP that its slot has lost: uses and PP left are together at most the PP
+-- at the start, and 64 more for each rise. So PP at the start less uses are never below the PP left, while these have not risen.
+abbrev pub IsPaid : Side → ℕ → ℕ → State → List (Choice × Choice) → Type 0
+IsPaid s place slot first pairs = let r = run first pairs in let known = move_in s place slot first.field in
+    known.id ≢ 0 → All (λ (k : SeenMove). k.id ≡ known.id → k.uses + pp_in s place slot r.state ≤ known.pp + 64 * rises (pp_in s place slot) first pairs)
+    (seen_at place (public_side s (public_of r))).moves
+
+-- Of any battle with valid terms and seed bytes, also one that ends in a fault.
+abbrev pub UsesArePaid : Type 0
+UsesArePaid = (t : Terms) (one two : List Member) (seed : List ℕ) (pairs : List (Choice × Choice))
+    → IsTerms t → IsStream (Link seed) → IsTeam one → IsTeam two
+    → (s : Side) (place slot : ℕ) → IsPaid s place slot (first_state t one two seed) pairs
 
 -- Members that have appeared
 

@@ -1,8 +1,9 @@
 //! What holds of all that a log makes public (docs/MECHANICS.md, "Player's view"), as functions that do nothing.
-ghost use Rattle.gen1_player.specs.True.{ConditionsAgree, ActivesAgree, MembersAgree, PlayersHoldThePublic, PublicAgrees, PublicAgreesWithView};
+ghost use Rattle.gen1_player.specs.True.{ConditionsAgree, ActivesAgree, MembersAgree, PlayersHoldThePublic, PublicAgrees, PublicAgreesWithView, UsesArePaid};
 
 /// After any run of a battle of two teams from its start, what its log made public agrees with the battle: active places, stages,
 /// Substitute, confusion, screens, turn, outcome, and HP and kind of status of each member that has appeared.
+#[tactic(auto, using(crate::proofs::Placing::agrees, crate::proofs::Placing::agrees_with_view))]
 pub fn public_agrees()
     ensures view { PublicAgreesWithView }
     ensures state { PublicAgrees }
@@ -24,6 +25,7 @@ pub fn conditions_agree()
 /// After any run from the start, the member that is out has appeared. A member that has appeared has the species, level and maximum HP
 /// of the member at its place, and it was seen to prepare or use its own moves or Struggle. The last move is one of these. Recharging is
 /// announced only of one that knows a move for it.
+#[tactic(auto, using(crate::proofs::Members::members_agree))]
 pub fn members_agree()
     ensures { MembersAgree }
 {}
@@ -31,6 +33,15 @@ pub fn members_agree()
 /// After any run with valid terms and seed bytes that ended in no fault, Bide, charging and bad poison are announced exactly if they are
 /// on, and invulnerability only if it is. The last move is the current one, unless that is Bide; one that has to recharge used a move
 /// for it last. A move that goes on, without PP, is not counted as a use.
+#[tactic(auto, using(crate::proofs::DeedRuns::actives_agree))]
 pub fn actives_agree()
     ensures { ActivesAgree }
+{}
+
+/// After any run with valid terms and seed bytes, the uses that were counted of a member's move are at most the PP that its slot has
+/// lost: uses and PP left are together at most the PP at the start, and 64 more for each rise from 0 to 63. Until PP rise so, the PP at
+/// the start less the uses are never below the PP left.
+#[tactic(auto, using(crate::proofs::SpendingTurns::uses_are_paid))]
+pub fn uses_are_paid()
+    ensures { UsesArePaid }
 {}
