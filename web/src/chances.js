@@ -17,6 +17,8 @@ const GOING = ["bide", "thrash", "trapping", "rage"];
 const PASSING = ["bide", "charging", "invulnerable", "recharge"];
 /** Kinds of events after which the stats that a use has are not known from the position before the update. */
 const CHANGING = ["status", "cure", "boost", "unboost", "clear all", "start", "end"];
+/** Kinds of events after which a use may fail for another reason than from that position. */
+const TURNING = ["status", "cure", "clear all", "start", "end"];
 const BEGINNING = ["move", "switch", "cant"];
 /** The events of a use that has not hit. */
 const NO_HIT = ["miss", "fail", "immune", "prepare"];
@@ -147,8 +149,10 @@ export function explain(engine, battle, events) {
   if (!events.some(({kind}) => kind === "fail")) return;
   const before = engine.gen1.load(battle);
   for (const {side, move, events: own, from} of actsOf(events)) {
+    const past = events.slice(0, from);
     const failure = own.find((event) => event.kind === "fail" && event.side === side);
-    const reason = failure && atMoment(engine, before, events.slice(0, from), side)?.odds(side, move).reason;
+    if (!failure || past.some(({kind}) => TURNING.includes(kind))) continue;
+    const reason = atMoment(engine, before, past, side)?.odds(side, move).reason;
     if (reason && SEEN_REASONS.includes(reason)) failure.why = reason;
   }
 }
