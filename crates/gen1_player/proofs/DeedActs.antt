@@ -330,7 +330,7 @@ suffers-if true x = record { same = refl; reach = λ e. e; last = refl }
 suffers-if false x = record { same = refl; reach = λ e. e; last = refl }
 
 does-uses : (x : PublicSide) (t : Party) (k : ℕ) → current_of t ≡ k → Strikes x t → Does (uses_move k x) t
-does-uses x t k e m = record { same = m.same; reach = m.reach; last = λ c. sym e; few = m.few }
+does-uses x t k e m = record { same = m.same; reach = m.reach; last = sym e; few = m.few }
 
 struck : (s : Side) (k : ℕ) (f : Field) (q : Public) → BothOut f → current_of (party s f) ≡ k → Strikes (public_side s q) (party s f) → Does (public_side (other s) q) (party (other s) f)
     → Even f (on_out s (uses_move k) q) × (public_side s (on_out s (uses_move k) q) ≡ uses_move k (public_side s q))

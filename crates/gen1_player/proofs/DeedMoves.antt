@@ -1,5 +1,5 @@
 -- What active members do, through an action whose move is settled, and through a whole action.
-use Rattle.std.proofs.Common.{[], Bool, List, None, Option, Some, ap, arith, false, if◌then◌else◌, inl, inr, is_some, length, nat_lt, not, refl, subst, sym, true, true≢false, ℕ, ◌+◌, ◌++◌, ◌==◌, ◌∙◌, ◌∷◌, ◌≡◌, ◌≢◌, ◌≤◌, ◌⊎◌}
+use Rattle.std.proofs.Common.{[], Bool, List, None, Option, Some, ap, arith, false, if◌then◌else◌, inl, inr, is_some, length, length-set, nat_lt, not, refl, subst, sym, true, true≢false, ℕ, ◌+◌, ◌++◌, ◌-◌, ◌==◌, ◌∙◌, ◌∷◌, ◌≡◌, ◌≢◌, ◌≤◌, ◌⊎◌}
 use Rattle.gen1_tables.specs.declared.effect.Effect.{Effect}
 use Rattle.gen1_tables.specs.declared.effect.Effect.TheVariants as effects
 use Rattle.gen1_tables.specs.Effects.{bides, charges, hides, recharges, thrashes, traps}
@@ -17,8 +17,8 @@ use Rattle.gen1_machine.specs.Numbers.{side_number}
 use Rattle.gen1_machine.specs.Picks.{used_by}
 use Rattle.gen1_machine.specs.Rules.{bit_of}
 use Rattle.gen1_machine.specs.Sides.{other}
-use Rattle.gen1_machine.specs.Conditions.{with_bide, with_bide_storing, with_charging, with_invulnerability, without_bide, without_charging, without_invulnerability, ActiveConditions, Storing, Underway}
-use Rattle.gen1_machine.specs.State.{active_in, changed_active, changed_conditions, changed_member, member_in, party, underway_in, who_in, with_current_move, with_kept_accuracy, with_last_damage, with_pp_spent, is_over, Active, Field, Party, Terms}
+use Rattle.gen1_machine.specs.Conditions.{with_bide, with_bide_storing, with_charging, with_invulnerability, without_bide, without_charging, without_invulnerability, Storing}
+use Rattle.gen1_machine.specs.State.{active_in, changed_active, changed_conditions, changed_member, member_in, party, underway_in, who_in, with_current_move, with_kept_accuracy, with_last_damage, with_member, with_pp_spent, is_over, Field, Party, Terms}
 use Rattle.gen1_machine.specs.Progress.{choose, ends, given, lasts, on_action, on_active, on_conditions, on_field, set_last_damage, set_missed, starts, stay, stop, underway, ◌▸◌, Action, Progress}
 use Rattle.gen1_machine.specs.Ruling.{ruling_of}
 use Rattle.gen1_machine.specs.GoingOn.{bide_goes_on, bide_on, let_energy_go, set_letting_go, store_energy}
@@ -36,14 +36,15 @@ use Rattle.gen1_machine.proofs.Watching.{after-leads, before-leads, choose-tells
 use Rattle.gen1_machine.proofs.Watching as watching
 use Rattle.gen1_player.specs.declared.public.Public.{Public}
 use Rattle.gen1_player.specs.declared.public_side.PublicSide.{PublicSide}
-use Rattle.gen1_player.specs.Public.{on_announced, on_out, prepares, public_side, set_volatile, settled_by, starts_bide}
+use Rattle.gen1_player.specs.Public.{bide, on_announced, on_out, prepares, public_side, set_volatile, settled_by, starts_bide, takes_in}
 use Rattle.gen1_player.specs.True.{is_fault}
 use Rattle.gen1_player.proofs.Facts.{storing-calm, Sizes}
 use Rattle.gen1_player.proofs.Stories.{begun-active, begun-conditions, Begun, MayFall, Now, Story, stop-tells}
 use Rattle.gen1_player.proofs.HeardSides.{bide-hears, end-hears, foe-side, out-side, prepare-hears}
 use Rattle.gen1_player.proofs.ToldEffects.{early_effect-tells, late_effect-tells, may_poison_by, not-toxic, ruling_of-tells}
 use Rattle.gen1_player.proofs.ToldActions.{damage_of-tells, prelude-tells, spent-tame, strike-tells}
-use Rattle.gen1_player.proofs.Deeds.{calm-bland, core, current-kept, current_of, deeds, deeds_of, even-active, even-conditions, even-member, pending-out, with_active, with_conditions, Deeds, Does, Even, IsLast}
+use Rattle.gen1_player.proofs.Appearing.{bide-number}
+use Rattle.gen1_player.proofs.Deeds.{calm-bland, core, current-kept, current_of, deeds, deeds_of, even-active, even-conditions, pending-out, with_conditions, Deeds, Does, Even}
 use Rattle.gen1_player.proofs.DeedStory.{deeding, does-marked, told_by, Tale, Lasts}
 use Rattle.gen1_player.proofs.DeedGate.{acted-tale, at-conditions, at-draw, at-field, at-member, at-note, at-stop, at-told, at-weak, dull-tale, out-tale, tale-past, In, Near, Nothing_more, Opens, Over, Past}
 use Rattle.gen1_player.proofs.DeedActs.{bide-power, due-uses, ending-due, gate_or_held-deeds, is-bide, nothing-lasts, off-due, off-ending, reach-if, rests-leads, tie-of, used-lasts, uses-spent, uses-tale, with-keeps, foe_of, own_of, taken_up, Due, Ending, IdleIsQuiet, Off, Ready, Tie, UsedBy, Uses}
@@ -85,7 +86,7 @@ Primes move x t = Does (prepares move.number x) t
 
 hidden-primes : (move : Move) (x : PublicSide) (t : Party) → current_of t ≡ move.number → Raises x t → Primes move x (with_conditions with_invulnerability t)
 unfolding with_invulnerability
-hidden-primes move x t e m = record { same = m.same; reach = λ i. refl; last = λ c. sym e; few = m.few }
+hidden-primes move x t e m = record { same = m.same; reach = λ i. refl; last = sym e; few = m.few }
 
 plain-reach : (h : Bool) (i : ℕ) → h ≡ false → (if h then 1 else i) ≢ 0 → i ≢ 0
 plain-reach h i e k = subst (λ (c : Bool). (if c then 1 else i) ≢ 0) e k
@@ -94,7 +95,7 @@ open-primes : (move : Move) (x : PublicSide) (t : Party) → hides (move_at move
 open-primes move x t h e m = record {
   same = m.same;
   reach = λ i. m.reach (plain-reach (hides (move_at move.number).effect) x.invulnerable h i);
-  last = λ c. sym e;
+  last = sym e;
   few = m.few;
 }
 
@@ -133,84 +134,98 @@ primes-tale s move f es o m =
 
 -- Bide, of which only the start and the end are told
 
-Stores : Side → Field → List Event → Type 0
-Stores s f es = Even f (settled_by (side_number s) (told_by es)) × (is_some (underway_in s f).bide ≡ false) × ((underway_in s f).charging ≡ false)
-    × (bides (move_at (current_of (party s f))).effect ≡ true)
+record Pending (x : PublicSide) (t : Party) : Type 0 where
+  plainly : Plainly x t
+  bide : is_some t.active.conditions.underway.bide ≡ false
+  charging : t.active.conditions.underway.charging ≡ false
 
-vacuous : (last k i : ℕ) → k ≡ i → bides (move_at i).effect ≡ true → IsLast last k
-vacuous last k i e h c = absurd (true≢false (sym h ∙ ap (λ (j : ℕ). bides (move_at j).effect) (sym e) ∙ c))
-
-does-taken : (x : PublicSide) (t : Party) (a : Active) (i : ℕ) → a.place ≡ t.active.place → a.conditions ≡ t.active.conditions → current_of (with_active a t) ≡ i → bides (move_at i).effect ≡ true
-    → Does x t → Does x (with_active a t)
-does-taken x t a i p c e h m = record {
-  same = m.same ∙ ap (λ (k : ℕ). deeds_of k (core t.active.conditions)) (sym p) ∙ ap (λ (d : ActiveConditions). deeds_of a.place (core d)) (sym c);
-  reach = λ r. ap (λ (d : ActiveConditions). d.invulnerable) c ∙ m.reach r;
-  last = vacuous x.last_move (current_of (with_active a t)) i e h;
-  few = m.few;
-}
+Stores : Side → Move → Field → List Event → Type 0
+Stores s move f es = Taken s move Pending f es
 
 uncharged : (c : Bool) {d : Bool} → (c ≡ true → d ≡ true) → d ≡ false → c ≡ false
 uncharged true h e = absurd (true≢false (sym (h refl) ∙ e))
 uncharged false h e = refl
 
-off-stores : (b : Bool) (s : Side) (pick : Pick) (move : Move) → bides (move_at move.number).effect ≡ true → charges move.effect ≡ false → (f : Field) (es : List Event)
-    → Off b s pick move f es → Stores s (taken_up s pick f) es
+off-stores : (b : Bool) (s : Side) (pick : Pick) (move : Move) → charges move.effect ≡ false → (f : Field) (es : List Event) → Off b s pick move f es → Stores s move (taken_up s pick f) es
 unfolding changed_active with_current_move Stores
-off-stores b One pick move h c f es m = let e = m.ready.near.even in (
-  record { one = does-taken _ f.one (record f.one.active { current_move = used_by pick f.one.active.current_move }) move.number refl refl m.ready.named h e.one; two = e.two },
-  m.off,
-  uncharged (underway_in One f).charging m.ready.charging c,
-  ap (λ (k : ℕ). bides (move_at k).effect) m.ready.named ∙ h,
-)
-off-stores b Two pick move h c f es m = let e = m.ready.near.even in (
-  record { one = e.one; two = does-taken _ f.two (record f.two.active { current_move = used_by pick f.two.active.current_move }) move.number refl refl m.ready.named h e.two },
-  m.off,
-  uncharged (underway_in Two f).charging m.ready.charging c,
-  ap (λ (k : ℕ). bides (move_at k).effect) m.ready.named ∙ h,
-)
+off-stores b One pick move c f es m =
+    let e = m.ready.near.even in
+    record {
+      mine = record { plainly = record { same = e.one.same; reach = e.one.reach; few = e.one.few }; bide = m.off; charging = uncharged (underway_in One f).charging m.ready.charging c };
+      theirs = e.two;
+      current = m.ready.named;
+    }
+off-stores b Two pick move c f es m =
+    let e = m.ready.near.even in
+    record {
+      mine = record { plainly = record { same = e.two.same; reach = e.two.reach; few = e.two.few }; bide = m.off; charging = uncharged (underway_in Two f).charging m.ready.charging c };
+      theirs = e.one;
+      current = m.ready.named;
+    }
 
-off-kept : (s : Side) (change : Member → Member) (f : Field) → underway_in s (changed_member s change f) ≡ underway_in s f
-unfolding changed_member
-off-kept One change f = refl
-off-kept Two change f = refl
-
-spent-named : (s : Side) (used : UsedMove) (f : Field) → current_of (party s (changed_member s (with_pp_spent used) f)) ≡ current_of (party s f)
-unfolding changed_member
-spent-named One used f = current-kept (with_pp_spent used (member_in One f)) f.one (spent-tame used (member_in One f))
-spent-named Two used f = current-kept (with_pp_spent used (member_in Two f)) f.two (spent-tame used (member_in Two f))
-
-stores-spent : (s : Side) (used : UsedMove) (f : Field) (es : List Event) → Stores s f es → Stores s (changed_member s (with_pp_spent used) f) es
-unfolding Stores
-stores-spent s used f es m = (
-  even-member s (with_pp_spent used) (spent-tame used) f _ m.0,
-  ap (λ (u : Underway). is_some u.bide) (off-kept s (with_pp_spent used) f) ∙ m.1,
-  ap (λ (u : Underway). u.charging) (off-kept s (with_pp_spent used) f) ∙ m.2,
-  ap (λ (k : ℕ). bides (move_at k).effect) (spent-named s used f) ∙ m.3,
-)
-
-stores-damage : (s : Side) (damage : ℕ) (f : Field) (es : List Event) → Stores s f es → Stores s (with_last_damage damage f) es
-unfolding Stores with_last_damage
-stores-damage One damage f es m = (record { one = m.0.one; two = m.0.two }, m.1, m.2, m.3)
-stores-damage Two damage f es m = (record { one = m.0.one; two = m.0.two }, m.1, m.2, m.3)
-
--- Its use ends charging and recharging, and then Bide is on.
-does-stored : (turns : ℕ) (x : PublicSide) (t : Party) → t.active.conditions.underway.charging ≡ false → Does x t → bides (move_at (current_of t)).effect ≡ true
-    → Does (starts_bide x) (with_conditions (with_bide turns) t)
-unfolding with_bide
-does-stored turns x t c m h = record {
-  same = ap (λ (k : Deeds). record k { bide = 1; charging = 0 }) m.same ∙ ap (λ (d : Bool). record (deeds_of t.active.place (core t.active.conditions)) { bide = 1; charging = bit_of d }) (sym c);
-  reach = λ e. m.reach (reach-if (x.announced.charging == 0) x.invulnerable e);
-  last = λ b. absurd (true≢false (sym h ∙ b));
-  few = m.few;
+pending-spent : (used : UsedMove) (n : Member) (x : PublicSide) (t : Party) → Pending x t → Pending x (with_member t.active.place (with_pp_spent used n) t)
+pending-spent used n x t k = record {
+  plainly = record { same = k.plainly.same; reach = k.plainly.reach; few = rw (length-set t.members (t.active.place - 1) (with_pp_spent used n)) k.plainly.few };
+  bide = k.bide;
+  charging = k.charging;
 }
 
-stores-tale : (s : Side) (turns : ℕ) (f : Field) (es : List Event) → BothOut f → Stores s f es
+stores-spent : (s : Side) (move : Move) (used : UsedMove) (f : Field) (es : List Event) → Stores s move f es → Stores s move (changed_member s (with_pp_spent used) f) es
+unfolding Stores changed_member
+stores-spent One move used f es m = record {
+  mine = pending-spent used (member_in One f) _ f.one m.mine;
+  theirs = m.theirs;
+  current = current-kept (with_pp_spent used (member_in One f)) f.one (spent-tame used (member_in One f)) ∙ m.current;
+}
+stores-spent Two move used f es m = record {
+  mine = pending-spent used (member_in Two f) _ f.two m.mine;
+  theirs = m.theirs;
+  current = current-kept (with_pp_spent used (member_in Two f)) f.two (spent-tame used (member_in Two f)) ∙ m.current;
+}
+
+stores-damage : (s : Side) (move : Move) (damage : ℕ) (f : Field) (es : List Event) → Stores s move f es → Stores s move (with_last_damage damage f) es
+unfolding Stores with_last_damage
+stores-damage One move damage f es m = record { mine = m.mine; theirs = m.theirs; current = m.current }
+stores-damage Two move damage f es m = record { mine = m.mine; theirs = m.theirs; current = m.current }
+
+-- Its use ends charging and recharging, and then Bide is on.
+does-stored : (turns : ℕ) (x : PublicSide) (t : Party) → current_of t ≡ bide → Pending x t → Does (starts_bide x) (with_conditions (with_bide turns) t)
+unfolding with_bide
+does-stored turns x t e m = record {
+  same = ap (λ (k : Deeds). record k { bide = 1; charging = 0 }) m.plainly.same
+      ∙ ap (λ (d : Bool). record (deeds_of t.active.place (core t.active.conditions)) { bide = 1; charging = bit_of d }) (sym m.charging);
+  reach = λ i. m.plainly.reach (reach-if (x.announced.charging == 0) x.invulnerable i);
+  last = sym e;
+  few = m.plainly.few;
+}
+
+stored : (s : Side) (turns : ℕ) (f : Field) (q : Public) → BothOut f → current_of (party s f) ≡ bide → Pending (public_side s q) (party s f) → Does (public_side (other s) q) (party (other s) f)
+    → Even (changed_conditions s (with_bide turns) f) (on_out s starts_bide q)
+unfolding changed_active changed_conditions
+stored One turns f q o e mine theirs =
+    let at : q.one.place ≡ f.one.active.place = ap (λ (d : Deeds). d.place) mine.plainly.same in
+    record {
+      one = subst (λ (x : PublicSide). Does x (with_conditions (with_bide turns) f.one)) (sym (out-side One starts_bide q (omega (arith, o.one.placed, at)))) (does-stored turns q.one f.one e mine);
+      two = subst (λ (x : PublicSide). Does x f.two) (sym (foe-side One starts_bide q)) theirs;
+    }
+stored Two turns f q o e mine theirs =
+    let at : q.two.place ≡ f.two.active.place = ap (λ (d : Deeds). d.place) mine.plainly.same in
+    record {
+      one = subst (λ (x : PublicSide). Does x f.one) (sym (foe-side Two starts_bide q)) theirs;
+      two = subst (λ (x : PublicSide). Does x (with_conditions (with_bide turns) f.two)) (sym (out-side Two starts_bide q (omega (arith, o.two.placed, at)))) (does-stored turns q.two f.two e mine);
+    }
+
+stores-tale : (s : Side) (move : Move) → bides (move_at move.number).effect ≡ true → (turns : ℕ) (f : Field) (es : List Event) → BothOut f → Stores s move f es
     → let g : Field = changed_conditions s (with_bide turns) f in Tale Nothing_more g (es ++ events.Start (who_in s g) volatiles.Bide ∷ [])
-unfolding Stores changed_active changed_conditions with_bide
-stores-tale s turns f es o m =
+unfolding Stores
+stores-tale s move h turns f es o m =
     let g : Field = changed_conditions s (with_bide turns) f in
-    out-tale Nothing_more (side_number s) s starts_bide (with_conditions (with_bide turns) (party s f)) f es (events.Start (who_in s g) volatiles.Bide) refl
-    (bide-hears (who_in s g) _) o (λ d. does-stored turns _ (party s f) m.2 d m.3) m.0 tt
+    let e : Event = events.Start (who_in s g) volatiles.Bide in
+    let q : Public = settled_by (side_number s) (told_by es) in
+    let is : takes_in e q ≡ on_out s starts_bide q = bide-hears (who_in s g) q in
+    acted-tale Nothing_more (side_number s) g es e refl
+    (subst (Even g) (sym is) (stored s turns f q o (m.current ∙ bide-number move.number h) m.mine m.theirs))
+    (subst (λ (p : Public). p.may_hit_itself ≡ 0) (sym is) (pending-out s starts_bide q)) tt
 
 near-let : (b : Bool) (s : Side) (f : Field) (es : List Event) → BothOut f → Near b s f es
     → let g : Field = changed_conditions s without_bide f in Tale Nothing_more g (es ++ events.End (who_in s g) volatiles.Bide ∷ [])
@@ -395,11 +410,11 @@ module _ (t : Terms) {n : Sizes} {pre : List Event} (b : Bool) (s : Side) (pick 
   unfolding bide_goes_on
   bide-goes = given-sees (λ p. (underway s p).bide) (λ o. given-tells _ (some-goes o))
 
-  lead-stores : Leads (In n pre (Off b s pick move)) (In n pre (Stores s)) (In n pre (Over b s)) (lead_up s pick move)
+  lead-stores : Leads (In n pre (Off b s pick move)) (In n pre (Stores s move)) (In n pre (Over b s)) (lead_up s pick move)
   unfolding lead_up charge use_move prelude spend_pp
   lead-stores = if-sees (charges move.effect) (λ c. absurd (true≢false (sym c ∙ of-bide move h charges))) (λ c. stay-tells)
-      ⊳ (current-deeds {L = Stores s} s pick (λ f es m. off-stores b s pick move (ap (λ (k : Move). bides k.effect) (sym same) ∙ h) (of-bide move h charges) f es m)
-      ⊳ choose-tells _ stay-tells (given-tells _ (λ used. at-member s (with_pp_spent used) (λ f es o m. stores-spent s used f es m)))
+      ⊳ (current-deeds {L = Stores s move} s pick (λ f es m. off-stores b s pick move (of-bide move h charges) f es m)
+      ⊳ choose-tells _ stay-tells (given-tells _ (λ used. at-member s (with_pp_spent used) (λ f es o m. stores-spent s move used f es m)))
       ⊳ if-sees (not (bides move.effect)) (λ c. absurd (true≢false (sym c ∙ ap not h))) (λ c. stay-tells))
       ⊳ if-sees (is_early move.effect) (λ c. absurd (true≢false (sym c ∙ of-bide move h is_early))) (λ c. stay-tells)
       ⊳ (if-sees (traps move.effect) (λ c. absurd (true≢false (sym c ∙ of-bide move h traps))) (λ c. stay-tells)
@@ -413,31 +428,31 @@ module _ (t : Terms) {n : Sizes} {pre : List Event} (b : Bool) (s : Side) (pick 
   mid-not p e (inl m) = m
   mid-not p e (inr m) = absurd (true≢false (sym m.1 ∙ e))
 
-  bide-leads : Leads (Mids n pre s (Off b s pick move)) (Mids n pre s (Stores s)) (In n pre (Over b s)) (choose lets_energy_go stay (lead_up s pick move))
+  bide-leads : Leads (Mids n pre s (Off b s pick move)) (Mids n pre s (Stores s move)) (In n pre (Over b s)) (choose lets_energy_go stay (lead_up s pick move))
   bide-leads = watching.choose-sees lets_energy_go
       (after-leads (λ p m. inr (mid-of p m.1 m.0, m.1)) stay-tells)
       (before-leads (λ p m. mid-not p m.1 m.0) (after-leads (λ p m. inl m) (with-keeps {K = Holds_back} lead-stores (lead-keeps s pick move h))))
 
-  mid-damage : {S : Progress → Type 0} (damage : ℕ) → Leads (Mids n pre s (Stores s)) (Mids n pre s (Stores s)) S (set_last_damage damage)
+  mid-damage : {S : Progress → Type 0} (damage : ℕ) → Leads (Mids n pre s (Stores s move)) (Mids n pre s (Stores s move)) S (set_last_damage damage)
   unfolding set_last_damage on_field
   mid-damage damage = record { leads = λ p r m. Runs r (by p m) }
     where
-      by : (p : Progress) → Mids n pre s (Stores s) p → Mids n pre s (Stores s) (record p { field = with_last_damage damage p.field })
-      by p (inl m) = inl (record { begun = begun-last damage p.field m.0.begun; is = stores-damage s damage p.field _ m.0.is }, m.1)
+      by : (p : Progress) → Mids n pre s (Stores s move) p → Mids n pre s (Stores s move) (record p { field = with_last_damage damage p.field })
+      by p (inl m) = inl (record { begun = begun-last damage p.field m.0.begun; is = stores-damage s move damage p.field _ m.0.is }, m.1)
       by p (inr m) = inr (record { begun = begun-last damage p.field m.0.begun; is = tale-damage damage p.field _ m.0.is }, m.1)
 
-  bide-damage : (e : Effect) → bides e ≡ true → Leads (Mids n pre s (Stores s)) (Mids n pre s (Stores s)) (In n pre (Over b s)) (damage_of s move e)
+  bide-damage : (e : Effect) → bides e ≡ true → Leads (Mids n pre s (Stores s move)) (Mids n pre s (Stores s move)) (In n pre (Over b s)) (damage_of s move e)
   unfolding damage_of
   bide-damage effects.Bide k = if-sees (nat_lt 0 move.power) (λ c. absurd (true≢false (sym c ∙ bide-power move same h))) (λ c. mid-damage 0)
   bide-damage _ k = absurd (true≢false (sym k))
 
-  bide-starts : (e : Effect) → bides e ≡ true → Leads (In n pre (Stores s)) (In n pre (Past b s)) (In n pre (Over b s)) (late_effect (ruling_of t) s move e)
+  bide-starts : (e : Effect) → bides e ≡ true → Leads (In n pre (Stores s move)) (In n pre (Past b s)) (In n pre (Over b s)) (late_effect (ruling_of t) s move e)
   unfolding late_effect start_bide bide_for starts
   bide-starts effects.Bide k = at-draw (λ x. at-told (changed_conditions s (with_bide (low_bits 1 x + 2))) (λ f. events.Start (who_in s f) volatiles.Bide) (begun-conditions s (with_bide (low_bits 1 x + 2)))
-      (λ f es o m. tale-past b s _ _ (stores-tale s (low_bits 1 x + 2) f es o m)))
+      (λ f es o m. tale-past b s _ _ (stores-tale s move (ap (λ (k : Move). bides k.effect) (sym same) ∙ h) (low_bits 1 x + 2) f es o m)))
   bide-starts _ k = absurd (true≢false (sym k))
 
-  bide-late : Leads (Mids n pre s (Stores s)) (Now plain_story n pre) (In n pre (Over b s))
+  bide-late : Leads (Mids n pre s (Stores s move)) (Now plain_story n pre) (In n pre (Over b s))
       (choose lets_energy_go stay (choose (λ p. is_late move.effect) (late_effect (ruling_of t) s move move.effect ▸ stop) stay))
   bide-late = watching.choose-sees lets_energy_go
       (after-leads (λ p m. plain-now p (mid-of p m.1 m.0)) stay-tells)

@@ -1,8 +1,6 @@
 -- What active members do agrees with the battle after any run.
 use Rattle.gen1_machine.specs.Moves.{move_at}
-use Rattle.gen1_tables.specs.declared.effect.Effect.{Effect}
-use Rattle.gen1_tables.specs.declared.effect.Effect.TheVariants as effects
-use Rattle.gen1_tables.specs.Effects.{bides, recharges, thrashes, traps}
+use Rattle.gen1_tables.specs.Effects.{recharges, thrashes, traps}
 use Rattle.std.proofs.Common.{[], Bool, List, ap, arith, false, flat_map, if◌then◌else◌, inl, inr, is_some, length, not, refl, subst, sym, true, true≢false, ℕ, ◌++◌, ◌&&◌, ◌==◌, ◌∙◌, ◌∷◌, ◌≡◌, ◌≢◌, ◌≤◌, ◌⊎◌, ◌||◌}
 use Rattle.std.proofs.lemmas.Bool.Decides.{eqb_tells}
 use Rattle.std.proofs.lemmas.List.{append-nil, append_assoc}
@@ -387,14 +385,6 @@ tied-of s h u = by u h.field
     by One (inr k) = valid-tied s.field.one k.field.one.active.conditions.underway
     by Two (inr k) = valid-tied s.field.two k.field.two.active.conditions.underway
 
-not-bide : (e : Effect) → recharges e ≡ true → bides e ≡ false
-not-bide effects.Recharge h = refl
-not-bide _ h = absurd (true≢false (sym h))
-
-goes-not-bide : (e : Effect) → may_go_on e ≡ true → bides e ≡ false
-goes-not-bide effects.Bide h = absurd (true≢false (sym h))
-goes-not-bide _ h = refl
-
 -- A move that goes on is not counted
 
 same-number : (a b : ℕ) → a ≡ b → (a == b) ≡ true
@@ -418,7 +408,7 @@ rage-going : (k : ℕ) (x : PublicSide) → x.announced.rage ≡ 1 → is_going_
 rage-going k x e = or-first _ _ (ap (λ (n : ℕ). not (n == 0)) e)
 
 move-going : (x : PublicSide) (t : Party) → Does x t → may_go_on (move_at (current_of t)).effect ≡ true → is_going_on (current_of t) x ≡ true
-move-going x t m e = or-second _ _ (both-true _ _ (same-number x.last_move (current_of t) (m.last (goes-not-bide _ e))) e)
+move-going x t m e = or-second _ _ (both-true _ _ (same-number x.last_move (current_of t) m.last) e)
 
 pub keeps-uncounted : (x : PublicSide) (t : Party) → x.announced.rage ≡ bit_of t.active.conditions.underway.rage → Tied t → Does x t
     → keeps_going t.active.conditions.underway ≡ true → new_uses (current_of t) x ≡ 0
@@ -436,7 +426,7 @@ keeps-uncounted x t rage r m e = ap (λ (b : Bool). if b then 0 else 1) (by _ _ 
 side-does : (x : PublicSide) (t : Party) → x.announced.rage ≡ bit_of t.active.conditions.underway.rage → Tied t → Does x t → SideDoes x t
 side-does x t rage r m = record {
   uses = keeps-uncounted x t rage r m;
-  recharge = λ e. let c = r.recharge e in subst (λ (k : ℕ). recharges (move_at k).effect ≡ true) (sym (m.last (not-bide _ c))) c;
+  recharge = λ e. let c = r.recharge e in subst (λ (k : ℕ). recharges (move_at k).effect ≡ true) (sym m.last) c;
   bide = ap (λ (k : Deeds). k.bide) m.same;
   charging = ap (λ (k : Deeds). k.charging) m.same;
   toxic = ap (λ (k : Deeds). k.toxic) m.same;
@@ -462,8 +452,8 @@ unfolding hears_all deeding
 first-ready t one two seed a b =
     let start : Tale Nothing_more (first_state t one two seed).field [] = record {
       even = record {
-        one = record { same = refl; reach = λ i. absurd (i refl); last = λ c. refl; few = a.size.1 };
-        two = record { same = refl; reach = λ i. absurd (i refl); last = λ c. refl; few = b.size.1 };
+        one = record { same = refl; reach = λ i. absurd (i refl); last = refl; few = a.size.1 };
+        two = record { same = refl; reach = λ i. absurd (i refl); last = refl; few = b.size.1 };
       };
       quiet = refl;
       more = tt;

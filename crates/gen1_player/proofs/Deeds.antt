@@ -2,7 +2,6 @@
 use Rattle.std.proofs.Common.{Bool, List, ap, arith, false, if◌then◌else◌, length, length-set, map, not, refl, slice_index_or, subst, sym, true, true≢false, ℕ, ◌-◌, ◌==◌, ◌∙◌, ◌≡◌, ◌≢◌, ◌≤◌}
 use Rattle.std.proofs.Math.ListN.{get_or-map}
 use Rattle.std.proofs.Math.Seq.{map-set_same}
-use Rattle.gen1_tables.specs.Effects.{bides}
 use Rattle.gen1_stats.specs.declared.known_move.KnownMove.{KnownMove}
 use Rattle.gen1_stats.specs.Members.{nobody, nothing_known, Member}
 use Rattle.gen1_machine.specs.declared.side.Side.{Side}
@@ -18,7 +17,6 @@ use Rattle.gen1_machine.specs.declared.health.Kind.TheVariants as kinds
 use Rattle.gen1_machine.specs.declared.health.Who.{Who}
 use Rattle.gen1_machine.specs.declared.picks.UsedMove.{UsedMove}
 use Rattle.gen1_machine.specs.declared.picks.UsedMove.TheVariants.{Nothing, Slot, Struggle}
-use Rattle.gen1_machine.specs.Moves.{move_at}
 use Rattle.gen1_machine.specs.Numbers.{kind_number}
 use Rattle.gen1_machine.specs.Picks.{number_in}
 use Rattle.gen1_machine.specs.Rules.{bit_of}
@@ -69,14 +67,10 @@ deeds_of place c = record { place = place; substitute = bit_of c.substitute; bid
 abbrev pub current_of : Party → ℕ
 current_of t = number_in t.active.current_move (member_at t.active.place t).moves
 
--- A move of Bide's effect writes no event of its use.
-abbrev pub IsLast : ℕ → ℕ → Type 0
-IsLast last n = bides (move_at n).effect ≡ false → last ≡ n
-
 pub record Does (x : PublicSide) (t : Party) : Type 0 where
   pub same : deeds x ≡ deeds_of t.active.place (core t.active.conditions)
   pub reach : x.invulnerable ≢ 0 → t.active.conditions.invulnerable ≡ true
-  pub last : IsLast x.last_move (current_of t)
+  pub last : x.last_move ≡ current_of t
   pub few : length t.members ≤ 6
 
 -- Changes of a side
@@ -93,14 +87,11 @@ Bland change = (c : ActiveConditions) → core (change c) ≡ core c
 pub calm-bland : (change : ActiveConditions → ActiveConditions) → Calm change → Bland change
 calm-bland change h c = ap core_of (h c)
 
-pub last-named : (last m n : ℕ) → n ≡ m → IsLast last m → IsLast last n
-last-named last m n e h b = h (ap (λ (k : ℕ). bides (move_at k).effect) (sym e) ∙ b) ∙ sym e
-
 pub does-active : (change : Active → Active) → Placid change → (x : PublicSide) (t : Party) → Does x t → Does x (with_active (change t.active) t)
 does-active change h x t m = record {
   same = m.same ∙ sym (ap (λ (a : Standing). deeds_of a.place (core a.conditions)) (h t.active));
   reach = λ e. ap (λ (a : Standing). a.conditions.invulnerable) (h t.active) ∙ m.reach e;
-  last = last-named x.last_move (current_of t) _ (ap (λ (a : Standing). number_in a.current_move (member_at a.place t).moves) (h t.active)) m.last;
+  last = m.last ∙ sym (ap (λ (a : Standing). number_in a.current_move (member_at a.place t).moves) (h t.active));
   few = m.few;
 }
 
@@ -132,7 +123,7 @@ pub does-member : (n : Member) (x : PublicSide) (t : Party) → traits n ≡ tra
 does-member n x t e m = record {
   same = m.same;
   reach = m.reach;
-  last = last-named x.last_move (current_of t) _ (current-kept n t e) m.last;
+  last = m.last ∙ sym (current-kept n t e);
   few = rw (length-set t.members (t.active.place - 1) n) m.few;
 }
 
@@ -152,7 +143,7 @@ pub does-fades : (y x : PublicSide) (t : Party) → Fades y x → Does x t → D
 does-fades y x t q m = record {
   same = q.same ∙ m.same;
   reach = λ e. m.reach (q.reach e);
-  last = λ b. q.last ∙ m.last b;
+  last = q.last ∙ m.last;
   few = m.few;
 }
 

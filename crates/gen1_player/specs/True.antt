@@ -2,7 +2,7 @@
 use Rattle.std.specs.Prelude.{All, Bool, List, None, [], false, if◌then◌else◌, is_some, map, nat_lt, replicate, true, ℕ, ◌*◌, ◌+◌, ◌-◌, ◌==◌, ◌≡◌, ◌≢◌, ◌≤◌, ◌⊎◌, ◌∷◌}
 use Rattle.std.specs.List.{flat_map}
 use Rattle.gen1_tables.specs.declared.effect.Effect.{Effect}
-use Rattle.gen1_tables.specs.Effects.{bides, recharges}
+use Rattle.gen1_tables.specs.Effects.{recharges}
 use Rattle.gen1_tables.specs.Moves.{struggle}
 use Rattle.gen1_tables.specs.Types.{any, number_of}
 use Rattle.gen1_stats.specs.declared.known_move.KnownMove.{KnownMove}
@@ -106,14 +106,13 @@ abbrev pub current_move_of : Party → ℕ
 current_move_of t = number_in t.active.current_move (member_at t.active.place t).moves
 
 -- Bide, charging and bad poison are announced exactly if they are on. A member that is announced as invulnerable is so. The last move is
--- the current one; only Bide is not seen as it is used. A member that has to recharge used a move for it last. A move that goes on, which
--- costs no PP, isn't counted as a use.
+-- the current one. A member that has to recharge used a move for it last. A move that goes on, which costs no PP, isn't counted as a use.
 pub record SideDoes (x : PublicSide) (t : Party) : Type 0 where
   pub bide : x.announced.bide ≡ bit_of (is_some t.active.conditions.underway.bide)
   pub charging : x.announced.charging ≡ bit_of t.active.conditions.underway.charging
   pub toxic : x.announced.toxic ≡ bit_of (is_some t.active.conditions.bad_poison)
   pub invulnerable : x.invulnerable ≢ 0 → t.active.conditions.invulnerable ≡ true
-  pub last_move : bides (move_at (current_move_of t)).effect ≡ false → x.last_move ≡ current_move_of t
+  pub last_move : x.last_move ≡ current_move_of t
   pub recharge : t.active.conditions.underway.recharge ≡ true → recharges (move_at x.last_move).effect ≡ true
   pub uses : keeps_going t.active.conditions.underway ≡ true → new_uses (current_move_of t) x ≡ 0
 
