@@ -926,6 +926,8 @@ export class Teller {
 export class Narrator {
   private constructor();
   clone(): Narrator;
+  /** The sentence of the next event. A `size` is ignored. Throws ArgumentError for a field out of range. */
+  say(event: EventFields & { size?: number }): string;
   /**
    * The sentences of the next bytes of a battle's log, one for each event. The bytes hold whole events, such as the log of an update. Throws LogError, and
    * then the narrator is unchanged.

@@ -6,6 +6,7 @@ import {fieldOf, layoutOf, readStruct} from "./structs.mjs";
 import {bytesOf, teamAt, teamError, teamGiven} from "./teams.mjs";
 import {made} from "./update.mjs";
 import {shownOf} from "./views.mjs";
+import {eventBytes} from "./writing.mjs";
 
 /** The bytes of a spectator before a battle of two teams. */
 export function spectatorOf(library, one, two) {
@@ -94,6 +95,11 @@ export class Narrator {
   /** An independent copy. */
   clone() {
     return new Narrator(this.#library, this.#bytes.slice());
+  }
+
+  /** The sentence of the next event. */
+  say(event) {
+    return this.sentences(eventBytes(this.#library, event, "event"))[0];
   }
 
   /** The sentences of the next log bytes, which hold whole events. */

@@ -41,7 +41,8 @@ function numberOf(library, field, value, what) {
   return WORDS.includes(field) ? wordOrMost(value, what) : byteOr255(value, what);
 }
 
-function eventBytes(library, event, what) {
+/** The log bytes of an event. `what` names the argument. */
+export function eventBytes(library, event, what) {
   const kind = indexOf(EVENT_KINDS, object(event, what, LAWFUL).kind, `${what}.kind`);
   record(event, what, LAWFUL, ["kind", "size", ...FIELDS_OF[kind]]);
   const fields = FIELDS_OF[kind].map(

@@ -106,6 +106,7 @@ const OF_SHOWN_SIDE = {
 /** @type {Record<Named<import("../gen1.mjs").Narrator>, true>} */
 const OF_NARRATOR = {
   clone: true,
+  say: true,
   sentences: true
 };
 /**
@@ -175,6 +176,7 @@ export function usesOfViewers(gen1, terms, offers) {
   offers(narrator, OF_NARRATOR);
   /** @type {string[][]} */
   const told = [gen1.narrator(), gen1.narrator({you: null}), narrator.clone()].map((it) => it.sentences(log));
-  holds(narrator instanceof Narrator && told.every((sentences) => sentences.length === gen1.events(log).length),
+  holds(narrator instanceof Narrator && told.every((sentences) => sentences.length === gen1.events(log).length) &&
+          narrator.say({kind: "win", side: 2}) === "You win.",
       "another narrator");
 }

@@ -173,7 +173,10 @@ function sentences(gen1, check) {
   check("sentences for a spectator and for a side", () => {
     const voices = [[gen1.narrator(), TOLD], [gen1.narrator({you: 2, inPercent: [true, false]}), TOLD_TO_TWO]];
     for (const [narrator, told] of voices)
-      for (const [bytes, sentence] of told) equal(narrator.sentences(Uint8Array.from(bytes)), [sentence]);
+      for (const [bytes, sentence] of told) {
+        const [copy, log] = [narrator.clone(), Uint8Array.from(bytes)];
+        equal([narrator.sentences(log), copy.say(gen1.events(log)[0])], [[sentence], sentence]);
+      }
     equal(new Set(TOLD.map(([[tag]]) => tag)).size, library.EVENT_KINDS.length);
   });
   check("the battle of README.md in sentences", () => {
