@@ -492,8 +492,8 @@ function guesses(gen1, check) {
     more.feed(Uint8Array.of(2, 2, 113, 2, 100, 191, 2, 191, 2, 0));
     outside(() => guessed({}, more), /^guess\.team must have the 2 members that have appeared, not 1$/);
     const counting = gen1.player({side: 1, team: [TAUROS], foes: 3});
-    gen1.teller({side: 1}).report(
-        battle, gen1.battle({one: [TAUROS], two: [alakazam], seed: SEED}).update("pass", "pass").log, counting);
+    const first = gen1.battle({one: [TAUROS], two: [alakazam], seed: SEED});
+    gen1.teller({side: 1}).report(first, first.update("pass", "pass").log, counting);
     outside(() => guessed({}, counting), /^guess\.team must have 3 members, as many as the foe has, not 1$/);
     const over = player.clone();
     over.feed(Uint8Array.of(26, 1));
@@ -681,6 +681,10 @@ function narrators(gen1, check) {
     const {at} =
         thrown(() => narrator.sentences(log.subarray(0, 13)), LogError, /^byte 10: the bytes end within an event/);
     equal([at, narrator.sentences(log)], [10, gen1.narrator().sentences(log)]);
+    for (const it of NO_OBJECTS) wrong(() => narrator.say(it), /^event is .*, not an event, as `events` returns it$/);
+    outside(() => narrator.say({kind: "win", side: 1, sides: 2}),
+        /^event has the unknown key "sides"; did you mean "side"\?$/);
+    outside(() => narrator.say({kind: "win", side: 3}), /^event is .*, which has a field that is out of range/);
   });
 }
 
