@@ -1,4 +1,5 @@
 // The form for a member: species, level, moves, DVs and stat experience, with its stats as they change.
+import {effectWords} from "./calculation.js";
 import {make, Problem} from "./dom.js";
 import {plain, Search} from "./search.js";
 import {badge} from "./sides.js";
@@ -47,10 +48,11 @@ function speciesOptions({tables, gen1}) {
 
 /**
  * A move's type, power, accuracy and PP.
- * @param {import("./engine.js").Move} move
+ * @param {import("./engine.js").Move} move @param {string} [effect] what else it does
  */
-export function moveFacts({type, power, accuracy, pp}) {
-  return make("span", {class: "facts"}, badge(type), ` ${power > 1 ? power : "—"} · ${accuracy}% · ${pp} PP`);
+export function moveFacts({type, power, accuracy, pp}, effect = "") {
+  const text = [power > 1 ? power : "—", `${accuracy}%`, `${pp} PP`, effect].filter(Boolean).join(" · ");
+  return make("span", {class: "facts", title: effect || undefined}, badge(type), ` ${text}`);
 }
 
 /**
@@ -121,7 +123,7 @@ export class MemberForm {
     this.types.replaceChildren(...[...new Set(species ? tables.species[species] : [])].map(badge));
     this.moves.forEach((field, slot) => {
       const move = tables.moves[this.found(tables.moves, field) ?? ""];
-      this.facts[slot].replaceChildren(...(move ? [moveFacts(move)] : []));
+      this.facts[slot].replaceChildren(...(move ? [moveFacts(move, effectWords(move))] : []));
     });
   }
 
