@@ -121,12 +121,14 @@ def a_battle_is_played(browser):
     browser.open("")
     # The card has the team of the battle, under both clauses.
     team = browser.run("return [...document.querySelectorAll('#home-team [title]')].map((it) => it.title)")
+    browser.find("#home-level").send_keys("1")
     browser.click("#home-play")
     party = browser.run(
         "return [...document.querySelectorAll('#play-field .stand:not(.far) .ball')].map((it) => it.title)"
     )
     assert team == party and len(team) == 6, (team, party)
-    assert "with the sleep and the freeze clause" in browser.text("#play-rules")
+    rules = browser.text("#play-rules")
+    assert "against the computer, level 1 (easiest), with the sleep and the freeze clause" in rules, rules
     assert (
         browser.text("#play-now") == "Turn 1"
         and browser.run("return document.querySelectorAll('#play-choices-1 [data-choice]').length") > 4

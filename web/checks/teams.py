@@ -1,6 +1,7 @@
 """The team builder: members and their stats, the team as text, teams that are kept, and the sample teams."""
 import json
 import random
+import re
 import subprocess
 
 from selenium.webdriver.common.keys import Keys
@@ -48,6 +49,36 @@ def members(browser):
 
 def stats(browser):
     return [int(number) for number in browser.words(".stat-bars strong")]
+
+
+def wanted_words(effect):
+    """What is said of an effect with numbers, by docs/TABLES.md, "Effects"; None for others."""
+    if found := re.fullmatch(r"(\w+)Chance\((\d+)\)", effect):
+        verb = {"Burn": "burns", "Paralysis": "paralyses", "Poison": "poisons", "Flinch": "flinches"}
+        return f"{verb.get(found[1], 'confuses')} at {100 * int(found[2]) / 256:.1f}%"
+    if found := re.fullmatch(r"Stat(Up|Down)\((\w+), (\d)\)", effect):
+        return f"{found[2]} +{found[3]}" if found[1] == "Up" else f"foe's {found[2]} −{found[3]}"
+    if found := re.fullmatch(r"StatDownChance\((\w+)\)", effect):
+        return f"foe's {found[1]} −1 at {100 * 85 / 256:.1f}%"
+    return f"freezes at {100 * 26 / 256:.1f}%" if effect == "FreezeChance" else None
+
+
+def moves_say_what_they_do(browser):
+    """Each move that deals no damage, and each effect with numbers."""
+    fresh(browser)
+    read(browser, TAUROS)
+    section = (ROOT / "docs" / "TABLES.md").read_text().partition("\n## Moves\n")[2]
+    rows = re.findall(r"^\| \d+ \| ([^|]+) \| (\w+) \| (\d+) \| (\d+) \| (\d+) \| (.+?) \|$", section, re.M)
+    said = 0
+    for name, _, power, accuracy, pp, effect in rows:
+        put(browser, "move-1", name)
+        text = browser.run("return document.querySelector('#teams-member .move-facts').textContent")
+        head, _, words = text.partition(f"{accuracy}% · {pp} PP")
+        assert head and (words or power != "0" or effect in ("FixedDamage", "LeftOut")), (name, text)
+        if wanted := wanted_words(effect):
+            assert words == f" · {wanted}", (name, text)
+            said += 1
+    assert len(rows) == 165 and said > 50, (len(rows), said)
 
 
 def stats_follow_the_fields(browser):
@@ -281,6 +312,34 @@ def rules_are_checked(browser):
         assert browser.words("#teams-complaints li") == due, (text, browser.words("#teams-complaints li"))
 
 
+def a_team_is_picked_for_a_battle(browser):
+    """From the person's and the sample teams; a team of the computer may be drawn; a text is none of the list."""
+    fresh(browser)
+    read(browser, TAUROS)
+    browser.fill("#teams-name", "Mine")
+    browser.click("#tab-play")
+    listed = lambda side: browser.words(f"#play-pick-{side} option")
+    titles = [path.read_text().partition("\n")[0].strip("= ") for path in FILES]
+    assert listed(1) == ["Mine", *titles, "as text, below"]
+    assert listed(2) == ["a sample team that is not shown", *listed(1)]
+    for title, text in (("Mine", TAUROS), (titles[3], FILES[3].read_text().partition("\n")[2])):
+        value = (
+            "return [...document.getElementById('play-pick-2').options].find(({text}) => text === arguments[0]).value"
+        )
+        browser.fill("#play-pick-2", browser.run(value, title))
+        assert browser.run("return document.getElementById('play-team-2').value").strip() == text.strip()
+        assert browser.words("#play-picked-2 li > span:last-child") == re.findall(r"^([A-Z][^\n]*)\n(?=- )", text, re.M)
+    # The side of a person has no drawn team, and an unknown text is that of nobody.
+    browser.fill("#play-who-2", "person")
+    assert listed(2) == listed(1)
+    browser.fill("#play-team-2", "Tauros\n- Surf")
+    assert browser.run("return document.getElementById('play-pick-2').selectedOptions[0].text") == "as text, below"
+    assert browser.words("#play-picked-2 li > span:last-child") == ["Tauros"]
+    browser.fill("#play-team-2", "Tauros\n- Surrf")
+    assert not browser.words("#play-picked-2 li > span:last-child") and not browser.notice()
+    browser.run("localStorage.removeItem('teams')")
+
+
 def a_team_goes_to_play(browser):
     fresh(browser)
     read(browser, TAUROS)
@@ -295,6 +354,7 @@ def a_team_goes_to_play(browser):
 CHECKS = [
     stats_follow_the_fields,
     members_are_found_by_keys,
+    moves_say_what_they_do,
     texts_are_those_of_the_program,
     teams_are_kept,
     a_kept_member_is_offered_in_the_calculator,
@@ -306,5 +366,6 @@ CHECKS = [
     new_teams_have_different_names,
     a_link_holds_a_team,
     rules_are_checked,
+    a_team_is_picked_for_a_battle,
     a_team_goes_to_play,
 ]

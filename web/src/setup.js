@@ -132,7 +132,7 @@ export class Setup {
     this.picked(side).value = found ?? (text || this.player(side).value === "person" ? WRITTEN : DRAWN);
     const items = this.membersOf(text, side).map((name) => {
       const figure = make("span", {class: "figure"}, token(this.engine, name));
-      return make("li", {}, figure, name);
+      return make("li", {}, figure, make("span", {}, name));
     });
     const place = find(`play-picked-${side}`, HTMLElement);
     place.hidden = !items.length;
