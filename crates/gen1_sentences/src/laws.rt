@@ -2,6 +2,7 @@
 ghost use Rattle.gen1_sentences.specs.Laws.{EachStops};
 
 /// Each event has a sentence, whoever is told, and it ends with a full stop.
+#[tactic(auto, using(crate::proofs::Stops::sentence_stops))]
 pub fn each_sentence_stops()
     ensures { EachStops }
 {}
