@@ -33,7 +33,16 @@ LAYERS = (
     (
         "Operations",
         "one phase of the machine each, over gen1_layout; no offsets, no log bytes, any generator",
-        ("gen1_switching", "gen1_offers", "gen1_multiturn", "gen1_effects", "gen1_status", "gen1_odds", "gen1_hits"),
+        (
+            "gen1_words",
+            "gen1_switching",
+            "gen1_offers",
+            "gen1_multiturn",
+            "gen1_effects",
+            "gen1_status",
+            "gen1_odds",
+            "gen1_hits",
+        ),
     ),
     (
         "Representations",

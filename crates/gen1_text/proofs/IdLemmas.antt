@@ -4,9 +4,11 @@ use Rattle.std.specs.Prelude.{bytes_eq, if◌then◌else◌, nat_le, nat_lt, ◌
 use Rattle.std.specs.List.{position_or_len}
 use Rattle.std.proofs.lemmas.Bool.Decides.{nat_tests}
 use Rattle.std.proofs.lemmas.List.Sums.{position_or_len_is}
-use Rattle.std.proofs.Common.{map, subst}
+use Rattle.std.proofs.Common.{codes, cond, filter, map, subst, sym, ◌∷◌}
 use Rattle.std.specs.List.{range_with_len}
+use Rattle.std.specs.Char.{is_ascii_alphanumeric, to_ascii_lowercase}
 use Rattle.std.specs.Option.{option_or}
+use Rattle.std.proofs.lemmas.Str.Ascii.{lowercase-lowercase}
 use Rattle.std.proofs.lemmas.List.FromFn.{get_or-range_with_len, length-range_with_len}
 use Rattle.gen1_tables.proofs.Rows.{agree_at}
 use Rattle.gen1_tables.specs.Names.{move_name, move_names, name_at, species_name, species_names}
@@ -111,3 +113,47 @@ place_of_move = place_own move_names 165 (unfold move_names in unfold place_call
 pub move_own : (n : ℕ) → 1 ≤ n → n ≤ 165 → move_called (move_name n) ≡ Some n
 unfolding move_called
 move_own n low high = ap (λ o. option_or o (other_name (move_name n))) (place_of_move n low high)
+
+-- only the letters and digits of a text count, whatever their case
+
+letter_kept : (b : ℕ) → is_ascii_alphanumeric b ≡ true → is_ascii_alphanumeric (to_ascii_lowercase b) ≡ true
+letter_kept b h = grind (arith, nat_tests)
+
+pub id_of-id_of : (text : List ℕ) → id_of (id_of text) ≡ id_of text
+id_of-id_of [] = refl
+id_of-id_of (b ∷ text) = by (is_ascii_alphanumeric b) refl (id_of-id_of text)
+  where
+    by : (t : Bool) → is_ascii_alphanumeric b ≡ t → id_of (id_of text) ≡ id_of text
+        → id_of (map to_ascii_lowercase (cond t (b ∷ filter is_ascii_alphanumeric text) (filter is_ascii_alphanumeric text)))
+        ≡ map to_ascii_lowercase (cond t (b ∷ filter is_ascii_alphanumeric text) (filter is_ascii_alphanumeric text))
+    by true e h = rw (letter_kept b e, lowercase-lowercase b) (ap (λ (l : List ℕ). to_ascii_lowercase b ∷ l) h)
+    by false e h = h
+
+place_by_letters : (names : List (List ℕ)) (text : List ℕ) → place_called names text ≡ place_called names (id_of text)
+unfolding place_called
+place_by_letters names text =
+    ap (λ (letters : List ℕ). option_map (λ index. index + 1) (position (λ name. bytes_eq (id_of name) letters) names)) (sym (id_of-id_of text))
+
+other_by_letters : (text : List ℕ) → other_name text ≡ other_name (id_of text)
+other_by_letters text =
+    ap (λ (letters : List ℕ). if bytes_eq (id_of (codes "Vise Grip")) letters then Some 11
+    else if bytes_eq (id_of (codes "Hi Jump Kick")) letters then Some 136 else None) (sym (id_of-id_of text))
+
+pub species_by_letters : (text : List ℕ) → species_called text ≡ species_called (id_of text)
+unfolding species_called
+species_by_letters text = place_by_letters species_names text
+
+pub move_by_letters : (text : List ℕ) → move_called text ≡ move_called (id_of text)
+unfolding move_called
+move_by_letters text =
+    ap (λ (o : Option ℕ). option_or o (other_name text)) (place_by_letters move_names text) ∙ ap (option_or (place_called move_names (id_of text))) (other_by_letters text)
+
+-- a text without letters and digits is no name
+
+pub no_species : species_called [] ≡ None
+unfolding species_called species_names place_called
+no_species = refl
+
+pub no_move : move_called [] ≡ None
+unfolding move_called move_names place_called
+no_move = refl

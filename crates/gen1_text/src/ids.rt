@@ -1,6 +1,7 @@
 //! Species and moves by their names, where only letters and digits count, in either case (docs/TEAM_TEXT.md, "Names").
-ghost use Rattle.std.specs.Prelude.{ℕ, ◌≡◌, ◌≤◌, [], ◌∷◌, MatchOption, bytes_eq};
+ghost use Rattle.std.specs.Prelude.{ℕ, ◌≡◌, ◌≤◌, [], ◌∷◌, MatchOption, bytes_eq, option_map};
 ghost use Rattle.gen1_text.specs.Ids.{id_of, move_called, place_called, species_called};
+ghost use Rattle.gen1_text.specs.Words.{text_after};
 ghost use Rattle.gen1_tables.specs.Names.{move_name, move_names, species_name};
 
 use gen1_tables::{MoveId, Species};
@@ -9,6 +10,7 @@ use gen1_tables::{MoveId, Species};
 /// is found by its own name.
 pub fn species_called(text: &[u8]) -> Option<Species>
     ensures value { result ≡ species_called text.now }
+    ensures letters { result ≡ species_called (id_of text.now) }
     ensures own { (n : ℕ) → 1 ≤ n → n ≤ 151 → text.now ≡ species_name n → result ≡ Some n }
 {
     species_with_id(text)
@@ -18,6 +20,7 @@ pub fn species_called(text: &[u8]) -> Option<Species>
 /// found by its own name, and two also by their names in other generations.
 pub fn move_called(text: &[u8]) -> Option<MoveId>
     ensures value { result ≡ move_called text.now }
+    ensures letters { result ≡ move_called (id_of text.now) }
     ensures own { (n : ℕ) → 1 ≤ n → n ≤ 165 → text.now ≡ move_name n → result ≡ Some n }
 {
     move_with_any_name(text)
@@ -62,7 +65,8 @@ fn move_with_id(text: &[u8]) -> Option<MoveId>
     None
 }
 
-fn has_same_id(name: &[u8], text: &[u8]) -> bool
+/// Returns whether a name and a text have the same letters and digits, in either case (docs/TEAM_TEXT.md, "Names").
+pub fn has_same_id(name: &[u8], text: &[u8]) -> bool
     ensures { result ≡ bytes_eq (id_of name.now) (id_of text.now) }
 {
     let mut names = name;
@@ -80,8 +84,28 @@ fn has_same_id(name: &[u8], text: &[u8]) -> bool
     first_letter(texts).is_none()
 }
 
-// The first letter or digit of a text, in lower case, and the text after it.
-fn first_letter(text: &[u8]) -> Option<(u8, &[u8])>
+/// Returns what follows a word, if the text begins with it; only letters and digits count, in either case.
+#[tactic(auto, unfolding(crate::specs::Words::text_after))]
+pub fn rest_after<'a>(word: &[u8], text: &'a [u8]) -> Option<&'a [u8]>
+    ensures { option_map (λ rest. id_of rest.now) result ≡ text_after (id_of word.now) (id_of text.now) }
+{
+    let mut words = word;
+    let mut texts = text;
+    while let Some((letter, words_left)) = first_letter(words) {
+        let Some((other, texts_left)) = first_letter(texts) else {
+            return None;
+        };
+        if letter != other {
+            return None;
+        }
+        words = words_left;
+        texts = texts_left;
+    }
+    Some(texts)
+}
+
+/// Returns the first letter or digit of a text, in lower case, and the text after it; `None` if it has none.
+pub fn first_letter(text: &[u8]) -> Option<(u8, &[u8])>
     ensures { MatchOption result (id_of text.now ≡ [])
         (λ letter. id_of text.now ≡ letter.0 ∷ id_of letter.1.now) }
 {

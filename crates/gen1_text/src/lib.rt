@@ -22,6 +22,6 @@ mod spread;
 mod text;
 
 pub use fault::{MemberFault, PackedFault, TextFault};
-pub use ids::{move_called, species_called};
+pub use ids::{first_letter, has_same_id, move_called, rest_after, species_called};
 pub use packed::{members_in_packed, team_in_packed};
 pub use text::{members_in_text, team_in_text};

@@ -52,7 +52,13 @@ fn words(battle: &Battle, side: Side, byte: u8, by_name: bool) -> Value {
                 .map(|it| it.moves.clone())
                 .unwrap_or_default();
             let known = moves.get(usize::from(slot.number()) - 1);
-            known.map_or(json!(byte), |it| json!(format!("move {}", it.id)))
+            known.map_or(json!(byte), |it| {
+                json!(match slot.number() {
+                    1 => it.id.to_string(),
+                    2 => format!("move 2 {}", it.id),
+                    _ => format!("move {}", it.id),
+                })
+            })
         }
         Choice::Switch(place) if by_name => {
             let members = &of_side.members;

@@ -3,10 +3,11 @@ use crate::generated::engine::packed;
 use crate::generated::layout::Packed;
 use crate::generated::offers;
 use crate::generated::rolls::LinkRandom;
+use crate::generated::words;
 use crate::update::{Chosen, EventSink, Pushed, Silent, Update};
 use crate::{
-    BattleResult, Choice, Choices, LoadFault, OfferedMask, Outcome, Refusal, Rules, Side, Team,
-    TurnLimit,
+    BattleResult, Choice, ChoiceWords, Choices, LoadFault, OfferedMask, Outcome, Refusal, Rules,
+    Side, Team, TurnLimit, WordsFault,
 };
 use core::fmt;
 use core::hash::{Hash, Hasher};
@@ -119,6 +120,38 @@ impl Battle {
     #[must_use]
     pub fn offered_mask(&self, side: Side) -> OfferedMask {
         OfferedMask(packed::offered_mask(&self.packed, side))
+    }
+
+    /// A side's choice from words: `pass`, `move 1`, `Body Slam`, `switch 3`, `switch Gengar`
+    /// ([docs/PROGRAM.md, "Text in place of JSON"][text]). Only letters and digits count, in either case.
+    ///
+    /// A choice by its number is returned whether it is offered or not. A name is looked for among [`Battle::choices`].
+    ///
+    /// ```
+    /// # use gen1::{Battle, Choice, Side, Team, WordsFault, member};
+    /// # let team = Team::new(&[member("Mew", &["Psychic", "Surf"]).unwrap()]).unwrap();
+    /// # let mut battle = Battle::new(&team, &team, [7; 10]);
+    /// # battle.update(Choice::Pass, Choice::Pass).unwrap();
+    /// assert_eq!(battle.choice_from_words(Side::One, "Surf"), Ok(Choice::MOVE_2));
+    /// assert_eq!(battle.choice_from_words(Side::One, "switch Mew"), Err(WordsFault::NotOffered));
+    /// ```
+    ///
+    /// [text]: https://hibsuloy.example/gen1/blob/main/docs/PROGRAM.md#text-in-place-of-json
+    ///
+    /// # Errors
+    ///
+    /// The text says no choice, no offered choice has the name, or two have it.
+    pub fn choice_from_words(&self, side: Side, text: &str) -> Result<Choice, WordsFault> {
+        words::choice_from_words(&self.packed, side, text.as_bytes())
+    }
+
+    /// As [`Battle::choice_from_words`], for words that were read without a battle.
+    ///
+    /// # Errors
+    ///
+    /// No offered choice has the name, or two have it.
+    pub fn choice_of_words(&self, side: Side, said: &ChoiceWords) -> Result<Choice, WordsFault> {
+        words::choice_of_words(&self.packed, side, said)
     }
 
     /// The outcome so far, and the request to each side.

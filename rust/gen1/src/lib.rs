@@ -145,6 +145,8 @@ pub use crate::generated::room::{Reply, RoomRefusal, Submitted};
 pub use crate::generated::stats::{KnownMove, Member, MemberSpec, Status, Team, TeamRefusal};
 #[doc(inline)]
 pub use crate::generated::tables::{Effect, Element, MoveId, Species, Stat};
+#[doc(inline)]
+pub use crate::generated::words::{ChoiceWords, WordsFault};
 pub use additions::{OutOfRange, UnknownName, UnknownText, Weights};
 /// A list with a fixed capacity, stored inline: the type of lists in [`MemberSpec::moves`], [`State`] and [`Choices`].
 #[doc(no_inline)]

@@ -1,7 +1,8 @@
 //! Traits that Rust users expect of values: keys of maps, order, text, and serde.
 use gen1::{
-    ArrayVec, Battle, Choice, Element, Event, Kind, LineFault, MoveId, Outcome, Place, Request,
-    Room, RoomRefusal, Rules, Side, Species, Stat, Submitted, Team, TurnNumber, member,
+    ArrayVec, Battle, Choice, ChoiceWords, Element, Event, Kind, LineFault, MoveId, Outcome, Place,
+    Request, Room, RoomRefusal, Rules, Side, Species, Stat, Submitted, Team, TurnNumber,
+    WordsFault, member,
 };
 use std::collections::{BTreeMap, BTreeSet, HashMap, HashSet};
 
@@ -201,6 +202,52 @@ fn winners_and_requests_go_by_sides() {
     ]
     .map(Outcome::winner);
     assert_eq!(won, [Some(Side::One), Some(Side::Two), None, None]);
+}
+
+#[test]
+fn choices_are_read_from_words() {
+    let twin = |moves| member("Tauros", moves).unwrap();
+    let mut specs = [
+        member("Mew", &["Psychic", "Body Slam"]).unwrap(),
+        twin(&["Strength"]),
+        twin(&["Body Slam"]),
+        member("Mr. Mime", &["Psychic"]).unwrap(),
+    ];
+    let one = Team::new(&specs).unwrap();
+    specs.reverse();
+    let mut battle = Battle::new(&one, &Team::new(&specs).unwrap(), [7; 10]);
+    let read = |battle: &Battle, text: &str| battle.choice_from_words(Side::One, text);
+    assert_eq!(read(&battle, "PASS"), Ok(Choice::Pass));
+    assert_eq!(read(&battle, "move 1"), Ok(Choice::MOVE_1));
+    assert_eq!(read(&battle, "Psychic"), Err(WordsFault::NotOffered));
+    battle.update(Choice::Pass, Choice::Pass).unwrap();
+    let due = [
+        ("body-slam", Ok(Choice::MOVE_2)),
+        ("Move Body Slam", Ok(Choice::MOVE_2)),
+        ("move 2 Body Slam", Ok(Choice::MOVE_2)),
+        ("move 1 Body Slam", Err(WordsFault::NotOffered)),
+        ("Strength", Err(WordsFault::NotOffered)),
+        ("move 4", Ok(Choice::MOVE_4)),
+        ("switch mr mime", Ok(Choice::SWITCH_4)),
+        ("switch Mew", Err(WordsFault::NotOffered)),
+        ("switch Tauros", Err(WordsFault::Ambiguous)),
+        ("switch 3 Tauros", Ok(Choice::SWITCH_3)),
+        ("switch 6", Ok(Choice::SWITCH_6)),
+        ("Tauros", Err(WordsFault::Unknown)),
+        ("move 5", Err(WordsFault::Unknown)),
+        ("move Body Slap", Err(WordsFault::Unknown)),
+        ("", Err(WordsFault::Unknown)),
+    ];
+    for (text, due) in due {
+        assert_eq!(read(&battle, text), due, "{text}");
+    }
+    for choice in battle.choices(Side::Two) {
+        let text = choice.to_string();
+        assert_eq!(battle.choice_from_words(Side::Two, &text), Ok(choice));
+    }
+    let said: ChoiceWords = "MOVE 2 bodyslam".parse().unwrap();
+    assert_eq!(said.to_string(), "move 2 Body Slam");
+    assert!("Body Slap".parse::<ChoiceWords>().is_err());
 }
 
 #[test]

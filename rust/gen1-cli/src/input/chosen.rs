@@ -1,7 +1,7 @@
-//! Choices as bytes or in words: `move 1`, `move Body Slam`, `switch 3`, `switch Chansey`, `pass`.
+//! Choices as bytes or in words: `move 1`, `Body Slam`, `switch 3`, `switch Chansey`, `pass`.
 use super::near::{Misfit, Typed, did_you_mean, nearest_name, nearest_word, shown};
 use crate::screen;
-use gen1::{Battle, Choice, MoveId, Side, Species};
+use gen1::{Battle, Choice, ChoiceWords, MoveId, Side, Species, WordsFault};
 use serde_json::Value;
 use std::fmt;
 
@@ -9,9 +9,7 @@ use std::fmt;
 #[derive(Clone, Copy, Debug, PartialEq)]
 pub enum Chosen {
     Byte(u8),
-    Exactly(Choice),
-    MoveCalled(MoveId),
-    SwitchTo(Species),
+    Words(ChoiceWords),
 }
 
 const WORDS: [&str; 3] = ["move", "switch", "pass"];
@@ -35,28 +33,8 @@ impl Chosen {
     /// The choice in words; otherwise the expected form.
     fn in_words(text: &str) -> Result<Chosen, String> {
         let text = text.trim();
-        let (word, rest) = text.split_once(char::is_whitespace).unwrap_or((text, ""));
-        let rest = rest.trim();
-        let is_number = rest.bytes().all(|byte| byte.is_ascii_digit());
-        let found = match word {
-            "pass" if rest.is_empty() => Ok(Chosen::Exactly(Choice::Pass)),
-            "move" | "switch" if rest.is_empty() => Err((EXPECTED, None)),
-            "move" | "switch" if is_number => {
-                let expected = if word == "move" { SLOT } else { PLACE };
-                let choice = format!("{word} {rest}").parse().map(Chosen::Exactly);
-                choice.map_err(|_| (expected, None))
-            }
-            "move" => {
-                let meant = || (NAMED_MOVE, nearest_name::<MoveId>(rest));
-                rest.parse().map(Chosen::MoveCalled).map_err(|_| meant())
-            }
-            "switch" => {
-                let meant = || (NAMED_MEMBER, nearest_name::<Species>(rest));
-                rest.parse().map(Chosen::SwitchTo).map_err(|_| meant())
-            }
-            _ => Err((EXPECTED, nearest_word(word, WORDS))),
-        };
-        found.map_err(|(expected, meant)| {
+        text.parse().map(Chosen::Words).map_err(|_| {
+            let (expected, meant) = expected(text);
             let (found, meant) = (shown(text), did_you_mean(meant));
             format!("expected {expected}, found {found}{meant}")
         })
@@ -66,45 +44,56 @@ impl Chosen {
     pub fn byte(&self, battle: &Battle, side: Side) -> u8 {
         match self {
             Chosen::Byte(byte) => *byte,
-            Chosen::Exactly(choice) => choice.byte(),
-            _ => match self.fitting(battle, side)[..] {
-                [choice] => choice.byte(),
-                _ => 255,
-            },
+            Chosen::Words(words) => battle
+                .choice_of_words(side, words)
+                .map_or(255, Choice::byte),
         }
-    }
-
-    /// The offered choices that have the name.
-    fn fitting(&self, battle: &Battle, side: Side) -> Vec<Choice> {
-        let mut offered = battle.choices(side).to_vec();
-        offered.retain(|choice| match self {
-            // If no slot can be chosen, the name of any move that the member knows is move 0.
-            Chosen::MoveCalled(id) if *choice == Choice::MOVE_0 => {
-                *id == MoveId::STRUGGLE || knows(battle, side, *id)
-            }
-            Chosen::MoveCalled(id) => move_of(battle, side, *choice) == Some(*id),
-            Chosen::SwitchTo(species) => species_of(battle, side, *choice) == Some(*species),
-            _ => false,
-        });
-        offered
     }
 
     /// Why a side's choice is refused: the choice, and the offered choices.
     pub fn refused(&self, battle: &Battle, side: Side) -> String {
-        let fitting = self.fitting(battle, side);
-        let offered = if fitting.len() > 1 {
-            &fitting
-        } else {
-            &battle.choices(side).to_vec()
+        let mut offered = battle.choices(side).to_vec();
+        let may_be = match self {
+            Chosen::Words(words)
+                if battle.choice_of_words(side, words) == Err(WordsFault::Ambiguous) =>
+            {
+                offered.retain(|it| has_name(battle, side, *it, words));
+                ", which may be"
+            }
+            _ => "; offered",
         };
         let offered: Vec<_> = offered
             .iter()
             .map(|it| screen::named(battle, side, *it))
             .collect();
-        match fitting.len() {
-            0 | 1 => format!("chosen is {self}; offered: {}", offered.join(", ")),
-            _ => format!("chosen is {self}, which may be: {}", offered.join(", ")),
+        format!("chosen is {self}{may_be}: {}", offered.join(", "))
+    }
+}
+
+/// The form that is expected of words that are not a choice, and the word or name that may be meant.
+fn expected(text: &str) -> (&'static str, Option<&'static str>) {
+    let (word, rest) = text.split_once(char::is_whitespace).unwrap_or((text, ""));
+    let rest = rest.trim();
+    let is_number = rest.bytes().all(|byte| byte.is_ascii_digit());
+    match word.to_ascii_lowercase().as_str() {
+        "move" | "switch" if rest.is_empty() => (EXPECTED, None),
+        "move" if is_number => (SLOT, None),
+        "switch" if is_number => (PLACE, None),
+        "move" => (NAMED_MOVE, nearest_name::<MoveId>(rest)),
+        "switch" => (NAMED_MEMBER, nearest_name::<Species>(rest)),
+        _ => {
+            let near = nearest_word(word, WORDS);
+            (EXPECTED, near.or_else(|| nearest_name::<MoveId>(text)))
         }
+    }
+}
+
+/// Whether a choice has the name that words give.
+fn has_name(battle: &Battle, side: Side, choice: Choice, words: &ChoiceWords) -> bool {
+    match words {
+        ChoiceWords::MoveCalled(id) => move_of(battle, side, choice) == Some(*id),
+        ChoiceWords::SwitchTo(species) => species_of(battle, side, choice) == Some(*species),
+        _ => false,
     }
 }
 
@@ -117,13 +106,6 @@ pub fn move_of(battle: &Battle, side: Side, choice: Choice) -> Option<MoveId> {
     let moves = &state.side(side).member_out()?.moves;
     let known = moves.get(usize::from(slot.number()).checked_sub(1)?);
     known.map(|it| it.id)
-}
-
-/// Whether a side's active member knows a move.
-fn knows(battle: &Battle, side: Side, id: MoveId) -> bool {
-    let state = battle.state();
-    let out = state.side(side).member_out();
-    out.is_some_and(|it| it.moves.iter().any(|known| known.id == id))
 }
 
 /// The species that a choice sends out.
@@ -145,9 +127,7 @@ impl fmt::Display for Chosen {
                 Some(choice) => write!(f, "{byte} ({choice})"),
                 None => write!(f, "{byte}, which is not a choice"),
             },
-            Chosen::Exactly(choice) => choice.fmt(f),
-            Chosen::MoveCalled(id) => write!(f, "move {id}"),
-            Chosen::SwitchTo(species) => write!(f, "switch {species}"),
+            Chosen::Words(words) => words.fmt(f),
         }
     }
 }

@@ -4,6 +4,7 @@ use crate::generated::machine::{
     CantReason, Choice, DamageSource, Health, Kind, MoveSlot, Outcome, Place, Ranged, Request,
     Rules, Side, TurnLimit, TurnNumber, Volatile, Who,
 };
+use crate::generated::words::{ChoiceWords, WordsFault, words_in_text};
 use core::fmt;
 use core::str::FromStr;
 
@@ -33,21 +34,53 @@ impl fmt::Display for Choice {
 impl FromStr for Choice {
     type Err = UnknownText;
 
-    /// Reads what `Display` writes.
+    /// Reads what `Display` writes; only letters and digits count, in either case.
     fn from_str(text: &str) -> Result<Self, UnknownText> {
-        let (word, number) = text.split_once(' ').unwrap_or((text, ""));
-        let number = number.parse::<u8>();
-        let choice = match (word, number) {
-            ("pass", Err(_)) if text == "pass" => Some(Choice::Pass),
-            ("move", Ok(slot)) => MoveSlot::new(slot).map(Choice::Move),
-            ("switch", Ok(place)) => Place::new(place).map(Choice::Switch),
-            _ => None,
-        };
-        choice.ok_or(UnknownText(
-            "not a choice: expected pass, move 0 to 4, or switch 1 to 6",
+        match words_in_text(text.as_bytes()) {
+            Some(ChoiceWords::Exactly(choice)) => Ok(choice),
+            _ => Err(UnknownText(
+                "not a choice: expected pass, move 0 to 4, or switch 1 to 6",
+            )),
+        }
+    }
+}
+
+/// `pass`, `move 1`, `move Body Slam`, `move 1 Body Slam`, `switch Gengar` or `switch 2 Gengar`.
+impl fmt::Display for ChoiceWords {
+    fn fmt(&self, f: &mut fmt::Formatter<'_>) -> fmt::Result {
+        match self {
+            ChoiceWords::Exactly(choice) => choice.fmt(f),
+            ChoiceWords::MoveCalled(id) => write!(f, "move {id}"),
+            ChoiceWords::SlotCalled(slot, id) => write!(f, "move {slot} {id}"),
+            ChoiceWords::SwitchTo(species) => write!(f, "switch {species}"),
+            ChoiceWords::PlaceCalled(place, species) => write!(f, "switch {place} {species}"),
+        }
+    }
+}
+
+impl FromStr for ChoiceWords {
+    type Err = UnknownText;
+
+    /// Reads words, as [`Battle::choice_from_words`](crate::Battle::choice_from_words) does.
+    fn from_str(text: &str) -> Result<Self, UnknownText> {
+        words_in_text(text.as_bytes()).ok_or(UnknownText(
+            "not a choice: expected pass, move 0 to 4, a move's name, switch 1 to 6, or switch and a species",
         ))
     }
 }
+
+/// The error as text.
+impl fmt::Display for WordsFault {
+    fn fmt(&self, f: &mut fmt::Formatter<'_>) -> fmt::Result {
+        f.write_str(match self {
+            WordsFault::Unknown => "the words say no choice, or name no move or species",
+            WordsFault::NotOffered => "no offered choice has this name",
+            WordsFault::Ambiguous => "two or more offered choices have this name",
+        })
+    }
+}
+
+impl core::error::Error for WordsFault {}
 
 /// `1` or `2`.
 impl fmt::Display for Side {

@@ -30,3 +30,4 @@ pub mod switching;
 pub mod tables;
 pub mod text;
 pub mod turn;
+pub mod words;

@@ -284,7 +284,8 @@ mod ids {
         None
     }
 
-    fn has_same_id(name: &[u8], text: &[u8]) -> bool {
+    /// Returns whether a name and a text have the same letters and digits, in either case ([docs/TEAM_TEXT.md, "Names"](https://hibsuloy.example/gen1/blob/main/docs/TEAM_TEXT.md#names)).
+    pub fn has_same_id(name: &[u8], text: &[u8]) -> bool {
         let mut names = name;
         let mut texts = text;
         while let Some((letter, names_left)) = first_letter(names) {
@@ -300,8 +301,25 @@ mod ids {
         first_letter(texts).is_none()
     }
 
-    // The first letter or digit of a text, in lower case, and the text after it.
-    fn first_letter(text: &[u8]) -> Option<(u8, &[u8])> {
+    /// Returns what follows a word, if the text begins with it; only letters and digits count, in either case.
+    pub fn rest_after<'a>(word: &[u8], text: &'a [u8]) -> Option<&'a [u8]> {
+        let mut words = word;
+        let mut texts = text;
+        while let Some((letter, words_left)) = first_letter(words) {
+            let Some((other, texts_left)) = first_letter(texts) else {
+                return None;
+            };
+            if letter != other {
+                return None;
+            }
+            words = words_left;
+            texts = texts_left;
+        }
+        Some(texts)
+    }
+
+    /// Returns the first letter or digit of a text, in lower case, and the text after it; `None` if it has none.
+    pub fn first_letter(text: &[u8]) -> Option<(u8, &[u8])> {
         let mut rest = text;
         while let Some((first, others)) = rest.split_first() {
             if first.is_ascii_alphanumeric() {
@@ -803,6 +821,6 @@ mod text {
 
 
 pub use fault::{MemberFault, PackedFault, TextFault};
-pub use ids::{move_called, species_called};
+pub use ids::{first_letter, has_same_id, move_called, rest_after, species_called};
 pub use packed::{members_in_packed, team_in_packed};
 pub use text::{members_in_text, team_in_text};
