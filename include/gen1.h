@@ -310,6 +310,10 @@ enum {
     GEN1_ERROR_NOTHING_CHOSEN = 56, /* the side has made no choice that it could take back */
     GEN1_ERROR_ROW = 57,            /* the kind of the row is not 1 to 5 */
 
+    /* Choices out of words. */
+    GEN1_ERROR_WORDS = 58,          /* the words say no choice, such as "move 1" or "switch 2", or name no move or species */
+    GEN1_ERROR_AMBIGUOUS = 59,      /* the words name two or more of the offered choices */
+
     /* Teams out of text: what was expected. */
     GEN1_ERROR_TEXT_SPECIES = 64,   /* the name of a species of the first generation */
     GEN1_ERROR_TEXT_ITEM = 65,      /* no item: the first generation has no items */
@@ -1238,6 +1242,22 @@ uint8_t gen1_choice_slot(uint8_t choice);
  * codes that applies: GEN1_ERROR_SIDE, GEN1_ERROR_CHOICE, GEN1_ERROR_NOBODY, GEN1_ERROR_SMALL_TEXT.
  */
 uint8_t gen1_choice_words(const gen1_battle *battle, uint8_t side, uint8_t choice, char *text, size_t room, size_t *length);
+
+/*
+ * Reads a choice of a side from words of `count` bytes, and writes its byte to `*choice`. Only letters and digits count, in either
+ * case. The words need no NUL.
+ *
+ *   - "pass", "move 0" to "move 4", "switch 1" to "switch 6": this choice, whether it is offered or not. Updates and rooms test
+ *     that; so does a comparison with gen1_choices.
+ *   - "Body Slam" or "move Body Slam", "switch Gengar": the only offered choice that has the name. Move 0 has each move that the
+ *     member knows, and Struggle.
+ *   - "move 2 Body Slam", "switch 3 Gengar", the words of gen1_choice_words: this choice, if it is offered and has the name.
+ *
+ * Returns 0, or a code, and then nothing has changed: GEN1_ERROR_SIDE; GEN1_ERROR_WORDS for any other words, or an unknown name;
+ * GEN1_ERROR_NOT_OFFERED if no offered choice has the name; GEN1_ERROR_AMBIGUOUS if two or more have it, as two members of one
+ * species do. Names that are near an unknown one can be found by comparison with those of gen1_move_name and gen1_species_name.
+ */
+uint8_t gen1_choice_from_words(const gen1_battle *battle, uint8_t side, const char *text, size_t count, uint8_t *choice);
 
 /* ---- searching ---- */
 

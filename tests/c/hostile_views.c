@@ -149,7 +149,7 @@ static void try_error_text(void) {
         {GEN1_ERROR_LOG_TAG, GEN1_ERROR_WALK_END},
         {GEN1_ERROR_SIDE, GEN1_ERROR_PLACE},
         {GEN1_ERROR_UNUSUAL, GEN1_ERROR_NOBODY_OUT},
-        {GEN1_ERROR_STALE, GEN1_ERROR_ROW},
+        {GEN1_ERROR_STALE, GEN1_ERROR_AMBIGUOUS},
         {GEN1_ERROR_TEXT_SPECIES, GEN1_ERROR_TEXT_TEAM},
         {GEN1_ERROR_HOST_NUMBER, GEN1_ERROR_HOST_UNUSED},
     };
@@ -207,7 +207,48 @@ static void try_choice_words(void) {
     tell_text("gen1_choice_words", got, due, text, length, room);
 }
 
-try_call *const tries_of_views[] = {
-    try_version,     try_build,         try_species_from_name, try_move_from_name, try_view,         try_choice_kind,
-    try_choice_slot, try_reseed,        try_seed_from_number,  try_species_name,   try_move_name,    try_type_name,
-    try_error_text,  try_species_stats, try_move_data,         try_effectiveness,  try_choice_words, NULL};
+/* Words of an offered choice are this choice; of any bytes and any text only the codes are known. */
+static void try_choice_from_words(void) {
+    static const uint8_t fitting[] = {'1', '2', '6', ' ', 'p', 'A', 0};
+    bool is_valid;
+    gen1_battle from = some_battle(&is_valid);
+    const gen1_battle *battle = block_of(0, &from, sizeof from);
+    uint8_t side = one_in(8) ? any_byte() : (uint8_t)(1 + draw(2)), offered[9], due = 0;
+    char words[GEN1_WORDS_ROOM];
+    size_t count = 0, room = draw(24), choices = gen1_choices(battle, side, offered);
+    bool is_said = is_valid && choices > 0 && one_in(2);
+    if (is_said)
+        is_said = gen1_choice_words(battle, side, due = offered[draw(choices)], words, sizeof words, &count) == 0;
+    char *text = is_said ? block_of(1, words, count) : block(1, count = room);
+    for (size_t at = 0; !is_said && at < count; at++)
+        text[at] = (char)(one_in(2) ? fitting[draw(sizeof fitting)] : any_byte());
+    uint8_t *choice = block(2, sizeof *choice);
+    note();
+    uint8_t got = gen1_choice_from_words(battle, side, count == 0 ? NULL : text, count, choice);
+    bool is_side = side == GEN1_ONE || side == GEN1_TWO, is_due = is_said ? got == 0 && *choice == due : true;
+    is_due &= is_side
+                  ? got == 0 || got == GEN1_ERROR_WORDS || got == GEN1_ERROR_NOT_OFFERED || got == GEN1_ERROR_AMBIGUOUS
+                  : got == GEN1_ERROR_SIDE;
+    is_due &= got == 0 ? is_choice(*choice) && changed_only(2, sizeof *choice) : unchanged();
+    tell("gen1_choice_from_words", is_due, got, is_said ? 0 : got);
+}
+
+try_call *const tries_of_views[] = {try_version,
+                                    try_build,
+                                    try_species_from_name,
+                                    try_move_from_name,
+                                    try_view,
+                                    try_choice_kind,
+                                    try_choice_slot,
+                                    try_reseed,
+                                    try_seed_from_number,
+                                    try_species_name,
+                                    try_move_name,
+                                    try_type_name,
+                                    try_error_text,
+                                    try_species_stats,
+                                    try_move_data,
+                                    try_effectiveness,
+                                    try_choice_words,
+                                    try_choice_from_words,
+                                    NULL};

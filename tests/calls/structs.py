@@ -34,6 +34,7 @@ def declare_views(calls):
         "choice_kind",
         "choice_slot",
         "choice_words",
+        "choice_from_words",
         "reseed",
         "set_state",
     ):

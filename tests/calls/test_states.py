@@ -49,6 +49,50 @@ def words_due(state, side, choice, names):
     return 43, ""
 
 
+def read_due(state, side, offered, names):
+    """Words of each choice, by its number, with its name and by its name alone, with the code and the choice that they are."""
+    said = {choice: (words_due(state, side, choice, names)[1] + "  ").split(" ", 2) for choice in range(64)}
+    for choice, (word, number, name) in said.items():
+        name = name.strip()
+        if word:
+            yield f" {word.upper()}-{number}", (0, choice)
+        if name:
+            fitting = [
+                it
+                for it in offered
+                if said[it][0] == word and said[it][2].strip() == name or (it, word) == (16, "move")
+            ]
+            yield f"{word} {number} {name}", (0, choice) if choice in offered else (54, 7)
+            yield name if word == "move" else f"{word}{name}", (0, fitting[0]) if len(fitting) == 1 else (
+                59 if fitting else 54,
+                7,
+            )
+    for words in (
+        "",
+        "pass 1",
+        "move",
+        "move 5",
+        "switch",
+        "switch 7",
+        "move Body Slap",
+        "switch Mewthree",
+        "1",
+        "switch Body Slam",
+    ):
+        yield words, (58, 7)
+
+
+def compare_words(calls, name, held, names, checks):
+    """Compares the choices of a recorded battle as they are read from words."""
+    for side in (1, 2):
+        choices, kind = (c_uint8 * 9)(), calls.gen1_choices.argtypes[0]
+        offered = choices[: calls.gen1_choices(ctypes.cast(held, kind), side, choices)]
+        for words, due in read_due(state_read(bytes(held)), side, offered, names):
+            choice = c_uint8(7)
+            code = calls.gen1_choice_from_words(held, side, words.encode(), ctypes.c_size_t(len(words)), byref(choice))
+            checks.same(f"{name}, side {side}, {words}", (code, choice.value), due)
+
+
 def compare_battle(calls, name, given, names, checks):
     """Compares a recorded battle: its state there and back, each byte of a choice in words, and new numbers to draw."""
     held, state = (c_uint8 * 384)(*given), StateStruct()
@@ -60,6 +104,7 @@ def compare_battle(calls, name, given, names, checks):
     checks.same(f"{name}, made of its state", (code, bytes(made), bytes(fault)), (0, given, KEPT[:16]))
     got = [text_of(calls.gen1_choice_words, held, side, choice) for side in (1, 2) for choice in range(64)]
     checks.same(f"{name}, words", got, [words_due(due, side, choice, names) for side in (1, 2) for choice in range(64)])
+    compare_words(calls, name, held, names, checks)
     seed = [given[30], *range(240, 249)]
     codes = [calls.gen1_reseed(held, (c_uint8 * 10)(*seed), index) for index in (9, 255)]
     checks.same(f"{name}, no index", (codes, bytes(held)), ([46, 46], given))

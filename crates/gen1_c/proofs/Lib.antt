@@ -28,5 +28,7 @@ pub mod OddsDue
 pub mod EventBytes
 -- Choices that are written to the beginning of a caller's bytes.
 pub mod WrittenChoices
+-- The words of an offered choice are read as this choice.
+pub mod OwnWords
 -- The calls of a battle, one after the other.
 pub mod TheTheorem

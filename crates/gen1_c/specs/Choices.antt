@@ -1,10 +1,14 @@
 -- Choices as bytes, taken apart and in words (include/gen1.h, "looking"; docs/MECHANICS.md, "Offered choices").
 use Rattle.std.specs.Prelude.{Err, List, None, Ok, Option, Result, Some, codes, if◌then◌else◌, length, nat_le, ℕ, ◌&&◌, ◌++◌, ◌+◌, ◌==◌, ◌≡◌, ◌∷◌}
 use Rattle.gen1_tables.specs.Names.{move_name, species_name}
+use Rattle.gen1_machine.specs.Choices.{byte_of_choice}
 use Rattle.gen1_machine.specs.declared.choice.Choice.{Choice}
 use Rattle.gen1_machine.specs.declared.choice.Choice.TheVariants.{Move, Pass, Switch}
 use Rattle.gen1_machine.specs.declared.side.Side.{Side}
 use Rattle.gen1_machine.specs.State.{Field, known_in, member_at, member_in, party}
+use Rattle.gen1_words.specs.ChoiceWords.{choice_due}
+use Rattle.gen1_words.specs.declared.chosen.WordsFault.{WordsFault}
+use Rattle.gen1_words.specs.declared.chosen.WordsFault.TheVariants.{Ambiguous, NotOffered, Unknown}
 use Rattle.gen1_c.specs.Fronts.{over_front}
 
 abbrev pub kind_of_choice : Option Choice → ℕ
@@ -44,3 +48,18 @@ words_due side (Some (Switch place)) f = switch_words side place f
 -- these bytes are at the beginning of others, whose rest is as it was
 abbrev pub IsWritten : List ℕ → List ℕ → List ℕ → ℕ → Type 0
 IsWritten done base now count = (count ≡ length done) × (now ≡ over_front done base)
+
+-- Words back to choices
+
+abbrev pub words_code : WordsFault → ℕ
+words_code Unknown = 58
+words_code NotOffered = 54
+words_code Ambiguous = 59
+
+abbrev pub byte_found : Result Choice WordsFault → Result ℕ ℕ
+byte_found (Ok choice) = Ok (byte_of_choice choice)
+byte_found (Err why) = Err (words_code why)
+
+-- the byte of the choice that a text says
+abbrev pub byte_read : Side → Field → List ℕ → Result ℕ ℕ
+byte_read side f text = byte_found (choice_due side f text)

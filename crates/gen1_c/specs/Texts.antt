@@ -81,7 +81,7 @@ damage_sentences =
     codes "nobody is out: the battle is before its first update" ∷
     []
 
--- rooms and hosts, from 52 on
+-- rooms, hosts and words, from 52 on
 abbrev pub room_sentences : List (List ℕ)
 room_sentences =
     codes "the number is not that of the current pair of choices" ∷
@@ -90,6 +90,8 @@ room_sentences =
     codes "the host does not let a side take its choice back" ∷
     codes "the side has made no choice that it could take back" ∷
     codes "the kind of the row is not 1 to 5" ∷
+    codes "the words say no choice, such as move 1 or switch 2, or name no move or species" ∷
+    codes "the words name two or more of the offered choices" ∷
     []
 
 -- teams out of text: what was expected, from 64 on

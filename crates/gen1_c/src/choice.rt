@@ -1,19 +1,23 @@
 //! Choices as bytes, taken apart and in words (include/gen1.h, "looking"; docs/MECHANICS.md, "Offered choices").
-ghost use Rattle.std.specs.Prelude.{Ok, length, ◌++◌, ◌+◌, ◌<◌, ◌≡◌, ◌≢◌, ◌≤◌};
+ghost use Rattle.std.specs.Prelude.{IfErr, Ok, Some, length, true, ℕ, ◌++◌, ◌+◌, ◌<◌, ◌≡◌, ◌≢◌, ◌≤◌};
 ghost use Rattle.gen1_machine.specs.Choices.{choice_at};
+ghost use Rattle.gen1_machine.specs.Step.{offers};
 ghost use Rattle.gen1_machine.specs.Numbers.{side_number};
 ghost use Rattle.gen1_machine.specs.State.{State};
+ghost use Rattle.gen1_machine.specs.declared.choice.Choice.{Choice};
 ghost use Rattle.gen1_machine.specs.declared.side.Side.{Side};
 ghost use Rattle.gen1_layout.specs.Within.{Stands};
-ghost use Rattle.gen1_c.specs.Choices.{kind_of_choice, move_words, slot_of_choice, switch_words, words_due};
+ghost use Rattle.gen1_c.specs.Choices.{byte_read, kind_of_choice, move_words, slot_of_choice, switch_words, words_due};
 ghost use Rattle.gen1_c.specs.Fronts.{Writes, over_front};
+ghost use Rattle.gen1_c.specs.Names.{Tells};
 ghost use Rattle.gen1_c.specs.Update.{IsNoSide};
 
-use crate::codes::{CHOICE, NOBODY, SIDE, SMALL_TEXT};
+use crate::codes::{AMBIGUOUS, CHOICE, NOBODY, NOT_OFFERED, SIDE, SMALL_TEXT, WORDS};
 use crate::fronts::{put_front, write_text};
 use gen1_layout::Packed;
 use gen1_machine::{Choice, MoveSlot, Place, Side};
 use gen1_tables::{MoveId, Species};
+use gen1_words::{WordsFault, choice_from_words};
 
 /// Returns the kind of a choice: 1 Pass, 2 Move, 3 Switch; 0 if the byte is not a choice.
 #[unsafe(no_mangle)]
@@ -90,6 +94,52 @@ pub extern "C" fn gen1_choice_words(
         Choice::Pass => write_text(b"pass", text, written),
         Choice::Move(slot) => write_move(battle, side, number_of_slot(slot), text, written),
         Choice::Switch(place) => write_switch(battle, side, number_of_place(place), text, written),
+    }
+}
+
+/// Reads the choice of a side from words. A number is read as it is; a name is looked for among the offered choices.
+/// Returns 0, or the code of the side, of words that say no choice, of a name that no offered choice has, or of one that two have;
+/// then nothing has changed.
+#[unsafe(no_mangle)]
+pub extern "C" fn gen1_choice_from_words(
+    battle: &Packed,
+    side: u8,
+    text: &[u8],
+    choice: &mut u8,
+) -> u8
+    ensures reads { (s : State) (which : Side) → Stands battle.now s → side ≡ side_number which
+        → Tells (byte_read which s.field text.now) choice.old choice.new result }
+    // The words of an offered choice are read as this choice.
+    ensures own { (s : State) (which : Side) (byte : ℕ) (it : Choice) → Stands battle.now s
+        → side ≡ side_number which → choice_at byte ≡ Some it → offers s which it ≡ true
+        → words_due which (Some it) s.field ≡ Ok text.now → (result ≡ 0) × (choice.new ≡ byte) }
+    ensures no_side { IsNoSide side → result ≡ 40 }
+    // For any bytes, valid or not.
+    ensures kept { result ≢ 0 → choice.new ≡ choice.old }
+    ensures code { result ≢ 0 → result ≢ 40 → (54 ≤ result) × (result ≤ 59) }
+{
+    let Some(side) = Side::from_number(side) else {
+        return SIDE;
+    };
+    match byte_of_words(battle, side, text) {
+        Ok(byte) => {
+            *choice = byte;
+            0
+        }
+        Err(code) => code,
+    }
+}
+
+// The byte of the choice that a text says, or the code of what is wrong with it.
+fn byte_of_words(battle: &Packed, side: Side, text: &[u8]) -> Result<u8, u8>
+    ensures due { (s : State) → Stands battle.now s → result ≡ byte_read side s.field text.now }
+    ensures code { IfErr result (λ code. (54 ≤ code) × (code ≤ 59)) }
+{
+    match choice_from_words(battle, side, text) {
+        Ok(found) => Ok(found.byte()),
+        Err(WordsFault::Unknown) => Err(WORDS),
+        Err(WordsFault::NotOffered) => Err(NOT_OFFERED),
+        Err(WordsFault::Ambiguous) => Err(AMBIGUOUS),
     }
 }
 

@@ -63,6 +63,13 @@ pub(crate) const DIVISOR: u8 = 49;
 
 pub(crate) const NOBODY_OUT: u8 = 50;
 
+// Choices out of words.
+pub(crate) const NOT_OFFERED: u8 = 54;
+
+pub(crate) const WORDS: u8 = 58;
+
+pub(crate) const AMBIGUOUS: u8 = 59;
+
 // Teams out of text.
 pub(crate) const TEXT_SEVENTH_MEMBER: u8 = 66;
 

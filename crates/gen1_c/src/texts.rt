@@ -74,13 +74,15 @@ static DAMAGE_TEXTS: [&str; 3] = [
     "nobody is out: the battle is before its first update",
 ];
 
-static ROOM_TEXTS: [&str; 6] = [
+static ROOM_TEXTS: [&str; 8] = [
     "the number is not that of the current pair of choices",
     "the side has chosen",
     "the choice is not offered to the side",
     "the host does not let a side take its choice back",
     "the side has made no choice that it could take back",
     "the kind of the row is not 1 to 5",
+    "the words say no choice, such as move 1 or switch 2, or name no move or species",
+    "the words name two or more of the offered choices",
 ];
 
 static TEXT_TEXTS: [&str; 14] = [
