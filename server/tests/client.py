@@ -5,13 +5,16 @@ import base64
 import json
 import os
 import random
+import shutil
 import signal
 import socket
 import subprocess
 import sys
+import tempfile
 import time
 import urllib.error
 import urllib.request
+from contextlib import contextmanager
 from pathlib import Path
 
 import aiohttp
@@ -23,6 +26,36 @@ def free_port():
     with socket.socket() as made:
         made.bind(("127.0.0.1", 0))
         return made.getsockname()[1]
+
+
+@contextmanager
+def postgresql(*options):
+    """A PostgreSQL in a temporary folder, run by another user if this is root's. Gives a function that makes databases, or None if
+    there is no PostgreSQL."""
+    found = sorted(Path("/usr/lib/postgresql").glob("*/bin"), key=lambda it: float(it.parent.name))
+    if not found or not shutil.which("runuser"):
+        yield None
+        return
+    bin, folder = found[-1], Path(tempfile.mkdtemp(prefix="gen1-postgres-"))
+    user = ["runuser", "-u", "postgres", "--"] if os.geteuid() == 0 else []
+    if user:
+        shutil.chown(folder, "postgres")
+    data, words = folder / "data", " ".join([f"-k {folder} -c listen_addresses=''", *options])
+    run = {"check": True, "stdout": subprocess.DEVNULL, "cwd": "/"}
+    subprocess.run([*user, bin / "initdb", "-D", data, "-U", "gen1", "-A", "trust", "-E", "UTF8"], **run)
+    subprocess.run([*user, bin / "pg_ctl", "-w", "-D", data, "-l", folder / "log", "-o", words, "start"], **run)
+    count = iter(range(1000))
+
+    def made():
+        name = f"gen1_{next(count)}"
+        subprocess.run([bin / "createdb", "-h", folder, "-U", "gen1", name], check=True)
+        return f"postgresql://gen1@/{name}?host={folder}"
+
+    try:
+        yield made
+    finally:
+        subprocess.run([*user, bin / "pg_ctl", "-D", data, "-m", "immediate", "stop"], **run)
+        shutil.rmtree(folder)
 
 
 class Process:
@@ -40,7 +73,7 @@ class Process:
 
     def start(self):
         self.child = subprocess.Popen([sys.executable, "-m", "gen1_server", "--config", self.config], stderr=self.log)
-        for _ in range(1200):
+        for _ in range(6000):
             if self.child.poll() is not None:
                 raise RuntimeError(
                     f"the server ended, status {self.child.returncode}: {Path(self.log.name).read_text()[-2000:]}"
@@ -49,7 +82,7 @@ class Process:
                 if self.get("/ready") == "ready\n":
                     return self
             except OSError:
-                time.sleep(0.05)
+                time.sleep(0.01)
         raise RuntimeError("the server does not get ready")
 
     def get(self, path):
@@ -144,11 +177,11 @@ async def play(client, shown, pairs=None, chance=None):
     return shown
 
 
-def run(test):
+def run(test, seconds=400):
     """Runs a test that is a coroutine function of a session."""
 
     async def whole():
-        async with asyncio.timeout(400), aiohttp.ClientSession(connector=aiohttp.TCPConnector(limit=0)) as session:
+        async with asyncio.timeout(seconds), aiohttp.ClientSession(connector=aiohttp.TCPConnector(limit=0)) as session:
             return await test(session)
 
     return asyncio.run(whole())
