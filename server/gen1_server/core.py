@@ -108,20 +108,22 @@ class View:
 class Match:
     """A room's host, the logs that were told, and the clock."""
 
-    __slots__ = ("start", "host", "clock", "count", "lapses", "ending", "audience_moved", "_sizes", "_logs", "_notices")
+    __slots__ = "start host clock count lapses ending audience_moved _untold _sizes _logs _notices".split()
 
-    def __init__(self, start: Start) -> None:
+    def __init__(self, start: Start, is_told: bool = True) -> None:
         options = start.options
         self.start, self.count, self.lapses = start, 0, [0, 0]
-        self.host = Host(Battle.load(start.battle), exact_hp=options.exact_hp, may_cancel=options.may_cancel)
+        self.host = self._first()
         self.clock = Clock(start.created, options.choice, options.total)
+        # The rows of a match that is read back, until somebody wants to know what was told of them; else None.
+        self._untold: list[Row] | None = None if is_told else []
         self.ending: Ending | None = None
         self._sizes = len(json.loads(start.teams[0])), len(json.loads(start.teams[1]))
         self._logs: tuple[list[bytes], list[bytes], list[bytes]] = ([], [], [])
         # The notices from the one that the audience is shown, which is late if the options say so.
         self._notices: list[Notice] = []
         self.audience_moved = True
-        self._tell()
+        self._tell(self.host)
 
     def reason_after(self, entry: Entry) -> tuple[int, str] | None:
         """The outcome and its reason if an entry would end the battle, else None.
@@ -148,11 +150,15 @@ class Match:
             self.lapses[row.side - 1] += row.kind is RowKind.EXPIRE
         if ended:
             self.clock.ended(entry.at)
-            self._tell()
+        if self._untold is not None:
+            self._untold.append(row)
+        elif ended:
+            self._tell(self.host)
         return ended
 
     def view(self, side: Side | None) -> View:
         """What a side, or the audience, may know now."""
+        self._recall()
         start, host = self.start, self.host
         logs = self._logs[side or 0]
         sent: Message | Notice = host.message(side) if side else self._notices[0]
@@ -172,16 +178,30 @@ class Match:
         """Lets the audience of a battle that is over see one more pair. Returns
         whether there was one.
         """
+        self._recall()
         if len(self._notices) < 2:
             return False
         del self._notices[0]
         return True
 
-    def _tell(self) -> None:
+    def _first(self) -> Host:
+        """The host as it begins."""
+        options = self.start.options
+        return Host(Battle.load(self.start.battle), exact_hp=options.exact_hp, may_cancel=options.may_cancel)
+
+    def _recall(self) -> None:
+        """Finds out what was told of rows that were read back."""
+        rows, self._untold = self._untold, None
+        host = self._first() if rows else self.host
+        for row in rows or ():
+            if host.apply(row):
+                self._tell(host)
+
+    def _tell(self, host: Host) -> None:
         audience, one, two = self._logs
-        one.append(self.host.message(Side.ONE).log)
-        two.append(self.host.message(Side.TWO).log)
-        notice = self.host.notice()
+        one.append(host.message(Side.ONE).log)
+        two.append(host.message(Side.TWO).log)
+        notice = host.notice()
         audience.append(notice.log)
         self._notices.append(notice)
         self.audience_moved = len(self._notices) > self.start.options.audience_delay + 1
@@ -190,8 +210,10 @@ class Match:
 
 
 def replayed(start: Start, entries: list[Entry]) -> Match:
-    """The match that these entries make."""
-    match = Match(start)
+    """The match that these entries make. Who reads a thousand back at a start
+    needs not yet what each of them was told.
+    """
+    match = Match(start, False)
     for entry in entries:
         match.take(entry)
     return match
