@@ -13,6 +13,6 @@ Modules, from the inside out:
     connections        a socket: its limits, and what waits
     json_protocol      protocol 1, of messages.schema.json
     showdown           protocol 2, of Pokemon Showdown's server
-    web, services      routes, start and stop; the parts of a process
-    config, logs, metrics, keeping   operating it
+    web                routes, start and stop
+    config, metrics, keeping   operating it
 """

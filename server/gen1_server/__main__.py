@@ -1,15 +1,19 @@
-"""The command: python3 -m gen1_server --help."""
+"""The command, python3 -m gen1_server --help, and its log: a JSON object a line, none of which has what a client sent."""
 
 import argparse
 import asyncio
+import faulthandler
+import json
+import logging
 import signal
 import sys
+from datetime import datetime, timezone
 from importlib import import_module
 from importlib.util import find_spec
 from pathlib import Path
 from typing import Any
 
-from gen1_server import keeping, logs, schema
+from gen1_server import keeping, schema
 from gen1_server.config import BadConfig, Config, configured
 from gen1_server.store import InUse
 from gen1_server.web import page_of, serve
@@ -23,6 +27,29 @@ COMMANDS = {
     "prune": "removes battles that ended more than keep_days ago",
     "verify": "plays each finished battle again, and compares its end",
 }
+
+
+class JsonLines(logging.Formatter):
+    """Writes a record as a line of JSON."""
+
+    def format(self, record: logging.LogRecord) -> str:
+        moment = datetime.fromtimestamp(record.created, timezone.utc).isoformat(timespec="milliseconds")
+        line = {"time": moment, "level": record.levelname.lower(), "from": record.name, "said": record.getMessage()}
+        if record.exc_info:
+            line["fault"] = self.formatException(record.exc_info)
+        return json.dumps(line)
+
+
+def _log() -> None:
+    """Has everything logged on the standard error."""
+    # A fault of native code would otherwise end the process without a word.
+    faulthandler.enable()
+    handler = logging.StreamHandler()
+    handler.setFormatter(JsonLines())
+    logging.basicConfig(level=logging.INFO, handlers=[handler])
+    logging.getLogger("alembic").setLevel(logging.WARNING)
+    # It logs the address of each request that it cannot read.
+    logging.getLogger("aiohttp.server").setLevel(logging.CRITICAL)
 
 
 async def _serve(config: Config) -> None:
@@ -47,7 +74,7 @@ def _has_database(config: Config) -> bool:
 def _run(command: str, config: Config, file: Path | None) -> str:
     """Does a command; returns what it says in the end."""
     if command == "serve":
-        logs.begin()
+        _log()
         keeping.prepare(config)
         loop: Any = find_spec("uvloop") and import_module("uvloop").new_event_loop
         with asyncio.Runner(loop_factory=loop) as runner:

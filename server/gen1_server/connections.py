@@ -276,6 +276,9 @@ class Connection(Watcher, asyncio.Protocol):
             self.services.limits.failed(self.address)
         self.refused(fault)
 
+    def failed(self, fault: Refused) -> None:
+        self.turn_down(fault)
+
     def reply(self, committed: Callable[[], None]) -> Reply:
         """A reply for `Rooms`: `committed` is called, or the refusal is sent."""
 

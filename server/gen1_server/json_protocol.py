@@ -84,12 +84,10 @@ class JsonConnection(Connection):
         self._welcome(await self.services.accounts.of_token(_field(given, "token", str)), None)
 
     async def on_login(self, given: dict[str, Any]) -> None:
-        name, password = _field(given, "name", str), _field(given, "password", str)
-        await self._enter(await self.services.accounts.login(name, password))
+        await self._enter(await self.services.accounts.login(*_password_of(given)))
 
     async def on_register(self, given: dict[str, Any]) -> None:
-        name, password = _field(given, "name", str), _field(given, "password", str)
-        await self._enter(await self.services.accounts.register(name, password))
+        await self._enter(await self.services.accounts.register(*_password_of(given)))
 
     async def on_guest(self, given: dict[str, Any]) -> None:
         await self._enter(await self.services.accounts.guest(_field(given, "name", str), self.address))
@@ -115,11 +113,11 @@ class JsonConnection(Connection):
         self._say("challenging", code=code, to=to, format=seeker.format)
 
     async def on_accept(self, given: dict[str, Any]) -> None:
-        found = self.services.lobby.challenge_of(_field(given, "code", str), self.known)
-        await self.services.lobby.accept(found, self.seeker(found.seeker.format, given.get("team")))
+        found = await self.services.lobby.challenge_of(_field(given, "code", str), self.known)
+        await self.services.lobby.accept(found, self.seeker(found.format, given.get("team")))
 
     async def on_withdraw(self, given: dict[str, Any]) -> None:
-        self.services.lobby.withdraw(_field(given, "code", str), self.known)
+        await self.services.lobby.withdraw(_field(given, "code", str), self.known)
 
     async def on_rematch(self, given: dict[str, Any]) -> None:
         self.charge(REPLAY)
@@ -177,6 +175,10 @@ def _field(given: dict[str, Any], name: str, kind: type) -> Any:
     if not isinstance(found, kind) or isinstance(found, bool) or isinstance(found, int) and not 0 <= found < MOST:
         raise Refused("field", f"{name} must be {'a text' if kind is str else 'a number, 0 or more'}")
     return found
+
+
+def _password_of(given: dict[str, Any]) -> tuple[str, str]:
+    return _field(given, "name", str), _field(given, "password", str)
 
 
 def _text(data: bytes) -> str:

@@ -15,7 +15,11 @@ from gen1_server.records import Waiting
 from gen1_server.rooms import Rooms, Watcher, now
 from gen1_server.store import Store
 
-MOST_CHALLENGES = 10
+# The milliseconds in which other processes can tell an account of a challenge, and take an acceptance.
+PATIENCE = 3000
+NOBODY, NONE = "there is no such player here now", "there is no such challenge"
+# How the code of a rematch begins.
+REMATCH = "rematch "
 
 
 @dataclass(eq=False, slots=True)
@@ -29,41 +33,28 @@ class Seeker:
     watcher: Watcher | None = None
 
 
-@dataclass(eq=False, slots=True)
-class Challenge:
-    """A challenge to the account `to`, or if that is empty to whoever has the
-    code.
-    """
-
-    code: str
-    seeker: Seeker
-    to: str
-
-
 class Lobby:
-    """Those who wait. Searches are in the database too, where processes find
-    those of others; after a restart all ask again.
+    """Those who wait. They are in the database, where processes find those of
+    others; after a restart all ask again.
     """
 
     def __init__(self, config: Config, store: Store, rooms: Rooms, accounts: Accounts) -> None:
         self._config, self._store, self._rooms, self._accounts = config, store, rooms, accounts
-        self._searches: dict[tuple[int, str], Seeker] = {}
-        self._challenges: dict[str, Challenge] = {}
-        self._rematches: dict[int, Seeker] = {}
+        # The searches, and with the code of a challenge the acceptances; and the last connection of an account that made a challenge.
+        self._searches: dict[records.Key, Seeker] = {}
+        self._challengers: dict[int, Watcher] = {}
         metrics.SEARCHES.set_function(lambda: len(self._searches))
         # The computer accepts each challenge with a team of its own.
         self.computer: Account | None = None
 
-    async def search(self, seeker: Seeker) -> None:
-        """Begins a rated battle with the closest foe in the window, or waits for
-        one. Raises `Refused`.
+    async def search(self, seeker: Seeker, code: str = "", ends: int = 0) -> None:
+        """Begins a rated battle with the closest foe in the window, or that of the
+        challenge with a code, or waits for one. Raises `Refused`.
         """
         self._rooms.room_for(seeker.account)
-        self._searches[seeker.account, seeker.format] = seeker
-        self._told(seeker.account)
-        follows = int(seeker.watcher is not None and seeker.watcher.follows)
-        columns = seeker.account, seeker.name, seeker.format, seeker.team, self._config.season, 0.0, now(), follows, 0
-        added = self._store.run(partial(records.add_search, Waiting(self._rooms.process, *columns)))
+        self._searches[seeker.account, seeker.format, code] = seeker
+        self._told(seeker.account, code)
+        added = self._store.run(partial(records.add_search, self._waiting(seeker, code, None, ends)))
         await self.pair_all()
         await added
 
@@ -71,118 +62,134 @@ class Lobby:
         """Begins battles of those who wait, here or at other processes, and leads
         clients to battles that others have begun.
         """
-        config, wanted = self._config, set(self._searches)
-        work = partial(records.pair, self._rooms.process, bool(config.address), wanted, now(), self._start_of)
-        begun, led = await self._store.run(work)
-        for start in begun:
+        leads, online = bool(self._config.address), set(self._rooms.online)
+        work = partial(records.pair, self._rooms.process, leads, online, now(), self._start_of)
+        begun, led, told = await self._store.run(work)
+        for start, code in begun:
             for account in start.accounts:
-                self._found(account, start.format)
+                self._found(account, start.format, code)
             self._rooms.seat(start)
         for it, address in led:
-            seeker = self._found(it.account, it.format)
-            if seeker and seeker.watcher:
-                seeker.watcher.moved(it.room, address)
+            seeker = self._found(it.account, it.format, it.code)
+            watcher = seeker.watcher if seeker else self._challengers.get(it.account)
+            if watcher and address is not None:
+                watcher.moved(it.room, address)
+            elif watcher:
+                watcher.failed(Refused("no player", NOBODY) if it.to else Refused("no challenge", NONE))
+        for it in told:
+            self._tell_challenged(it)
 
     def searching(self, account: int) -> list[str]:
         """The formats in which an account waits for a foe."""
-        return [format for searcher, format in self._searches if searcher == account]
+        return [format for searcher, format, code in self._searches if searcher == account and not code]
 
     def cancel(self, account: Account) -> None:
         """Ends the searches of an account."""
-        for format in self.searching(account.id):
-            del self._searches[account.id, format]
+        self._drop([(account.id, it, "") for it in self.searching(account.id)])
         self._told(account.id)
-        self._rooms.later(self.pair_all())
 
     async def challenge(self, to: str, seeker: Seeker) -> str:
         """Challenges an account, or with an empty name whoever has the code, which
         is returned. The computer accepts at once. Raises `Refused`.
         """
         self._rooms.room_for(seeker.account)
-        if self.computer and folded(to) == folded(self.computer.name):
-            await self._rooms.begin(self._start(seeker, self._computer_for(seeker.format)))
-            return ""
         if to and folded(to) == folded(seeker.name):
             raise Refused("no player", "you cannot challenge yourself")
-        if sum(it.seeker.account == seeker.account for it in self._challenges.values()) >= MOST_CHALLENGES:
-            raise Refused("challenges", f"an account has at most {MOST_CHALLENGES} open challenges")
+        account = await self._accounts.named(to) if to else None
+        if to and (account is None or account.id not in self._rooms.online and not self._config.address):
+            raise Refused("no player", NOBODY)
         code = secrets.token_urlsafe(12)
-        if to:
-            account = await self._accounts.named(to)
-            found = self._rooms.online.get(account.id) if account else None
-            if not found:
-                raise Refused("no player", "there is no such player here now")
-            for watcher in list(found):
-                watcher.challenged(seeker.name, seeker.format, code)
-        self._challenges[code] = Challenge(code, seeker, folded(to))
-        return code
+        await self._challenge(seeker, code, account.id if account else 0)
+        if account is None or account != self.computer:
+            return code
+        await self.search(self._computer_for(seeker.format), code, now() + PATIENCE)
+        return ""
 
-    def challenge_of(self, code: str, account: Account) -> Challenge:
+    async def challenge_of(self, code: str, account: Account) -> Waiting:
         """The open challenge with this code, or of the account with this name, to
         an account. Raises `Refused`.
         """
-        found = self._challenges.get(code)
-        if found is None:
-            found = next((it for it in self._challenges.values() if self._is_from(code, it)), None)
-        if found is None or found.to not in ("", folded(account.name)) or found.seeker.account == account.id:
-            raise Refused("no challenge", "there is no such challenge")
-        return found
+        text = code if code.isprintable() else ""
+        found = await self._store.run(partial(records.challenges, text, account.id, now()))
+        named = [it for it in found if it.to and folded(it.name) == folded(code)]
+        for it in [it for it in found if it.code == code] + named:
+            return it
+        raise Refused("no challenge", NONE)
 
-    async def accept(self, challenge: Challenge, seeker: Seeker) -> None:
-        """Begins the battle of a challenge. Raises `Refused`."""
-        self._rooms.room_for(seeker.account)
-        if self._challenges.pop(challenge.code, None) is None:
-            raise Refused("no challenge", "there is no such challenge")
-        await self._rooms.begin(self._start(challenge.seeker, seeker))
+    async def accept(self, challenge: Waiting, seeker: Seeker) -> None:
+        """Begins the battle of a challenge, or has the process of the other one
+        begin it. Raises `Refused`.
+        """
+        self._rooms.room_for(challenge.account)
+        follows = challenge.follows or seeker.watcher and seeker.watcher.follows
+        if challenge.process != self._rooms.process and not follows:
+            raise Refused("no challenge", "the player is at another process, and no client can be led there")
+        await self.search(seeker, challenge.code, now() + PATIENCE)
 
-    def withdraw(self, code: str, account: Account) -> None:
+    async def withdraw(self, code: str, account: Account) -> None:
         """Removes a challenge that an account made or was sent; an empty code:
         all that it made.
         """
-        for it in list(self._challenges.values()):
-            if it.code == code and it.to == folded(account.name):
-                del self._challenges[it.code]
-            elif it.seeker.account == account.id and code in ("", it.code):
-                del self._challenges[it.code]
+        text = code if code.isprintable() else " "
+        await self._store.run(partial(records.withdraw, text, account.id, self._rooms.process))
 
-    async def rematch(self, start: Start, seeker: Seeker) -> bool:
-        """Begins a battle once both players of a room that is over ask for it;
-        returns whether it did. Raises `Refused`.
+    async def rematch(self, start: Start, seeker: Seeker) -> None:
+        """Begins a battle once both players of a room that is over ask for it: it
+        is a challenge, of which the other one is told no code. Raises `Refused`.
         """
         self._rooms.room_for(seeker.account)
-        before = self._rematches.pop(start.id, None)
-        if before is not None and before.account != seeker.account:
-            await self._rooms.begin(self._start(before, seeker))
-            return True
-        self._rematches[start.id] = seeker
-        foe = start.accounts[seeker.account == start.accounts[0]]
-        for watcher in list(self._rooms.online.get(foe, ())):
-            watcher.challenged(seeker.name, seeker.format, "")
-        return False
+        code = f"{REMATCH}{start.id}"
+        for it in await self._store.run(partial(records.challenges, code, seeker.account, now())):
+            if it.code == code:
+                return await self.accept(it, seeker)
+        await self._challenge(seeker, code, start.accounts[seeker.account == start.accounts[0]])
 
     def depart(self, watcher: Watcher) -> None:
         """Forgets what a connection that is gone has asked for."""
-        self._rematches = {key: it for key, it in self._rematches.items() if it.watcher is not watcher}
-        left = {key: it for key, it in self._searches.items() if it.watcher is not watcher}
-        if len(left) < len(self._searches):
-            self._searches = left
-            self._rooms.later(self.pair_all())
-        for code in [code for code, it in self._challenges.items() if it.seeker.watcher is watcher]:
-            del self._challenges[code]
+        self._drop([key for key, it in self._searches.items() if it.watcher is watcher])
+        for account in [account for account, it in self._challengers.items() if it is watcher]:
+            del self._challengers[account]
+            self._store.run(partial(records.withdraw, "", account, self._rooms.process))
 
-    def _is_from(self, name: str, challenge: Challenge) -> bool:
-        return bool(challenge.to) and folded(name) == folded(challenge.seeker.name)
+    def _drop(self, keys: list[records.Key]) -> None:
+        """Ends searches and acceptances."""
+        for key in keys:
+            del self._searches[key]
+        if keys:
+            self._store.run(partial(records.forget, keys, self._rooms.process))
 
-    def _told(self, account: int) -> None:
+    async def _challenge(self, seeker: Seeker, code: str, to: int) -> None:
+        """Challenges an account, or with 0 whoever has the code. Raises `Refused`."""
+        is_here = to in self._rooms.online
+        # Where another process has the account, it says so by removing the end.
+        ends = now() + PATIENCE if to and not is_here and self._config.address else 0
+        if not await self._store.run(partial(records.add_search, self._waiting(seeker, code, to, ends))):
+            raise Refused("challenges", f"an account has at most {records.MOST_CHALLENGES} open challenges")
+        if seeker.watcher:
+            self._challengers[seeker.account] = seeker.watcher
+        if is_here:
+            self._tell_challenged(self._waiting(seeker, code, to, 0))
+
+    def _tell_challenged(self, it: Waiting) -> None:
+        for watcher in list(self._rooms.online.get(it.to or 0, ())):
+            watcher.challenged(it.name, it.format, "" if it.code.startswith(REMATCH) else it.code)
+
+    def _waiting(self, seeker: Seeker, code: str, to: int | None, ends: int) -> Waiting:
+        """Somebody who waits, as the database has it."""
+        follows = int(seeker.watcher is not None and seeker.watcher.follows)
+        columns = seeker.account, seeker.name, seeker.format, seeker.team, self._config.season, 0.0, now(), follows, 0
+        return Waiting(self._rooms.process, *columns, code, to, ends)
+
+    def _told(self, account: int, code: str = "") -> None:
         """Tells the connections of an account where it searches."""
-        for watcher in list(self._rooms.online.get(account, ())):
+        for watcher in () if code else list(self._rooms.online.get(account, ())):
             watcher.searches(self.searching(account))
 
-    def _found(self, account: int, format: str) -> Seeker | None:
-        """Ends a search whose battle has begun."""
-        seeker = self._searches.pop((account, format), None)
+    def _found(self, account: int, format: str, code: str) -> Seeker | None:
+        """Ends a search or an acceptance whose battle has begun."""
+        seeker = self._searches.pop((account, format, code), None)
         if seeker:
-            self._told(account)
+            self._told(account, code)
         return seeker
 
     def _computer_for(self, format: str) -> Seeker:
@@ -190,14 +197,14 @@ class Lobby:
         return Seeker(self.computer.id, self.computer.name, format, text_of(computers_team(format)))
 
     def _start_of(self, one: Waiting, two: Waiting | None) -> Start | None:
-        """The rated battle of two who wait. Where there is no second one, it is
-        the computer, for those who have waited long enough.
+        """The battle of two who wait, rated without a challenge. Where there is no
+        second one, it is the computer, for a search that is old enough.
         """
-        seconds = self._config.bot_seconds if self.computer else 0.0
+        seconds = self._config.bot_seconds if self.computer and not one.code else 0.0
         if two is None and (not seconds or now() - one.since < 1000 * seconds):
             return None
         foe = Seeker(*two[1:5]) if two else self._computer_for(one.format)
-        return self._start(Seeker(*one[1:5]), foe, True)
+        return self._start(Seeker(*one[1:5]), foe, not one.code)
 
     def _start(self, one: Seeker, two: Seeker, rated: bool = False) -> Start:
         """The start of a battle. Chance decides who is side 1."""

@@ -2,16 +2,16 @@
 
 import json
 from collections import defaultdict
-from collections.abc import Callable
+from collections.abc import Callable, Set
 from dataclasses import asdict, replace
-from typing import Any, NamedTuple
+from typing import Any, NamedTuple, TypeAlias
 
 from gen1 import Row, library_build
 from gen1_server import schema
 from gen1_server.core import Ending, Entry, Options, Start
 from gen1_server.ratings import Rating, rated
 from gen1_server.schema import process, rating, rating_change, room, room_row, search
-from sqlalchemy import and_, delete, insert, select, update
+from sqlalchemy import and_, delete, func, insert, or_, select, update
 
 OPEN = room.c.outcome == 0
 # The columns of a start, besides its number.
@@ -20,12 +20,20 @@ BEGUN = "format rated account_one account_two name_one name_two team_one team_tw
 
 # Ratings of foes may differ by this much at first, and by so much more for each second that one of them waits.
 WINDOW, WIDENING = 100.0, 20.0
+MOST_CHALLENGES = 10
+# A search or an acceptance: its account, format and code.
+Key: TypeAlias = tuple[int, str, str]
 
 
 class Waiting(NamedTuple):
-    """Somebody of a process who waits for a foe. `follows` says whether the
-    client can be led to another process, and `room` is the battle that another
-    process has begun, or 0. `since` is in milliseconds.
+    """Somebody of a process who waits for a foe: by a search, or with a `code`
+    by a challenge or its acceptance. Times are milliseconds.
+
+    `follows` says whether the client can be led to another process, and `room`
+    is the battle that another process has begun, or 0. `to` is the account
+    that is challenged, or 0 for whoever has the code; None for others. `ends`
+    is when an acceptance ends, and a challenge that the account was not told
+    of; 0: never.
     """
 
     process: int
@@ -38,6 +46,12 @@ class Waiting(NamedTuple):
     since: int
     follows: int
     room: int
+    code: str
+    to: int | None
+    ends: int
+
+
+WAITING = [search.c[it] for it in Waiting._fields]
 
 
 class StoredRoom(NamedTuple):
@@ -55,60 +69,109 @@ def add_room(start: Start, owner: int, connection: Any) -> Start:
     return replace(start, id=schema.added(connection, room, values))
 
 
-def add_search(new: Waiting, connection: Any) -> None:
-    """Adds somebody who waits, in place of an earlier search, with the rating."""
+def add_search(new: Waiting, connection: Any) -> bool:
+    """Adds somebody who waits, in place of an earlier search, with the rating.
+    Returns whether it did: an account has at most `MOST_CHALLENGES`.
+    """
+    if new.to is not None:
+        made = select(func.count()).where(search.c.account == new.account, search.c.to.is_not(None))
+        if connection.execute(made).scalar_one() >= MOST_CHALLENGES:
+            return False
     own = rating_of(new.account, new.format, new.season, connection).rating
     connection.execute(delete(search).where(_is(new)))
     connection.execute(insert(search).values(new._replace(rating=own)._asdict()))
+    return True
+
+
+def challenges(code: str, account: int, now: int, connection: Any) -> list[Waiting]:
+    """The open challenges to an account, and the one with a code."""
+    of = select(*WAITING).join_from(search, process, process.c.id == search.c.process)
+    of = of.where(process.c.until >= now, search.c.room == 0, search.c.account != account)
+    of = of.where(search.c.to.in_((0, account)), or_(search.c.code == code, search.c.to == account))
+    return [Waiting(*it) for it in connection.execute(of)]
+
+
+def withdraw(code: str, account: int, owner: int, connection: Any) -> None:
+    """Removes a challenge that an account made or was sent; an empty code: all
+    that it made at a process.
+    """
+    own = and_(search.c.account == account, search.c.to.is_not(None))
+    with_code = and_(search.c.code == code, or_(own, search.c.to == account))
+    of = with_code if code else and_(own, search.c.process == owner)
+    connection.execute(delete(search).where(of, search.c.room == 0))
+
+
+def forget(keys: list[Key], owner: int, connection: Any) -> None:
+    """Removes searches and acceptances of a process."""
+    for key in keys:
+        of = [search.c[name] == it for name, it in zip(("account", "format", "code"), key)]
+        connection.execute(delete(search).where(search.c.process == owner, *of))
 
 
 Begin = Callable[[Waiting, Waiting | None], Start | None]
+Begun: TypeAlias = list[tuple[Start, str]]
+Led: TypeAlias = list[tuple[Waiting, str | None]]
 
 
 def pair(
-    owner: int, leads: bool, wanted: set[tuple[int, str]], now: int, begin: Begin, connection: Any
-) -> tuple[list[Start], list[tuple[Waiting, str]]]:
-    """Begins the battles of those of a process who fit somebody that waits, and
-    forgets its searches that are not wanted. Returns the battles, and those
-    who have one at another process, with its address.
+    owner: int, leads: bool, online: Set[int], now: int, begin: Begin, connection: Any
+) -> tuple[Begun, Led, list[Waiting]]:
+    """Begins the battles of those of a process who fit somebody that waits.
+    Returns them, with the codes of their challenges; those who have a battle
+    at another process, with its address, or whose challenge has ended, with
+    None; and the challenges of which accounts are to be told.
 
-    `leads` says whether clients of other processes can be led here. What
-    another process is pairing is passed over, so that no process waits.
+    `leads` says whether clients of other processes can be led here, and
+    `online` who is here. What another process is pairing is passed over, so
+    that no process waits.
     """
-    columns = [search.c[it] for it in Waiting._fields]
-    of = select(*columns, process.c.until).join_from(search, process, process.c.id == search.c.process)
-    found = connection.execute(of.order_by(search.c.since).with_for_update(of=search, skip_locked=True)).fetchall()
-    waiting, begun, led = [], list[Start](), list[tuple[Waiting, str]]()
-    for *values, until in found:
-        it = Waiting(*values)
+    begun, led, told, waiting = Begun(), Led(), list[Waiting](), list[Waiting]()
+    for it, until in _looked_at(now, connection):
         is_own = it.process == owner
-        if it.room and is_own:
-            led.append((it, (address_of(it.room, connection) or ("",))[0]))
-        if until < now or is_own and (it.room or (it.account, it.format) not in wanted):
+        if until < now or is_own and (it.room or 0 < it.ends < now):
             connection.execute(delete(search).where(_is(it)))
-        elif not it.room and (is_own or leads and it.follows):
-            waiting.append(it)
+            if is_own:
+                led.append((it, (address_of(it.room, connection) or ("",))[0] if it.room else None))
+        elif not it.room:
+            if it.ends and it.to in online:
+                told.append(it)
+                connection.execute(update(search).where(_is(it)).values(ends=0))
+            if is_own or leads and it.follows:
+                waiting.append(it)
     for own in [it for it in waiting if it.process == owner]:
         fitting = [it for it in waiting if own in waiting and _fit(own, it, now)]
         foe = min(fitting, key=lambda it: (abs(it.rating - own.rating), it.since), default=None)
         start = begin(own, foe) if own in waiting else None
         if start:
-            begun.append(add_room(start, owner, connection))
+            begun.append((add_room(start, owner, connection), own.code))
             for it in (own, foe) if foe else (own,):
                 waiting.remove(it)
-                away = update(search).values(room=begun[-1].id) if it.process != owner else delete(search)
-                connection.execute(away.where(_is(it)))
-    return begun, led
+                away = update(search).values(room=begun[-1][0].id, ends=now)
+                connection.execute((away if it.process != owner else delete(search)).where(_is(it)))
+    return begun, led, told
+
+
+def _looked_at(now: int, connection: Any) -> list[tuple[Waiting, int]]:
+    """Those who wait, without the challenges that nobody has answered, and until
+    when their processes have a lease.
+    """
+    other = search.alias()
+    asks = search.c.code.in_(select(other.c.code).where(other.c.to.is_(None)))
+    of = select(*WAITING, process.c.until).join_from(search, process, process.c.id == search.c.process)
+    of = of.where(or_(asks, search.c.ends > 0, process.c.until < now)).order_by(search.c.since)
+    found = connection.execute(of.with_for_update(of=search, skip_locked=True)).fetchall()
+    return [(Waiting(*it[:-1]), it[-1]) for it in found]
 
 
 def _is(it: Waiting) -> Any:
-    return and_(*[search.c[name] == getattr(it, name) for name in ("process", "account", "format")])
+    return and_(*[search.c[name] == getattr(it, name) for name in ("process", "account", "format", "code")])
 
 
 def _fit(one: Waiting, two: Waiting, now: int) -> bool:
+    if (one.format, one.season, one.code) != (two.format, two.season, two.code) or one.account == two.account:
+        return False
     window = WINDOW + WIDENING * (now - min(one.since, two.since)) / 1000
-    same = (one.format, one.season) == (two.format, two.season) and one.account != two.account
-    return same and abs(one.rating - two.rating) <= window
+    return (one.to is None) != (two.to is None) if one.code else abs(one.rating - two.rating) <= window
 
 
 def end_room(start: Start, outcome: int, reason: str, owner: int, now: int, connection: Any) -> tuple[float, ...]:

@@ -2,7 +2,7 @@
 
 import asyncio
 import logging
-from collections import Counter, defaultdict
+from collections import defaultdict
 from collections.abc import Callable
 from dataclasses import dataclass, field
 from functools import partial
@@ -45,6 +45,9 @@ class Watcher:
 
     def challenged(self, name: str, format: str, code: str) -> None:
         """Says that somebody challenges the account."""
+
+    def failed(self, fault: Refused) -> None:
+        """Says that a challenge that was made, or its acceptance, came to nothing."""
 
     def searches(self, formats: list[str]) -> None:
         """Says in which formats the account waits for a foe, after a change."""
@@ -99,7 +102,6 @@ class Rooms:
         self._rooms_of: dict[int, set[int]] = defaultdict(set)
         self._watched: dict[Watcher, set[int]] = defaultdict(set)
         self._kept: dict[int, Match] = {}
-        self._begun: Counter[int] = Counter()
         self._tasks: set[asyncio.Task[Any]] = set()
         self.stops = False
 
@@ -159,26 +161,11 @@ class Rooms:
         """Raises `Refused` if an account may have no further room."""
         if self.stops:
             raise Refused("closing", "the server is about to stop")
-        if len(self.open) + len(self._begun) >= self._config.most_rooms:
+        if len(self.open) >= self._config.most_rooms:
             raise Refused("full", "the server has no room left")
-        count = len(self._rooms_of.get(account, ())) + self._begun[account]
+        count = len(self._rooms_of.get(account, ()))
         if count >= self._config.most_rooms_of_account and account != self.computer:
             raise Refused("rooms", f"an account has at most {self._config.most_rooms_of_account} open rooms")
-
-    async def begin(self, start: Start) -> int:
-        """Begins a room, whose number is not yet in `start`. Returns the number.
-        Raises `Refused`.
-        """
-        for account in start.accounts:
-            self.room_for(account)
-        self._begun.update(start.accounts)
-        try:
-            start = await self._store.run(partial(records.add_room, start, self.process))
-        finally:
-            # Keeps no zeros.
-            self._begun -= Counter(start.accounts)
-        self.seat(start)
-        return start.id
 
     def seat(self, start: Start) -> None:
         """Opens a room that this process has begun, and shows it."""

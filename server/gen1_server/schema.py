@@ -10,7 +10,7 @@ from typing import Any
 from sqlalchemy import column, insert, inspect, select, table
 
 # The newest version, which this program needs.
-VERSION = "0002"
+VERSION = "0003"
 MIGRATIONS = Path(__file__).parent / "migrations"
 
 
@@ -29,7 +29,7 @@ room = _table(
 room_row = _table("room_row", "room sequence bytes at cause")
 rating = _table("rating", "account format season rating deviation volatility wins losses ties")
 rating_change = _table("rating_change", "account room format season before after deviation score at")
-search = _table("search", "process account name format team season rating since follows room")
+search = _table("search", "process account name format team season rating since follows room code to ends")
 _version = _table("alembic_version", "version_num")
 
 

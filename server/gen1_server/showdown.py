@@ -206,13 +206,16 @@ class ShowdownConnection(Connection):
 
         def replied(fault: Refused | None) -> None:
             if fault is not None:
-                before, self._where = self._where, room.id
-                self.turn_down(fault)
-                self._where = before
+                self.failed(fault, room.id)
 
         return replied
 
     # ---- the lobby ----
+
+    def failed(self, fault: Refused, where: str = "") -> None:
+        before, self._where = self._where, where
+        self.turn_down(fault)
+        self._where = before
 
     def challenged(self, name: str, format: str, code: str) -> None:
         said = f"/challenge {format}|{format}|||" if code else "/text I would like a rematch."
@@ -262,15 +265,15 @@ class ShowdownConnection(Connection):
             self._say("", f"|pm| {self._name}| {_line(to.strip())}|/challenge {format}|{format}|||")
 
     async def do_accept(self, rest: str) -> None:
-        found = self.services.lobby.challenge_of(rest, self.known)
-        await self.services.lobby.accept(found, self.seeker(found.seeker.format, self._team))
+        found = await self.services.lobby.challenge_of(rest, self.known)
+        await self.services.lobby.accept(found, self.seeker(found.format, self._team))
 
     async def do_reject(self, rest: str) -> None:
-        found = self.services.lobby.challenge_of(rest, self.known)
-        self.services.lobby.withdraw(found.code, self.known)
+        found = await self.services.lobby.challenge_of(rest, self.known)
+        await self.services.lobby.withdraw(found.code, self.known)
 
     async def do_cancelchallenge(self, rest: str) -> None:
-        self.services.lobby.withdraw("", self.known)
+        await self.services.lobby.withdraw("", self.known)
 
     async def do_logout(self, rest: str) -> None:
         self._rooms.clear()

@@ -17,6 +17,7 @@ from threading import Thread
 from time import perf_counter
 from typing import IO, Any, TypeVar
 
+from gen1_server.config import Config
 from sqlalchemy import create_engine, event
 from sqlalchemy.exc import DBAPIError, IntegrityError
 
@@ -131,14 +132,12 @@ def add_rows(raw: Any, rows: Sequence[StoredRow]) -> None:
 class Store:
     """The thread with the connection, for an event loop."""
 
-    def __init__(
-        self, url: str, durable: bool, loop: AbstractEventLoop, observed: Callable[[int, float], None]
-    ) -> None:
+    def __init__(self, config: Config, loop: AbstractEventLoop, observed: Callable[[int, float], None]) -> None:
         """Connects. `observed` is told of each transaction: how many works it had,
         and its seconds. Raises `InUse`.
         """
-        self._lock, self._loop, self._observed = lock_of(url), loop, observed
-        self.engine = engine_of(url, durable)
+        self._lock, self._loop, self._observed = lock_of(config.url), loop, observed
+        self.engine = engine_of(config.url, config.durable)
         self._connection: Any = self.engine.connect()
         self._next: list[Work] = []
         self._queue: SimpleQueue[list[Work] | None] = SimpleQueue()

@@ -70,7 +70,7 @@ class Server:
     async def _start(self, _: web.Application) -> None:
         config = self.config
         load(config.formats)
-        store = Store(config.url, config.durable, asyncio.get_running_loop(), metrics.committed)
+        store = Store(config, asyncio.get_running_loop(), metrics.committed)
         await store.run(schema.expect_newest)
         rooms = Rooms(config, store)
         accounts = Accounts(store, rooms, config.secret, config.guests, config.bot)
@@ -83,11 +83,12 @@ class Server:
         # A full collection of the garbage over a thousand rooms would stop everything for a tenth of a second.
         gc.collect()
         gc.freeze()
-        # The memory that the start has freed goes back to the system, where the C library can do that.
-        getattr(CDLL(None), "malloc_trim", int)(0)
         gc.set_threshold(10_000, 20, 1000)
         beat, lease = config.heartbeat_seconds / 2, config.lease_seconds / 3
-        acts = (0.5, rooms.expire), (1.0, lobby.pair_all), (beat, self._check_alive), (lease, rooms.renew)
+        # Memory that is free goes back to the system, where the C library can do that.
+        trim: Callable[[], int] = partial(getattr(CDLL(None), "malloc_trim", int), 0)
+        trim()
+        acts = (0.5, rooms.expire), (beat, trim), (1.0, lobby.pair_all), (beat, self._check_alive), (lease, rooms.renew)
         self._tasks = [asyncio.create_task(self._every(*it)) for it in acts]
         self._ready = True
 

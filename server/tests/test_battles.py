@@ -5,6 +5,7 @@ import json
 import os
 import random
 from functools import partial
+from types import SimpleNamespace
 
 import aiohttp
 import gen1
@@ -65,6 +66,8 @@ def test_a_search_meets_those_of_another_process(server, postgres):
             if foe is bot:
                 await bot.send_str("|/search gen1randombattle")
             await client.ask("searching", type="search", format="gen1randombattle")
+            # What is answered from the database comes after the search is in it.
+            await client.ask("refused", type="accept", code="none")
             if foe is b:
                 await b.ask("searching", type="search", format="gen1randombattle")
             led = await client.until("moved")
@@ -86,6 +89,128 @@ def test_a_search_meets_those_of_another_process(server, postgres):
         await b.ask("searching", type="search", format="gen1ou", team=TEAMS[1])
         with pytest.raises(TimeoutError):
             await b.until("room", "moved", seconds=3)
+
+    run(test)
+    assert '"fault"' not in one.said() + two.said()
+
+
+async def bot_of(session, server, name):
+    """A connection of Showdown's protocol. `heard` has what it was sent, and `until` waits for a text in it."""
+    socket = await session.ws_connect(server.url.replace("/socket", "/showdown/websocket"))
+    heard = []
+
+    async def until(text):
+        async with asyncio.timeout(10):
+            while not any(text in it for it in heard):
+                heard.append((await socket.receive()).data)
+            return next(heard.pop(at) for at, it in enumerate(heard) if text in it)
+
+    await socket.send_str(f"|/trn {name},0,")
+    await until(f"|updateuser| {name}|1|")
+    return SimpleNamespace(say=lambda text: socket.send_str(f"|{text}"), until=until, heard=heard)
+
+
+async def led(session, client, servers):
+    """Goes where a client is led; returns the connection there, and the room as it is shown."""
+    moved = await client.until("moved", seconds=10)
+    there = Client(session, servers[moved["address"]].url)
+    await there.connect(type="token", token=client.welcome["token"])
+    shown = await there.until("room")
+    assert shown["room"] == moved["room"]
+    return there, shown
+
+
+@pytest.fixture
+def two_processes(server, postgres):
+    """Two servers on one PostgreSQL, by their addresses."""
+    database, names = postgres(), ("one", "two")
+    yield {f"ws://{it}": server(name=it, database=database, address=f"ws://{it}") for it in names}
+
+
+def test_a_challenge_meets_a_player_of_another_process(two_processes):
+    """By name and by link; whoever accepts has the battle, and the other one is led there."""
+    one, two = two_processes.values()
+
+    async def test(session):
+        a, b = await guest(session, one, "A"), await guest(session, two, "B")
+        made = await a.ask("challenging", type="challenge", to="b", format="gen1ou", team=TEAMS[0])
+        told = await b.until("challenged", seconds=5)
+        assert told == {"type": "challenged", "from": "A", "format": "gen1ou", "code": made["code"]}
+        assert (await b.ask("refused", type="accept", code=made["code"], team=[]))["code"] == "team"
+        here = await b.ask("room", type="accept", code=made["code"], team=TEAMS[1])
+        there, shown = await led(session, a, two_processes)
+        assert shown["names"] == here["names"] and not shown["rated"] and {here["side"], shown["side"]} == {1, 2}
+        assert {json.dumps(it["team"]) for it in (here, shown)} == {json.dumps(it) for it in TEAMS[:2]}
+        ends = await asyncio.gather(play(there, shown), play(b, here))
+        assert ends[0]["ending"] == ends[1]["ending"] and ends[0]["ending"]["ratings"] == []
+        # A link is for whoever comes first, from any process.
+        code = (await a.ask("challenging", type="challenge", format="gen1randombattle"))["code"]
+        assert (await a.ask("refused", type="accept", code=code))["code"] == "no challenge"
+        c, d = await guest(session, one, "C"), await guest(session, two, "D")
+        await d.ask("room", type="accept", code=code)
+        assert (await c.ask("refused", type="accept", code=code))["code"] == "no challenge"
+        await led(session, a, two_processes)
+        # What is refused, taken back, or made by a client that is gone can't be accepted, nor what is for another one.
+        for withdraws in ("D", "E", None, "nobody"):
+            e = await guest(session, one, "E")
+            code = (await e.ask("challenging", type="challenge", to="D", format="gen1randombattle"))["code"]
+            assert (await d.until("challenged", seconds=5))["code"] == code
+            if withdraws is None:
+                await e.socket.close()
+            else:
+                await {"D": d, "E": e, "nobody": b}[withdraws].say(type="withdraw", code=code)
+            await asyncio.sleep(0.3)
+            accepts = b if withdraws == "nobody" else d
+            assert (await accepts.ask("refused", type="accept", code=code))["code"] == "no challenge"
+        await d.ask("room", type="accept", code=code)
+        # A player who is nowhere.
+        await c.socket.close()
+        await asyncio.sleep(0.3)
+        assert (await a.ask("refused", type="challenge", to="none", format="gen1randombattle"))["code"] == "no player"
+        await a.ask("challenging", type="challenge", to="C", format="gen1randombattle")
+        assert (await a.until("refused", seconds=10))["code"] == "no player"
+
+    run(test)
+    assert '"fault"' not in one.said() + two.said()
+
+
+def test_challenges_of_showdowns_protocol_meet_across_processes(two_processes):
+    """Its clients stay, so others come to them; two of them can't meet."""
+    one, two = two_processes.values()
+
+    async def test(session):
+        a, bot = await guest(session, one, "A"), await bot_of(session, two, "Bot")
+        await a.ask("challenging", type="challenge", to="bot", format="gen1randombattle")
+        assert await bot.until("|pm|") == "|pm| A| Bot|/challenge gen1randombattle|gen1randombattle|||"
+        await bot.say("/accept A")
+        await bot.until("|init|battle")
+        there, shown = await led(session, a, two_processes)
+        assert set(shown["names"]) == {"A", "Bot"}
+        await there.ask("update", type="forfeit", room=shown["room"])
+        await there.socket.close()
+        await asyncio.sleep(0.3)
+        await bot.say("/challenge A,gen1randombattle")
+        code = (await a.until("challenged", seconds=5))["code"]
+        await a.say(type="accept", code=code)
+        there, shown = await led(session, a, two_processes)
+        await bot.until("|init|battle")
+        await there.ask("update", type="forfeit", room=shown["room"])
+        await there.socket.close()
+        await a.ask("challenging", type="challenge", to="Bot", format="gen1randombattle")
+        await bot.until("|pm| A| Bot|")
+        await bot.say("/reject A")
+        await bot.say("/accept A")
+        assert await bot.until("|popup|") == "|popup|there is no such challenge"
+        await bot.say("/challenge A,gen1randombattle")
+        code = (await a.until("challenged", seconds=5))["code"]
+        await bot.say("/cancelchallenge A")
+        await asyncio.sleep(0.3)
+        assert (await a.ask("refused", type="accept", code=code))["code"] == "no challenge"
+        other = await bot_of(session, one, "Other")
+        await other.say("/challenge Bot,gen1randombattle")
+        await bot.until("|pm| Other| Bot|/challenge")
+        await bot.say("/accept Other")
+        assert "no client can be led there" in await bot.until("|popup|")
 
     run(test)
     assert '"fault"' not in one.said() + two.said()
@@ -333,9 +458,10 @@ def test_killed_three_times(server, database):
             await asyncio.wait(pending, timeout=0.2)
         return duels
 
-    duels = run(test)
+    duels = run(test, 400 + kills * DUELS)
     assert it.stop() == 0
-    assert it.command("verify")[0] == 0
+    status, said = it.command("verify")
+    assert status == 0, said
     config = Config(database=database)
     last = max(room for duel in duels for room, _ in duel.logs)
     rooms = keeping.within(config, partial(records.stored, list(range(1, last + 1))))
@@ -348,4 +474,6 @@ def test_killed_three_times(server, database):
         for (room, side), logs in duel.logs.items():
             told = [packed(log) for log in replayed(stored[room].start, stored[room].entries).view(Side(side)).logs]
             assert logs == told[: len(logs)]
-    assert sum(len(duel.taken) for duel in duels) > 20 * DUELS
+    taken = sum(len(duel.taken) for duel in duels)
+    assert taken > 20 * DUELS
+    print(f"{kills} kills, {len(duels)} duels, {len(rooms)} rooms, {taken} choices taken; {said.strip()}")

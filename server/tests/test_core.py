@@ -4,7 +4,6 @@ import asyncio
 import itertools
 import json
 import random
-from dataclasses import replace
 from functools import partial
 from types import SimpleNamespace
 
@@ -112,16 +111,8 @@ def test_buckets(monkeypatch):
 class FakeStore:
     """Commits everything at once, and keeps nothing."""
 
-    def __init__(self):
-        self.number = itertools.count(1)
-
     def add(self, work):
         work.done((), None)
-
-    def run(self, add_room):
-        answer = asyncio.get_running_loop().create_future()
-        answer.set_result(replace(add_room.args[0], id=next(self.number)))
-        return answer
 
 
 class FakeTransport:
@@ -183,8 +174,9 @@ async def leak_game(seed, variant, monkeypatch):
     one, audience = watching(services, 11), watching(services, 0)
     battle = Battle(mine, theirs, hidden.randbytes(10), 3, 1000)
     teams = json.dumps(mine.to_dicts()), json.dumps(theirs.to_dicts())
-    start = Start(0, "gen1ou", False, (11, 12), ("a", "b"), teams, battle.bytes, Options(), "1", 0)
-    room = services.rooms.open[await services.rooms.begin(start)]
+    start = Start(1, "gen1ou", False, (11, 12), ("a", "b"), teams, battle.bytes, Options(), "1", 0)
+    services.rooms.seat(start)
+    room = services.rooms.open[1]
     await services.rooms.watch(room.id, 99, audience)
     pairs, host = 0, room.match.host
     while room.id in services.rooms.open and pairs < 40:

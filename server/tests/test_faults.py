@@ -510,7 +510,7 @@ def test_commands(server):
     assert it.command("restore", "nothing") == (1, "gen1_server: there is no file nothing\n")
     assert it.command("migrate")[0] == 1
     it.stop()
-    assert it.command("migrate") == (0, "the database has version 0002; it had 0002\n")
+    assert it.command("migrate") == (0, "the database has version 0003; it had 0003\n")
 
 
 def test_a_database_of_an_earlier_version(database, monkeypatch):
@@ -519,9 +519,9 @@ def test_a_database_of_an_earlier_version(database, monkeypatch):
     monkeypatch.setattr(alembic_command, "upgrade", partial(upgrade_to, alembic_command.upgrade, "0001"))
     assert keeping.migrate(config).endswith("it had none")
     monkeypatch.undo()
-    with pytest.raises(RuntimeError, match="has version 0001, this program needs 0002"):
+    with pytest.raises(RuntimeError, match="has version 0001, this program needs 0003"):
         keeping.within(config, schema.expect_newest)
-    assert keeping.migrate(config) == "the database has version 0002; it had 0001"
+    assert keeping.migrate(config) == "the database has version 0003; it had 0001"
     keeping.within(config, schema.expect_newest)
 
 

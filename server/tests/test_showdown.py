@@ -275,7 +275,7 @@ def test_a_stranger_watches(address):
             await it.say(f"/join {room}")
         await four.say("/search gen1ou")
         await until(lambda: four.popups)
-        await until(lambda: three.ended and four.ended)
+        await until(lambda: all(it.ended and it.has_left() for it in (three, four)))
         return room, three, four
 
     watchers = bot("Watcher", kind=Watching), bot("Nobody", kind=Stranger)
