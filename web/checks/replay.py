@@ -6,6 +6,7 @@ import subprocess
 import time
 from pathlib import Path
 
+from selenium.webdriver.common.action_chains import ActionChains
 from selenium.webdriver.common.keys import Keys
 
 from checks.browser import SIZES
@@ -219,7 +220,13 @@ def a_replay_plays_in_the_arena(browser):
     browser.run("document.querySelector('#replay-field .side-1 .party button').click()")
     assert "Of side 1" in browser.text("#replay-card") and " PP" in browser.text("#replay-card")
     browser.press(Keys.ESCAPE)
-    assert not browser.run("return document.getElementById('replay-card').checkVisibility()")
+    shown_card = "document.getElementById('replay-card').checkVisibility()"
+    assert not browser.run(f"return {shown_card}")
+    # While the pointer is on a token, its card is over the lines.
+    ActionChains(browser.driver).move_to_element(browser.find("#replay-field .side-2 .party button")).perform()
+    browser.wait(f"return {shown_card}")
+    ActionChains(browser.driver).move_to_element(browser.find("h1")).perform()
+    browser.wait(f"return !{shown_card}")
     browser.look(*SIZES["wide"], "light")
 
 
@@ -232,6 +239,9 @@ def an_address_is_a_position(browser):
     address, text = browser.run("return location.hash"), browser.text("#replay-stage")
     browser.open(address)
     assert browser.text("#replay-stage") == text and "update 7 of" in text
+    browser.open(re.sub(r"u=\d+", "t=3", address))
+    assert browser.text("#replay-now").startswith("Turn 3, update ")
+    browser.wait("return /u=\\d+/.test(location.hash) && !location.hash.includes('t=')")
 
 
 def a_spectator_sees_less(browser):

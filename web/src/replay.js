@@ -110,8 +110,8 @@ export class Replay {
   /**
    * Shows a battle. If it cannot be shown, the previous one is kept.
    * @param {import("./inputs.js").Recorded} recorded
-   * @param {{ at: number, code?: string, isHeld?: boolean }} how the update that is shown first, the battle's text in an address,
-   *   and whether the page's file holds the battle
+   * @param {{ at: number, turn?: number, code?: string, isHeld?: boolean }} how the update that is shown first, or the turn, the battle's
+   *   text in an address, and whether the page's file holds the battle
    * @returns {void | Promise<void>}
    */
   show(recorded, how) {
@@ -119,7 +119,7 @@ export class Replay {
     return this.reading.run(recording.steps(), () => this.put(recording, how));
   }
 
-  /** @param {Recording} recording @param {{ at: number, code?: string, isHeld?: boolean }} how */
+  /** @param {Recording} recording @param {{ at: number, turn?: number, code?: string, isHeld?: boolean }} how as show takes it */
   put(recording, how) {
     const {recorded} = recording;
     this.recording = recording;
@@ -138,7 +138,7 @@ export class Replay {
     find("replay-input", HTMLButtonElement).textContent = isLog ? "Save as JSON" : "Save the input";
     this.slider.max = String(this.recording.last);
     this.turn.max = String(this.recording.turn(this.recording.last));
-    this.go(how.at);
+    this.go(how.turn ? recording.updateOf(how.turn) : how.at);
   }
 
   /**
@@ -152,10 +152,10 @@ export class Replay {
     this.wanted = values.get("see") === "spectator" ? "spectator" : "all";
     if (!this.see.options[0].disabled) this.see.value = this.wanted;
     this.raw.value = values.get("lines") === "raw" ? "raw" : "words";
-    const at = Number(values.get("u") ?? 1);
-    if (code && code !== this.code) return this.show(ofAddress(code, this.inputs), {at, code});
-    if (!code && held && !this.recording) return this.show(this.inputs.parse(held), {at, code: "", isHeld: true});
-    if (this.recording) this.go(at);
+    const [at, turn] = [Number(values.get("u") ?? 1), Number(values.get("t") ?? 0)];
+    if (code && code !== this.code) return this.show(ofAddress(code, this.inputs), {at, turn, code});
+    if (!code && held && !this.recording) return this.show(this.inputs.parse(held), {at, turn, code: "", isHeld: true});
+    if (this.recording) this.go(turn ? this.recording.updateOf(turn) : at);
   }
 
   /** @param {number} at @param {boolean} [isStep] whether Back returns to the turn before it */
