@@ -185,6 +185,11 @@ export function byteOf(choice, what = "choice") {
   throw wrongType(choice, what, `a choice: ${lawful}, or its byte`);
 }
 
+/** The byte of a choice by its name; undefined for any other value. */
+export function byteOfName(choice) {
+  return BYTE_OF_NAME.get(choice);
+}
+
 /** The byte of a side's choice. */
 export function choiceByte(choice, side) {
   return BYTE_OF_NAME.get(choice) ?? byteOf(choice, `side ${side}'s choice`);

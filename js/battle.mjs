@@ -1,13 +1,13 @@
 // A battle: 384 bytes in the module's memory.
 import {BATTLE_SIZE} from "./arena.mjs";
-import {byteOr255, choiceByte, choicesIn, choiceText, inspected, object, playoutSeed, record, seedFor, shown, sideOf, truth, whole, within, wrongType} from "./arguments.mjs";
+import {byteOfName, byteOr255, choiceByte, choiceOf, choicesIn, choiceText, inspected, nearest, object, playoutSeed, record, seedFor, shown, sideOf, text, truth, whole, within, wrongType} from "./arguments.mjs";
 import {ArgumentError, DamageError, FreedError, LoadError, RefusedError} from "./errors.mjs";
 import {guessOf, stateGuessed} from "./guesses.mjs";
 import {CODES} from "./header.mjs";
 import {outcomeOptions, outcomesOf} from "./outcomes.mjs";
 import {libraryOf} from "./players.mjs";
 import {blockOfState, indexOf, isState, memberAt} from "./states.mjs";
-import {MOVES} from "./tables.mjs";
+import {MOVES, SPECIES} from "./tables.mjs";
 import {bytesOf, moveOf, Team, teamAt, teamError, teamGiven} from "./teams.mjs";
 import {made, Update} from "./update.mjs";
 import {chancesOf, oddsOf, ownSideOf, resultOf, stateOf, STATS, STATUSES, threeChancesOf} from "./views.mjs";
@@ -16,9 +16,19 @@ const FACTORS = 39;
 const TERMS_KEYS = ["one", "two", "seed", "rules", "limit"];
 const PLAYOUT_KEYS = ["depth", "weights"];
 
-/** The error text for a choice that is not offered. */
-export function notOffered(sentence, byte, offered) {
-  return `${sentence}: ${choiceText(byte)}; offered: ${offered.join(", ")}`;
+/** The error text for a choice that is not offered, a byte or words. */
+export function notOffered(sentence, choice, offered) {
+  const text = typeof choice === "string" ? shown(choice) : choiceText(choice);
+  return `${sentence}: ${text}; offered: ${offered.join(", ")}`;
+}
+
+// The error for words that are no choice: what is lawful, and the nearest name.
+function wordsError(words, what) {
+  const [, verb, name] = /^\s*(move\b|switch\b)?\s*(.*)$/is.exec(words);
+  const near = nearest(name, verb?.toLowerCase() === "switch" ? SPECIES : MOVES, Math.floor(name.length / 3));
+  const lawful = "pass, move 0 to 4, switch 1 to 6, or names as in \"Body Slam\" and \"switch Gengar\"";
+  const meant = near ? `; did you mean ${shown(near)}?` : "";
+  return new ArgumentError(`${what}: ${shown(words)} is not a choice: ${lawful}${meant}`, what);
 }
 
 /** Writes the bytes of a seed into the module's memory. */
@@ -189,9 +199,35 @@ export class Battle {
     return this.#library.calls.gen1_offered(this.#at, sideOf(side));
   }
 
+  /** The choice of a side that words say: "Body Slam", "move 2", "switch Gengar". A name is looked for among the offered choices. */
+  choiceFromWords(side, words) {
+    return choiceOf(this.#byteOfWords(text(words, "words"), sideOf(side)));
+  }
+
+  // The byte of a side's choice, which may be words.
+  #byteOf(choice, side) {
+    const byte = byteOfName(choice);
+    if (byte !== undefined) return byte;
+    return typeof choice === "string" ? this.#byteOfWords(choice, side) : choiceByte(choice, side);
+  }
+
+  #byteOfWords(words, side) {
+    const [library, battle, what] = [this.#library, this.#begin(), `side ${side}'s choice`];
+    const [given, found] = [new TextEncoder().encode(words), library.room(1)];
+    const size = library.size(given.length);
+    const code = library.calls.gen1_choice_from_words(battle, side, library.put(given), size, found);
+    if (!code) return library.bytes[Number(found)];
+    if (code === CODES.ERROR_WORDS) throw wordsError(words, what);
+    const offered = this.choices(side).map((choice) => this.words(side, choice));
+    if (code === CODES.ERROR_AMBIGUOUS)
+      throw new ArgumentError(`${what}: ${notOffered(library.sentence(code), words, offered)}`, what);
+    if (this.isOver) throw this.#refused(CODES.ERROR_OVER, [words, words]);
+    throw this.#refused(CODES[side === 1 ? "ERROR_NOT_OFFERED_ONE" : "ERROR_NOT_OFFERED_TWO"], [words, words]);
+  }
+
   /** A choice of a side in words, such as "move 2 Body Slam". It need not be offered. */
   words(side, choice) {
-    const byte = choiceByte(choice, sideOf(side));
+    const byte = this.#byteOf(choice, sideOf(side));
     const [code, text] = this.#library.written("gen1_choice_words", CODES.WORDS_ROOM, this.#begin(), side, byte);
     if (!code) return text;
     const what = `side ${side}'s choice`;
@@ -200,8 +236,8 @@ export class Battle {
 
   /** Updates the battle with a choice of each side, and returns the result and the log. */
   update(one, two) {
-    const first = choiceByte(one, 1);
-    const second = choiceByte(two, 2);
+    const first = this.#byteOf(one, 1);
+    const second = this.#byteOf(two, 2);
     const library = this.#library;
     const battle = this.#at;
     const code =
@@ -213,8 +249,8 @@ export class Battle {
 
   /** Like `update`, but without a log, which is faster. Returns the result. */
   updateSilent(one, two) {
-    const first = choiceByte(one, 1);
-    const second = choiceByte(two, 2);
+    const first = this.#byteOf(one, 1);
+    const second = this.#byteOf(two, 2);
     const {calls} = this.#library;
     const battle = this.#at;
     const code = calls.gen1_update_silent(battle, first, second);
@@ -227,8 +263,9 @@ export class Battle {
     if (code === CODES.ERROR_OVER)
       return new RefusedError(`${sentence}: ${this.result.outcome}`, code, {reason: sentence});
     const side = code === CODES.ERROR_NOT_OFFERED_ONE ? 1 : 2;
-    const [choice, offered] = [pair[side - 1], this.choices(side)];
-    return new RefusedError(notOffered(sentence, choice, offered), code, {side, choice, offered, reason: sentence});
+    const [given, offered] = [pair[side - 1], this.choices(side)];
+    const choice = typeof given === "string" ? null : given;
+    return new RefusedError(notOffered(sentence, given, offered), code, {side, choice, offered, reason: sentence});
   }
 
   /** Replaces the numbers to draw: ten bytes, and the index, 0 to 8, of the byte that is drawn next. */
@@ -251,7 +288,7 @@ export class Battle {
 
   /** All battles that an update by a choice of each side can lead to, with their exact probabilities. The battle is unchanged. */
   outcomes(one, two, options = {}) {
-    const pair = [choiceByte(one, 1), choiceByte(two, 2)];
+    const pair = [this.#byteOf(one, 1), this.#byteOf(two, 2)];
     const given = outcomeOptions(this.#library, options);
     const battle = this.#begin();
     const asked = [...pair, this.#library.put(given)];

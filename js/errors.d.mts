@@ -68,7 +68,7 @@ export class StateError extends Gen1Error {
 export class RefusedError extends Gen1Error {
   /** The side that chose; 0 if the battle is over. */
   readonly side: number;
-  /** The byte of the choice; null if the battle is over. */
+  /** The byte of the choice; null if the battle is over, and for words that name no offered choice. */
   readonly choice: number | null;
   readonly offered: readonly ChoiceName[];
 }

@@ -73,7 +73,7 @@ export class StateError extends Gen1Error {
   }
 }
 
-/** A choice was refused. Has the side (0 if the battle is over), the byte of the choice, and the offered choices. */
+/** A choice was refused. Has the side (0 if the battle is over), the byte of the choice (null for words), and the offered choices. */
 export class RefusedError extends Gen1Error {
   constructor(message, code, {side = 0, choice = null, offered = [], reason} = {}) {
     super(message, code, reason);

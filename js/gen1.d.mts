@@ -23,6 +23,11 @@ export type MoveLike = MoveName | number | (string & {});
 export type ChoiceName = "pass" | `move ${0 | 1 | 2 | 3 | 4}` | `switch ${1 | 2 | 3 | 4 | 5 | 6}`;
 /** A choice as an argument: its name, or its byte from 0 to 255. */
 export type Choice = ChoiceName | number;
+/**
+ * A choice in a battle, also in words: "Body Slam", "move Body Slam" and "switch Gengar" are the only offered choice of that name, and "move 2 Body
+ * Slam" is this one. Only letters and digits count, in either case.
+ */
+export type ChoiceLike = Choice | (string & {});
 export type Side = 1 | 2;
 export type Outcome = "ongoing" | "win one" | "win two" | "tie" | "fault 1" | "fault 2";
 export type Request = "pass" | "move" | "switch";
@@ -565,11 +570,16 @@ export class Battle {
   /** The offered choices as a mask, whose bit N is for CHOICES[N]. */
   offeredMask(side: Side): number;
   /** A choice in words, "move 2 Body Slam". It need not be offered. Throws ArgumentError if there is no such move or member. */
-  words(side: Side, choice: Choice): string;
-  /** Updates the battle with a choice of each side. Throws RefusedError, and then the battle is unchanged. */
-  update(one: Choice, two: Choice): Update;
+  words(side: Side, choice: ChoiceLike): string;
+  /**
+   * The choice that words say for a side. Throws RefusedError if no offered choice has the name, ArgumentError for other words and for a name that two or
+   * more of the offered choices have.
+   */
+  choiceFromWords(side: Side, words: string): ChoiceName;
+  /** Updates the battle with a choice of each side. Throws RefusedError, and then the battle is unchanged; and as `choiceFromWords`. */
+  update(one: ChoiceLike, two: ChoiceLike): Update;
   /** Like `update`, but without a log, which is faster. Throws RefusedError. */
-  updateSilent(one: Choice, two: Choice): Result;
+  updateSilent(one: ChoiceLike, two: ChoiceLike): Result;
   /** Replaces the numbers to draw, and sets the index, 0 to 8, of the next one. A search reseeds each copy that it plays out. */
   reseed(seed?: Seed, index?: number): void;
   /**
@@ -583,7 +593,7 @@ export class Battle {
    * All battles that an update by a choice of each side can lead to, with their exact probabilities. The battle is unchanged. Throws
    * RefusedError as `update` does, and ArgumentError for an option that is unknown or out of range.
    */
-  outcomes(one: Choice, two: Choice, options?: OutcomeOptions): Outcomes;
+  outcomes(one: ChoiceLike, two: ChoiceLike, options?: OutcomeOptions): Outcomes;
   /** The odds of a side's move in the current state. Throws DamageError if no member is out. */
   odds(side: Side, move: MoveLike): Odds;
   /** The chances that a side's move knocks out the foe's active member, in one use and in two. Throws DamageError if no member is out. */

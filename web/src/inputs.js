@@ -1,10 +1,9 @@
 // Battles from files, and as files: the input of the programs (docs/PROGRAM.md), log bytes, lines, Showdown's logs, and pages that hold one of these.
-import {ArgumentError, byteOf, CHOICES, MOVES, RefusedError, SPECIES} from "gen1";
+import {ArgumentError, byteOf, MOVES, RefusedError, SPECIES} from "gen1";
 
 import {decoded, digits, encoded, joined, MEMBER, memberBytes, memberOf, ofDigits} from "./bytes.js";
 import {Problem} from "./dom.js";
 import {MOST, testLength} from "./engine.js";
-import {plain} from "./search.js";
 import {eventsOfLines} from "./showdown.js";
 
 /**
@@ -82,20 +81,14 @@ function refusal(battle, [one, two]) {
  * @param {import("gen1").Battle} battle @param {1 | 2} side @param {string} text @param {string} what
  */
 function byteOfWords(battle, side, text, what) {
-  const [, word, name] = /^\s*(pass|move|switch)\s*(.*?)\s*$/.exec(text) ?? [];
-  const exact = CHOICES.find((choice) => choice === [word, name].filter(Boolean).join(" "));
-  if (exact) return byteOf(exact);
-  const names = word === "move" ? MOVES : word === "switch" ? SPECIES : [];
-  if (!names.some((it) => plain(it) === plain(name)))
-    throw new Problem(`${what} is ${
-        JSON.stringify(text)}, which is not a choice such as "move 1", "move Body Slam", "switch 3" or "pass".`);
-  const fitting = battle.choices(side).filter((choice) => {
-    const called = battle.words(side, choice).slice(choice.length);
-    return choice.startsWith(word) && (choice === "move 0" || plain(called) === plain(name));
-  });
-  if (fitting.length > 1)
-    throw new Problem(`${what} is ${JSON.stringify(text)}, which may be ${fitting.join(" or ")}.`);
-  return fitting.length ? byteOf(fitting[0]) : UNOFFERED;
+  try {
+    return byteOf(battle.choiceFromWords(side, text));
+  } catch (error) {
+    if (error instanceof RefusedError) return UNOFFERED;
+    if (!(error instanceof ArgumentError)) throw error;
+    const said = error.message.replace(error.argument, what);
+    throw new Problem(said.endsWith("?") ? said : `${said}.`);
+  }
 }
 
 /** Reads and writes inputs. */
