@@ -98,8 +98,7 @@ def test_no_numbers(battle, team, it):
     before = battle.bytes
     calls = (
         lambda: battle.choices(it),
-        lambda: battle.update(it, Choice.MOVE_1),
-        lambda: battle.update_silent(Choice.MOVE_1, it),
+        lambda: battle.words(1, it),
         lambda: Battle(team, team, range(10), rules=it),
         lambda: Battle(team, team, range(10), limit=it),
         lambda: Battle(team, team, [it] * 10),
@@ -124,6 +123,11 @@ def test_no_numbers(battle, team, it):
         with pytest.raises(BadType) as fault:
             call()
         assert "whole number" in said(fault)
+    # Text may be a choice in words, but not this one.
+    for call in (lambda: battle.update(it, Choice.MOVE_1), lambda: battle.update_silent(Choice.MOVE_1, it)):
+        with pytest.raises(BadArgument if isinstance(it, str) else BadType) as fault:
+            call()
+        assert "whole number" in said(fault) or "nor the name of one" in said(fault)
     assert battle.bytes == before
 
 
@@ -153,7 +157,7 @@ def test_enums_of_another_kind(battle, team, tauros):
         ),
         "choice must be a Choice or a whole number": (
             lambda: battle.update(Move.MEGA_KICK, Choice.MOVE_1),
-            lambda: battle.update_silent("move 1", Choice.MOVE_1),
+            lambda: battle.update_silent(["move 1"], Choice.MOVE_1),
             lambda: battle.outcomes(Move.MEGA_KICK, Choice.MOVE_1),
             lambda: gen1.Room(battle).submit(1, 0, Move.MEGA_KICK),
         ),

@@ -281,6 +281,48 @@ def battles(count=3):
             yield battle, battle.update(*(dice.choice(battle.choices(side)) for side in (1, 2)))
 
 
+def test_choices_in_words(team):
+    """A name is that of the only offered choice that has it. Numbers need not be offered."""
+    team = [*team, Member("Starmie", ["Surf"]), Member("Starmie", ["Psychic"])]
+    battle = Battle(team, team, seed=7)
+    assert battle.choice_from_words(1, "pass") is Choice.PASS
+    battle.update("pass", "pass")
+    for words, choice in (
+        ("Body Slam", Choice.MOVE_1),
+        ("move body-slam", Choice.MOVE_1),
+        ("move 2 HYPER BEAM", Choice.MOVE_2),
+        ("move 0", Choice.MOVE_0),
+        ("switch gengar", Choice.SWITCH_2),
+        ("switch 3", Choice.SWITCH_3),
+        ("Switch 4 Starmie", Choice.SWITCH_4),
+    ):
+        assert battle.choice_from_words(Side.TWO, words) is choice
+    offered = (
+        "side 1 can choose move 1 Body Slam, move 2 Hyper Beam, move 3 Earthquake, move 4 Blizzard, switch 2 Gengar"
+    )
+    before = battle.copy()
+    for words, said in (
+        (
+            "Bodi Slam",
+            "'Bodi Slam' is neither a choice, such as 'move 1' or 'switch 2', nor the name of one; "
+            f"did you mean 'Body Slam'?; {offered}",
+        ),
+        ("Surf", f"'Surf' is not offered; {offered}"),
+        ("move 2 Body Slam", f"'move 2 Body Slam' is not offered; {offered}"),
+        ("switch Starmie", f"'switch Starmie' names two or more choices; {offered}"),
+        ("", f"'' is neither a choice, such as 'move 1' or 'switch 2', nor the name of one; {offered}"),
+    ):
+        with pytest.raises(gen1.Refused if "is not offered" in said else gen1.BadArgument) as fault:
+            battle.update(words, "pass")
+        assert str(fault.value).startswith(said) and battle == before
+    by_number = battle.copy()
+    by_number.update(Choice.MOVE_1, Choice.SWITCH_2)
+    assert battle.update_silent("Body Slam", "switch Gengar") and battle == by_number
+    assert len(before.outcomes("Body Slam", "switch Gengar")) == len(before.outcomes(0x11, 0x22))
+    with pytest.raises(gen1.BadType):
+        battle.choice_from_words(1, b"pass")
+
+
 def test_events_are_those_of_the_log():
     """They are read when they are first used, and then kept."""
     for _, update in battles():

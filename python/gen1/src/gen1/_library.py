@@ -48,6 +48,7 @@ SENTENCE_ROOM = 128
 WORDS_ROOM = 32
 LOG_END = 35
 WORDS_CHOICE = 43
+WORDS_UNKNOWN, WORDS_AMBIGUOUS = 58, 59
 FEW_PLACES = (29, 30)
 TOO_MANY_DRAWS = 31
 
@@ -195,6 +196,7 @@ outcomes = bind("gen1_outcomes", c_uint8, _BATTLE, c_uint8, c_uint8, POINTER(Out
 get_state = bind("gen1_get_state", None, _BATTLE, POINTER(StateStruct))
 set_state = bind("gen1_set_state", c_uint8, _BATTLE, POINTER(StateStruct), POINTER(StateFaultStruct))
 choice_words = bind("gen1_choice_words", c_uint8, _BATTLE, c_uint8, c_uint8, _TEXT, c_size_t, _SIZES)
+choice_from_words = bind("gen1_choice_from_words", c_uint8, _BATTLE, c_uint8, _BYTES, c_size_t, POINTER(c_uint8))
 seed_from_number = bind("gen1_seed_from_number", None, c_uint64, SeedBytes)
 reseed = bind("gen1_reseed", c_uint8, _BATTLE, SeedBytes, c_uint8)
 room_begin = bind("gen1_room_begin", None, _ROOM)

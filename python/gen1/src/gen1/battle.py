@@ -12,7 +12,8 @@ from typing import TYPE_CHECKING, Any, TypeAlias, TypeVar
 from gen1 import _library
 from gen1._check import byte as a_byte
 from gen1._check import move as a_move
-from gen1._check import digits, octets, seed_bytes, shown, truth, whole, within
+from gen1._check import cut, digits, nearest, octets, seed_bytes, shown, truth, whole, within
+from gen1._events import Event, events, lines
 from gen1._odds import (
     NO_CHANGE,
     Chances,
@@ -40,8 +41,7 @@ from gen1._structs import (
     ThreeChancesStruct,
 )
 from gen1.choices import Choice, Rules, Side, a_choice, a_side, choice_text, not_offered
-from gen1.errors import BadArgument, BadBytes, BadTeam, BadType, NoDamage, Refused
-from gen1._events import Event, events, lines
+from gen1.errors import BadArgument, BadBytes, BadTeam, BadType, Error, NoDamage, Refused
 from gen1.names import DamageFault, LoadFault, Move, NewFault, Outcome, Refusal, Request, Stat, Status
 from gen1.own_sides import OwnSide, own_side_of
 from gen1.states import State, changed, state_of, struct_of_state
@@ -56,6 +56,8 @@ if TYPE_CHECKING:
 
 B = TypeVar("B", bound="Battle")
 TeamLike: TypeAlias = Team | Iterable[Member | Mapping[str, Any]]
+# A choice, its number, or the words of `Battle.choice_from_words`.
+ChoiceLike: TypeAlias = Choice | int | str
 # Ten bytes, a number that determines ten, or None for ten of os.urandom.
 SeedLike: TypeAlias = bytes | Iterable[int] | int | None
 WeightsLike: TypeAlias = Mapping[Move | str | int, int]
@@ -252,27 +254,28 @@ class Battle:
         count = _library.choices(byref(self._held), a_side(side), room)
         return tuple([CHOICE[it] for it in room[:count]])
 
-    def update(self, one: Choice | int, two: Choice | int) -> Update:
+    def update(self, one: ChoiceLike, two: ChoiceLike) -> Update:
         """Updates the battle with a choice of each side, and returns the
         result and the log.
 
-        Choices are `Choice`, or their numbers from 0 to 255. Raises
-        `Refused` for a choice that is not offered, or if the battle is
-        over, and `BadArgument` for other numbers; then the battle is
+        Choices are `Choice`, their numbers from 0 to 255, or the words of
+        `choice_from_words`, such as "Body Slam". Raises `Refused` for a
+        choice that is not offered, or if the battle is over, and
+        `BadArgument` for other numbers and words; then the battle is
         unchanged.
         """
-        pair = a_choice(one, 1), a_choice(two, 2)
+        pair = self._byte(one, 1), self._byte(two, 2)
         log, length = create_string_buffer(LOG_ROOM), c_size_t(0)
         code = _library.update(byref(self._held), *pair, log, LOG_ROOM, byref(length))
         if code:
             raise self._refused(Refusal(code), pair)
         return Update(self.result, log.raw[: length.value])
 
-    def update_silent(self, one: Choice | int, two: Choice | int) -> Result:
+    def update_silent(self, one: ChoiceLike, two: ChoiceLike) -> Result:
         """Like `update`, but without a log, which is faster. Returns the
         result.
         """
-        pair = a_choice(one, 1), a_choice(two, 2)
+        pair = self._byte(one, 1), self._byte(two, 2)
         code = _library.update_silent(byref(self._held), *pair)
         if code:
             raise self._refused(Refusal(code), pair)
@@ -356,6 +359,43 @@ class Battle:
             raise BadArgument(f"side {known} has no such move or member: {choice_text(number)}")
         return text.raw[: length.value].decode("ascii")
 
+    def choice_from_words(self, side: Side | int, text: str) -> Choice:
+        """The choice of a side that words say: "pass", "move 2", "switch 3",
+        "Body Slam" or "switch Gengar", in any case.
+
+        By its number a choice need not be offered. By a name it is the only
+        offered choice that has the name. Raises `Refused` for a name that
+        no offered choice has; `BadArgument` for one that two have, and for
+        other words; `BadType`.
+        """
+        known, byte = a_side(side), c_uint8()
+        if not isinstance(text, str):
+            raise BadType(f"text must be a str, not {shown(text)}")
+        given = text.encode()
+        code = _library.choice_from_words(byref(self._held), known, given, len(given), byref(byte))
+        if code:
+            raise self._misread(code, Side(known), text)
+        return CHOICE[byte.value]
+
+    def _byte(self, choice: ChoiceLike, side: int) -> int:
+        """The byte of a choice, whether offered or not."""
+        return int(self.choice_from_words(side, choice)) if type(choice) is str else a_choice(choice, side)
+
+    def _misread(self, code: int, side: Side, text: str) -> Error:
+        """Why words are no choice of a side."""
+        said, choices = cut(repr(text)), self.choices(side)
+        can = f"{side.label} can choose {', '.join(self.words(side, it) for it in choices) or 'nothing'}"
+        if code == _library.WORDS_UNKNOWN:
+            name = nearest(text, (it.label for it in Move))
+            meant = f"; did you mean {name!r}?" if name else ""
+            return BadArgument(
+                f"{said} is neither a choice, such as 'move 1' or 'switch 2', nor the name of one{meant}; {can}"
+            )
+        if code == _library.WORDS_AMBIGUOUS:
+            return BadArgument(f"{said} names two or more choices; {can}")
+        refusal = Refusal.NOT_OFFERED_ONE if side is Side.ONE else Refusal.NOT_OFFERED_TWO
+        return Refused(refusal, f"{said} is not offered; {can}", side, None, choices)
+
     def reseed(self, seed: SeedLike, index: int = 0) -> None:
         """Replaces the numbers to draw: ten bytes, and the index, 0 to 8, of
         the byte that is drawn next.
@@ -421,7 +461,7 @@ class Battle:
             number = dice.getrandbits(64)
 
     def outcomes(
-        self, one: Choice | int, two: Choice | int, *, damage_classes: int = 0, least_probability: float = 0.0
+        self, one: ChoiceLike, two: ChoiceLike, *, damage_classes: int = 0, least_probability: float = 0.0
     ) -> Outcomes:
         """All battles that an update by a choice of each side can lead to,
         each with its exact probability, for the draws that `Outcomes`
@@ -453,7 +493,7 @@ class Battle:
         `BadArgument` or `BadType` for an option that is out of range or of
         another type. `BadArgument` is a `ValueError` too.
         """
-        pair = a_choice(one, 1), a_choice(two, 2)
+        pair = self._byte(one, 1), self._byte(two, 2)
         code, found = outcomes_of(self._held, *pair, options_of(damage_classes, least_probability))
         if found is None:
             raise self._refused(Refusal(code), pair)
