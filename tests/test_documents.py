@@ -10,6 +10,8 @@ Names are those between backquotes. A path from the top, or from the document's 
 of rust/, of a package of Python or of a file's name. Names that represent any name (CRATE, NAME), what is built (out/), and files that the document
 tells its reader to write (a comment `file: NAME`) are passed over.
 
+A name in the table of docs/DOORS.md has to be public in its language, and a dash has to lead to its reason.
+
 The line right above a block of commands is one of
 
     <!-- run: start -->              tests/test_start.py runs it as it is
@@ -27,6 +29,7 @@ from documents import blocks, code, documents, headings, links, text
 from repository import ROOT
 
 START = ROOT / "docs" / "START.md"
+DOORS = ROOT / "docs" / "DOORS.md"
 # The files whose comments may cite a document.
 SOURCES = (
     "crates/*/src/**/*.rt",
@@ -195,6 +198,33 @@ def commands(document):
             yield block.line, fault_of_commands(document, block)
 
 
+def sources_of_doors():
+    """For each column of docs/DOORS.md: its text of public names, and how a name is found there."""
+    python = "\n".join(file.read_text() for file in sorted((ROOT / "python/gen1/src/gen1").glob("*.py")))
+    types = "\n".join(file.read_text() for file in sorted((ROOT / "js").glob("*.d.mts")))
+    public = (ROOT / "rust" / "gen1" / "API.txt").read_text()
+    return [
+        ((ROOT / "include" / "gen1.h").read_text(), lambda name: rf"\b{name}\b"),
+        (public, lambda name: rf"(?m)^{name}: |^{'.*fn '.join(name.split('::'))}[(<]"),
+        (python, lambda name: rf"\b(?:def|class) {name}\b|\b{name}:"),
+        (types, lambda name: rf"\b{name}\b"),
+    ]
+
+
+def doors():
+    """The line and the fault of each name and each dash of docs/DOORS.md."""
+    lines, sources = DOORS.read_text().splitlines(), sources_of_doors()
+    reasons = [found[1] for found in (re.match(r"(\d+)\. ", line) for line in lines) if found]
+    rows = [(at, line.split("|")[2:6]) for at, line in enumerate(lines, 1) if line.count("|") == 6]
+    for at, cells in rows[2:]:
+        for cell, (public, pattern) in zip(cells, sources):
+            names = [it for it in re.findall("`([^`]+)`", cell) if not it.startswith("gen1.")]
+            yield from ((at, None if re.search(pattern(it), public) else f"`{it}` is not public") for it in names)
+            for number in re.findall(r"\((\d+)\)", cell):
+                yield at, None if number in reasons else f"({number}) has no reason"
+            yield at, None if cell.strip() else "a cell is empty"
+
+
 def test_links(compared):
     counted(compared, (it for document in documents() for it in of(document, links(document))))
 
@@ -214,3 +244,7 @@ def test_names(compared):
 
 def test_commands(compared):
     counted(compared, (it for document in documents() for it in of(document, commands(document))))
+
+
+def test_doors(compared):
+    counted(compared, of(DOORS, doors()))
