@@ -72,9 +72,6 @@ typedef struct gen1_team {
 /* The size of a buffer that holds any line of gen1_next_line and its NUL. */
 #define GEN1_LINE_ROOM 96
 
-/* The size of a buffer that holds any sentence of gen1_next_sentence and its NUL. */
-#define GEN1_SENTENCE_ROOM 128
-
 /* The two sides. */
 enum { GEN1_ONE = 1, GEN1_TWO = 2 };
 
@@ -344,7 +341,7 @@ enum {
     GEN1_ERROR_HOST_UNUSED = 90     /* an unused byte, or the forfeit of the room, is not 0 */
 };
 
-/* The size of a buffer that holds any sentence of gen1_error_text and its NUL. */
+/* The size of a buffer that holds any sentence of gen1_error_text or gen1_next_sentence, and its NUL. */
 #define GEN1_SENTENCE_ROOM 128
 
 /*
