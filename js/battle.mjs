@@ -22,7 +22,7 @@ export function notOffered(sentence, choice, offered) {
   return `${sentence}: ${text}; offered: ${offered.join(", ")}`;
 }
 
-// The error for words that are no choice: what is lawful, and the nearest name.
+// The error for words that name no choice: what is lawful, and the nearest name.
 function wordsError(words, what) {
   const [, verb, name] = /^\s*(move\b|switch\b)?\s*(.*)$/is.exec(words);
   const near = nearest(name, verb?.toLowerCase() === "switch" ? SPECIES : MOVES, Math.floor(name.length / 3));

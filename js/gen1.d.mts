@@ -930,8 +930,8 @@ export class Teller {
 }
 
 /**
- * Tells the events of a battle in sentences, each with a full stop, such as "Your Tauros loses 120 HP, down to 233 of 353 HP." It notes which members
- * are out, so it can tell what is lost and who is withdrawn. `gen1.narrator` creates it.
+ * Says the events of a battle in sentences, each with a full stop, such as "Your Tauros loses 120 HP, down to 233 of 353 HP." It keeps which members are
+ * active, and their HP, so that a sentence can say how much HP is lost and who is withdrawn. `gen1.narrator` creates it.
  */
 export class Narrator {
   private constructor();
@@ -1029,8 +1029,8 @@ export class Gen1 {
   /** The lines of log bytes, without line feeds. Throws LogError. */
   lines(log: Uint8Array | ArrayBuffer): string[];
   /**
-   * Creates a narrator of a battle, before its first event. `you` is the side that it tells; without it, it tells a spectator. `inPercent` says
-   * whether HP of side 1 and of side 2 are told in per cent: those of the foe where the log is from a teller with `pixels`.
+   * Creates a narrator of a battle, before its first event. `you` is the side that reads the sentences; without it, a spectator does. `inPercent` says
+   * whether sentences have the HP of side 1 and of side 2 in per cent: those of the foe where the log is from a teller with `pixels`.
    */
   narrator(terms?: { you?: Side | null; inPercent?: readonly [boolean, boolean] }): Narrator;
   /** The log bytes of events, from which `events` reads the same events. A `size` is ignored. Throws ArgumentError for a field out of range. */

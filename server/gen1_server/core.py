@@ -115,7 +115,7 @@ class Match:
         self.start, self.count, self.lapses = start, 0, [0, 0]
         self.host = self._first()
         self.clock = Clock(start.created, options.choice, options.total)
-        # The rows of a match that is read back, until somebody wants to know what was told of them; else None.
+        # The rows of a match that is read back, until the logs of its viewers are computed; then None.
         self._untold: list[Row] | None = None if is_told else []
         self.ending: Ending | None = None
         self._sizes = len(json.loads(start.teams[0])), len(json.loads(start.teams[1]))
@@ -190,7 +190,7 @@ class Match:
         return Host(Battle.load(self.start.battle), exact_hp=options.exact_hp, may_cancel=options.may_cancel)
 
     def _recall(self) -> None:
-        """Finds out what was told of rows that were read back."""
+        """Computes the logs that viewers received for rows that were read back."""
         rows, self._untold = self._untold, None
         host = self._first() if rows else self.host
         for row in rows or ():
@@ -210,8 +210,8 @@ class Match:
 
 
 def replayed(start: Start, entries: list[Entry]) -> Match:
-    """The match that these entries make. Who reads a thousand back at a start
-    needs not yet what each of them was told.
+    """The match that these entries make. A start reads a thousand of them,
+    so the logs that each viewer received are computed when they are needed.
     """
     match = Match(start, False)
     for entry in entries:

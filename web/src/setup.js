@@ -21,7 +21,7 @@ export const PLAYERS = {
   playouts: "the computer, by playouts",
   cheating: "the computer, by playouts that know both teams (cheating)",
 };
-/** The choices of a list of teams that are no team: one that is drawn when the battle starts, and one that a person writes. */
+/** Two entries of a list of teams: a team that is drawn when the battle starts, and one that a person writes. */
 const [DRAWN, WRITTEN] = ["drawn", "written"];
 
 /**
@@ -140,7 +140,7 @@ export class Setup {
   }
 
   /**
-   * The species of a text's members; none while it is no team.
+   * The species of a text's members; none while the text isn't a team.
    * @param {string} text @param {number} side
    */
   membersOf(text, side) {

@@ -177,7 +177,7 @@ class LineReader {
 }
 
 /**
- * The events of lines, and how many members each side has, if the lines say so. Lines that are no event of a battle, such as chat, are left out.
+ * The events of lines, and how many members each side has, if the lines say so. Other lines, such as chat, are left out.
  * @param {string} text
  * @param {import("./engine.js").Tables} tables
  */

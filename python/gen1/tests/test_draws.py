@@ -63,7 +63,7 @@ def test_random_battles_explained():
 # Side 1's Tauros comes out with 353 of 353 HP, uses Body Slam, has 233 HP left, and is not affected. Side 2 wins.
 OUT = bytes.fromhex("02 01 80 01 64 6101 6101 00")
 LOG = OUT + bytes.fromhex("03 01 80 22 02 78  05 01 80 e900 6101 00 00  0a 01 80  1a 02")
-# A log as side 2 is told it: HP of its foe are 48ths.
+# A log as it is reported to side 2: HP of its foe are 48ths.
 TOLD = bytes.fromhex("05 01 80 1800 3000 00 00  05 01 80 0000 3000 00 04  1a 02")
 
 
@@ -89,7 +89,7 @@ def test_sentences_by_hand():
 
 
 def test_a_narrator_that_is_copied_or_refuses():
-    """A copy goes on alone, and a log that is refused changes nothing."""
+    """A copy is independent, and a log that is refused changes nothing."""
     narrator = Narrator()
     assert narrator.sentences(OUT) == ["Side 1 sends out Tauros."]
     copied = narrator.copy()

@@ -382,7 +382,7 @@ class Battle:
         return int(self.choice_from_words(side, choice)) if type(choice) is str else a_choice(choice, side)
 
     def _misread(self, code: int, side: Side, text: str) -> Error:
-        """Why words are no choice of a side."""
+        """Why a side has no choice with these words."""
         said, choices = cut(repr(text)), self.choices(side)
         can = f"{side.label} can choose {', '.join(self.words(side, it) for it in choices) or 'nothing'}"
         if code == _library.WORDS_UNKNOWN:

@@ -66,9 +66,8 @@ def explained(
     before: Battle, one: int, two: int, narrator: Narrator | None = None
 ) -> tuple[Battle, list[Event], list[Draw]]:
     """Makes an update on a copy: the battle after it, its events, and its
-    draws. `narrator` is one that was told all events before, and is not
-    changed; without it, sentences don't say how much HP is lost. Raises
-    `Refused`.
+    draws. `narrator` has said all events before, and is not changed;
+    without it, sentences don't say how much HP is lost. Raises `Refused`.
     """
     after = before.copy()
     told = list(after.update(one, two).events)

@@ -29,7 +29,7 @@ if TYPE_CHECKING:
 
 
 class Narrator:
-    """Tells the events of a battle in sentences.
+    """Says the events of a battle in sentences.
 
     It keeps which members are active, and their HP, so that a sentence can
     say how much HP is lost and who is withdrawn: pass it all events of a
@@ -41,11 +41,11 @@ class Narrator:
     def __init__(self, you: Side | int | None = None, in_percent: Iterable[bool] = (False, False)) -> None:
         """Creates a narrator before a battle.
 
-        `you` is the side that is told, "Your Tauros" and "The foe's Tauros";
-        with None, "Side 1's Tauros". `in_percent` says for side 1 and side 2
-        whether HP are said in per cent: those of the foe in a log of
-        `Teller.tell`, which reports them in 48ths. Raises `BadArgument`,
-        `BadType`.
+        `you` is the side that reads the sentences: "Your Tauros", "The
+        foe's Tauros"; with None, a spectator does: "Side 1's Tauros".
+        `in_percent` says for side 1 and side 2 whether sentences have its
+        HP in per cent: those of the foe in a log of `Teller.tell`, which
+        reports them in 48ths. Raises `BadArgument`, `BadType`.
         """
         given = [truth(it, "in_percent") for it in listed(in_percent, "in_percent", 2)]
         if len(given) != 2:
