@@ -8,6 +8,7 @@ import shutil
 import subprocess
 import sys
 import tarfile
+import zipfile
 from pathlib import Path
 
 import pytest
@@ -129,23 +130,47 @@ def test_c_by_cmake(release, needs):
         assert plays(folder / "build" / kind) is None, kind
 
 
+def python_with(*modules):
+    """A Python that has these modules: this one, or the system's."""
+    for python in (sys.executable, "/usr/bin/python3"):
+        words = [python, "-c", f"import {', '.join(modules)}"]
+        if Path(python).exists() and not subprocess.run(words, capture_output=True).returncode:
+            return python
+    pytest.skip(f"there is no Python with {', '.join(modules)}; `make setup` installs them")
+
+
 @pytest.mark.parametrize("kind", ["wheel", "source archive"])
 def test_python(kind, release):
     """A wheel or source archive, installed by pip without a network, plays the stored run."""
     release.want("python")
-    archive = release.found("*.whl" if kind == "wheel" else f"gen1-{version()}.tar.gz")
+    archive = release.found("gen1-*.whl" if kind == "wheel" else f"gen1-{version()}.tar.gz")
     place = release.room / kind.replace(" ", "_")
-    modules = "import ensurepip, venv, setuptools, wheel"
-    pythons = [it for it in (sys.executable, "/usr/bin/python3") if Path(it).exists()]
-    found = [it for it in pythons if not subprocess.run([it, "-c", modules], capture_output=True).returncode]
-    if not found:
-        pytest.skip("there is no Python with venv, setuptools and wheel; `make setup` installs them")
-    run(found[0], "-m", "venv", "--system-site-packages", place, cwd=release.room)
+    found = python_with("ensurepip", "venv", "setuptools", "wheel")
+    run(found, "-m", "venv", "--system-site-packages", place, cwd=release.room)
     words = ["--no-index", "--no-deps", "--no-build-isolation", "--no-cache-dir", "--disable-pip-version-check"]
     python = place / "bin" / "python"
     run(python, "-m", "pip", "install", "-q", *words, archive, cwd=place)
     assert run(python, "-c", "import gen1; print(gen1.__version__)", cwd=place) == f"{version()}\n"
     assert run(python, "-m", "gen1", "run", STORED, cwd=place) == LINES.read_text()
+
+
+def test_server(release, monkeypatch):
+    """The server of both wheels makes its database, and finds its page."""
+    release.want("python")
+    release.want("server")
+    folder = release.room / "server"
+    for wheel in release.out.glob("*.whl"):
+        with zipfile.ZipFile(wheel) as archive:
+            archive.extractall(folder)
+    python = python_with("aiohttp", "alembic", "prometheus_client", "sqlalchemy")
+    page = release.out / f"gen1-{version()}-online.html"
+    assert page.stat().st_size < 600_000
+    monkeypatch.setenv("GEN1_SERVER_DATABASE", str(folder / "new.db"))
+    monkeypatch.setenv("GEN1_SERVER_PAGE", str(page))
+    monkeypatch.setenv("PYTHONPATH", str(folder))
+    run(python, "-m", "gen1_server", "migrate", cwd=folder)
+    said = run(python, "-m", "gen1_server", "check", cwd=folder)
+    assert said.startswith("the options are right") and said.endswith(f"page: {page}\n"), said
 
 
 def test_npm(release):

@@ -29,6 +29,7 @@ PLACES = (
     ),
     ("packaging/README.md", r"`libgen1\.so\.1`, `libgen1\.so\.", r"` \|", lambda text, a, b, c: text),
     ("js/package.json", r'"version": "', r'",\n', lambda text, a, b, c: text),
+    ("server/pyproject.toml", r'\nversion = "', r'"\n', lambda text, a, b, c: text),
     ("CITATION.cff", r"\nversion: ", r"\n", lambda text, a, b, c: text),
 )
 DAY = ("CITATION.cff", r'\ndate-released: "', r'"\n')
