@@ -258,7 +258,9 @@ def the_computer_plays_online(club):
     begun = ann.updates
     ann.press("1")
     ann.wait(f"{UPDATED} > {begun}")
-    play((ann,), random.Random(7), lambda: ann.updates > 6 or ann.run(OVER))
+    # The calculator takes positions in which both members have HP.
+    at_rest = "return document.getElementById('play-calculate').checkVisibility()"
+    play((ann,), random.Random(7), lambda: ann.run(OVER) or ann.updates > 6 and ann.run(at_rest))
     assert "bot" in ann.text("#play-field")
     if ann.run(OVER):
         return

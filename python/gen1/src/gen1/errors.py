@@ -159,8 +159,8 @@ class Refused(Error):
     """An update was refused; the battle is unchanged.
 
     `side` is the side whose choice was not offered, or 0 if the battle is
-    over; `choice` is the byte, None for words; and `offered` has the choices
-    that the side is offered.
+    over; `choice` is its byte, or None for words; and `offered` has the
+    choices that the side is offered.
     """
 
     code: Refusal | RoomRefusal | HostRefusal
