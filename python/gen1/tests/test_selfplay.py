@@ -94,7 +94,9 @@ def test_dask(alone, tmp_path):
             text=True,
         )
         pid = next(iter(cluster.workers.values())).pid
-        time.sleep(1.5)
+        # The jobs begin when Python has started.
+        while running.poll() is None and not cluster.scheduler.tasks:
+            time.sleep(0.01)
         killed = running.poll() is None
         if killed:
             os.kill(pid, signal.SIGKILL)
