@@ -327,6 +327,9 @@ enum {
     GEN1_ERROR_TEXT_FIELDS = 76,    /* packed: twelve fields separated by `|` */
     GEN1_ERROR_TEXT_TEAM = 77,      /* members that form a valid team: `rule` has the code of the error, `member` the member */
 
+    /* Teams as text. */
+    GEN1_ERROR_UNWRITABLE = 78,     /* a move has other than three PP ups, and a text has no place for them */
+
     /* Hosts that were stored: the first test that the bytes fail, after those of the battle. */
     GEN1_ERROR_HOST_NUMBER = 80,    /* the number leaves no place for the pairs that may still come */
     GEN1_ERROR_HOST_LOG = 81,       /* the log has more than 512 bytes, or is no log */
@@ -338,7 +341,13 @@ enum {
     GEN1_ERROR_HOST_ENDING = 87,    /* the ending is above 3 */
     GEN1_ERROR_HOST_DRAW = 88,      /* the side that offers a draw is above 2 */
     GEN1_ERROR_HOST_RULES = 89,     /* an option is above 1 */
-    GEN1_ERROR_HOST_UNUSED = 90     /* an unused byte, or the forfeit of the room, is not 0 */
+    GEN1_ERROR_HOST_UNUSED = 90,    /* an unused byte, or the forfeit of the room, is not 0 */
+
+    /* Guesses of what a player can't know: what does not fit. */
+    GEN1_ERROR_NOT_GOING_ON = 96,   /* the player is in no battle that has begun and is not over */
+    GEN1_ERROR_GUESS_COUNT = 97,    /* the guessed team does not have as many members as the foe */
+    GEN1_ERROR_GUESS_MEMBER = 98,   /* a member of the guessed team is not the one that appeared */
+    GEN1_ERROR_GUESS_MOVE = 99      /* a member of the guessed team does not know a move that it was seen to use */
 };
 
 /* The size of a buffer that holds any sentence of gen1_error_text or gen1_next_sentence, and its NUL. */
@@ -978,7 +987,7 @@ static inline double GEN1_WAY_PROBABILITY(const gen1_way *way)
     return ((double)way->high * high + (double)way->low) / ((double)way->whole_high * high + (double)way->whole_low);
 }
 
-/* ---- teams out of text ---- */
+/* ---- teams as text ---- */
 
 /* The place of an error in the text of a team, and the form that was expected there. */
 typedef struct gen1_text_fault {
@@ -1009,6 +1018,24 @@ uint8_t gen1_team_from_text(const char *text, size_t count, gen1_team *team, gen
  * fields of a member by `|` (docs/TEAM_TEXT.md, "Packed line").
  */
 uint8_t gen1_team_from_packed(const char *text, size_t count, gen1_team *team, gen1_text_fault *fault);
+
+/* The sizes of buffers that hold any text of gen1_team_to_text and of gen1_team_to_packed, and its NUL. */
+#define GEN1_TEAM_TEXT_ROOM 1408
+#define GEN1_TEAM_PACKED_ROOM 832
+
+/*
+ * Write a team in the export format of Pokemon Showdown's team builder, and as its packed line with a line feed
+ * (docs/TEAM_TEXT.md, "Writing"). gen1_team_from_text and gen1_team_from_packed read a team with the same stats, moves and PP.
+ *
+ * The text and a NUL are written to the beginning of `text`, whose size is `room`; the rest of `text` does not change. `*length`
+ * becomes the number of bytes before the NUL.
+ *
+ * Return 0; or a code of the team as gen1_new does, or GEN1_ERROR_UNWRITABLE, plus 256 times the place of the member, which
+ * GEN1_CODE_OF and GEN1_PLACE_OF take apart; or GEN1_ERROR_SMALL_TEXT if the text and its NUL do not fit. If they return a code,
+ * nothing has changed.
+ */
+uint32_t gen1_team_to_text(const gen1_team *team, char *text, size_t room, size_t *length);
+uint32_t gen1_team_to_packed(const gen1_team *team, char *text, size_t room, size_t *length);
 
 /* ---- naming ---- */
 
@@ -1422,8 +1449,15 @@ typedef struct gen1_seen {
     uint8_t level;           /* 1 to 100 */
     uint8_t status;          /* GEN1_STATUS_NONE to GEN1_STATUS_PARALYSIS */
     gen1_seen_move moves[5]; /* in the order in which they were first seen */
-    uint8_t unused;          /* 0 */
+    uint8_t asleep_by;       /* GEN1_ASLEEP_BY_MOVE or GEN1_ASLEEP_BY_REST; 0 if it is awake, or 3 from its Rest on until it
+                                falls asleep or either side uses another move */
 } gen1_seen;
+
+/* What put a member to sleep. */
+enum {
+    GEN1_ASLEEP_BY_MOVE = 1, /* a move of the foe */
+    GEN1_ASLEEP_BY_REST      /* its own Rest */
+};
 
 /* The conditions of the active member that the log has announced and not ended: 1, else 0. */
 typedef struct gen1_announced {
@@ -1511,10 +1545,20 @@ typedef struct gen1_player {
 
 #define GEN1_PLAYER_SIZE 456 /* the size of a gen1_player, for other languages; its alignment is 4 */
 
+/*
+ * How HP of the foe is reported (docs/MECHANICS.md, "What a side is told"). Where one of these is an argument, any other number is the
+ * bar.
+ */
+enum {
+    GEN1_HP_EXACT,     /* as it is */
+    GEN1_HP_BAR,       /* as the game's bar of 48 pixels shows it; the maximum is 48 */
+    GEN1_HP_HUNDREDTHS /* in hundredths of the maximum; the maximum is 100 */
+};
+
 /* The host's record of a side to which it reports the log. */
 typedef struct gen1_teller {
     uint8_t side;      /* 1 or 2 */
-    uint8_t pixels;    /* 1 if the foe's HP is reported in 48ths, else 0 */
+    uint8_t pixels;    /* how the foe's HP is reported: GEN1_HP_EXACT, GEN1_HP_BAR or GEN1_HP_HUNDREDTHS */
     uint8_t places[6]; /* the places of the foe's members that have appeared, in the order in which they did; 0 after the last */
 } gen1_teller;
 
@@ -1540,8 +1584,36 @@ uint8_t gen1_get_own_side(const gen1_battle *battle, uint8_t side, gen1_own_side
 /* Replaces the own side that a player was last shown, and the mask of its choices. */
 void gen1_player_show(gen1_player *player, const gen1_own_side *own, uint16_t offered);
 
+/* A guess of what a player can't know. */
+typedef struct gen1_guess {
+    gen1_team team;      /* the foe's: first the members that have appeared, in the order in which they did, then the others */
+    uint16_t limit;      /* the last turn, 1 to 9,999 */
+    uint8_t numbers[10]; /* the link numbers; the first of them is drawn next */
+    uint8_t rules;       /* GEN1_SLEEP_CLAUSE and GEN1_FREEZE_CLAUSE, added up */
+    uint8_t reserved;    /* ignored */
+} gen1_guess;
+
+/* What does not fit. Fields that the code does not name are 0. */
+typedef struct gen1_guess_fault {
+    gen1_state_fault state; /* GEN1_ERROR_STATE: the field of the state that is wrong */
+    uint8_t count;          /* GEN1_ERROR_GUESS_COUNT: how many members the foe has */
+    uint8_t member;         /* GEN1_ERROR_GUESS_MEMBER, GEN1_ERROR_GUESS_MOVE: which member, in the order of appearance, from 1 */
+    uint8_t move_number;    /* GEN1_ERROR_GUESS_MOVE: the move */
+    uint8_t unused;         /* 0 */
+} gen1_guess_fault;
+
+/*
+ * Makes a battle that fits what a player knows, with a guess of the rest, and overwrites `*battle` with it: the base of a search that
+ * doesn't cheat (docs/MECHANICS.md, "A battle that fits"). The player may have any bytes.
+ *
+ * Returns 0; or GEN1_ERROR_RULES, GEN1_ERROR_TURN_LIMIT or the error of the team as gen1_new returns it for one team, with GEN1_CODE_OF
+ * and GEN1_PLACE_OF; or GEN1_ERROR_NOT_GOING_ON to GEN1_ERROR_GUESS_MOVE or GEN1_ERROR_STATE, and then `*fault` says what does not fit.
+ * Otherwise `*fault` does not change. With an error `*battle` does not change.
+ */
+uint32_t gen1_battle_from_player(gen1_battle *battle, const gen1_player *player, const gen1_guess *guess, gen1_guess_fault *fault);
+
 /* Sets a teller to the start of a battle. Returns 0, or GEN1_ERROR_SIDE; then nothing has changed. */
-uint8_t gen1_teller_begin(gen1_teller *teller, uint8_t side, uint8_t pixels);
+uint8_t gen1_teller_begin(gen1_teller *teller, uint8_t side, uint8_t hp_form);
 
 /*
  * Writes the log of an update, as it is reported to the side, to `told`: as many log bytes as `count`, and sets `*length` to their
@@ -1627,10 +1699,10 @@ typedef struct gen1_notice {
 #define GEN1_NOTICE_SIZE 520 /* the size of a gen1_notice, for other languages; its alignment is 4 */
 
 /*
- * Makes a host of the battle in `host->room.battle`. If the battle is before its first update, that update is played at once. With
- * `pixels`, each side and the audience are told a foe's HP in 48ths. The three options count as set if they are not 0.
+ * Makes a host of the battle in `host->room.battle`. If the battle is before its first update, that update is played at once. Each side
+ * and the audience are told a foe's HP in the form `hp_form`. The other two options count as set if they are not 0.
  */
-void gen1_host_begin(gen1_host *host, uint8_t pixels, uint8_t may_cancel, uint8_t late_forfeits);
+void gen1_host_begin(gen1_host *host, uint8_t hp_form, uint8_t may_cancel, uint8_t late_forfeits);
 
 /*
  * Reads a host from the bytes in it, which may be any, such as those of a file. They are accepted exactly if they are those of a host.

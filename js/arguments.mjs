@@ -175,6 +175,16 @@ export function sideOf(value, what = "side") {
   throw new ArgumentError(`${what} is ${value}, not 1 or 2`, what);
 }
 
+const FORMS = ["exact", "bar", "hundredths"];
+
+/** The number of a form of HP; `otherwise` where none is given. */
+export function formOf(value, otherwise, what) {
+  const form = value ?? otherwise;
+  if (typeof form !== "string") throw wrongType(form, what, `one of ${FORMS.join(", ")}`);
+  if (!FORMS.includes(form)) throw new ArgumentError(`${what} is ${shown(form)}, not one of ${FORMS.join(", ")}`, what);
+  return FORMS.indexOf(form);
+}
+
 /** The byte of a choice, whether offered or not: a byte, or a name such as "pass", "move 1", "switch 2". */
 export function byteOf(choice, what = "choice") {
   const byte = BYTE_OF_NAME.get(choice);

@@ -2,7 +2,7 @@
 import {BATTLE_SIZE} from "./arena.mjs";
 import {byteOfName, byteOr255, choiceByte, choiceOf, choicesIn, choiceText, inspected, nearest, object, playoutSeed, record, seedFor, shown, sideOf, text, truth, whole, within, wrongType} from "./arguments.mjs";
 import {ArgumentError, DamageError, FreedError, LoadError, RefusedError} from "./errors.mjs";
-import {guessOf, stateGuessed} from "./guesses.mjs";
+import {blockOfGuess} from "./guesses.mjs";
 import {CODES} from "./header.mjs";
 import {outcomeOptions, outcomesOf} from "./outcomes.mjs";
 import {libraryOf} from "./players.mjs";
@@ -70,19 +70,12 @@ export class Battle {
    * A battle that fits a player's knowledge, with a guess of the rest: the base of a search that doesn't cheat.
    *
    * `guess` has the foe's team, first the members that have appeared, in the order in which they did, then the others; the seed of the numbers
-   * to draw; and rules and limit as in `gen1.battle`. The player's own side is as it was shown. The foe's members have the HP, status and stages
-   * that were reported, and the moves and stats of the guess; their PP are those left after the uses that were seen. A condition that was
-   * announced is on if a move of the guess explains it. Hidden counts have middle values: three turns of sleep and confusion, four of Disable,
-   * two of Bide, thrashing and trapping, a Substitute of a quarter of the maximum HP.
+   * to draw; and rules and limit as in `gen1.battle`. The player's own side is as it was shown, the foe's as the log made it public, with the
+   * moves and stats of the guess. Hidden counts have middle values (docs/MECHANICS.md, "A battle that fits").
    */
   static fromPlayer(player, guess) {
     const library = libraryOf(player);
-    const {team, ...given} = guessOf(library, guess);
-    const foes = new Team(library, team, "guess.team");
-    const fresh = new Battle(library, blockOfTerms(library, {one: foes, two: foes, seed: given.seed}));
-    const {members} = fresh.state.two;
-    fresh.free();
-    return new Battle(library, blockOfState(library, stateGuessed(library, player, given, members)));
+    return new Battle(library, blockOfGuess(library, player, guess));
   }
 
   // The battle's pointer in the module's memory.

@@ -340,7 +340,9 @@ export interface SeenMember {
   species: SpeciesName;
   level: number;
   status: Status;
-  /** In 48ths if the teller hides exact HP. */
+  /** What put it to sleep: a move of the foe, or its own Rest. Null while it is awake. */
+  asleepBy: "move" | "rest" | null;
+  /** In 48ths or hundredths if the teller hides exact HP. */
   hp: number;
   maxHp: number;
   /** The moves that it was seen to prepare or to use, in the order of their appearance, and how often it used them, 0 to 255.
@@ -526,10 +528,8 @@ export class Battle {
   /**
    * A battle that fits a player's knowledge, with a guess of the rest: the base of a search that doesn't cheat.
    *
-   * The player's own side is as it was shown. The foe's members have the HP, status and stages that were reported, and the moves and stats of the
-   * guess; their PP are those left after the uses that were seen. A condition that was announced is on if a move of the guess explains it. Hidden
-   * counts have middle values: three turns of sleep and confusion, four of Disable, two of Bide, thrashing and trapping, a Substitute of a quarter
-   * of the maximum HP.
+   * The player's own side is as it was shown, the foe's as the log made it public, with the moves and stats of the guess. Hidden counts have
+   * middle values (docs/MECHANICS.md, "A battle that fits").
    *
    * Throws ArgumentError for a guess that does not fit, and for a battle that has not begun or is over; TeamError; StateError.
    */
@@ -779,9 +779,14 @@ export class Row {
   toJSON(): RowJSON;
 }
 
+/** How HP of a foe is told: as it is, as the game's bar of 48 pixels shows it, or in hundredths of the maximum. */
+export type HpForm = "exact" | "bar" | "hundredths";
+
 export interface HostOptions {
-  /** Whether a side and the audience are told the exact HP of a foe. Otherwise it is told in 48ths of the maximum. */
+  /** Whether a side and the audience are told the exact HP of a foe. Otherwise it is told as the game's bar of 48 pixels shows it. */
   exactHp?: boolean;
+  /** The form in which HP of a foe is told, in place of `exactHp`. */
+  hpForm?: HpForm;
   /** Whether a side may take its choice back while the other's is missing. */
   mayCancel?: boolean;
   /** Whether a side whose time has run out forfeits. Otherwise its first choice is made. */
@@ -999,12 +1004,19 @@ export class Gen1 {
   tellerOfBytes(bytes: Uint8Array | ArrayBuffer): Teller;
   /** The spectator whose `bytes` these are. Throws as `playerOfBytes`. */
   spectatorOfBytes(bytes: Uint8Array | ArrayBuffer): Spectator;
-  /** Creates a teller of a side, before the first event. With `pixels` it reports the HP of the foe's members in 48ths. */
-  teller(terms: { side: Side; pixels?: boolean }): Teller;
+  /** Creates a teller of a side, before the first event. It reports the HP of the foe's members in `hpForm`; without it as the bar of 48 pixels, or as it is if `pixels` is false. */
+  teller(terms: { side: Side; pixels?: boolean; hpForm?: HpForm }): Teller;
   /** The members in a team builder's text (docs/TEAM_TEXT.md). Throws TextError. */
   teamFromText(text: string): WholeMember[];
   /** The members in a packed line (docs/TEAM_TEXT.md). Throws TextError. */
   teamFromPacked(line: string): WholeMember[];
+  /**
+   * The text of a team, which `teamFromText` reads as a team with the same stats and moves. Throws TeamError, also (with code 78) for a move with other
+   * than three PP ups, for which a text has no place.
+   */
+  teamToText(team: Team | Members): string;
+  /** The packed line of a team, with a line feed. Throws as `teamToText`. */
+  teamToPacked(team: Team | Members): string;
   /** The odds of a move between two members that have just been sent out. Throws TeamError, DamageError. */
   odds(attacker: Member, defender: Member, move: MoveLike): Odds;
   /** The damage of a move between two members that have just been sent out: 39 numbers. Throws TeamError, DamageError. */

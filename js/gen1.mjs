@@ -23,7 +23,7 @@ import {Row, ROW_KINDS} from "./row.mjs";
 import {Narrator, narratorOf, Spectator, spectatorOf} from "./spectator.mjs";
 import {blockOfState} from "./states.mjs";
 import {MOVES, SPECIES, TYPES} from "./tables.mjs";
-import {baseOf, effectivenessOf, memberBytes, membersFrom, moveDataOf, moveOf, sharedOf, statsOf, Team, teamError} from "./teams.mjs";
+import {baseOf, effectivenessOf, memberBytes, membersFrom, moveDataOf, moveOf, sharedOf, statsOf, Team, teamError, textOf} from "./teams.mjs";
 import {Update} from "./update.mjs";
 import {CONDITIONS, oddsOf, OUTCOMES, REASONS, REQUESTS, STATS, STATUSES} from "./views.mjs";
 import {logBytesOf} from "./writing.mjs";
@@ -176,7 +176,7 @@ export class Gen1 {
     return new Spectator(this.#library, structBytes(this.#library, "gen1_spectator", bytes));
   }
 
-  /** Creates a teller of a side, before the first event. With `pixels` it reports the foe's HP in 48ths. */
+  /** Creates a teller of a side, before the first event. It reports the foe's HP in `hpForm`. */
   teller(terms) {
     return new Teller(this.#library, tellerOf(this.#library, terms));
   }
@@ -189,6 +189,16 @@ export class Gen1 {
   /** The members in a packed line, as `battle` takes them. */
   teamFromPacked(line) {
     return membersFrom(this.#library, "gen1_team_from_packed", line);
+  }
+
+  /** The text of a team, which `teamFromText` reads as a team with the same stats and moves. */
+  teamToText(team) {
+    return textOf(this.#library, "gen1_team_to_text", CODES.TEAM_TEXT_ROOM, team);
+  }
+
+  /** The packed line of a team, with a line feed. */
+  teamToPacked(team) {
+    return textOf(this.#library, "gen1_team_to_packed", CODES.TEAM_PACKED_ROOM, team);
   }
 
   /** The odds of a move between two members that have just been sent out: its damage, and its chances of a hit and of a critical hit. */

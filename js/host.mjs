@@ -1,6 +1,6 @@
 // A battle of two players and an audience, each of whom is sent what it may know (docs/MECHANICS.md, "Hosts").
 import {BATTLE_SIZE} from "./arena.mjs";
-import {choiceBytesIn, choicesIn, choiceText, inspected, list, maskOf, octets, record, sideOf, truth, wrongType} from "./arguments.mjs";
+import {choiceBytesIn, choicesIn, choiceText, formOf, inspected, list, maskOf, octets, record, sideOf, truth, wrongType} from "./arguments.mjs";
 import {Battle} from "./battle.mjs";
 import {ArgumentError, HostError, LoadError} from "./errors.mjs";
 import {CODES} from "./header.mjs";
@@ -14,12 +14,13 @@ const OPTIONS = ["exactHp", "mayCancel", "lateForfeits"];
 /** The bytes of a host of a battle, which is started at once if it has not begun. */
 export function hostOf(library, battle, options) {
   if (!(battle instanceof Battle)) throw wrongType(battle, "battle", "a Battle");
-  const given = record(options, "options", "an object with options", OPTIONS);
+  const given = record(options, "options", "an object with options", [...OPTIONS, "hpForm"]);
   const [exactHp, mayCancel, lateForfeits] = OPTIONS.map((name) => truth(given[name] ?? false, `options.${name}`));
+  const form = formOf(given.hpForm, exactHp ? "exact" : "bar", "options.hpForm");
   library.begin();
   const host = library.roomOf("gen1_host");
   library.write(host, battle.bytes);
-  library.calls.gen1_host_begin(host, exactHp ? 0 : 1, mayCancel ? 1 : 0, lateForfeits ? 1 : 0);
+  library.calls.gen1_host_begin(host, form, mayCancel ? 1 : 0, lateForfeits ? 1 : 0);
   return library.read(host, layoutOf("gen1_host", library.isLong).size);
 }
 

@@ -11,7 +11,7 @@ export const TELLER_SIZE = layoutOf("gen1_teller", false).size;
 const LEFT_OUT = {
   gen1_own_side: ["turn", "outcome"],
   gen1_own_member: ["unused"],
-  gen1_seen: ["unused"]
+  gen1_seen: ["asleepBy"]
 };
 const PLAYER = offsetsOf("gen1_player");
 const PUBLIC = offsetsOf("gen1_public");

@@ -1,5 +1,5 @@
 // The knowledge that one side of a battle may have, and the teller that reports to it (docs/MECHANICS.md, "Player's view").
-import {choicesIn, inspected, octets, record, sideOf, truth, within, wrongType} from "./arguments.mjs";
+import {choicesIn, formOf, inspected, octets, record, sideOf, truth, within, wrongType} from "./arguments.mjs";
 import {Battle} from "./battle.mjs";
 import {ArgumentError} from "./errors.mjs";
 import {logErrorAfter} from "./events.mjs";
@@ -29,11 +29,11 @@ export function playerOf(library, terms) {
 
 /** The bytes of a teller before a battle. */
 export function tellerOf(library, terms) {
-  const {side, pixels = false} = record(terms, "terms", "an object with side", ["side", "pixels"]);
-  const [own, isInPixels] = [sideOf(side), truth(pixels, "pixels")];
+  const {side, pixels = true, hpForm} = record(terms, "terms", "an object with side", ["side", "pixels", "hpForm"]);
+  const [own, form] = [sideOf(side), formOf(hpForm, truth(pixels, "pixels") ? "bar" : "exact", "hpForm")];
   library.begin();
   const teller = library.roomOf("gen1_teller");
-  library.calls.gen1_teller_begin(teller, own, isInPixels ? 1 : 0);
+  library.calls.gen1_teller_begin(teller, own, form);
   return library.read(teller, layoutOf("gen1_teller", library.isLong).size);
 }
 

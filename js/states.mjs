@@ -157,8 +157,8 @@ function faultWords(of, path, {value, low, high}) {
   return `${path} is ${shown(value)}, not ${low === high ? shown(valueOf(field, of.low)) : `${low} to ${high}`}`;
 }
 
-// For a condition the library has the bit, and the state a place in its list.
-function stateError(found, state) {
+/** The error for the field that is wrong. For a condition the library has the bit, and the state a place in its list. */
+export function stateError(found, state) {
   const of = {...found};
   if (of.field === CODES.FIELD_UNNAMED)
     return new StateError("the fields of the state do not fit together", CODES.ERROR_STATE, {...of, field: ""});

@@ -285,3 +285,12 @@ export function membersFrom(library, call, given) {
   const {members, count} = library.readStruct("gen1_team", team);
   return members.slice(0, count).map(memberFrom);
 }
+
+/** A team as text. `call` writes at most `room` bytes: gen1_team_to_text or gen1_team_to_packed. */
+export function textOf(library, call, room, team) {
+  const given = teamGiven(library, team, "team");
+  library.begin();
+  const [answer, said] = library.written(call, room, teamAt(library, given));
+  if (answer) throw teamError(library, answer, [team], {}, (_, place) => (place ? `member ${place}: ` : ""));
+  return said;
+}

@@ -48,6 +48,8 @@ export const REASONS = Object.freeze([
   "the user has it already",
   "the user's HP don't allow it",
 ]);
+// What put a member to sleep, by number.
+const ASLEEP_BY = [null, "move", "rest"];
 const MIDDLE = 6;
 
 // The objects for the numbers that gen1_result returns.
@@ -265,9 +267,17 @@ export function threeChancesOf({thrice, thriceOf, ...two}) {
   return {...chancesOf(two), chanceThrice: whole(thrice) / whole(thriceOf)};
 }
 
-function seenMember({species, level, status, hp, max, moves}) {
+function seenMember({species, level, status, hp, max, moves, asleepBy}) {
   const used = moves.filter(({id}) => id).map(({id, uses}) => ({name: MOVES[id - 1], uses}));
-  return {species: SPECIES[species - 1], level, status: STATUSES[status], hp, maxHp: max, moves: used};
+  return {
+    species: SPECIES[species - 1],
+    level,
+    status: STATUSES[status],
+    asleepBy: ASLEEP_BY[asleepBy] ?? null,
+    hp,
+    maxHp: max,
+    moves: used
+  };
 }
 
 // "focusEnergy" as "focus energy".

@@ -104,9 +104,10 @@ def of_leaks(_folders):
 
 
 def of_text(_folders):
-    """GEN1_ERROR_TEXT_MOVE in the second line of a text, and in the fifth field of the second member of a packed line; and a battle."""
+    """GEN1_ERROR_TEXT_MOVE in the second line of a text, and in the fifth field of the second member of a packed line; the team; a battle."""
     faults = rb"line 2, member 0, field 0: code 73\nline 0, member 2, field 5: code 73\n"
-    yield Case("status", (), b"", re.compile(faults + rb"outcome [123]\n"), b"")
+    team = b"Tauros||||bodyslam,hyperbeam,blizzard,earthquake|||||||]Chansey||||icebeam,thunderbolt|||||||\n"
+    yield Case("status", (), b"", re.compile(faults + re.escape(team) + rb"outcome [123]\n"), b"")
 
 
 def of_known(_folders):

@@ -13,8 +13,8 @@ from rule_files import collected, unreached, without_a_line
 
 
 PLAYER = ROOT / "crates" / "gen1_player"
-# Padding
-WITHOUT_A_LAW = {"unused"}
+# No law is proved of it: recorded battles test it (tests/definitions/players.py).
+WITHOUT_A_LAW = {"asleep_by"}
 
 
 @pytest.fixture(scope="module")

@@ -181,7 +181,7 @@ def is_whole(row):
 
 def told(logs, side):
     """Log bytes as a player of a side gets them (docs/MECHANICS.md, "What a side is told"): the foe's members are numbered in the order in
-    which they appear, and their HP are in 48ths."""
+    which they appear, and their HP are pixels of the bar."""
     places = []
     for log in logs:
         found = b""
@@ -193,7 +193,8 @@ def told(logs, side):
                 if at == 5:
                     code[3] = places.index(code[3]) + 1
                 hp, most = struct.unpack_from("<2H", code, at)
-                struct.pack_into("<2H", code, at, max(48 * hp // most, hp > 0), 48)
+                pixels = 12 * hp // (most // 4) if most > 255 else 48 * hp // most
+                struct.pack_into("<2H", code, at, max(pixels, hp > 0), 48)
             found += code
         yield found.hex()
 

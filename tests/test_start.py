@@ -43,7 +43,8 @@ NEEDS = {
     "documents": ["plain"],
 }
 MOST_LINES = 10
-SECONDS = 2400
+# In the gate a door gets the processors that the proofs leave.
+SECONDS = 5400
 PRINTS = ("prints", "prints in the end")
 SHOWS = re.compile(r"shows: (\S+), after a press of (.+)")
 

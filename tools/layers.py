@@ -28,7 +28,16 @@ LAYERS = (
     (
         "Battle",
         "the order of a turn, which kind of update is due, refusals, the log of an update; no offsets and no files",
-        ("gen1_host", "gen1_player", "gen1_room", "gen1_playouts", "gen1_outcomes", "gen1_engine", "gen1_turn"),
+        (
+            "gen1_guesses",
+            "gen1_host",
+            "gen1_player",
+            "gen1_room",
+            "gen1_playouts",
+            "gen1_outcomes",
+            "gen1_engine",
+            "gen1_turn",
+        ),
     ),
     (
         "Operations",
@@ -57,7 +66,7 @@ LAYERS = (
     (
         "Numbers",
         "teams, stats, species, moves, types and draws; not the state of a battle",
-        ("gen1_text", "gen1_stats", "gen1_tables", "gen1_rolls"),
+        ("gen1_writer", "gen1_text", "gen1_stats", "gen1_tables", "gen1_rolls"),
     ),
 )
 

@@ -114,6 +114,14 @@ CODES = (
         "ERROR_HOST_",
         {},
     ),
+    (
+        "GuessFault",
+        "Why a guess of what a player can't know does not fit.",
+        "ERROR_NOT_GOING_ON",
+        "ERROR_GUESS_MOVE",
+        "ERROR_",
+        {"GUESS_COUNT": "COUNT", "GUESS_MEMBER": "MEMBER", "GUESS_MOVE": "MOVE"},
+    ),
     ("RowKind", "What happens at a host, of `Row.kind`.", "ROW_SUBMIT", "ROW_FORFEIT", "ROW_", {}),
     (
         "EventKind",
@@ -148,6 +156,15 @@ CODES = (
         "EFFECT_",
         {},
     ),
+    (
+        "AsleepBy",
+        "What put a member to sleep, of `Seen.asleep_by`.",
+        "ASLEEP_BY_MOVE",
+        "ASLEEP_BY_REST",
+        "ASLEEP_BY_",
+        {},
+    ),
+    ("HpForm", "How a foe's HP is told, of `Teller` and `Host`.", "HP_EXACT", "HP_HUNDREDTHS", "HP_", {}),
     ("OddsReason", "Why a use of a move cannot hit, of `Odds.reason`.", "ODDS_FALLEN", "ODDS_HEALTH", "ODDS_", {}),
     (
         "StateField",

@@ -17,7 +17,7 @@ NOT_HERE = {"bitflags"}
 NOT_IN_TESTS = {"test_support", "linked_list_allocator"}
 NOT_PLAIN = re.compile(r"\b(?:test_support|linked_list_allocator|std::io|Device)\b|::laws\b")
 # A module of tests within a library.
-OWN_TESTS = re.compile(r"\n#\[cfg\(test\)\]\nmod tests \{\n.*?\n\}\n", re.S)
+OWN_TESTS = re.compile(r"\n#\[cfg\(test\)\]\nmod tests(?:;(?=\n)| \{\n.*?\n\}\n)", re.S)
 # A module whose text is in a file of its own.
 MODULE = re.compile(r"(?m)^( *)((?:#\[[^\n]*\]\n *)*(?:pub(?:\([a-z]+\))? )?)mod (\w+);$")
 

@@ -18,6 +18,10 @@ OF_OTHERS = ("definition", "code", "tests", "edits")
 OWED = dict(zip(DOCUMENTS, (OF_RULES, *[OF_OTHERS] * 5)))
 # The kinds that a section lacks, and where they are instead.
 WITHOUT = {
+    Section("docs/MECHANICS.md", "A battle that fits"): {
+        "worked example": "python/gen1/tests/test_guesses.py: test_what_is_known_and_what_is_guessed",
+        "tests": "python/gen1/tests/test_guesses.py, js/test/worked.mjs, tests/c/hostile_players.c",
+    },
     Section("docs/PROGRAM.md", "The program battle_tool"): {
         "definition": "none: clap reads the words, and the contract of `tool` says which statuses there are"
     },

@@ -1,5 +1,6 @@
 /*
- * Teams from text: one as a team builder exports it, which plays against itself, and two with an error, whose place is printed.
+ * Teams from text: one as a team builder exports it, which is printed as a packed line and plays against itself, and two with an
+ * error, whose place is printed.
  *
  *     cc -O2 -I include examples/c/text.c crates/gen1_c/out/libgen1_c.a -o text
  *     ./text
@@ -38,12 +39,17 @@ int main(void) {
     gen1_team team;
     gen1_text_fault fault;
     gen1_battle battle;
+    char line[GEN1_TEAM_PACKED_ROOM];
+    size_t length;
 
     if (!show_fault(gen1_team_from_text, misspelt) || !show_fault(gen1_team_from_packed, misspelt_packed))
         return 1;
     if (gen1_team_from_text(text, strlen(text), &team, &fault) != 0 ||
         gen1_new(&battle, &team, &team, seed, 0, GEN1_LIMIT) != 0)
         return 1;
+    if (gen1_team_to_packed(&team, line, sizeof line, &length) != 0)
+        return 1;
+    printf("%s", line);
     while (GEN1_RESULT_OUTCOME(gen1_result(&battle)) == GEN1_OUTCOME_ONGOING)
         if (gen1_update_silent(&battle, first_choice(&battle, GEN1_ONE), first_choice(&battle, GEN1_TWO)) != 0)
             return 1;

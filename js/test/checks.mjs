@@ -141,8 +141,8 @@ function shownOf({one, two, turn, outcome}) {
 function traceCase(gen1, one) {
   const battle = gen1.battle(termsOf(one.object));
   const spectator = gen1.spectator(one.object.one, one.object.two);
-  const players = [1, 2].map(
-      (side) => [gen1.teller({side}), gen1.player({side, team: side === 1 ? one.object.one : one.object.two})]);
+  const players = [1, 2].map((side) => [gen1.teller({side, pixels: false}),
+                                 gen1.player({side, team: side === 1 ? one.object.one : one.object.two})]);
   for (const [number, update] of one.updates.entries()) {
     let log = "";
     let refused = null;

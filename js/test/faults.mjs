@@ -302,6 +302,13 @@ function bytes(gen1, check) {
         /^member 1, field 5: expected: the name of a move/);
     equal([fault.member, fault.field, fault.code], [1, 5, 73]);
     equal(thrown(() => gen1.teamFromPacked("Tauros||||"), TextError, /twelve fields/).member, 1);
+    for (const call of [gen1.teamToText, gen1.teamToPacked]) {
+      wrong(() => call.call(gen1, 5), /^team is 5, not /);
+      equal(thrown(() => call.call(gen1, []), TeamError, /^the team has no member/).code, 1);
+      const team = gen1.team([{species: "Mew", moves: ["Surf"]}, {species: "Mew", moves: ["Surf", ["Cut", 2]]}]);
+      const refused = thrown(() => call.call(gen1, team), TeamError, /^member 2: a move has other than 3 PP ups/);
+      equal([refused.code, refused.place, refused.field], [78, 2, "moves"]);
+    }
   });
 }
 

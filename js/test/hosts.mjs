@@ -250,7 +250,7 @@ function storedHosts(gen1, check, begun) {
     }
     const [room] = tableOf(gen1);
     room.forfeit(2);
-    equal(fnv(found, gen1.roomOfBytes(room.bytes).bytes).toString(16), "8838aaca0cf38fa3");
+    equal(fnv(found, gen1.roomOfBytes(room.bytes).bytes).toString(16), "7449e54fbf29f323");
   });
 }
 
@@ -260,7 +260,7 @@ function tableOf(gen1) {
     "Tauros||||BodySlam,HyperBeam,Blizzard,Earthquake|||||||]Chansey||||IceBeam,Thunderbolt,SoftBoiled|||||||",
     "Gengar||||Hypnosis,Dig,NightShade|||||||]Snorlax||||BodySlam,Substitute,Amnesia|||||||"
   ].map((it) => gen1.teamFromPacked(it));
-  const tellers = [gen1.teller({side: 1}), gen1.teller({side: 2, pixels: true})];
+  const tellers = [gen1.teller({side: 1, pixels: false}), gen1.teller({side: 2})];
   const players = [gen1.player({side: 1, team: one, foes: 2}), gen1.player({side: 2, team: two})];
   return told([gen1.room(gen1.battle({one, two, seed: SEED})), ...tellers, ...players, gen1.spectator(one, two)]);
 }
@@ -313,8 +313,8 @@ export function badHosts(gen1, check) {
   check("bytes of no host", () => {
     // The offset in a gen1_host, the byte, and the code. At turn 1 of 1,000, with nobody on a bench, 1,000 of 1,011 pairs may come.
     for (const [at, byte, code] of [[0, 9, 17], [384, 12, 80], [387, 255, 80], [389, 3, 81], [396, 29, 81],
-             [390, 18, 82], [391, 0, 83], [908, 2, 85], [909, 2, 85], [911, 1, 85], [916, 1, 86], [917, 0, 86],
-             [924, 4, 87], [925, 3, 88], [926, 2, 89], [927, 2, 89], [392, 1, 90], [395, 1, 90]]) {
+             [390, 18, 82], [391, 0, 83], [908, 2, 85], [909, 3, 85], [909, 2, 86], [911, 1, 85], [916, 1, 86],
+             [917, 0, 86], [924, 4, 87], [925, 3, 88], [926, 2, 89], [927, 2, 89], [392, 1, 90], [395, 1, 90]]) {
       const bytes = host.bytes;
       bytes[at] = byte;
       const fault = thrown(() => gen1.hostOfBytes(bytes), LoadError, /^the bytes are not a host: /);

@@ -74,7 +74,7 @@ function hosted() {
   thrown(() => seats[0].choiceIn("move 5"), ChoiceError, /^Can't move: Your Bob doesn't have a move 5$/);
   thrown(() => lines.report(host), ArgumentError, /^pair 0 came last, so the next one must be 1, not 0$/);
 
-  const simulator = showdown.simulator();
+  const simulator = showdown.simulator({hp: "exact"});
   simulator.take(`>start ${JSON.stringify({formatid: "gen1customgame", seed: SEED})}`);
   simulator.take(`>player p1 ${JSON.stringify({name: "Alice", team: TAUROS})}`);
   const begun = simulator.take(`>player p2 ${JSON.stringify({name: "Eve", team: MEW})}`).text;

@@ -113,6 +113,8 @@ const OF_GEN1 = {
   teller: true,
   teamFromText: true,
   teamFromPacked: true,
+  teamToText: true,
+  teamToPacked: true,
   odds: true,
   damage: true,
   base: true,
@@ -257,6 +259,7 @@ const OF_SEEN = {
   species: true,
   level: true,
   status: true,
+  asleepBy: true,
   hp: true,
   maxHp: true,
   moves: true
@@ -620,6 +623,7 @@ function battles(gen1) {
   holds(
       outcomes instanceof Outcomes && outcomes.whole > 0n && outcomes.at(0).battle instanceof Battle, "other outcomes");
   hasKeys(gen1.teamFromText("Tauros\n- Strength\n")[0], OF_WHOLE_MEMBER);
+  holds(gen1.teamToText(gen1.teamFromText("Tauros\n- Strength\n")) === "Tauros\n- Strength\n", "a team as text");
   hasKeys(battle.updateSilent(battle.choices(1)[0], battle.choices(2)[0]), {outcome: true, requests: true});
   /** @type {Uint8Array} */
   const bytes = gen1.load(battle.bytes.buffer).bytes;

@@ -208,12 +208,12 @@ function states(gen1, check) {
 
 // Of side 1 a Tauros, of side 2 a Starmie, Chansey and Gengar. Tauros uses Swords Dance while Gengar comes in from place 3, and then Seismic
 // Toss while Gengar uses Focus Energy. Their HP are 353, and 323, 703 and 323.
-function played(gen1, pixels, ...more) {
+function played(gen1, terms, ...more) {
   const one = [{species: "Tauros", moves: [["Swords Dance", 3], ["Seismic Toss", 3]]}];
   const two = ["Starmie", "Chansey", "Gengar"].map(
       (species, place) => ({species, moves: [["Focus Energy", 3], ...(place ? more : [])]}));
   const battle = gen1.battle({one, two, seed: SEED});
-  const [teller, player] = [gen1.teller({side: 1, pixels}), gen1.player({side: 1, team: one, foes: 3})];
+  const [teller, player] = [gen1.teller({side: 1, ...terms}), gen1.player({side: 1, team: one, foes: 3})];
   for (const pair of [["pass", "pass"], ["move 1", "switch 3"], ["move 2", "move 1"]])
     teller.report(battle, battle.update(...pair).log, player);
   return player;
@@ -222,8 +222,8 @@ function played(gen1, pixels, ...more) {
 // docs/MECHANICS.md, "Player's view".
 function players(gen1, check) {
   check("what a player knows of the foe", () => {
-    const {turn, outcome, foes, foe} = played(gen1, false).view;
-    const starmie = {species: "Starmie", level: 100, status: "none", hp: 323, maxHp: 323, moves: []};
+    const {turn, outcome, foes, foe} = played(gen1, {pixels: false}).view;
+    const starmie = {species: "Starmie", level: 100, status: "none", asleepBy: null, hp: 323, maxHp: 323, moves: []};
     const gengar = {...starmie, species: "Gengar", hp: 223, moves: [{name: "Focus Energy", uses: 1}]};
     equal([turn, outcome, foes, foe.members], [3, "ongoing", 3, [starmie, gengar]]);
     const active = {
@@ -234,11 +234,17 @@ function players(gen1, check) {
       announced: ["focus energy"]
     };
     equal(foe.active, active);
-    // In 48ths 323 is 48, and 223 is 48 * 223 / 323 = 33.
-    equal(played(gen1, true).view.foe.members, [{...starmie, hp: 48, maxHp: 48}, {...gengar, hp: 33, maxHp: 48}]);
+    // As the bar 323 is 48, and 223 is 12 * 223 / 80 = 33. In hundredths 223 is 100 * 223 / 323 = 69.04, rounded up.
+    const told = (terms) => played(gen1, terms).view.foe.members;
+    equal(told({}), [{...starmie, hp: 48, maxHp: 48}, {...gengar, hp: 33, maxHp: 48}]);
+    equal(told({hpForm: "bar"}), told({}));
+    equal(told({pixels: true}), told({}));
+    equal(told({pixels: false}), [starmie, gengar]);
+    equal(told({hpForm: "exact", pixels: true}), [starmie, gengar]);
+    equal(told({hpForm: "hundredths"}), [{...starmie, hp: 100, maxHp: 100}, {...gengar, hp: 70, maxHp: 100}]);
   });
   check("what a player knows of itself", () => {
-    const player = played(gen1, true);
+    const player = played(gen1, {pixels: true});
     const {own, ownPublic} = player.view;
     const tauros = {
       species: "Tauros",
@@ -265,11 +271,11 @@ function players(gen1, check) {
     const {own, ownPublic, foe, foes} = player.view;
     equal([own, foe, foes, player.choices, player.side], [null, {members: [], active: null}, null, [], 2]);
     equal([ownPublic.members.map(({hp, moves}) => [hp, moves]), ownPublic.active], [[[353, []], [703, []]], null]);
-    equal(played(gen1, false).view, played(gen1, false, ["Psychic", 0]).view);
+    equal(played(gen1, {pixels: false}).view, played(gen1, {pixels: false}, ["Psychic", 0]).view);
   });
   check("what is told in pieces", () => {
     const battle = gen1.battle({one: PAIR, two: PAIR, seed: SEED});
-    const [teller, whole] = [gen1.teller({side: 2}), gen1.player({side: 2, team: PAIR})];
+    const [teller, whole] = [gen1.teller({side: 2, pixels: false}), gen1.player({side: 2, team: PAIR})];
     const told = teller.tell(battle.update("pass", "pass").log);
     const pieces = whole.clone();
     whole.feed(told);
@@ -316,7 +322,7 @@ function inWords(gen1, check) {
 function guessing(gen1) {
   const one = [{species: "Tauros", moves: [["Body Slam", 3]]}];
   const battle = gen1.battle({one, two: [ALAKAZAM, {species: "Chansey", moves: [["Ice Beam", 3]]}], seed: SEED});
-  const [teller, player] = [gen1.teller({side: 1}), gen1.player({side: 1, team: one})];
+  const [teller, player] = [gen1.teller({side: 1, pixels: false}), gen1.player({side: 1, team: one})];
   for (const choice of ["pass", "move 1"]) teller.report(battle, battle.update(choice, choice).log, player);
   return player;
 }
@@ -347,6 +353,8 @@ function guesses(gen1, check) {
     told.feed(Uint8Array.of(18, 2, 65, 3, 18, 2, 65, 1, 18, 2, 65, 12));
     const out = Battle.fromPlayer(told, {team: [ALAKAZAM], seed: SEED}).state.two.active;
     equal([out.conditions, out.substitute, out.confusion], [["confused", "substitute"], 78, 3]);
+    // The use of Rage explains it.
+    told.feed(Uint8Array.of(3, 2, 65, 99, 1, 128, 18, 2, 65, 12));
     const raging = {...ALAKAZAM, moves: [["Psychic", 3], ["Rage", 3]]};
     const {conditions, currentMove, keptAccuracy} =
         Battle.fromPlayer(told, {team: gen1.team([raging]), seed: SEED}).state.two.active;
@@ -473,6 +481,15 @@ function texts(gen1, check) {
     const [one, two] = gen1.teamFromPacked(line);
     equal([one.species, one.moves, one.exp, two.species],
         ["Tauros", [["Body Slam", 3], ["Hyper Beam", 3]], [0, 16, 0, 0, 0], "Starmie"]);
+  });
+  check("a team as text", () => {
+    const team = gen1.teamFromText(
+        "Bob (Tauros)\nLevel: 88\nIVs: 0 Atk\n- Body Slam\n\nMr. Mime\nEVs: 255 HP / 4 Spe\n- Psychic\n- Double-Edge\n");
+    const one = "Tauros\nLevel: 88\nIVs: 14 HP / 0 Atk\n- Body Slam\n";
+    const two = "Mr. Mime\nEVs: 252 HP / 0 Atk / 0 Def / 0 SpA / 0 SpD / 4 Spe\n- Psychic\n- Double-Edge\n";
+    equal(gen1.teamToText(team), `${one}\n${two}`);
+    equal(gen1.teamToPacked(gen1.team(team)),
+        "Tauros||||bodyslam||||14,0,,,,||88|]Mr. Mime||||psychic,doubleedge||252,0,0,0,0,4|||||\n");
   });
   check("every name is the library's", () => {
     for (const name of library.SPECIES) equal(gen1.teamFromText(`${name}\n- Pound\n`)[0].species, name);

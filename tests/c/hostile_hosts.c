@@ -28,14 +28,14 @@ static void try_host_begin(void) {
     gen1_host due;
     memset(&due, 0, sizeof due);
     due.room.battle = some_battle(&is_valid);
-    uint8_t pixels = any_byte(), may_cancel = any_byte(), late_forfeits = any_byte();
+    uint8_t form = one_in(4) ? GEN1_HP_HUNDREDTHS : any_byte(), may_cancel = any_byte(), late_forfeits = any_byte();
     gen1_host *host = block(0, sizeof *host);
     host->room.battle = due.room.battle;
     note();
-    gen1_host_begin(host, pixels, may_cancel, late_forfeits);
+    gen1_host_begin(host, form, may_cancel, late_forfeits);
     gen1_room_begin(&due.room);
-    gen1_teller_begin(&due.one, GEN1_ONE, pixels);
-    gen1_teller_begin(&due.two, GEN1_TWO, pixels);
+    gen1_teller_begin(&due.one, GEN1_ONE, form);
+    gen1_teller_begin(&due.two, GEN1_TWO, form);
     due.may_cancel = may_cancel != 0;
     due.late_forfeits = late_forfeits != 0;
     tell("gen1_host_begin", changed_only(0, sizeof *host) && memcmp(host, &due, sizeof due) == 0, 0, 0);

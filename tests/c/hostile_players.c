@@ -106,22 +106,22 @@ static void try_player_show(void) {
 }
 
 static void try_teller_begin(void) {
-    uint8_t side = some_side(), pixels = any_byte();
+    uint8_t side = some_side(), form = one_in(4) ? GEN1_HP_HUNDREDTHS : any_byte();
     gen1_teller *teller = block(0, sizeof *teller);
     note();
-    uint8_t got = gen1_teller_begin(teller, side, pixels), want = is_side(side) ? 0 : GEN1_ERROR_SIDE;
-    bool is_right = got != 0
-                        ? unchanged()
-                        : changed_only(0, sizeof *teller) && teller->side == side && teller->pixels == (pixels != 0);
+    uint8_t known = form == GEN1_HP_HUNDREDTHS ? form : form != GEN1_HP_EXACT;
+    uint8_t got = gen1_teller_begin(teller, side, form), want = is_side(side) ? 0 : GEN1_ERROR_SIDE;
+    bool is_right =
+        got != 0 ? unchanged() : changed_only(0, sizeof *teller) && teller->side == side && teller->pixels == known;
     tell("gen1_teller_begin", got == want && is_right, got, want);
 }
 
-/* What is told has as many bytes as the log; without pixels it differs from it in places of the foe's members alone. */
+/* What is told has as many bytes as the log; with exact HP it differs from it in places of the foe's members alone. */
 static void try_tell(void) {
     size_t count, room = draw(GUARDED_ROOM / 4);
     const uint8_t *log = some_log(&count);
     gen1_teller from;
-    gen1_teller_begin(&from, (uint8_t)(1 + draw(2)), (uint8_t)draw(2));
+    gen1_teller_begin(&from, (uint8_t)(1 + draw(2)), (uint8_t)draw(3));
     for (uint32_t changes = one_in(4) ? draw(9) : 0; changes > 0; changes--)
         ((uint8_t *)&from)[draw(sizeof from)] = any_byte();
     gen1_teller *teller = block_of(1, &from, sizeof from);
@@ -136,6 +136,72 @@ static void try_tell(void) {
                     : got != 0            ? is_code && unchanged()
                                           : changed_only_these(sizes) && *length == count;
     tell("gen1_tell", is_right, got, 0);
+}
+
+static uint8_t last_move_of(const gen1_side_state *side) {
+    uint8_t slot = side->active.current_move;
+    return slot == 5 ? GEN1_MOVE_STRUGGLE : slot == 0 ? 0 : side->members[side->active.place - 1].moves[slot - 1];
+}
+
+/* A player that has seen the whole foe of a battle of lawful play, and a guess with its moves. */
+static void player_of(const gen1_battle *of, uint8_t side, gen1_player *player, gen1_guess *guess) {
+    gen1_state state;
+    gen1_own_side own;
+    gen1_get_state(of, &state);
+    gen1_get_own_side(of, side, &own);
+    memset(player, 0, sizeof *player);
+    memset(guess, 0, sizeof *guess);
+    player->side = side;
+    gen1_player_show(player, &own, 0);
+    const gen1_side_state *foe = &state.sides[2 - side];
+    gen1_public_side *known = &player->known.sides[2 - side];
+    for (int at = 0; at < 6 && foe->members[at].species != 0; at++) {
+        const gen1_member_state *it = &foe->members[at];
+        gen1_member *member = &guess->team.members[guess->team.count++];
+        member->species = it->species, member->level = it->level;
+        memcpy(member->moves, it->moves, sizeof it->moves);
+        known->members[at] = (gen1_seen){.hp = it->hp, .max = it->max_hp, .species = it->species};
+        known->members[at].level = it->level, known->members[at].status = it->status;
+    }
+    memcpy(known->stages, foe->active.stages, sizeof known->stages);
+    known->place = foe->active.place, known->last_move = last_move_of(foe);
+    player->known.sides[side - 1].last_move = last_move_of(&state.sides[side - 1]);
+    player->known.outcome = state.outcome;
+    guess->limit = 9999, guess->rules = state.rules;
+}
+
+/* The battle shows the player its own side as it was shown. Where bytes were changed it is refused, or a battle that gen1_load takes. */
+static void try_battle_from_player(void) {
+    gen1_battle of = met[draw(MET)], loaded;
+    uint8_t side = (uint8_t)(1 + draw(2)), result = gen1_result(&of);
+    gen1_player from;
+    gen1_guess asked;
+    player_of(&of, side, &from, &asked);
+    bool is_lawful = one_in(3);
+    for (uint32_t changes = is_lawful ? 0 : 1 + draw(9); changes > 0; changes--)
+        if (one_in(4))
+            ((uint8_t *)&asked)[draw(sizeof asked)] = any_byte();
+        else
+            ((uint8_t *)&from)[draw(sizeof from)] = any_byte();
+    gen1_battle *battle = block(0, sizeof *battle);
+    const gen1_player *player = block_of(1, &from, sizeof from);
+    const gen1_guess *guess = block_of(2, &asked, sizeof asked);
+    gen1_guess_fault *fault = block(3, sizeof *fault);
+    note();
+    uint32_t got = gen1_battle_from_player(battle, player, guess, fault);
+    bool is_fault = got == GEN1_ERROR_STATE || (got >= GEN1_ERROR_NOT_GOING_ON && got <= GEN1_ERROR_GUESS_MOVE);
+    bool is_right =
+        got == 0 ? changed_only(0, sizeof *battle) && gen1_load(&loaded, battle->bytes, sizeof battle->bytes) == 0
+        : is_fault
+            ? !(is_lawful && got != GEN1_ERROR_NOT_GOING_ON) && changed_only(3, sizeof *fault) && fault->unused == 0
+            : !is_lawful && GEN1_CODE_OF(got) <= GEN1_ERROR_TURN_LIMIT && unchanged();
+    if (is_lawful) {
+        gen1_own_side own;
+        gen1_get_own_side(got == 0 ? battle : &of, side, &own);
+        is_right &= (got == 0) == (from.own.place != 0 && GEN1_RESULT_OUTCOME(result) == GEN1_OUTCOME_ONGOING) &&
+                    memcmp(&own, &from.own, sizeof own) == 0;
+    }
+    tell("gen1_battle_from_player", is_right, (long)got, 0);
 }
 
 /* ---- states and chances ---- */
@@ -235,6 +301,16 @@ static void try_recoil(void) {
     tell("gen1_recoil", got == want && unchanged(), got, want);
 }
 
-try_call *const tries_of_players[] = {try_player_begin,       try_player_feed, try_get_own_side, try_player_show,
-                                      try_teller_begin,       try_tell,        try_set_state,    try_knock_out,
-                                      try_knock_out_in_three, try_drained,     try_recoil,       NULL};
+try_call *const tries_of_players[] = {try_player_begin,
+                                      try_player_feed,
+                                      try_get_own_side,
+                                      try_player_show,
+                                      try_battle_from_player,
+                                      try_teller_begin,
+                                      try_tell,
+                                      try_set_state,
+                                      try_knock_out,
+                                      try_knock_out_in_three,
+                                      try_drained,
+                                      try_recoil,
+                                      NULL};

@@ -1,4 +1,4 @@
-/* Calls that read teams from text, with texts that are not a team (hostile.c). */
+/* Calls that read teams from text and write them, with texts that are not a team and teams that have no text (hostile.c). */
 #include "lawful.h"
 
 #include <string.h>
@@ -40,4 +40,53 @@ static void try_team_from_packed(void) {
     try_team("gen1_team_from_packed", gen1_team_from_packed, team_packed, sizeof team_packed - 1);
 }
 
-try_call *const tries_of_texts[] = {try_team_from_text, try_team_from_packed, NULL};
+typedef uint32_t writing(const gen1_team *team, char *text, size_t room, size_t *length);
+
+/* The result that a team must have where there is room: its error, or the first member with other than three PP ups. */
+static uint32_t fault_of_writing(const gen1_team *team) {
+    uint32_t fault = fault_of_new(team, team, 0, GEN1_LIMIT) & 0xffff;
+    for (uint32_t place = 1; fault == 0 && place <= team->count; place++)
+        for (int slot = 0; slot < 4; slot++)
+            if (team->members[place - 1].moves[slot] != 0 && team->members[place - 1].pp_ups[slot] != 3)
+                fault = 256 * place + GEN1_ERROR_UNWRITABLE;
+    return fault;
+}
+
+/* The text of a team is read as one that has the same text. */
+static void try_writing(const char *call, writing *write, reading *read, size_t most) {
+    gen1_team given = lawful_team();
+    for (int at = 0; at < 24 && !one_in(32); at++)
+        given.members[at / 4].pp_ups[at % 4] = 3;
+    for (uint32_t times = one_in(2) ? 0 : draw(3); times > 0; times--)
+        spoil(&given);
+    char whole[GEN1_TEAM_TEXT_ROOM], again[GEN1_TEAM_TEXT_ROOM];
+    size_t count = 0, same = 0, room = one_in(2) ? most : draw((uint32_t)most);
+    uint32_t want = fault_of_writing(&given), all = write(&given, whole, most, &count);
+    const gen1_team *team = block_of(0, &given, sizeof given);
+    char *text = block(1, room);
+    size_t *length = block(2, sizeof *length);
+    note();
+    uint32_t got = write(team, text, room, length), due = want != 0 ? want : count < room ? 0 : GEN1_ERROR_SMALL_TEXT;
+    bool is_right = all == want && got == due;
+    if (got != 0)
+        is_right &= unchanged();
+    else {
+        gen1_team back;
+        gen1_text_fault fault;
+        is_right &= changed_only_two(1, count + 1, 2, sizeof *length) && *length == count && text[count] == '\0' &&
+                    read(text, count, &back, &fault) == 0 && write(&back, again, most, &same) == 0 && same == count &&
+                    memcmp(text, again, count) == 0;
+    }
+    tell(call, is_right, (long)got, (long)due);
+}
+
+static void try_team_to_text(void) {
+    try_writing("gen1_team_to_text", gen1_team_to_text, gen1_team_from_text, GEN1_TEAM_TEXT_ROOM);
+}
+
+static void try_team_to_packed(void) {
+    try_writing("gen1_team_to_packed", gen1_team_to_packed, gen1_team_from_packed, GEN1_TEAM_PACKED_ROOM);
+}
+
+try_call *const tries_of_texts[] = {try_team_from_text, try_team_from_packed, try_team_to_text, try_team_to_packed,
+                                    NULL};

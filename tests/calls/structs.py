@@ -233,6 +233,8 @@ def declare(calls):
         ("gen1_walk_next", c_uint8, [ctypes.c_char_p, POINTER(Way)]),
         ("gen1_team_from_text", c_uint8, [ctypes.c_char_p, size, POINTER(gen1.Team), POINTER(TextFault)]),
         ("gen1_team_from_packed", c_uint8, [ctypes.c_char_p, size, POINTER(gen1.Team), POINTER(TextFault)]),
+        ("gen1_team_to_text", c_uint32, [POINTER(gen1.Team), ctypes.c_char_p, size, POINTER(size)]),
+        ("gen1_team_to_packed", c_uint32, [POINTER(gen1.Team), ctypes.c_char_p, size, POINTER(size)]),
     ):
         call = getattr(calls, name)
         call.restype, call.argtypes = answer, takes

@@ -1,6 +1,8 @@
 """Teams: as text, refused by the rules, and the stats of their members (include/gen1.h; docs/TEAM_TEXT.md; docs/MECHANICS.md, "Stats")."""
 
+import ctypes
 import json
+import re
 from ctypes import byref, c_uint16
 from math import isqrt
 
@@ -53,6 +55,63 @@ def test_texts(library, battles, checks):
                 (code, bytes(team).hex(), fault.line, fault.code),
                 (0, bytes(want).hex(), KEPT, KEPT),
             )
+
+
+STATS = ("HP", "Atk", "Def", "SpA", "SpD", "Spe")
+
+
+def spread(it):
+    """The EVs and IVs of a member in the order of STATS (docs/TEAM_TEXT.md, "Writing")."""
+    attack, defense, speed, special = it["dvs"]
+    hp = attack % 2 * 8 + defense % 2 * 4 + speed % 2 * 2 + special % 2
+    roots = [min(252, isqrt(exp - 1) + 1 if exp else 0) for exp in it["exp"]]
+    ivs = [31 if dv == 15 else 2 * dv for dv in (hp, attack, defense, special, special, speed)]
+    return [roots[at] for at in (0, 1, 2, 4, 4, 3)], ivs
+
+
+def block_due(it):
+    evs, ivs = spread(it)
+    lines = [it["species"], *([] if it["level"] == 100 else [f"Level: {it['level']}"])]
+    if any(ev != 252 for ev in evs):
+        lines.append("EVs: " + " / ".join(f"{ev} {stat}" for ev, stat in zip(evs, STATS)))
+    said = [f"{iv} {stat}" for iv, stat in zip(ivs, STATS) if iv != 31]
+    return "\n".join(
+        [*lines, *(["IVs: " + " / ".join(said)] if said else []), *(f"- {name}" for name, _ in it["moves"]), ""]
+    )
+
+
+def packed_due(it):
+    evs, ivs = (",".join(map(str, numbers)) for numbers in spread(it))
+    fields = [""] * 12
+    fields[0], fields[4] = it["species"], ",".join(re.sub("[^a-z0-9]", "", name.lower()) for name, _ in it["moves"])
+    fields[6] = {"252,252,252,252,252,252": "", "0,0,0,0,0,0": "0"}.get(evs, evs)
+    fields[8] = "" if ivs == "31,31,31,31,31,31" else re.sub(r"\b31\b", "", ivs)
+    fields[10] = "" if it["level"] == 100 else str(it["level"])
+    return "|".join(fields)
+
+
+def written(call, team, room):
+    text, length = ctypes.create_string_buffer(b"?" * room, room), ctypes.c_size_t(KEPT)
+    code = call(byref(team), text, room, byref(length))
+    return code, text.raw[: length.value + 1] if code == 0 else (text.raw == b"?" * room, length.value)
+
+
+def test_written_texts(library, battles, checks):
+    """Compares the recorded teams as text with docs/TEAM_TEXT.md, "Writing"; and the codes of teams that have none."""
+    text, packed = library.calls.gen1_team_to_text, library.calls.gen1_team_to_packed
+    for case in cases(recorded("battles.jsonl", battles)):
+        members = [{**it, "moves": [(name, 3) for name, _ in it["moves"]]} for it in json.loads(case["input"])["one"]]
+        team = gen1.team([member(it) for it in members])
+        due = "\n".join(map(block_due, members)).encode() + b"\0"
+        checks.same(f"text of {case['name']}", written(text, team, 1408), (0, due))
+        line = "]".join(map(packed_due, members)).encode() + b"\n\0"
+        checks.same(f"line of {case['name']}", written(packed, team, 832), (0, line))
+        checks.same(f"room of {case['name']}", written(packed, team, len(line) - 1), (41, (True, KEPT)))
+    it = {"species": "Mew", "level": 5, "dvs": [15] * 4, "exp": [0] * 5}
+    for moves, code in (([("Surf", 3), ("Cut", 2)], 78), ([("Surf", 3)] * 2, 8), ([], 5), ([("Cut", 4)], 9)):
+        team = gen1.team([member({**it, "moves": given}) for given in ([("Cut", 3)], moves)])
+        for call in (text, packed):
+            checks.same(f"code {code} of a team", written(call, team, 1408), (512 + code, (True, KEPT)))
 
 
 def test_faults_of_texts(library, checks):

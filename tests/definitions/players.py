@@ -1,6 +1,6 @@
 """What the log makes public, next to the state of each recorded battle: the fold of crates/gen1_player/specs/Public.antt. And the same fold
 over what each side is told (Telling.antt), next to the fold over the log: it differs in the order of the foe's members, and in their HP
-where it is told in pixels.
+where it is told as the bar or in hundredths.
 """
 
 from collections import Counter
@@ -57,17 +57,19 @@ class Players:
 
     def fault(self, battle):
         """The first difference in a battle, after any of its updates; None where there is none."""
-        state, public, lost = self.machine.begin(battle), self.first, Counter()
-        players = [Told(self, side, pixels) for side, pixels in ((1, 0), (2, 1))]
+        state, public, lost, sleepers = self.machine.begin(battle), self.first, Counter(), Sleepers()
+        players = [Told(self, side, pixels) for side, pixels in ((1, 0), (2, 1), (1, 2))]
         for number, pair in enumerate(battle.pairs):
             stepped = self.machine.step(state, *map(self.machine.choice, pair))
             for event in events_of(stepped.answer):
                 public = self.hears(event, public)
+                sleepers.hear(event)
                 for player in players:
                     player.hear(event)
             lost.update(self.lost(state.field, stepped.state.field))
             state = stepped.state
-            for what, told, held in chain(self.parts(state.field, public), self.uses(state.field, public, lost)):
+            uses, slept = self.uses(state.field, public, lost), self.sleeps(state.field, public, sleepers, battle.rules)
+            for what, told, held in chain(self.parts(state.field, public), uses, slept):
                 if told != held:
                     return f"update {number}, {what}: {told} is public, and the state has {held}"
             for player in players:
@@ -94,6 +96,17 @@ class Players:
             if move.id in MAY_GO_ON:
                 spent = max(min(spent, counted), min(spent, 1))
             yield f"side {slot[0]}, place {slot[1] + 1}, uses of {move.id}", counted, spent
+
+    def sleeps(self, field, public, sleepers, rules):
+        """How each member fell asleep: by whose move was used last before. Under the sleep clause its mark says the same."""
+        for name in ("one", "two"):
+            for place, member in enumerate(getattr(field, name).members, 1):
+                by = getattr(public, name).members[place - 1].asleep_by
+                if member.status[0] != "Status.Asleep":
+                    yield f"side {name}, place {place}, awake", by in (0, 3), True
+                    continue
+                yield f"side {name}, place {place}, asleep by", by, sleepers.by[name, place]
+                yield f"side {name}, place {place}, mark", by == 1 and rules % 2 == 1, member.status[2]
 
     def parts(self, field, public):
         """Each part of what is public, with the state's."""
@@ -128,6 +141,24 @@ class Players:
                 yield f"{where}, {name}", getattr(side if name == "invulnerable" else side.announced, name), int(bit)
 
 
+class Sleepers:
+    """Why members fell asleep, by the last use of a move before: 1 by a move of the foe, 2 by their own."""
+
+    def __init__(self):
+        self.places, self.mover, self.by = {}, None, {}
+
+    def hear(self, event):
+        if event[0] not in ("Event.Switch", "Event.Move", "Event.Status"):
+            return
+        side = "one" if event[1].side[0] == "Side.One" else "two"
+        if event[0] == "Event.Switch":
+            self.places[side] = event[2]
+        elif event[0] == "Event.Move":
+            self.mover = side
+        elif event[2][0] == "Kind.Sleep":
+            self.by[side, self.places[side]] = 2 if self.mover == side else 1
+
+
 class Told:
     """A side that is told a log, and what that makes public."""
 
@@ -151,6 +182,10 @@ class Told:
 
     def seen(self, member):
         """A member of the foe with its HP as it is told."""
-        if not self.teller.pixels:
-            return member
-        return member._replace(hp=max(1, 48 * member.hp // member.max) if member.hp else 0, max=48)
+        hp, most = member.hp, member.max
+        if self.teller.pixels == 1:
+            part = 12 * hp // (most // 4) if most > 255 else 48 * hp // most
+            return member._replace(hp=max(1, part) if hp else 0, max=48)
+        if self.teller.pixels == 2:
+            return member._replace(hp=min(-(-100 * hp // most), 100 if hp == most else 99), max=100)
+        return member

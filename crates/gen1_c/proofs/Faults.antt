@@ -1,11 +1,13 @@
 -- What a team of the C library consists of, and where it is wrong.
-use Rattle.std.proofs.Common.{List, None, Some, [], ap, arith, false, get_or, length, map, nat_lt, refl, take, sym, ℕ, ◌≡◌, ◌≤◌, ◌∙◌, ◌∷◌}
-use Rattle.std.proofs.lemmas.Bool.Decides.{nat_tests}
+use Rattle.std.proofs.Common.{Err, List, None, Ok, Option, Some, [], arith, get_or, length, map, refl, take, sym, ℕ, ◌≡◌, ◌∷◌}
 use Rattle.std.proofs.lemmas.List.{take-map}
 use Rattle.gen1_stats.specs.Sheets.{Sheet}
 use Rattle.gen1_stats.specs.Teams.{team_refusal}
 use Rattle.gen1_stats.specs.declared.refusal.TeamRefusal.{TeamRefusal}
-use Rattle.gen1_c.specs.Teams.{fault_of, first_fault, given, sheet_of, sheets_of, team_fault}
+use Rattle.gen1_writer.specs.Written.{write_refusal}
+use Rattle.gen1_writer.specs.declared.fault.WriteFault.{WriteFault}
+use Rattle.gen1_c.specs.TeamText.{of_write, written_due}
+use Rattle.gen1_c.specs.Teams.{fault_of, number_fault, sheet_of, sheets_of, team_fault}
 use Rattle.gen1_c.specs.declared.teams.MemberForm.{MemberForm}
 use Rattle.gen1_c.specs.declared.teams.TeamForm.{TeamForm}
 
@@ -22,23 +24,35 @@ six f (a ∷ b ∷ c ∷ x ∷ []) d long = absurd (omega arith)
 six f (a ∷ b ∷ c ∷ x ∷ y ∷ []) d long = absurd (omega arith)
 
 -- the members of a team, made of six structs
-pub sheets-of : (t : TeamForm) (d : MemberForm) (n : ℕ) (a b c x y z : Sheet) → length t.members ≡ 6 → n ≡ t.count
+pub six_sheets : (t : TeamForm) (d : MemberForm) (a b c x y z : Sheet) → length t.members ≡ 6
     → a ≡ sheet_of (get_or t.members 0 d) → b ≡ sheet_of (get_or t.members 1 d) → c ≡ sheet_of (get_or t.members 2 d)
     → x ≡ sheet_of (get_or t.members 3 d) → y ≡ sheet_of (get_or t.members 4 d) → z ≡ sheet_of (get_or t.members 5 d)
-    → take n (a ∷ b ∷ c ∷ x ∷ y ∷ z ∷ []) ≡ sheets_of t
-sheets-of t d n a b c x y z long count ea eb ec ex ey ez =
-    rw (ea, eb, ec, ex, ey, ez, count) (ap (take t.count) (sym (six sheet_of t.members d long)) ∙ take-map sheet_of t.count t.members)
+    → a ∷ b ∷ c ∷ x ∷ y ∷ z ∷ [] ≡ map sheet_of t.members
+six_sheets t d a b c x y z long ea eb ec ex ey ez = rw (ea, eb, ec, ex, ey, ez) (sym (six sheet_of t.members d long))
 
--- the error of a team of at most six, whose numbers are all in their ranges
+-- those that count
+pub sheets-of : (t : TeamForm) (all : List Sheet) (n : ℕ) → all ≡ map sheet_of t.members → n ≡ t.count → take n all ≡ sheets_of t
+sheets-of t all n is count = rw (is, count) (take-map sheet_of t.count t.members)
 
-pub fault-none : (t : TeamForm) → nat_lt 6 t.count ≡ false → first_fault 1 (given t) ≡ 0 → team_refusal (sheets_of t) ≡ None → team_fault t ≡ 0
+-- the error of a team whose numbers are all in their ranges
+
+pub fault-none : (t : TeamForm) → number_fault t ≡ 0 → team_refusal (sheets_of t) ≡ None → team_fault t ≡ 0
 unfolding team_fault
-fault-none t few none fine = rw (few, none, fine) refl
+fault-none t none fine = rw (none, fine) refl
 
-pub fault-rules : (t : TeamForm) (refusal : TeamRefusal) → nat_lt 6 t.count ≡ false → first_fault 1 (given t) ≡ 0 → team_refusal (sheets_of t) ≡ Some refusal
-    → team_fault t ≡ fault_of refusal
+pub fault-rules : (t : TeamForm) (refusal : TeamRefusal) → number_fault t ≡ 0 → team_refusal (sheets_of t) ≡ Some refusal → team_fault t ≡ fault_of refusal
 unfolding team_fault
-fault-rules t refusal few none why = rw (few, none, why) refl
+fault-rules t refusal none why = rw (none, why) refl
 
-pub few : (n : ℕ) → n ≤ 6 → nat_lt 6 n ≡ false
-few n h = grind (arith, nat_tests)
+-- the text of a team, and the code of one that has none
+
+pub due_refusal : (write : List Sheet → List ℕ) (t : TeamForm) (fault : WriteFault) → number_fault t ≡ 0 → write_refusal (sheets_of t) ≡ Some fault
+    → written_due write t ≡ Err (of_write fault)
+due_refusal write t fault none why = rw (none, why) refl
+
+pub due_text : (write : List Sheet → List ℕ) (t : TeamForm) → number_fault t ≡ 0 → write_refusal (sheets_of t) ≡ None
+    → written_due write t ≡ Ok (write (sheets_of t))
+due_text write t none fine = rw (none, fine) refl
+
+pub not_refused : (o : Option WriteFault) (fault : WriteFault) → o ≡ Some fault → o ≡ None → ⊥
+not_refused o fault some none = cc

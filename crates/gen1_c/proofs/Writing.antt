@@ -9,7 +9,7 @@ use Rattle.gen1_machine.specs.State.{Field, known_in, member_at, member_in, part
 use Rattle.gen1_c.specs.Choices.{move_words, switch_words}
 use Rattle.gen1_c.proofs.Hits.{not_zero}
 use Rattle.gen1_c.proofs.WrittenChoices.{front_more}
-use Rattle.gen1_c.specs.Fronts.{Room, Writes, ended, over_front}
+use Rattle.gen1_c.specs.Fronts.{Room, Writes, WritesIf, ended, over_front}
 use Rattle.gen1_c.specs.Names.{Tells, numbered}
 
 -- the expected text is written, or the code says why not
@@ -19,6 +19,14 @@ written old new code e h = subst (λ (due : Result (List ℕ) ℕ). Writes due o
 
 pub refused : {due : Result (List ℕ) ℕ} {why : ℕ} (old : Room) → due ≡ Err why → Writes due old old why
 refused {why = why} old e = subst (λ (due : Result (List ℕ) ℕ). Writes due old old why) (sym e) (refl, refl)
+
+-- a text that fits is written
+pub written_fits : (text : List ℕ) (old new : Room) (code : ℕ) → Writes (Ok text) old new code → length text < length old.bytes → code ≡ 0
+written_fits text old new code h fits = by (nat_lt (length text) (length old.bytes)) refl h
+  where
+    by : (b : Bool) → nat_lt (length text) (length old.bytes) ≡ b → WritesIf b text old new code → code ≡ 0
+    by true e h = h.0
+    by false e h = absurd (grind (arith, nat_tests, fits, e))
 
 -- a text at the beginning, and a zero after it
 pub ended_writes : (text old now : List ℕ) (count n : ℕ) → count ≡ length text → count < length old → now ≡ over_front text old

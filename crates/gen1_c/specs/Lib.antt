@@ -4,6 +4,8 @@ pub mod Fronts
 pub mod Codes
 -- Teams as plain structs.
 pub mod Teams
+-- A guess of what a player can't know.
+pub mod Guesses
 -- How a battle begins.
 pub mod Battle
 -- What updates return, and what is offered.

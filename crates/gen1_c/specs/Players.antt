@@ -1,14 +1,13 @@
 -- The codes of players, and what they are told (include/gen1.h, "players").
-use Rattle.std.specs.Prelude.{List, if◌then◌else◌, length, nat_le, not, replicate, ℕ, ◌&&◌, ◌+◌, ◌<◌, ◌==◌, ◌≡◌, ◌≢◌, ◌≤◌}
+use Rattle.std.specs.Prelude.{List, if◌then◌else◌, length, nat_le, replicate, ℕ, ◌&&◌, ◌+◌, ◌<◌, ◌==◌, ◌≡◌, ◌≢◌, ◌≤◌}
 use Rattle.gen1_machine.specs.declared.event.Event.{Event}
-use Rattle.gen1_machine.specs.Rules.{bit_of}
 use Rattle.gen1_events.specs.declared.fault.LogFault.{LogFault}
 use Rattle.gen1_events.specs.Faults.{number_of}
 use Rattle.gen1_events.specs.Reader.{Breaks}
 use Rattle.gen1_events.specs.Splits.{IsReading, Splits}
 use Rattle.gen1_player.specs.declared.teller.Teller.{Teller}
 use Rattle.gen1_player.specs.Retelling.{HasFault}
-use Rattle.gen1_player.specs.Telling.{meets_all, told_all}
+use Rattle.gen1_player.specs.Telling.{form_number, form_of, meets_all, told_all}
 use Rattle.gen1_c.specs.Fronts.{over_front}
 
 abbrev pub side_code : ℕ → ℕ
@@ -26,7 +25,7 @@ abbrev pub BreaksOff : LogFault → List ℕ → Type 0
 BreaksOff fault bytes = (events : List Event) × (rest : List ℕ) × Splits bytes events rest × Breaks fault rest
 
 abbrev pub first_teller : ℕ → ℕ → Teller
-first_teller side pixels = record { side = side; pixels = bit_of (not (pixels == 0)); places = replicate 6 0 }
+first_teller side hp_form = record { side = side; pixels = form_number (form_of hp_form); places = replicate 6 0 }
 
 -- a teller, the caller's memory, and the number that it keeps beside it
 pub record Telling : Type 0 where

@@ -1,5 +1,5 @@
--- Teams read from text into plain structs, and where a text is wrong (include/gen1.h, "teams out of text"; docs/TEAM_TEXT.md).
-use Rattle.std.specs.Prelude.{Err, List, None, Ok, Result, Some, [], length, map, replicate, slice_index_or, ℕ, ◌≡◌, ◌∷◌}
+-- Teams read from text into plain structs, where a text is wrong, and teams written as text (include/gen1.h, "teams as text"; docs/TEAM_TEXT.md).
+use Rattle.std.specs.Prelude.{Err, List, None, Ok, Option, Result, Some, [], if◌then◌else◌, length, map, replicate, slice_index_or, ℕ, ◌*◌, ◌+◌, ◌==◌, ◌≡◌, ◌∷◌}
 use Rattle.gen1_stats.specs.Refusals.{number_of as rule_of, place_of}
 use Rattle.gen1_stats.specs.Sheets.{Sheet}
 use Rattle.gen1_stats.specs.Teams.{team_refusal}
@@ -10,6 +10,10 @@ use Rattle.gen1_text.specs.declared.fault.PackedFault.{PackedFault}
 use Rattle.gen1_text.specs.declared.fault.PackedFault.TheVariants as packed
 use Rattle.gen1_text.specs.declared.fault.TextFault.{TextFault}
 use Rattle.gen1_text.specs.declared.fault.TextFault.TheVariants as texts
+use Rattle.gen1_writer.specs.Written.{write_refusal}
+use Rattle.gen1_writer.specs.declared.fault.WriteFault.{WriteFault}
+use Rattle.gen1_writer.specs.declared.fault.WriteFault.TheVariants as writing
+use Rattle.gen1_c.specs.Teams.{fault_of, number_fault, sheets_of}
 use Rattle.gen1_c.specs.declared.team_text.TextFaultForm.{TextFaultForm}
 use Rattle.gen1_c.specs.declared.teams.MemberForm.{MemberForm}
 use Rattle.gen1_c.specs.declared.teams.TeamForm.{TeamForm}
@@ -96,3 +100,17 @@ pub record Lent : Type 0 where
 abbrev pub TellsTeam : Result (List Sheet) TextFaultForm → Lent → Lent → ℕ → Type 0
 TellsTeam (Ok sheets) old new code = (code ≡ 0) × (new ≡ record { team = form_of sheets; fault = old.fault })
 TellsTeam (Err why) old new code = (code ≡ why.code) × (new ≡ record { team = old.team; fault = why })
+
+-- the text of a team, or its code, plus 256 times the place of the member
+
+abbrev pub of_write : WriteFault → ℕ
+of_write (writing.Team refusal) = fault_of refusal
+of_write (writing.PpUps place) = 256 * place + 78
+
+abbrev pub write_due : List ℕ → Option WriteFault → Result (List ℕ) ℕ
+write_due text None = Ok text
+write_due text (Some fault) = Err (of_write fault)
+
+abbrev pub written_due : (List Sheet → List ℕ) → TeamForm → Result (List ℕ) ℕ
+written_due write t =
+    if number_fault t == 0 then write_due (write (sheets_of t)) (write_refusal (sheets_of t)) else Err (number_fault t)

@@ -58,7 +58,9 @@ abbrev pub fault_of_any : Option TeamRefusal → ℕ
 fault_of_any None = 0
 fault_of_any (Some refusal) = fault_of refusal
 
+-- the count, and the numbers of the members that count
+abbrev pub number_fault : TeamForm → ℕ
+number_fault t = if nat_lt 6 t.count then fault_of TooMany else first_fault 1 (given t)
+
 unfoldable pub team_fault : TeamForm → ℕ
-team_fault t =
-    if nat_lt 6 t.count then fault_of TooMany
-    else (if first_fault 1 (given t) == 0 then fault_of_any (team_refusal (sheets_of t)) else first_fault 1 (given t))
+team_fault t = if number_fault t == 0 then fault_of_any (team_refusal (sheets_of t)) else number_fault t

@@ -94,7 +94,7 @@ room_sentences =
     codes "the words name two or more of the offered choices" ∷
     []
 
--- teams out of text: what was expected, from 64 on
+-- teams out of text: what was expected, and a team that has no text, from 64 on
 abbrev pub text_sentences : List (List ℕ)
 text_sentences =
     codes "expected: the name of a species of the first generation" ∷
@@ -111,6 +111,7 @@ text_sentences =
     codes "expected: a line of a member, such as Level: 50, EVs: 252 HP, IVs: 0 Atk or - Body Slam" ∷
     codes "expected: twelve fields with | between them" ∷
     codes "expected: members that are a team" ∷
+    codes "a move has other than 3 PP ups, and a text has no place for them" ∷
     []
 
 -- hosts out of bytes: the test that fails, from 80 on
@@ -129,6 +130,15 @@ host_sentences =
     codes "an unused byte, or the forfeit of the room, is not 0" ∷
     []
 
+-- guesses: what does not fit, from 96 on
+abbrev pub guess_sentences : List (List ℕ)
+guess_sentences =
+    codes "the player is in no battle that has begun and is not over" ∷
+    codes "the guessed team does not have as many members as the foe" ∷
+    codes "a member of the guessed team is not the one that appeared" ∷
+    codes "a member of the guessed team does not know a move that it was seen to use" ∷
+    []
+
 -- the sentence of a code, if the code exists
 abbrev pub sentence_at : ℕ → Option (List ℕ)
 sentence_at code =
@@ -140,7 +150,8 @@ sentence_at code =
     else (if nat_lt code 52 then slice_get damage_sentences (code - 48)
     else (if nat_lt code 64 then slice_get room_sentences (code - 52)
     else (if nat_lt code 80 then slice_get text_sentences (code - 64)
-    else slice_get host_sentences (code - 80))))))))
+    else (if nat_lt code 96 then slice_get host_sentences (code - 80)
+    else slice_get guess_sentences (code - 96)))))))))
 
 -- the sentence of a code; the code 42 if there is none
 abbrev pub sentence_due : ℕ → Result (List ℕ) ℕ

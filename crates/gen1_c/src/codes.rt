@@ -14,6 +14,9 @@ pub(crate) const RULES: u32 = 12;
 
 pub(crate) const TURN_LIMIT: u32 = 13;
 
+// Loading.
+pub(crate) const STATE: u8 = 23;
+
 // Updates.
 pub(crate) const OVER: u8 = 24;
 
@@ -76,6 +79,9 @@ pub(crate) const TEXT_SEVENTH_MEMBER: u8 = 66;
 pub(crate) const TEXT_FIELDS: u8 = 76;
 
 pub(crate) const TEXT_TEAM: u8 = 77;
+
+// Teams written as text.
+pub(crate) const UNWRITABLE: u8 = 78;
 
 // The first test of loading that bytes fail.
 pub(crate) fn of_load(fault: LoadFault) -> u8

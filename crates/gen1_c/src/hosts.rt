@@ -9,13 +9,15 @@ ghost use Rattle.gen1_host.specs.Loading.{IsHost, IsStored, in_version_three};
 ghost use Rattle.gen1_host.specs.Messages.{message as message_at, notice as notice_at};
 ghost use Rattle.gen1_host.specs.Replies.{why_of};
 ghost use Rattle.gen1_host.specs.Table.{Row as TableRow, Table, after_row, current_pair, reply_to_row};
-ghost use Rattle.gen1_c.specs.Hosts.{Refuses, byte_of_result, fault_code, is_set, numbers_of, reply_code, row_of, rules_of, why_code};
+ghost use Rattle.gen1_player.specs.Telling.{form_of};
+ghost use Rattle.gen1_c.specs.Hosts.{Refuses, byte_of_result, fault_code, numbers_of, reply_code, row_of, rules_of, why_code};
 ghost use Rattle.gen1_c.specs.Update.{IsNoSide, IsResult};
 
 use crate::codes::{SIDE, of_load};
 use gen1_host::{Host, HostFault, HostRefusal, HouseRules, Message, Notice, Row};
 use gen1_layout::{byte_of_outcome, byte_of_request};
 use gen1_machine::Side;
+use gen1_player::HpForm;
 use gen1_rolls::LinkRandom;
 
 // The codes of the refusals.
@@ -54,9 +56,9 @@ pub struct RowForm {
 
 /// Makes a host of the battle in it, and starts the battle if it is before its first update.
 #[unsafe(no_mangle)]
-pub extern "C" fn gen1_host_begin(host: &mut Host, pixels: u8, may_cancel: u8, late_forfeits: u8)
+pub extern "C" fn gen1_host_begin(host: &mut Host, hp_form: u8, may_cancel: u8, late_forfeits: u8)
     ensures hosts { (s : State) → Stands host.old.room.battle s
-        → Hosts host.new (first_table (is_set pixels) (rules_of may_cancel late_forfeits) s) }
+        → Hosts host.new (first_table (form_of hp_form) (rules_of may_cancel late_forfeits) s) }
     // For any bytes of the battle, valid or not.
     ensures within { IsWithin host.new }
 {
@@ -64,7 +66,7 @@ pub extern "C" fn gen1_host_begin(host: &mut Host, pixels: u8, may_cancel: u8, l
         may_cancel: may_cancel != 0,
         late_forfeits: late_forfeits != 0,
     };
-    gen1_host::begin(host, pixels != 0, rules);
+    gen1_host::begin(host, HpForm::of_number(hp_form), rules);
 }
 
 /// Reads a host from the bytes in it, which may be any (include/gen1.h, "hosts"). Returns 0, or the code of the first test that they

@@ -28,6 +28,7 @@
 //! - `choice`: choices taken apart, and in words
 //! - `reseed`: other numbers to draw
 //! - `rooms`: rooms of two players
+//! - `guesses`: a battle that fits what a player knows
 //! - `hosts`: hosts of two players and an audience
 //! - `spectators`: what a spectator knows
 //! - `players`: what a player knows, and what it is told
@@ -46,6 +47,7 @@ mod effects;
 pub mod event_bytes;
 pub mod events;
 mod fronts;
+pub mod guesses;
 pub mod hosts;
 pub mod lines;
 pub mod masks;

@@ -19,7 +19,7 @@ use crate::fronts::put_front;
 use crate::teams::{TeamForm, team_of};
 use gen1_layout::Packed;
 use gen1_machine::Side;
-use gen1_player::{OwnSide, Player, Teller, own_side};
+use gen1_player::{HpForm, OwnSide, Player, Teller, own_side};
 
 // The codes of include/gen1.h, "players".
 const NO_SIDE: u8 = 40;
@@ -86,14 +86,14 @@ pub extern "C" fn gen1_player_show(player: &mut Player, own: &OwnSide, offered: 
 
 /// Sets a teller to the beginning of a battle. Returns 0, or 40 for a number that is not a side.
 #[unsafe(no_mangle)]
-pub extern "C" fn gen1_teller_begin(teller: &mut Teller, side: u8, pixels: u8) -> u8
+pub extern "C" fn gen1_teller_begin(teller: &mut Teller, side: u8, hp_form: u8) -> u8
     ensures code { result ≡ side_code side }
-    ensures begun { result ≡ 0 → teller.new ≡ first_teller side pixels }
+    ensures begun { result ≡ 0 → teller.new ≡ first_teller side hp_form }
     ensures kept { result ≢ 0 → teller.new ≡ teller.old }
 {
     match Side::from_number(side) {
         Some(side) => {
-            *teller = Teller::new(side, pixels != 0);
+            *teller = Teller::new(side, HpForm::of_number(hp_form));
             0
         }
         None => NO_SIDE,

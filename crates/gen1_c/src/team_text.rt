@@ -1,15 +1,22 @@
-//! Teams read from text into plain structs (include/gen1.h, "teams out of text"; docs/TEAM_TEXT.md).
-ghost use Rattle.std.specs.Prelude.{length, ◌≡◌, ◌≤◌};
+//! Teams as text: read into plain structs, and written (include/gen1.h, "teams as text"; docs/TEAM_TEXT.md).
+ghost use Rattle.std.specs.Prelude.{None, length, ◌≡◌, ◌≤◌};
 ghost use Rattle.gen1_text.specs.Packed.{members_packed};
 ghost use Rattle.gen1_text.specs.Texts.{members_told};
-ghost use Rattle.gen1_c.specs.TeamText.{TellsTeam, code_of, expected, form_of, member_at, member_of, move_at, of_packed, of_team, of_text, packed_due, team_due, text_due};
+ghost use Rattle.gen1_writer.specs.Export.{text_of};
+ghost use Rattle.gen1_writer.specs.PackedLine.{packed_of};
+ghost use Rattle.gen1_writer.specs.Written.{write_refusal};
+ghost use Rattle.gen1_c.specs.Fronts.{Writes};
+ghost use Rattle.gen1_c.specs.TeamText.{TellsTeam, code_of, expected, form_of, member_at, member_of, move_at, of_packed, of_team, of_text, of_write, packed_due, team_due, text_due, written_due};
+ghost use Rattle.gen1_c.specs.Teams.{number_fault, sheets_of};
 
-use crate::codes::{TEXT_FIELDS, TEXT_SEVENTH_MEMBER, TEXT_TEAM};
-use crate::teams::{MemberForm, TeamForm};
+use crate::codes::{TEXT_FIELDS, TEXT_SEVENTH_MEMBER, TEXT_TEAM, UNWRITABLE};
+use crate::fronts::write_text;
+use crate::teams::{MemberForm, TeamForm, fault_of, number_fault, specs_of};
 use arrayvec::ArrayVec;
 use gen1_stats::{MemberSpec, Team, TeamRefusal};
 use gen1_tables::MoveId;
 use gen1_text::{MemberFault, PackedFault, TextFault, members_in_packed, members_in_text};
+use gen1_writer::{WriteFault, team_to_packed, team_to_text};
 
 /// Where a text is wrong, and what was expected there.
 #[repr(C)]
@@ -59,6 +66,51 @@ pub extern "C" fn gen1_team_from_packed(
     match members_in_packed(text) {
         Ok(specs) => put_team(&specs, team, fault),
         Err(found) => put_fault(of_packed(found), fault),
+    }
+}
+
+/// Writes a team as export text, and its number of bytes. Returns 0, or a code as `gen1_new` does for a team, of a move with other
+/// than three PP ups, or of a text that is too small; then nothing has changed.
+#[unsafe(no_mangle)]
+#[tactic(auto, using(crate::proofs::Writing::written_fits))]
+pub extern "C" fn gen1_team_to_text(team: &TeamForm, text: &mut [u8], written: &mut usize) -> u32
+    ensures writes { Writes (written_due text_of team.now) (record { bytes = text.old; count = written.old })
+        (record { bytes = text.new; count = written.new }) result }
+    // There is room for any team that has a text.
+    ensures fits { 1408 ≤ length text.old → number_fault team.now ≡ 0
+        → write_refusal (sheets_of team.now) ≡ None → result ≡ 0 }
+{
+    let fault = number_fault(team);
+    if fault > 0 {
+        return fault;
+    }
+    let specs = specs_of(team);
+    let count = usize::from(team.count);
+    match team_to_text(&specs[..count]) {
+        Ok(lines) => u32::from(write_text(lines.as_slice(), text, written)),
+        Err(refused) => of_write(refused),
+    }
+}
+
+/// Writes a team as a packed line with a line feed, and returns as `gen1_team_to_text` does.
+#[unsafe(no_mangle)]
+#[tactic(auto, using(crate::proofs::Writing::written_fits))]
+pub extern "C" fn gen1_team_to_packed(team: &TeamForm, text: &mut [u8], written: &mut usize) -> u32
+    ensures writes { Writes (written_due packed_of team.now) (record { bytes = text.old; count = written.old })
+        (record { bytes = text.new; count = written.new }) result }
+    // There is room for any team that has a text.
+    ensures fits { 832 ≤ length text.old → number_fault team.now ≡ 0
+        → write_refusal (sheets_of team.now) ≡ None → result ≡ 0 }
+{
+    let fault = number_fault(team);
+    if fault > 0 {
+        return fault;
+    }
+    let specs = specs_of(team);
+    let count = usize::from(team.count);
+    match team_to_packed(&specs[..count]) {
+        Ok(line) => u32::from(write_text(line.as_slice(), text, written)),
+        Err(refused) => of_write(refused),
     }
 }
 
@@ -127,6 +179,15 @@ fn of_team(refusal: TeamRefusal) -> TextFaultForm
         member: usize::from(refusal.place()),
         rule: refusal.number(),
         ..expected(TEXT_TEAM)
+    }
+}
+
+fn of_write(fault: WriteFault) -> u32
+    ensures { result ≡ of_write fault }
+{
+    match fault {
+        WriteFault::Team(refusal) => fault_of(refusal),
+        WriteFault::PpUps(place) => 256 * u32::from(place) + u32::from(UNWRITABLE),
     }
 }
 

@@ -1,10 +1,10 @@
 //! Teams as plain structs (include/gen1.h, "beginning"; docs/MECHANICS.md, "Teams").
-ghost use Rattle.std.specs.Prelude.{IfErr, IfOk, OnOk, [], length, ◌∷◌, ◌+◌, ◌++◌, ◌<◌, ◌≡◌, ◌≢◌, ◌≤◌};
+ghost use Rattle.std.specs.Prelude.{IfErr, IfOk, OnOk, [], length, map, ◌∷◌, ◌+◌, ◌++◌, ◌<◌, ◌≡◌, ◌≢◌, ◌≤◌};
 ghost use Rattle.arrayvec.specs.ArrayVec.{array_vec_len};
 ghost use Rattle.gen1_stats.specs.Teams.{team_of};
 ghost use Rattle.gen1_c.specs.Battle.{teams_fault};
 ghost use Rattle.gen1_c.specs.Odds.{one_fault};
-ghost use Rattle.gen1_c.specs.Teams.{chosen, fault_of, first_fault, member_fault, sheet_of, sheets_of, species_of, team_fault};
+ghost use Rattle.gen1_c.specs.Teams.{chosen, fault_of, first_fault, member_fault, number_fault, sheet_of, sheets_of, species_of, team_fault};
 
 use crate::codes::{MOVE, SPECIES};
 use arrayvec::ArrayVec;
@@ -66,27 +66,45 @@ pub(crate) fn team_of(form: &TeamForm) -> Result<Team, u32>
     ensures refused { IfErr result (λ fault. (fault ≡ team_fault form.now) × (fault ≢ 0)
         × (fault < 65536)) }
 {
-    if form.count > 6 {
-        return Err(fault_of(TeamRefusal::TooMany));
-    }
-    let count = usize::from(form.count);
-    let fault = first_fault(&form.members[..count]);
+    let fault = number_fault(form);
     if fault > 0 {
         return Err(fault);
     }
+    let specs = specs_of(form);
+    let count = usize::from(form.count);
+    match Team::new(&specs[..count]) {
+        Ok(team) => Ok(team),
+        Err(refusal) => Err(fault_of(refusal)),
+    }
+}
+
+// The error of the count, or of a number that is not a species or not a move; 0 if there is none.
+pub(crate) fn number_fault(form: &TeamForm) -> u32
+    ensures value { result ≡ number_fault form.now }
+    ensures few { result ≡ 0 → form.now.count ≤ 6 }
+    ensures small { result < 65536 }
+{
+    if form.count > 6 {
+        fault_of(TeamRefusal::TooMany)
+    } else {
+        let count = usize::from(form.count);
+        first_fault(&form.members[..count])
+    }
+}
+
+// All six members, also those that do not count.
+pub(crate) fn specs_of(form: &TeamForm) -> [MemberSpec; 6]
+    ensures { result ≡ map sheet_of form.now.members }
+{
     let [first, second, third, fourth, fifth, sixth] = &form.members;
-    let specs = [
+    [
         spec_of(first),
         spec_of(second),
         spec_of(third),
         spec_of(fourth),
         spec_of(fifth),
         spec_of(sixth),
-    ];
-    match Team::new(&specs[..count]) {
-        Ok(team) => Ok(team),
-        Err(refusal) => Err(fault_of(refusal)),
-    }
+    ]
 }
 
 // A team of one member.
@@ -134,7 +152,7 @@ fn member_fault(member: &MemberForm) -> u32
     }
 }
 
-fn fault_of(refusal: TeamRefusal) -> u32
+pub(crate) fn fault_of(refusal: TeamRefusal) -> u32
     ensures value { result ≡ fault_of refusal }
     ensures some { 1 ≤ result }
     ensures small { result < 65536 }

@@ -85,7 +85,7 @@ static ROOM_TEXTS: [&str; 8] = [
     "the words name two or more of the offered choices",
 ];
 
-static TEXT_TEXTS: [&str; 14] = [
+static TEXT_TEXTS: [&str; 15] = [
     "expected: the name of a species of the first generation",
     "expected: no item, because the first generation has none",
     "expected: at most 6 members",
@@ -100,6 +100,7 @@ static TEXT_TEXTS: [&str; 14] = [
     "expected: a line of a member, such as Level: 50, EVs: 252 HP, IVs: 0 Atk or - Body Slam",
     "expected: twelve fields with | between them",
     "expected: members that are a team",
+    "a move has other than 3 PP ups, and a text has no place for them",
 ];
 
 static HOST_TEXTS: [&str; 11] = [
@@ -114,6 +115,13 @@ static HOST_TEXTS: [&str; 11] = [
     "the side that offers a draw is above 2",
     "an option is above 1",
     "an unused byte, or the forfeit of the room, is not 0",
+];
+
+static GUESS_TEXTS: [&str; 4] = [
+    "the player is in no battle that has begun and is not over",
+    "the guessed team does not have as many members as the foe",
+    "a member of the guessed team is not the one that appeared",
+    "a member of the guessed team does not know a move that it was seen to use",
 ];
 
 /// Writes what a code means, as one sentence with the valid range. Returns 0, or the code of an unknown number, or of a text that is
@@ -148,8 +156,10 @@ fn sentence_at(code: u8) -> Option<&'static str>
         text_at(&ROOM_TEXTS, code - 52)
     } else if code < 80 {
         text_at(&TEXT_TEXTS, code - 64)
-    } else {
+    } else if code < 96 {
         text_at(&HOST_TEXTS, code - 80)
+    } else {
+        text_at(&GUESS_TEXTS, code - 96)
     }
 }
 

@@ -10,10 +10,9 @@ ghost use Rattle.gen1_states.specs.Reading.{HasKinds, IsCopied, state_of};
 ghost use Rattle.gen1_states.specs.WholeTests.{fault_of};
 ghost use Rattle.gen1_c.specs.View.{fault_form};
 
+use crate::codes::STATE;
 use gen1_layout::Packed;
 use gen1_states::{BattleState, StateFault, from_state, state_of};
-
-const STATE: u8 = 23;
 
 /// The field of a state that is wrong (include/gen1.h, "looking").
 #[repr(C)]
@@ -71,7 +70,7 @@ pub extern "C" fn gen1_set_state(
     }
 }
 
-fn fault_form(fault: &StateFault) -> StateFaultForm
+pub(crate) fn fault_form(fault: &StateFault) -> StateFaultForm
     ensures { result ≡ fault_form fault.now }
 {
     StateFaultForm {

@@ -1,6 +1,7 @@
 //! Moves that act after the damage step: they raise and lower stages, put the foe to sleep, and begin Bide
 //! (docs/MECHANICS.md, "Late effects").
 ghost use Rattle.std.specs.Prelude.{◌≡◌};
+ghost use Rattle.gen1_rolls.specs.Draws.{Steps};
 ghost use Rattle.gen1_layout.specs.Operations.{DrawsWhere, holding, scene};
 ghost use Rattle.gen1_layout.specs.Words.{AddsAtMost, HasRoom, move_at, stop, true, ◌▸◌};
 ghost use Rattle.gen1_tables.specs.Effects.{bides};
@@ -54,6 +55,7 @@ pub fn group_two<R: Rolls, S: EventSink>(
         (beginning side (scene S.tells battle events))
         (λ r. late_effect r side (move_at id) (move_at id).effect) }
     ensures room { AddsAtMost S.room 2 events.old events.new }
+    ensures steps { Steps R.drawing random }
 {
     let mut known = Known::new().begun(side);
     group_two_knowing(battle, side, id, &mut known, random, events);
@@ -76,6 +78,7 @@ pub fn group_two_knowing<R: Rolls, S: EventSink>(
         (aware known (scene S.tells battle events)) true
         (λ r. late_effect r side (move_at id) (move_at id).effect ▸ stop) }
     ensures room { AddsAtMost S.room 2 events.old events.new }
+    ensures steps { Steps R.drawing random }
 {
     match id.effect() {
         Effect::StatUp(stat, by) => {

@@ -1,5 +1,6 @@
 //! What a move may do in addition to its damage (docs/MECHANICS.md, "Side effects").
 ghost use Rattle.std.specs.Prelude.{◌≡◌};
+ghost use Rattle.gen1_rolls.specs.Draws.{Steps};
 ghost use Rattle.gen1_layout.specs.Operations.{DrawsWhere, anything, scene};
 ghost use Rattle.gen1_layout.specs.Words.{AddsAtMost, HasRoom, false, move_at};
 ghost use Rattle.gen1_machine.specs.SideEffects.{side_effect};
@@ -63,6 +64,7 @@ pub fn side_effect<R: Rolls, S: EventSink>(
     ensures shown { Leaves R.drawing random anything (beginning side (scene S.tells battle events))
         (λ r. side_effect r side (move_at id) (move_at id).effect) }
     ensures room { AddsAtMost S.room 1 events.old events.new }
+    ensures steps { Steps R.drawing random }
 {
     let mut known = Known::new().begun(side);
     side_effect_knowing(battle, side, id, &mut known, random, events);
@@ -85,6 +87,7 @@ pub fn side_effect_knowing<R: Rolls, S: EventSink>(
         result (λ r. side_effect r side (move_at id) (move_at id).effect) }
     ensures counts { IsUncounted known.old → IsUncounted known.new }
     ensures room { AddsAtMost S.room 1 events.old events.new }
+    ensures steps { Steps R.drawing random }
 {
     match way_of(id.effect()) {
         Way::Confuse(bound) => {
@@ -116,6 +119,7 @@ fn harm_unless_away<R: Rolls, S: EventSink>(
     ensures shown { DrawsWhere R.drawing random anything (scene S.tells battle events) false
         (λ r. harms_unless_away r side (move_at id) harm) }
     ensures room { AddsAtMost S.room 1 events.old events.new }
+    ensures steps { Steps R.drawing random }
 {
     if battle.is_on(side.other(), Conditions::SUBSTITUTE) {
         return;
@@ -135,6 +139,7 @@ fn do_harm<R: Rolls, S: EventSink>(
     ensures shown { DrawsWhere R.drawing random anything (scene S.tells battle events) false
         (λ r. harms r side (move_at id) harm) }
     ensures room { AddsAtMost S.room 1 events.old events.new }
+    ensures steps { Steps R.drawing random }
 {
     match harm {
         Harm::Poison(bound) => may_poison(battle, side, bound, random, events),

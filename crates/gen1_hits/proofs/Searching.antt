@@ -2,7 +2,7 @@
 use Rattle.std.proofs.Common.{◌+◌, ◌≡◌}
 use Rattle.gen1_layout.proofs.Words.{Bool, Frame, None, Option, Parts, Phase, Progress, ShowsDrawn, Some, Telling, ap, draw, drawing, false, refl, sym, ℕ, ◌∙◌}
 use Rattle.gen1_rolls.specs.declared.look.Look.{Look}
-use Rattle.gen1_rolls.specs.Draws.{Drawing, FindsLike}
+use Rattle.gen1_rolls.specs.Draws.{Drawing, FindsLike, Source}
 use Rattle.gen1_rolls.specs.Streams.{Stream, byte_at, first, span}
 use Rattle.gen1_rolls.proofs.Standing.{found_then}
 use Rattle.gen1_machine.specs.Progress.{draw_until}
@@ -15,19 +15,19 @@ unfolding draw_until
 searched test f p o e =
     ap (λ (x : Option ℕ). elim x as (λ _. Progress) [ Some k ↦ f (byte_at p.stream k) (record p { drawn = k + 1 }) | None ↦ record p { drawn = p.drawn + span p.stream } ]) e
 
-module _ {A : Type 0} {d : Drawing A} {origin : A} {g : Frame} {parts : Parts} {events : Telling} {old new : A} {p : Progress} where
+module _ {A : Type 0} {d : Drawing A} {source : Source A} {g : Frame} {parts : Parts} {events : Telling} {old new : A} {p : Progress} where
   -- A byte was drawn with which the phase does the same as with the drawn one.
   pub drawing_like : {g' : Frame} {parts' : Parts} {events' : Telling} {now : A} {b b' : Bool} (f : ℕ → Phase) (byte : ℕ)
-      → ShowsDrawn d origin g parts events old b p → f byte ≡ f (d.byte old) → new ≡ d.next old
-      → (ShowsDrawn d origin g parts events new b (record p { drawn = p.drawn + 1 })
-      → ShowsDrawn d origin g' parts' events' now b' (f byte (record p { drawn = p.drawn + 1 })))
-      → ShowsDrawn d origin g' parts' events' now b' (draw f p)
+      → ShowsDrawn d source g parts events old b p → f byte ≡ f (d.byte old) → new ≡ d.next old
+      → (ShowsDrawn d source g parts events new b (record p { drawn = p.drawn + 1 })
+      → ShowsDrawn d source g' parts' events' now b' (f byte (record p { drawn = p.drawn + 1 })))
+      → ShowsDrawn d source g' parts' events' now b' (draw f p)
   drawing_like f byte a same left then = drawing f {drawn = d.byte old} a refl left (λ h. rw (← same) (then h))
 
   -- A byte was found, and what follows it begins at the next place.
   pub found_by_drawing : {look : Look} {found : ℕ} (test : ℕ → Bool) (f : ℕ → Phase)
-      → ShowsDrawn d origin g parts events old false p → (like : FindsLike d test look old found new) → f found ≡ f like.byte
-      → (n : ℕ) × ShowsDrawn d origin g parts events new false (record p { drawn = n }) × (draw_until test f p ≡ f found (record p { drawn = n }))
+      → ShowsDrawn d source g parts events old false p → (like : FindsLike d test look old found new) → f found ≡ f like.byte
+      → (n : ℕ) × ShowsDrawn d source g parts events new false (record p { drawn = n }) × (draw_until test f p ≡ f found (record p { drawn = n }))
   found_by_drawing test f a like same =
       found_then a.stands like.finds (λ m at is stands.
       let h = a.shows in
@@ -42,9 +42,9 @@ module _ {A : Type 0} {d : Drawing A} {origin : A} {g : Frame} {parts : Parts} {
       ))
 
   pub drawn_until : {parts' : Parts} {events' : Telling} {b' : Bool} {look : Look} {found : ℕ} (test : ℕ → Bool) (f : ℕ → Phase)
-      → ShowsDrawn d origin g parts events old false p → (like : FindsLike d test look old found new) → f found ≡ f like.byte
-      → ((q : Progress) → ShowsDrawn d origin g parts events new false q → ShowsDrawn d origin g parts' events' new b' (f found q))
-      → ShowsDrawn d origin g parts' events' new b' (draw_until test f p)
+      → ShowsDrawn d source g parts events old false p → (like : FindsLike d test look old found new) → f found ≡ f like.byte
+      → ((q : Progress) → ShowsDrawn d source g parts events new false q → ShowsDrawn d source g parts' events' new b' (f found q))
+      → ShowsDrawn d source g parts' events' new b' (draw_until test f p)
   drawn_until test f a like same then =
       let x = found_by_drawing test f a like same in
       rw x.2 (then (record p { drawn = x.0 }) x.1)

@@ -5,7 +5,7 @@ use Rattle.gen1_layout.proofs.Words.{Bool, Frame, None, Option, Parts, Phase, Pr
 use Rattle.gen1_rolls.specs.Streams.{Stream, byte_at, first, span}
 use Rattle.gen1_machine.specs.Damage.{is_factor, rotated_right_1, times_factor, varied_by, vary}
 use Rattle.gen1_machine.specs.Progress.{draw_until}
-use Rattle.gen1_rolls.specs.Draws.{Drawing, StandsAt}
+use Rattle.gen1_rolls.specs.Draws.{Drawing, Source, StandsIn}
 use Rattle.gen1_hits.specs.Factors.{VariesAlike}
 
 -- The machine's factor, if none is drawn and if one is found at m
@@ -33,17 +33,17 @@ varied-most d b byte =
     omega (arith, product)
 
 -- What is shown after a factor was drawn, and how far the machine's last damage may differ.
-pub varying : {A : Type 0} {d : Drawing A} {origin : A} {g : Frame} {parts parts' : Parts} {events : Telling} {old new : A} {b : Bool} {p : Progress}
-    → (limit damage result : ℕ) → ShowsDrawn d origin g parts events old b p
-    → ((origin : A) (stream : Stream) (n : ℕ) → StandsAt d origin stream n old → VariesAlike d origin stream n limit damage result new)
+pub varying : {A : Type 0} {d : Drawing A} {source : Source A} {g : Frame} {parts parts' : Parts} {events : Telling} {old new : A} {b : Bool} {p : Progress}
+    → (limit damage result : ℕ) → ShowsDrawn d source g parts events old b p
+    → ((n : ℕ) → StandsIn d source n old → VariesAlike d source n limit damage result new)
     → Within g.setting parts' (with_last_damage result p.field)
-    → (n : ℕ) × ShowsDrawn d origin g parts' events new b (set_last_damage result (record p { drawn = n }))
+    → (n : ℕ) × ShowsDrawn d source g parts' events new b (set_last_damage result (record p { drawn = n }))
     × (dealt : ℕ) × (vary damage p ≡ set_last_damage dealt (set_last_damage result (record p { drawn = n }))) × (min dealt limit ≡ min result limit) × (dealt ≤ damage)
 unfolding set_last_damage on_field with_last_damage
-varying {origin = origin} {g = g} {parts = parts} {events = events} {b = b} {p = p} limit damage result a varies within =
-    let v = varies origin g.stream p.drawn a.stands in
+varying {source = source} {g = g} {parts = parts} {events = events} {b = b} {p = p} limit damage result a varies within =
+    let v = varies p.drawn a.stands in
     let h = a.shows in
-    let drawn : Shows (record g { drawn = v.drawn }) parts events b (record p { drawn = v.drawn }) = record {
+    let drawn : Shows (record g { stream = source.stream; drawn = v.drawn }) parts events b (record p { drawn = v.drawn }) = record {
       within = h.within;
       written = h.written;
       ends = h.ends;

@@ -2,37 +2,36 @@
 -- of all.
 use Rattle.std.specs.Prelude.{List, Option, if◌then◌else◌, map, min, nat_le, option_map, ℕ, ◌≡◌, ◌≤◌}
 use Rattle.std.specs.List.{range_with_len}
-use Rattle.gen1_rolls.specs.Draws.{Drawing, Ref, StandsAt}
-use Rattle.gen1_rolls.specs.Streams.{Stream}
+use Rattle.gen1_rolls.specs.Draws.{Drawing, Ref, Since, Source, StandsIn}
 use Rattle.gen1_machine.specs.Damage.{DamageNumbers, before_types, times_factor, type_steps, vary}
 use Rattle.gen1_machine.specs.Progress.{Progress, set_last_damage}
 
 -- The machine's phase draws up to where the generator now is, and sets the last damage to the result.
-pub record VariesFrom {A : Type 0} (d : Drawing A) (origin : A) (stream : Stream) (n damage result : ℕ) (new : A) : Type 0 where
+pub record VariesFrom {A : Type 0} (d : Drawing A) (source : Source A) (n damage result : ℕ) (new : A) : Type 0 where
   pub drawn : ℕ
-  pub stands : StandsAt d origin stream drawn new
-  pub sets : (p : Progress) → p.stream ≡ stream → p.drawn ≡ n → vary damage p ≡ set_last_damage result (record p { drawn = drawn })
+  pub stands : StandsIn d source drawn new
+  pub sets : (p : Progress) → p.stream ≡ source.stream → p.drawn ≡ n → vary damage p ≡ set_last_damage result (record p { drawn = drawn })
 
 -- This holds for any place of the generator.
 abbrev pub Varies : {A : Type 0} → Drawing A → Ref A → ℕ → ℕ → Type 0
-Varies {A = A} d random damage result =
-    (origin : A) (stream : Stream) (n : ℕ) → StandsAt d origin stream n random.entry.now
-    → VariesFrom d origin stream n damage result random.exit.now
+Varies d random damage result =
+    (since : Since d random.exit.now) (n : ℕ) → StandsIn d since.source n random.entry.now
+    → VariesFrom d since.source n damage result random.exit.now
 
 -- The same for a caller to whom all damage from a limit on is alike. The machine's last damage is the result, or both are
 -- at least the limit.
-pub record VariesAlike {A : Type 0} (d : Drawing A) (origin : A) (stream : Stream) (n limit damage result : ℕ) (new : A) : Type 0 where
+pub record VariesAlike {A : Type 0} (d : Drawing A) (source : Source A) (n limit damage result : ℕ) (new : A) : Type 0 where
   pub drawn : ℕ
-  pub stands : StandsAt d origin stream drawn new
+  pub stands : StandsIn d source drawn new
   pub dealt : ℕ
-  pub sets : (p : Progress) → p.stream ≡ stream → p.drawn ≡ n → vary damage p ≡ set_last_damage dealt (record p { drawn = drawn })
+  pub sets : (p : Progress) → p.stream ≡ source.stream → p.drawn ≡ n → vary damage p ≡ set_last_damage dealt (record p { drawn = drawn })
   pub alike : min dealt limit ≡ min result limit
   pub most : dealt ≤ damage
 
 abbrev pub VariesUpTo : {A : Type 0} → Drawing A → Ref A → ℕ → ℕ → ℕ → Type 0
-VariesUpTo {A = A} d random limit damage result =
-    (origin : A) (stream : Stream) (n : ℕ) → StandsAt d origin stream n random.entry.now
-    → VariesAlike d origin stream n limit damage result random.exit.now
+VariesUpTo d random limit damage result =
+    (since : Since d random.exit.now) (n : ℕ) → StandsIn d since.source n random.entry.now
+    → VariesAlike d since.source n limit damage result random.exit.now
 
 -- Damage times a factor. 0 and 1 stay as they are.
 abbrev pub varied : ℕ → ℕ → ℕ

@@ -3,7 +3,7 @@
 -- what was known before it, the result of the phase is shown with what is known after it.
 use Rattle.std.specs.Prelude.{◌≡◌}
 use Rattle.gen1_layout.specs.Words.{Bool, Frame, None, Progress, ShowsDrawn, Side, Telling, false}
-use Rattle.gen1_rolls.specs.Draws.{Drawing, Ref}
+use Rattle.gen1_rolls.specs.Draws.{Drawing, Ref, Source}
 use Rattle.gen1_machine.specs.declared.side.Side.TheVariants.{One}
 use Rattle.gen1_machine.specs.Progress.{Action}
 use Rattle.gen1_layout.specs.Operations.{Scene}
@@ -57,16 +57,16 @@ abbrev pub aware_of : Known → Scene → Scene
 aware_of known s Then = s λ parts events _ parts' events' _. Then parts events (knowing known) parts' events' (knowing known)
 
 -- Code with draws, for any generator that it is given.
-abbrev pub ShowsKnown : {A : Type 0} → Drawing A → A → Known → Frame → Parts → Telling → A → Bool → Progress → Type 0
-ShowsKnown d origin k g parts events now stopped p = ShowsDrawn d origin (knowing k g) parts events now stopped p
+abbrev pub ShowsKnown : {A : Type 0} → Drawing A → Source A → Known → Frame → Parts → Telling → A → Bool → Progress → Type 0
+ShowsKnown d source k g parts events now stopped p = ShowsDrawn d source (knowing k g) parts events now stopped p
 
 -- After an action is over, it no longer matters whether a substitute broke in it.
 abbrev pub with_broke : Bool → Known → Known
 with_broke broke k = record k { broke = broke }
 
-abbrev pub ShowsOver : {A : Type 0} → Drawing A → A → Known → Frame → Parts → Telling → A → Bool → Progress → Type 0
-ShowsOver d origin k g parts events now stopped p =
-    (broke : Bool) × ShowsKnown d origin (with_broke broke k) g parts events now stopped p
+abbrev pub ShowsOver : {A : Type 0} → Drawing A → Source A → Known → Frame → Parts → Telling → A → Bool → Progress → Type 0
+ShowsOver d source k g parts events now stopped p =
+    (broke : Bool) × ShowsKnown d source (with_broke broke k) g parts events now stopped p
 
 -- No hit has been made or planned yet.
 abbrev pub IsUncounted : Known → Type 0

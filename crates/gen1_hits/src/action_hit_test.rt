@@ -1,4 +1,5 @@
 //! The hit test of an action, and how a miss is reported (docs/MECHANICS.md, "Hit test", "Action").
+ghost use Rattle.gen1_rolls.specs.Draws.{Steps};
 ghost use Rattle.gen1_layout.specs.Operations.{Does, Draws, looking, quiet, scene};
 ghost use Rattle.gen1_layout.specs.Words.{AddsAtMost, AddsNone, Event, HasRoom, List, Reads, active_in, false, move_at, true};
 ghost use Rattle.std.specs.Prelude.{if◌then◌else◌, ◌≡◌};
@@ -31,6 +32,7 @@ pub fn hit_or_miss<R: Rolls>(
     ensures shown { (told : List Event) → Draws R.drawing random (aware known (quiet told battle))
         false (hit_or_miss side (move_at id)) }
     ensures counts { IsUncounted known.old → IsUncounted known.new }
+    ensures steps { Steps R.drawing random }
 {
     let base = base_of(battle, side, id, known.going_on);
     let test = hit_test(battle, side, id, base, random);
@@ -56,6 +58,7 @@ pub fn must_hit<R: Rolls, S: EventSink>(
     ensures counts { IsUncounted known.old → IsUncounted known.new }
     ensures room { AddsAtMost S.room 1 events.old events.new }
     ensures quiet { result ≡ false → AddsNone S.room events.old events.new }
+    ensures steps { Steps R.drawing random }
 {
     hit_or_miss(battle, side, id, known, random);
     if !known.missed {

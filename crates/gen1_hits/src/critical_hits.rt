@@ -1,5 +1,6 @@
 //! Critical hits (docs/MECHANICS.md, "Critical hits").
 ghost use Rattle.std.specs.Prelude.{◌≡◌};
+ghost use Rattle.gen1_rolls.specs.Draws.{Steps};
 ghost use Rattle.gen1_layout.specs.Operations.{Draws, learns, unchanged};
 ghost use Rattle.gen1_layout.specs.Words.{Event, List, false, move_at};
 ghost use Rattle.gen1_hits.specs.HitTests.{with_critical};
@@ -28,6 +29,7 @@ const SLASH: u8 = 163;
 pub fn critical<R: Rolls>(battle: &Packed, side: Side, id: MoveId, random: &mut R) -> bool
     ensures shown { (told : List Event) → Draws R.drawing random
         (learns (with_critical result) (unchanged told battle)) false (roll_critical side (move_at id)) }
+    ensures steps { Steps R.drawing random }
 {
     let focused = battle.is_on(side, Conditions::FOCUS_ENERGY);
     let bound = critical_bound(battle.species(side), focused, id);

@@ -1,6 +1,7 @@
 //! The factor of a hit's damage (docs/MECHANICS.md, "Factors"): a drawn one, and all of them.
 ghost use Rattle.std.specs.Prelude.{map, ◌≡◌, ◌≤◌};
 ghost use Rattle.std.specs.List.{range_with_len};
+ghost use Rattle.gen1_rolls.specs.Draws.{Steps};
 ghost use Rattle.gen1_rolls.specs.Looks.{limit_of};
 ghost use Rattle.gen1_machine.specs.Damage.{is_factor, rotated_right_1, times_factor};
 ghost use Rattle.gen1_hits.specs.Factors.{Varies, VariesUpTo, damages, varied};
@@ -16,6 +17,7 @@ use gen1_rolls::{Look, Rolls};
 pub fn factor<R: Rolls>(damage: u16, random: &mut R) -> u16
     ensures varies { Varies R.drawing random damage result }
     ensures most { result ≤ damage }
+    ensures steps { Steps R.drawing random }
 {
     factor_up_to(damage, u16::MAX, false, random)
 }
@@ -27,6 +29,7 @@ pub fn factor<R: Rolls>(damage: u16, random: &mut R) -> u16
 pub fn factor_up_to<R: Rolls>(damage: u16, edge: u16, cut: bool, random: &mut R) -> u16
     ensures varies { VariesUpTo R.drawing random (limit_of edge cut) damage result }
     ensures most { result ≤ damage }
+    ensures steps { Steps R.drawing random }
 {
     if damage <= 1 {
         return damage;

@@ -1,4 +1,5 @@
 //! The hit test (docs/MECHANICS.md, "Hit test").
+ghost use Rattle.gen1_rolls.specs.Draws.{Steps};
 ghost use Rattle.gen1_layout.specs.Operations.{Does, Draws, learns, quiet};
 ghost use Rattle.gen1_layout.specs.Words.{Event, List, Reads, draw, false, is_asleep, move_at, not, status_in};
 ghost use Rattle.std.specs.Prelude.{max, ◌&&◌, ◌*◌, ◌+◌, ◌/◌, ◌≡◌, ◌≤◌};
@@ -41,6 +42,7 @@ pub fn hit_test<R: Rolls>(
 ) -> Hit
     ensures shown { (told : List Event) → Draws R.drawing random
         (learns (with_test result.hit result.kept) (quiet told battle)) false (hit_test side (move_at id) base) }
+    ensures steps { Steps R.drawing random }
 {
     match settled_hit(battle, side, id) {
         Some(true) => Hit {
@@ -156,6 +158,7 @@ fn percent_at(stage: u8) -> u32
 fn draw_below<R: Rolls>(battle: &mut Packed, side: Side, byte: u8, random: &mut R) -> bool
     ensures shown { (told : List Event) → Draws R.drawing random
         (learns (with_miss_unless result) (quiet told battle)) false (draw (hits_below side byte)) }
+    ensures steps { Steps R.drawing random }
 {
     if random.draw_as(Look::Below(byte)) < byte {
         return true;

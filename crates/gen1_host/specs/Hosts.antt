@@ -14,7 +14,8 @@ use Rattle.gen1_engine.specs.Update.{result_of}
 use Rattle.gen1_offers.specs.OfferedMask.{mask_of}
 use Rattle.gen1_player.specs.declared.teller.Teller.{Teller}
 use Rattle.gen1_player.specs.PlainOwnSide.{plain_side}
-use Rattle.gen1_player.specs.Telling.{IsTeller}
+use Rattle.gen1_player.specs.declared.hp_form.HpForm.{HpForm}
+use Rattle.gen1_player.specs.Telling.{IsTeller, form_number}
 use Rattle.gen1_room.specs.declared.plain.PlainRoom.{PlainRoom}
 use Rattle.gen1_room.specs.Plain.{IsMarked, Keeps}
 use Rattle.gen1_room.specs.Rooms.{submission_of}
@@ -74,11 +75,11 @@ pub record IsWithin (h : Host) : Type 0 where
 abbrev pub rules_of : PlainRules → HouseRules
 rules_of rules = record { may_cancel = rules.may_cancel; late_forfeits = rules.late_forfeits }
 
-abbrev pub first_teller : Bool → Side → Teller
-first_teller pixels side = record { side = side_number side; pixels = bit_of pixels; places = replicate 6 0 }
+abbrev pub first_teller : HpForm → Side → Teller
+first_teller form side = record { side = side_number side; pixels = form_number form; places = replicate 6 0 }
 
-abbrev pub first_table : Bool → PlainRules → State → Table
-first_table pixels rules s = table_of (rules_of rules) (first_teller pixels One) (first_teller pixels Two) s
+abbrev pub first_table : HpForm → PlainRules → State → Table
+first_table form rules s = table_of (rules_of rules) (first_teller form One) (first_teller form Two) s
 
 -- what becomes of a table by a row, and the reply
 

@@ -14,7 +14,7 @@ use gen1_engine::packed::{count_of, result as battle_result};
 use gen1_layout::{LoadFault, Packed};
 use gen1_machine::{Choice, Request, Side};
 use gen1_offers::{Bench, offered};
-use gen1_player::Teller;
+use gen1_player::{HpForm, Teller};
 use gen1_room::choice_by_byte;
 use gen1_room::plain::PlainRoom;
 
@@ -169,7 +169,7 @@ fn is_log(room: &PlainRoom) -> bool
         return false;
     }
     // Any teller reads it.
-    let mut teller = Teller::new(Side::One, false);
+    let mut teller = Teller::new(Side::One, HpForm::Exact);
     match teller.tell_log(log_of(room)) {
         Ok(_) => true,
         Err(_) => false,

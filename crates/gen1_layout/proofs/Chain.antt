@@ -1,7 +1,7 @@
 -- How shown facts pass through phases. Each lemma takes a shown fact and gives a shown fact. Phases are explicit
 -- arguments, and `_` is mostly enough for them.
 use Rattle.std.proofs.Common.{Bool, List, [], ap, false, refl, subst, sym, true, ℕ, ◌++◌, ◌+◌, ◌≡◌, ◌∙◌, ◌∷◌}
-use Rattle.gen1_rolls.specs.Draws.{Drawing, StandsAt}
+use Rattle.gen1_rolls.specs.Draws.{Drawing, Source}
 use Rattle.gen1_rolls.specs.Streams.{Stream, byte_at}
 use Rattle.gen1_rolls.proofs.Standing.{byte_drawn, stands_after_draw, stands_there}
 use Rattle.gen1_stats.specs.Members.{Member}
@@ -132,37 +132,37 @@ module _ {g : Frame} {parts : Parts} {events : Telling} {b : Bool} {p : Progress
 
 -- With a generator
 
-module _ {A : Type 0} {d : Drawing A} {origin : A} where
+module _ {A : Type 0} {d : Drawing A} {source : Source A} where
   -- What code without draws showed, for a generator that hasn't moved.
   pub still : {g g' : Frame} {parts parts' : Parts} {events events' : Telling} {now : A} {b b' : Bool} {p q : Progress}
-      → ShowsDrawn d origin g parts events now b p → Shows (record g' { drawn = p.drawn }) parts' events' b' q → g'.stream ≡ g.stream
-      → ShowsDrawn d origin g' parts' events' now b' q
-  still {g = g} {g' = g'} {now = now} {q = q} a h same = record {
+      → ShowsDrawn d source g parts events now b p → Shows (record g' { stream = source.stream; drawn = p.drawn }) parts' events' b' q → g'.stream ≡ g.stream
+      → ShowsDrawn d source g' parts' events' now b' q
+  still a h same = record {
     shows = record { within = h.within; written = h.written; ends = h.ends; stream = h.stream; drawn = refl; skips = h.skips; action = h.action };
-    stands = subst (λ (s : Stream). StandsAt d origin s q.drawn now) (sym same) (stands_there a.stands (sym h.drawn));
+    stands = stands_there a.stands (sym h.drawn);
   }
 
   pub drawn_as_list : {g : Frame} {parts : Parts} {events : Telling} {now : A} {b : Bool} {p : Progress}
-      → ShowsDrawn d origin g parts events now b p → ShowsDrawn d origin g parts (Told p.events) now b p
+      → ShowsDrawn d source g parts events now b p → ShowsDrawn d source g parts (Told p.events) now b p
   drawn_as_list h = record { shows = as_list h.shows; stands = h.stands }
 
   pub drawn_from_list : {g g' : Frame} {parts parts' : Parts} {events : Telling} {old new : A} {b b' : Bool} {p q : Progress}
-      → ShowsDrawn d origin g parts events old b p → ShowsDrawn d origin g' parts' (Told p.events) new b' q
-      → ShowsDrawn d origin g' parts' events new b' q
+      → ShowsDrawn d source g parts events old b p → ShowsDrawn d source g' parts' (Told p.events) new b' q
+      → ShowsDrawn d source g' parts' events new b' q
   drawn_from_list h a = record { shows = from_list h.shows a.shows; stands = a.stands }
 
   pub drawn_quietly : {g g' : Frame} {parts parts' : Parts} {events : Telling} {old new : A} {b b' : Bool} {p q : Progress}
-      → ShowsDrawn d origin g parts events old b p
-      → (ShowsDrawn d origin g parts (Told p.events) old b p → ShowsDrawn d origin g' parts' (Told p.events) new b' q)
-      → ShowsDrawn d origin g' parts' events new b' q
+      → ShowsDrawn d source g parts events old b p
+      → (ShowsDrawn d source g parts (Told p.events) old b p → ShowsDrawn d source g' parts' (Told p.events) new b' q)
+      → ShowsDrawn d source g' parts' events new b' q
   drawn_quietly h f = drawn_from_list h (f (drawn_as_list h))
 
   -- A draw: the byte is the stream's, and the next place is one further.
   pub drawing : {g g' : Frame} {parts parts' : Parts} {events events' : Telling} {old new now : A} {b b' : Bool} {p : Progress} (f : ℕ → Phase) {drawn : ℕ}
-      → ShowsDrawn d origin g parts events old b p → drawn ≡ d.byte old → new ≡ d.next old
-      → (ShowsDrawn d origin g parts events new b (record p { drawn = p.drawn + 1 })
-      → ShowsDrawn d origin g' parts' events' now b' (f drawn (record p { drawn = p.drawn + 1 })))
-      → ShowsDrawn d origin g' parts' events' now b' (draw f p)
+      → ShowsDrawn d source g parts events old b p → drawn ≡ d.byte old → new ≡ d.next old
+      → (ShowsDrawn d source g parts events new b (record p { drawn = p.drawn + 1 })
+      → ShowsDrawn d source g' parts' events' now b' (f drawn (record p { drawn = p.drawn + 1 })))
+      → ShowsDrawn d source g' parts' events' now b' (draw f p)
   unfolding draw
   drawing {g = g} {p = p} f a e left then =
       let at = byte_drawn a.stands e ∙ ap (λ (s : Stream). byte_at s p.drawn) (sym a.shows.stream) in
@@ -173,36 +173,36 @@ module _ {A : Type 0} {d : Drawing A} {origin : A} where
       }))
 
   pub drawn_goes : {g g' : Frame} {parts parts' : Parts} {events events' : Telling} {now now' : A} {b : Bool} {p : Progress} (f k : Phase)
-      → ShowsDrawn d origin g parts events now false (f p) → ShowsDrawn d origin g' parts' events' now' b (k (f p))
-      → ShowsDrawn d origin g' parts' events' now' b ((f ▸ k) p)
+      → ShowsDrawn d source g parts events now false (f p) → ShowsDrawn d source g' parts' events' now' b (k (f p))
+      → ShowsDrawn d source g' parts' events' now' b ((f ▸ k) p)
   drawn_goes {p = p} f k a h = rw (then-goes f k p a.shows.ends) h
 
   pub drawn_stops : {g : Frame} {parts : Parts} {events : Telling} {now : A} {p : Progress} (f k : Phase)
-      → ShowsDrawn d origin g parts events now true (f p) → ShowsDrawn d origin g parts events now true ((f ▸ k) p)
+      → ShowsDrawn d source g parts events now true (f p) → ShowsDrawn d source g parts events now true ((f ▸ k) p)
   drawn_stops {p = p} f k a = rw (then-stops f k p a.shows.ends) a
 
   pub drawn_if_so : {g : Frame} {parts : Parts} {events : Telling} {now : A} {b : Bool} {p : Progress} (test : Progress → Bool) (f k : Phase) → test p ≡ true
-      → ShowsDrawn d origin g parts events now b (f p) → ShowsDrawn d origin g parts events now b (choose test f k p)
+      → ShowsDrawn d source g parts events now b (f p) → ShowsDrawn d source g parts events now b (choose test f k p)
   drawn_if_so {p = p} test f k e h = rw (choose-true test f k p e) h
 
   pub drawn_if_not : {g : Frame} {parts : Parts} {events : Telling} {now : A} {b : Bool} {p : Progress} (test : Progress → Bool) (f k : Phase) → test p ≡ false
-      → ShowsDrawn d origin g parts events now b (k p) → ShowsDrawn d origin g parts events now b (choose test f k p)
+      → ShowsDrawn d source g parts events now b (k p) → ShowsDrawn d source g parts events now b (choose test f k p)
   drawn_if_not {p = p} test f k e h = rw (choose-false test f k p e) h
 
   pub drawn_stays : {g : Frame} {parts : Parts} {events : Telling} {now : A} {b : Bool} {p : Progress}
-      → ShowsDrawn d origin g parts events now b p → ShowsDrawn d origin g parts events now b (stay p)
+      → ShowsDrawn d source g parts events now b p → ShowsDrawn d source g parts events now b (stay p)
   unfolding stay
   drawn_stays h = h
 
   pub drawn_seeing : {B : Type 0} {a : B} {g : Frame} {parts : Parts} {events : Telling} {now : A} {b : Bool} {p : Progress} (read : Progress → B) (f : B → Phase)
-      → a ≡ read p → ShowsDrawn d origin g parts events now b (f a p) → ShowsDrawn d origin g parts events now b (given read f p)
+      → a ≡ read p → ShowsDrawn d source g parts events now b (f a p) → ShowsDrawn d source g parts events now b (given read f p)
   unfolding given
   drawn_seeing read f e h = rw (← e) h
 
   pub drawn_settled : {g : Frame} {parts : Parts} {events : Telling} {now : A} {b b' : Bool} {p : Progress} → b ≡ b'
-      → ShowsDrawn d origin g parts events now b p → ShowsDrawn d origin g parts events now b' p
+      → ShowsDrawn d source g parts events now b p → ShowsDrawn d source g parts events now b' p
   drawn_settled e h = record { shows = settled e h.shows; stands = h.stands }
 
   pub drawn_acted : {g : Frame} {parts : Parts} {events : Telling} {now : A} {b : Bool} {p : Progress} (f : Action → Action)
-      → ShowsDrawn d origin g parts events now b p → ShowsDrawn d origin (record g { action = f g.action }) parts events now b (on_action f p)
+      → ShowsDrawn d source g parts events now b p → ShowsDrawn d source (record g { action = f g.action }) parts events now b (on_action f p)
   drawn_acted {g = g} f h = still {g' = record g { action = f g.action }} h (acted f h.shows) refl

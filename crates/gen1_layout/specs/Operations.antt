@@ -4,7 +4,7 @@
 use Rattle.std.specs.Prelude.{Bool, List, false}
 use Rattle.std.specs.Borrow.{Bor}
 use denote.Triple.Both.{Both}
-use Rattle.gen1_rolls.specs.Draws.{Drawing, Ref}
+use Rattle.gen1_rolls.specs.Draws.{Drawing, Ref, Since}
 use Rattle.gen1_machine.specs.declared.event.Event.{Event}
 use Rattle.gen1_machine.specs.Progress.{Phase, Progress}
 use Rattle.gen1_machine.specs.Ruling.{Ruling, ruling_of}
@@ -76,18 +76,19 @@ DoesWhere premise s stopped phase = s λ parts events knows parts' events' knows
     (g : Frame) (p : Progress) → premise g p
     (Shows (knows g) parts events false p → Shows (knows' g) parts' events' stopped (phase (ruling_of g.setting.terms) p))
 
--- Code with draws does what a phase does, for every generator.
+-- Code with draws does what a phase does, for every generator, and on each stream that agrees with the draws noted at its end.
 abbrev pub Draws : {A : Type 0} → Drawing A → Ref A → Scene → Bool → Phase → Type 0
-Draws {A = A} d random s stopped phase = s λ parts events knows parts' events' knows'.
-    (origin : A) (g : Frame) (p : Progress) → ShowsDrawn d origin (knows g) parts events random.entry.now false p
-    → ShowsDrawn d origin (knows' g) parts' events' random.exit.now stopped (phase p)
+Draws d random s stopped phase = s λ parts events knows parts' events' knows'.
+    (since : Since d random.exit.now) (g : Frame) (p : Progress)
+    → ShowsDrawn d since.source (knows g) parts events random.entry.now false p
+    → ShowsDrawn d since.source (knows' g) parts' events' random.exit.now stopped (phase p)
 
 -- It does so under the rules of the battle, if a premise holds.
 abbrev pub DrawsWhere : {A : Type 0} → Drawing A → Ref A → Premise → Scene → Bool → (Ruling → Phase) → Type 0
-DrawsWhere {A = A} d random premise s stopped phase = s λ parts events knows parts' events' knows'.
-    (origin : A) (g : Frame) (p : Progress) → premise g p
-    (ShowsDrawn d origin (knows g) parts events random.entry.now false p
-    → ShowsDrawn d origin (knows' g) parts' events' random.exit.now stopped (phase (ruling_of g.setting.terms) p))
+DrawsWhere d random premise s stopped phase = s λ parts events knows parts' events' knows'.
+    (since : Since d random.exit.now) (g : Frame) (p : Progress) → premise g p
+    (ShowsDrawn d since.source (knows g) parts events random.entry.now false p
+    → ShowsDrawn d since.source (knows' g) parts' events' random.exit.now stopped (phase (ruling_of g.setting.terms) p))
 
 -- Code without draws does what a phase does. It does not say whether the phase stopped.
 abbrev pub DoesAnyway : Premise → Scene → (Ruling → Phase) → Type 0

@@ -1,7 +1,7 @@
 -- What the code of an update shows: its bytes, the events so far and the generator represent a battle in the middle
 -- of an update. An operation is described by its phase (`Operations.antt`).
 use Rattle.std.specs.Prelude.{Bool, List, false, ℕ, ◌≡◌}
-use Rattle.gen1_rolls.specs.Draws.{Drawing, StandsAt}
+use Rattle.gen1_rolls.specs.Draws.{Drawing, Source, StandsIn}
 use Rattle.gen1_rolls.specs.Streams.{Stream}
 use Rattle.gen1_machine.specs.declared.event.Event.{Event}
 use Rattle.gen1_machine.specs.Progress.{Action, Progress}
@@ -45,8 +45,8 @@ pub record ShowsPacked (g : Frame) (parts : Parts) (events : Telling) (p : Progr
   pub skips : p.skips ≡ g.skips
   pub action : p.action ≡ g.action
 
--- What is shown inside an update with a generator, which is at the place that p has drawn to. What the frame says
--- about draws doesn't matter then.
-pub record ShowsDrawn {A : Type 0} (d : Drawing A) (origin : A) (g : Frame) (parts : Parts) (events : Telling) (now : A) (stopped : Bool) (p : Progress) : Type 0 where
-  pub shows : Shows (record g { drawn = p.drawn }) parts events stopped p
-  pub stands : StandsAt d origin g.stream p.drawn now
+-- What is shown inside an update with a generator, which is at the place of its source that p has drawn to. What the
+-- frame says about draws doesn't matter then.
+pub record ShowsDrawn {A : Type 0} (d : Drawing A) (source : Source A) (g : Frame) (parts : Parts) (events : Telling) (now : A) (stopped : Bool) (p : Progress) : Type 0 where
+  pub shows : Shows (record g { stream = source.stream; drawn = p.drawn }) parts events stopped p
+  pub stands : StandsIn d source p.drawn now

@@ -6,6 +6,7 @@ pub mod Runs
 pub mod Trees
 pub mod TreeWalk
 pub mod Shares
+pub mod EqualShares
 -- The highest cost of an update.
 pub mod Costs
 pub mod GateCosts

@@ -12,7 +12,7 @@ use Rattle.gen1_machine.specs.Laws.{count_of, leads_to, sum_below, sum_over, Don
 
 -- Sums
 
-below-same : (n : ℕ) (f g : ℕ → ℕ) → ((b : ℕ) → b < n → f b ≡ g b) → sum_below n f ≡ sum_below n g
+pub below-same : (n : ℕ) (f g : ℕ → ℕ) → ((b : ℕ) → b < n → f b ≡ g b) → sum_below n f ≡ sum_below n g
 unfolding sum_below
 below-same zero f g h = refl
 below-same (suc n) f g h = ap₂ (λ (x y : ℕ). x + y) (below-same n f g (λ b lt. h b (omega (arith, lt)))) (h n (omega arith))
@@ -40,12 +40,12 @@ below-some (suc n) f lt = elim (some (f n)) [
     some : (x : ℕ) → (0 < x) ⊎ (x ≡ 0)
     some x = grind arith
 
-below-times : (n : ℕ) (f : ℕ → ℕ) (each : ℕ) → sum_below n (λ b. f b * each) ≡ sum_below n f * each
+pub below-times : (n : ℕ) (f : ℕ → ℕ) (each : ℕ) → sum_below n (λ b. f b * each) ≡ sum_below n f * each
 unfolding sum_below
 below-times zero f each = omega arith
 below-times (suc n) f each = let before = below-times n f each in grind (arith, before)
 
-abbrev if_so : Bool → ℕ → ℕ
+abbrev pub if_so : Bool → ℕ → ℕ
 if_so t x = if t then x else 0
 
 -- Of the bytes that pass
@@ -56,14 +56,14 @@ over-same test f g h = below-same 256 _ _ (λ b lt. by b (test b) (h b lt))
     by b true e = e refl
     by b false e = refl
 
-over-times : (test : ℕ → Bool) (each : ℕ) → sum_over test (λ b. each) ≡ count_of test * each
+pub over-times : (test : ℕ → Bool) (each : ℕ) → sum_over test (λ b. each) ≡ count_of test * each
 over-times test each = below-same 256 _ _ (λ b lt. by (test b)) ∙ below-times 256 (λ b. if_so (test b) 1) each
   where
     by : (t : Bool) → if_so t each ≡ if_so t 1 * each
     by true = omega arith
     by false = omega arith
 
-over-some : (test : ℕ → Bool) (f : ℕ → ℕ) → 0 < sum_over test f → (b : ℕ) × ((b < 256) × ((IsTrue (test b)) × (0 < f b)))
+pub over-some : (test : ℕ → Bool) (f : ℕ → ℕ) → 0 < sum_over test f → (b : ℕ) × ((b < 256) × ((IsTrue (test b)) × (0 < f b)))
 over-some test f lt = let found = below-some 256 (λ b. if_so (test b) (f b)) lt in (found.0, (found.1.0, by (test found.0) (f found.0) found.1.1))
   where
     by : (t : Bool) (x : ℕ) → 0 < if_so t x → IsTrue t × (0 < x)
@@ -78,7 +78,7 @@ unfolding sum_below
 ones zero = refl
 ones (suc n) = let before = ones n in omega (arith, before)
 
-all-count : count_of (λ b. true) ≡ 256
+pub all-count : count_of (λ b. true) ≡ 256
 all-count = ones 256
 
 some-all : 0 < count_of (λ b. true)
@@ -99,7 +99,7 @@ dealt-all : {test : ℕ → Bool} {P : ℕ → ℕ → ℕ → Type 0} {whole n 
 dealt-all {test} same d =
     sym d.sum ∙ over-same test d.part (λ b. d.each) (λ b lt is. same b d.each (d.part b) (d.parts b lt is)) ∙ over-times test d.each ∙ d.equal
 
-share-one : (t : Tree) (passes : Field → Bool) (whole m n : ℕ) → IsShare t passes whole m → IsShare t passes whole n → m ≡ n
+pub share-one : (t : Tree) (passes : Field → Bool) (whole m n : ℕ) → IsShare t passes whole m → IsShare t passes whole n → m ≡ n
 unfolding IsShare
 share-one (Done left) passes whole m n h k = h ∙ sym k
 share-one (Draw next) passes whole m n h k = dealt-one some-all (λ b. share-one (next b) passes) h k
@@ -117,7 +117,7 @@ share-all (Search test found none) whole n (inr (none_passes, h)) = share-all no
 
 -- Shares of what excludes each other
 
-below-plus : (n : ℕ) (f g : ℕ → ℕ) → sum_below n (λ b. f b + g b) ≡ sum_below n f + sum_below n g
+pub below-plus : (n : ℕ) (f g : ℕ → ℕ) → sum_below n (λ b. f b + g b) ≡ sum_below n f + sum_below n g
 unfolding sum_below
 below-plus zero f g = refl
 below-plus (suc n) f g = let before = below-plus n f g in omega (arith, before)
@@ -174,7 +174,7 @@ dealt-leads {test} {whole = whole} b lt is some led d =
     omega (arith, here, most, d.sum)
 
 -- A byte that passes is counted.
-counted : (test : ℕ → Bool) (b : ℕ) → b < 256 → IsTrue (test b) → 0 < count_of test
+pub counted : (test : ℕ → Bool) (b : ℕ) → b < 256 → IsTrue (test b) → 0 < count_of test
 counted test b lt is = let one = over-part test (λ b. 1) b lt is in omega (arith, one)
 
 share-leads : (t : Tree) (passes : Field → Bool) (whole n : ℕ) → IsShare t passes whole n → 0 < whole
@@ -267,7 +267,7 @@ has-after f width s k h = record {
   bytes = λ i. let e : k + span s + i ≡ k + (width + i) = omega (arith, h.wide) in ap (byte_at s) e ∙ h.bytes (width + i) ∙ zeros-after width f i;
 }
 
-first-here : (s : Stream) (k : ℕ) (test : ℕ → Bool) → 0 < span s → test (byte_at s k) ≡ true → first s k test ≡ Some k
+pub first-here : (s : Stream) (k : ℕ) (test : ℕ → Bool) → 0 < span s → test (byte_at s k) ≡ true → first s k test ≡ Some k
 unfolding first
 first-here s k test wide met =
     let e : k + 0 ≡ k = omega arith in

@@ -56,7 +56,7 @@ unless_stopped-tree k = record {
 }
 
 -- What a search finds, or none.
-abbrev searched : {A : Type 0} → Option ℕ → (ℕ → A) → A → A
+abbrev pub searched : {A : Type 0} → Option ℕ → (ℕ → A) → A → A
 searched {A = A} o found none = elim o as (λ _. A) [ Some m ↦ found m | None ↦ none ]
 
 -- A tree, and another one where it is done.

@@ -116,10 +116,13 @@ leads_to (Search test found none) s n = elim (first s n test) [
   | None ↦ leads_to none s (n + span s)
 ]
 
--- An update is a tree of draws, of which each branch ends: on each stream, from each place on, it leads where the tree does.
+-- On each stream, from each place on, an update leads where this tree does.
+abbrev pub IsTreeOf : Terms → Choice → Choice → Progress → Tree → Type 0
+IsTreeOf terms one two p tree = (s : Stream) (n : ℕ) → update (ruling_of terms) one two (drawing_from s n p) ≡ leads_to tree s n
+
+-- An update is a tree of draws, of which each branch ends.
 abbrev pub UpdatesAreTrees : Type 0
-UpdatesAreTrees = (terms : Terms) (one two : Choice) (p : Progress)
-    → (tree : Tree) × ((s : Stream) (n : ℕ) → update (ruling_of terms) one two (drawing_from s n p) ≡ leads_to tree s n)
+UpdatesAreTrees = (terms : Terms) (one two : Choice) (p : Progress) → (tree : Tree) × IsTreeOf terms one two p tree
 
 -- f 0 + f 1 + .. + f (n - 1).
 unfoldable pub sum_below : ℕ → (ℕ → ℕ) → ℕ
@@ -166,6 +169,30 @@ pub record AreProbabilities (t : Tree) : Type 0 where
 
 abbrev pub SharesAreProbabilities : Type 0
 SharesAreProbabilities = (t : Tree) → AreProbabilities t
+
+-- Two trees lead to the same field on each stream.
+abbrev pub SameFields : Tree → Tree → Type 0
+SameFields t u = (s : Stream) → IsStream s → (leads_to t s 0).field ≡ (leads_to u s 0).field
+
+-- Shares depend on the fields that streams lead to, and not on the tree: trees that lead to the same fields have equal shares.
+abbrev pub SharesDependOnFields : Type 0
+SharesDependOnFields = (t u : Tree) → SameFields t u → (passes : Field → Bool) (whole share total part : ℕ)
+    → IsShare t passes whole share → IsShare u passes total part → share * total ≡ part * whole
+
+-- By some tree of an update this is the share of a whole for fields that pass a test.
+abbrev pub IsShareOfUpdate : Terms → Choice → Choice → Progress → (Field → Bool) → ℕ → ℕ → Type 0
+IsShareOfUpdate terms one two p passes whole share = (tree : Tree) × (IsTreeOf terms one two p tree × IsShare tree passes whole share)
+
+-- The probability that an update leads to a field which passes a test is one number: there is a share of some whole, and all shares
+-- are the same fraction of their wholes, whichever trees give them.
+unfoldable pub HasProbability : Terms → Choice → Choice → Progress → (Field → Bool) → Type 0
+HasProbability terms one two p passes =
+    ((whole : ℕ) × ((0 < whole) × ((share : ℕ) × IsShareOfUpdate terms one two p passes whole share)))
+    × ((whole share total part : ℕ) → IsShareOfUpdate terms one two p passes whole share
+    → IsShareOfUpdate terms one two p passes total part → share * total ≡ part * whole)
+
+abbrev pub UpdatesHaveProbabilities : Type 0
+UpdatesHaveProbabilities = (terms : Terms) (one two : Choice) (p : Progress) (passes : Field → Bool) → HasProbability terms one two p passes
 
 -- Two streams have the same bytes from one place up to another, and a search among those goes equally far in both: their spans are
 -- equal, or each is more than so many bytes.

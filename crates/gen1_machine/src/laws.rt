@@ -1,6 +1,6 @@
 //! Laws of the battle machine (docs/PROVED.md, "Laws"). Each function has an empty body. Its contract is the law.
 ghost use Rattle.gen1_machine.specs.Bounds.{ActIsBounded, EndIsBounded, OrderIsBounded, ResidualIsBounded, StepIsBounded, SwitchIsBounded, TurnIsBounded, UpdateIsBounded};
-ghost use Rattle.gen1_machine.specs.Laws.{OverStaysOver, SharesAreProbabilities, RefusalChangesNothing, TermsStay, RunsAppend, SameAsBeforeRules, SameAsFixedLimit, RoomRuns, FirstIsLeast, FirstExists, FirstStatesAreValid, RunsEnd, RunsAreLocal, UpdatesAreLocal, UpdatesAreTrees, FieldsStayValid, StatesFit, StatesStayValid};
+ghost use Rattle.gen1_machine.specs.Laws.{OverStaysOver, SharesAreProbabilities, SharesDependOnFields, RefusalChangesNothing, TermsStay, RunsAppend, SameAsBeforeRules, SameAsFixedLimit, RoomRuns, FirstIsLeast, FirstExists, FirstStatesAreValid, RunsEnd, RunsAreLocal, UpdatesAreLocal, UpdatesAreTrees, UpdatesHaveProbabilities, FieldsStayValid, StatesFit, StatesStayValid};
 ghost use Rattle.gen1_machine.specs.Spectator.{WatcherKnows};
 
 /// Once a battle is over, every pair of choices is refused, and nothing changes (docs/MECHANICS.md, "Falls and
@@ -60,8 +60,8 @@ pub fn first_exists()
     ensures { FirstExists }
 {}
 
-/// An update is a tree of draws: on each stream and from each place on, it leads where the tree does with the bytes that come
-/// next (docs/MECHANICS.md, "Link numbers").
+/// An update is a tree of draws: on each stream, from each place on, it leads where the tree does (docs/MECHANICS.md, "Link
+/// numbers").
 ///
 /// Each draw of the tree takes the next byte, or the first that passes a test. Each branch ends.
 #[tactic(auto, using(crate::proofs::Runs::updates_are_trees))]
@@ -76,6 +76,20 @@ pub fn updates_are_trees()
 /// exclude each other add up. If there is a share above 0, some bytes lead there; and what a stream leads to has one.
 pub fn shares_are_probabilities()
     ensures { SharesAreProbabilities }
+{}
+
+/// Two trees of draws that lead to the same field on each stream have equal shares (docs/MECHANICS.md, "Link numbers").
+#[tactic(auto, using(crate::proofs::EqualShares::shares_depend_on_fields))]
+pub fn shares_depend_on_fields()
+    ensures { SharesDependOnFields }
+{}
+
+/// An update leads to fields that pass a test with one probability, by any of its trees (docs/MECHANICS.md, "Link numbers").
+///
+/// There is a share of some whole, and all shares are the same fraction of their wholes.
+#[tactic(auto, using(crate::proofs::EqualShares::updates_have_probabilities))]
+pub fn updates_have_probabilities()
+    ensures { UpdatesHaveProbabilities }
 {}
 
 /// An update depends on the bytes that it draws alone: another stream with these bytes and the same span leads to the same

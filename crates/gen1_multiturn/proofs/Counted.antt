@@ -1,20 +1,20 @@
 -- A drawn count, by its one or two draws.
 use Rattle.std.proofs.Common.{◌%◌, ◌+◌, ◌≡◌}
 use Rattle.gen1_layout.proofs.Words.{Bool, Frame, Parts, Phase, Progress, ShowsDrawn, Telling, ap, choose, choose-false, choose-true, draw, false, nat_le, refl, sym, true, ℕ, ◌∙◌}
-use Rattle.gen1_rolls.specs.Draws.{Drawing}
+use Rattle.gen1_rolls.specs.Draws.{Drawing, Source}
 use Rattle.gen1_rolls.specs.Streams.{byte_at, Stream}
 use Rattle.gen1_rolls.proofs.Standing.{byte_drawn, stands_after_draw}
 use Rattle.gen1_machine.specs.GoingOn.{count_again, count_by_draw, draw_count}
 
-module _ {A : Type 0} {d : Drawing A} {origin : A} {g : Frame} {parts : Parts} {events : Telling} {old : A} {b : Bool} {p : Progress} where
+module _ {A : Type 0} {d : Drawing A} {source : Source A} {g : Frame} {parts : Parts} {events : Telling} {old : A} {b : Bool} {p : Progress} where
   -- The lowest bits of the drawn byte are those of the stream's.
-  pub drawn_bits : (byte : ℕ) → ShowsDrawn d origin g parts events old b p → byte % 4 ≡ d.byte old % 4 → byte % 4 ≡ byte_at p.stream p.drawn % 4
+  pub drawn_bits : (byte : ℕ) → ShowsDrawn d source g parts events old b p → byte % 4 ≡ d.byte old % 4 → byte % 4 ≡ byte_at p.stream p.drawn % 4
   drawn_bits byte a e =
       e ∙ ap (λ (n : ℕ). n % 4) (byte_drawn {b = d.byte old} a.stands refl ∙ ap (λ (s : Stream). byte_at s p.drawn) (sym a.shows.stream))
 
   -- The next place of the generator is one further.
-  pub drawn_next : {new : A} → ShowsDrawn d origin g parts events old b p → new ≡ d.next old
-      → ShowsDrawn d origin g parts events new b (record p { drawn = p.drawn + 1 })
+  pub drawn_next : {new : A} → ShowsDrawn d source g parts events old b p → new ≡ d.next old
+      → ShowsDrawn d source g parts events new b (record p { drawn = p.drawn + 1 })
   drawn_next a left =
       let h = a.shows in
       record {

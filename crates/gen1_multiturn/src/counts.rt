@@ -1,5 +1,6 @@
 //! How many times a move hits or holds (docs/MECHANICS.md, "Many hits", "Going on").
 ghost use Rattle.std.specs.Prelude.{◌≤◌};
+ghost use Rattle.gen1_rolls.specs.Draws.{Steps};
 ghost use Rattle.gen1_multiturn.specs.Counts.{DrawsCount};
 
 use gen1_rolls::{Look, Rolls};
@@ -10,6 +11,7 @@ use gen1_rolls::{Look, Rolls};
 pub fn draw_count<R: Rolls>(random: &mut R) -> u8
     ensures shown { DrawsCount R.drawing random result }
     ensures most { result ≤ 3 }
+    ensures steps { Steps R.drawing random }
 {
     let first = random.draw_as(Look::Remainder(4)) % 4;
     if first <= 1 {

@@ -1,6 +1,6 @@
 -- Turns of two actions, and where a turn is after the first of them (docs/MECHANICS.md, "Order of a turn").
 use Rattle.std.specs.Prelude.{Bool, [], false, true, ℕ, ◌&&◌, ◌∷◌, ◌≡◌}
-use Rattle.gen1_rolls.specs.Draws.{Drawing, Ref, StandsAt}
+use Rattle.gen1_rolls.specs.Draws.{Drawing, Ref, Since, Source, StandsIn}
 use Rattle.gen1_rolls.specs.Streams.{IsStream, Stream}
 use Rattle.gen1_machine.specs.declared.choice.Choice.{Choice}
 use Rattle.gen1_machine.specs.declared.choice.Choice.TheVariants as choices
@@ -55,19 +55,19 @@ pub record GoesOn (rest : Rest) (r : Ruling) (one two : Pick) (here whole : Prog
   pub left : rest.is_cut ≡ false → whole ≡ second_action r rest.second (of_side rest.second one two) here
 
 -- The bytes and the generator are those of a turn from p, played up to its second action. The machine's order puts the other side first.
-pub record Begins {A : Type 0} (d : Drawing A) (origin : A) (g : Setting) (parts : Parts) (now : A) (rest : Rest) (one two : Pick) (p whole : Progress) : Type 0 where
+pub record Begins {A : Type 0} (d : Drawing A) (source : Source A) (g : Setting) (parts : Parts) (now : A) (rest : Rest) (one two : Pick) (p whole : Progress) : Type 0 where
   pub here : Progress
   pub within : Within g parts here.field
-  pub stands : StandsAt d origin p.stream here.drawn now
+  pub stands : StandsIn d source here.drawn now
   pub drawn : ℕ
   pub first : (begins : Side → Phase) → in_order begins (picked one two p) ≡ begins (other rest.second) (record (picked one two p) { drawn = drawn })
   pub goes_on : GoesOn rest (ruling_of g.terms) one two here whole
 
 -- Code with draws begins such a turn, with draws from any place of any stream.
 abbrev pub BeginsTurn : {A : Type 0} → Drawing A → Ref A → Ref Parts → Choice → Choice → Rest → Type 0
-BeginsTurn {A = A} d random battle one two rest =
+BeginsTurn d random battle one two rest =
     (s : State) (j k : ℕ) → Stands battle.entry.now s → Plays s requests.Move one two → one ≡ choices.Move j → two ≡ choices.Move k
-    → (origin : A) (stream : Stream) (drawn : ℕ) → IsStream stream → StandsAt d origin stream drawn random.entry.now
-    → let p = drawing_on stream drawn s in
-    Begins d origin (setting_of s) battle.exit.now random.exit.now rest (pick_in j One (unflinched p).field) (pick_in k Two (unflinched p).field) p
+    → (since : Since d random.exit.now) (drawn : ℕ) → IsStream since.source.stream → StandsIn d since.source drawn random.entry.now
+    → let p = drawing_on since.source.stream drawn s in
+    Begins d since.source (setting_of s) battle.exit.now random.exit.now rest (pick_in j One (unflinched p).field) (pick_in k Two (unflinched p).field) p
     (turn (ruling_of s.terms) one two p)

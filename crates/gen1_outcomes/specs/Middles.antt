@@ -19,7 +19,7 @@ use Rattle.gen1_outcomes.specs.Beginning.{Begins, unflinched}
 use Rattle.gen1_outcomes.specs.Following.{Follows, Walk}
 use Rattle.gen1_outcomes.specs.Listing.{untold}
 use Rattle.gen1_outcomes.specs.Nodes.{IsTooLarge}
-use Rattle.gen1_outcomes.specs.Script.{script_of, scripted}
+use Rattle.gen1_outcomes.specs.Script.{script_of, scripted, source_of}
 use Rattle.gen1_outcomes.specs.declared.middles.Middle.{Middle}
 use Rattle.gen1_outcomes.specs.declared.middles.Middles.{Middles}
 use Rattle.gen1_outcomes.specs.Chances.{IsSum}
@@ -89,5 +89,5 @@ pub record Reaches (w : Walk) (nodes : Nodes) (middle : Middle) : Type 0 where
   pub left : Script
   pub begins : (s : State) → (j k : ℕ) → Stands w.start s → Plays s Move w.one w.two → w.one ≡ choices.Move j → w.two ≡ choices.Move k
       → let p = drawing_on (stream_of scripted (script_of path)) 0 s in
-      Begins scripted (script_of path) (setting_of s) parts left middle.rest (pick_in j One (unflinched p).field) (pick_in k Two (unflinched p).field) p
+      Begins scripted (source_of path) (setting_of s) parts left middle.rest (pick_in j One (unflinched p).field) (pick_in k Two (unflinched p).field) p
       (turn (ruling_of s.terms) w.one w.two p)

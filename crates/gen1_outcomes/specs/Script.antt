@@ -1,6 +1,6 @@
 -- A generator whose first bytes are given (docs/MECHANICS.md, "Link numbers").
 use Rattle.std.specs.Prelude.{List, ℕ, ◌+◌, nat_lt, slice_index, if◌then◌else◌}
-use Rattle.gen1_rolls.specs.Draws.{Drawing}
+use Rattle.gen1_rolls.specs.Draws.{Drawing, Source, own_source, steady}
 use Rattle.gen1_rolls.specs.Sweep.{one_up}
 use Rattle.gen1_outcomes.specs.declared.script.Script.{Script}
 
@@ -18,4 +18,8 @@ after_draw s = if nat_lt s.at 24 then record s { at = s.at + 1 } else record s {
 
 -- How it draws: any 280 draws in a row hold every byte, since after 24 it counts up.
 abbrev pub scripted : Drawing Script
-scripted = record { byte = next_byte; next = after_draw; width = 280 }
+scripted = steady next_byte after_draw 280
+
+-- The draws of a path's generator from its first on.
+abbrev pub source_of : List ℕ → Source Script
+source_of path = own_source scripted (script_of path)

@@ -1,6 +1,7 @@
 //! A turn up to its second action (docs/MECHANICS.md, "Order of a turn").
 
 ghost use Rattle.std.specs.Prelude.{false, ◌≡◌};
+ghost use Rattle.gen1_rolls.specs.Draws.{Steps};
 ghost use Rattle.gen1_layout.specs.Words.{Reads};
 ghost use Rattle.gen1_outcomes.specs.Beginning.{BeginsTurn, asks_for_move, have_two_actions, is_move};
 
@@ -65,6 +66,7 @@ impl Rest {
 /// Plays a turn in which both sides use a move, up to the second action.
 pub(crate) fn begin<R: Rolls>(battle: &mut Packed, one: Choice, two: Choice, random: &mut R) -> Rest
     ensures begins { BeginsTurn R.drawing random battle one two result }
+    ensures steps { Steps R.drawing random }
 {
     end_flinch(battle, Side::One);
     end_flinch(battle, Side::Two);

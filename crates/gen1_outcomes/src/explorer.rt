@@ -3,7 +3,7 @@ ghost use Rattle.std.specs.Prelude.{Bool, IfNone, IfSome, IsFalse, IsTrue, ℕ, 
 ghost use Rattle.gen1_outcomes.specs.Script.{after_draw, next_byte, scripted};
 ghost use Rattle.gen1_outcomes.specs.Bytes.{ArePassing, IsAll, IsNone};
 ghost use Rattle.gen1_outcomes.specs.declared.byte_set.ByteSet.{ByteSet};
-ghost use Rattle.gen1_rolls.specs.Draws.{FindsAlike, FindsNoDraw, Settles, stream_of};
+ghost use Rattle.gen1_rolls.specs.Draws.{FindsAlike, FindsNoDraw, Settles, Steps, stream_of};
 ghost use Rattle.gen1_rolls.specs.Looks.{sees};
 ghost use Rattle.gen1_rolls.specs.Streams.{IsStream};
 
@@ -146,6 +146,7 @@ fn draw_noted<N: Notes>(script: &mut Script, notes: &mut N, look: Look) -> u8
     ensures drawn { sees look result ≡ sees look (next_byte script.old) }
     ensures left { script.new ≡ after_draw script.old }
     ensures stream { IsStream (stream_of scripted script.old) }
+    ensures steps { Steps scripted script }
     ensures noted { (all : ByteSet) × IsAll all × N.noted result look all notes.old notes.new }
 {
     let byte = script.draw();
@@ -165,6 +166,7 @@ fn search_noted<N: Notes, F: Fn(u8) -> bool>(
         → IfSome result (FindsAlike scripted p look script) }
     ensures none { (p : ℕ → Bool) → Settles (F.post test) p
         → IfNone result (FindsNoDraw scripted p script) }
+    ensures steps { Steps scripted script }
     ensures noted { (p : ℕ → Bool) → Settles (F.post test) p → IfSome result (λ byte. (may : ByteSet)
         × (ArePassing p may ⊎ (N.settled notes.old × IsNone may))
         × N.noted byte look may notes.old notes.new) }

@@ -1,5 +1,6 @@
 //! An update whose draws come from any generator (docs/MECHANICS.md, "Falls and requests").
 ghost use Rattle.std.specs.Prelude.{[]};
+ghost use Rattle.gen1_rolls.specs.Draws.{StepsTo};
 ghost use Rattle.gen1_machine.specs.State.{State};
 ghost use Rattle.gen1_layout.specs.Operations.{scene};
 ghost use Rattle.gen1_layout.specs.Within.{Stands};
@@ -31,6 +32,7 @@ pub fn play<R: Rolls, S: EventSink>(
     ensures played { (s : State) → Stands battle.old s → AreOffered s one two
         → Plays R.drawing random result s one two (scene S.tells battle events) }
     ensures room { AddsAtMost S.room 51 events.old events.new }
+    ensures steps { StepsTo R.drawing random result }
 {
     match battle.request(Side::One) {
         Request::Move => turn(battle, one, two, random, events),

@@ -31,7 +31,7 @@ use Rattle.gen1_machine.specs.View.{cleared, first_side_view, first_view, if_out
 use Rattle.gen1_player.specs.declared.public.Public.{Public}
 use Rattle.gen1_player.specs.declared.public_side.PublicSide.{PublicSide}
 use Rattle.gen1_player.specs.declared.seen.Seen.{Seen}
-use Rattle.gen1_player.specs.Public.{acting, begins, broken_off_if, comes_out, drops, ends_recharging, first_public, first_public_side, gets_status, has_hit_itself, hears, hears_all, if_seen_out, is_cleared, is_kept_by, not_seen, on_announced, on_out, on_public_side, on_seen, prepares, public_side, rises, seen_at, set_volatile, settled, starts_bide, suffers_move, takes_damage, takes_in, takes_types, uses_move}
+use Rattle.gen1_player.specs.Public.{acting, begins, broken_off_if, comes_out, drops, ends_recharging, first_public, first_public_side, gets_status, has_fainted, has_hit_itself, hears, hears_all, if_seen_out, is_afflicted, is_cleared, is_cured, is_kept_by, is_overtaken, not_seen, on_announced, on_out, on_public_side, on_seen, prepares, public_side, recharges_unless, rises, seen_at, set_volatile, settled, starts_bide, suffers_move, takes_damage, takes_in, takes_types, uses_move}
 use Rattle.gen1_player.specs.True.{AgreesWith, SideAgrees}
 use Rattle.gen1_player.proofs.Facts.{side_out, Sizes, size_of, Fits}
 
@@ -206,9 +206,12 @@ status-essence kinds.Poison move y = poison-essence (move == toxic) y
 status-essence kinds.Freeze move y = refl
 status-essence _ move y = refl
 
-suffers-essence : (b : Bool) (y : PublicSide) → essence (if b then on_announced (λ a. record a { recharging = 0 }) y else y) ≡ essence y
+suffers-essence : (b : Bool) (y : PublicSide) → essence (recharges_unless b y) ≡ essence y
 suffers-essence true y = refl
 suffers-essence false y = refl
+
+overtaken-essence : (y : PublicSide) → essence (on_seen is_overtaken y) ≡ essence y
+overtaken-essence y = ap (λ (l : List Brief). record (essence y) { members = l }) (map-set_same brief y.members (y.place - 1) _ not_seen refl)
 
 uses-essence : (move : ℕ) (y : PublicSide) → essence (uses_move move y) ≡ essence y
 uses-essence move y = ap (λ (l : List Brief). record (essence y) { members = l }) (map-set_same brief y.members (y.place - 1) _ not_seen refl)
@@ -406,14 +409,14 @@ module _ {n : Sizes} {v : View} {p : Public} where
 
   gets-meet : (s : Side) (kind : Kind) (move : ℕ) → Both n v p
       → Both n (on_side_view s (if_out (on_shown (λ x. record x { kind = Some kind }))) v)
-      (on_out s (λ y. on_announced (gets_status kind move) (on_seen (λ z. record z { status = kind_number kind }) y)) p)
-  gets-meet s kind move m = named s (on_shown (λ x. record x { kind = Some kind })) (λ y. on_announced (gets_status kind move) (on_seen (λ z. record z { status = kind_number kind }) y))
-      (λ k x y o q. subst (Pairs k (on_shown (λ z. record z { kind = Some kind }) x)) (sym (status-essence kind move (on_seen (λ z. record z { status = kind_number kind }) y)))
-      (member-meets (λ z. record z { kind = Some kind }) (λ z. record z { status = kind_number kind }) (λ z. record z { status = kind_number kind }) (λ z. refl)
+      (on_out s (λ y. on_announced (gets_status kind move) (on_seen (is_afflicted kind) y)) p)
+  gets-meet s kind move m = named s (on_shown (λ x. record x { kind = Some kind })) (λ y. on_announced (gets_status kind move) (on_seen (is_afflicted kind) y))
+      (λ k x y o q. subst (Pairs k (on_shown (λ z. record z { kind = Some kind }) x)) (sym (status-essence kind move (on_seen (is_afflicted kind) y)))
+      (member-meets (λ z. record z { kind = Some kind }) (is_afflicted kind) (λ z. record z { status = kind_number kind }) (λ z. refl)
       (λ z b l e. ((l e).0, refl)) k x y o q)) m
 
   moves-meet : (w foe : Side) (move : ℕ) → Both n v p → Both n v (on_out foe (suffers_move move) (on_out w (uses_move move) p))
-  moves-meet w foe move m = quiet foe (suffers_move move) (suffers-essence (ends_recharging (move_at move).effect)) (quiet w (uses_move move) (uses-essence move) m)
+  moves-meet w foe move m = quiet foe (suffers_move move) (λ y. suffers-essence (ends_recharging (move_at move).effect) (on_seen is_overtaken y) ∙ overtaken-essence y) (quiet w (uses_move move) (uses-essence move) m)
 
   clears-meet : Both n v p → Both n (record v { one = cleared v.one; two = cleared v.two }) (on_out Two is_cleared (on_out One is_cleared p))
   unfolding on_out
@@ -439,10 +442,10 @@ module _ {n : Sizes} {v : View} {p : Public} where
   takes-meets (events.Heal w h) f m = named w.side (on_shown (λ x. record x { hp = h.hp })) (on_seen (λ z. record z { hp = h.hp }))
       (member-meets (λ z. record z { hp = h.hp }) (λ z. record z { hp = h.hp }) (λ z. record z { hp = h.hp }) (λ z. refl) (λ z b l e. (refl, (l e).1))) m
   takes-meets (events.Status w kind) f m = gets-meet w.side kind (public_side (other w.side) p).last_move m
-  takes-meets (events.Cure w kind) f m = named w.side (on_shown (λ x. record x { kind = None })) (on_seen (λ z. record z { status = 0 }))
-      (member-meets (λ z. record z { kind = None }) (λ z. record z { status = 0 }) (λ z. record z { status = 0 }) (λ z. refl) (λ z b l e. ((l e).0, refl))) m
-  takes-meets (events.Faint w) f m = named w.side (on_shown (λ x. not_shown)) (on_seen (λ z. record z { hp = 0; status = 0 }))
-      (member-meets (λ z. not_shown) (λ z. record z { hp = 0; status = 0 }) (λ z. record z { hp = 0; status = 0 }) (λ z. refl) (λ z b l e. (refl, refl))) m
+  takes-meets (events.Cure w kind) f m = named w.side (on_shown (λ x. record x { kind = None })) (on_seen is_cured)
+      (member-meets (λ z. record z { kind = None }) is_cured (λ z. record z { status = 0 }) (λ z. refl) (λ z b l e. ((l e).0, refl))) m
+  takes-meets (events.Faint w) f m = named w.side (on_shown (λ x. not_shown)) (on_seen has_fainted)
+      (member-meets (λ z. not_shown) has_fainted (λ z. record z { hp = 0; status = 0 }) (λ z. refl) (λ z b l e. (refl, refl))) m
   takes-meets (events.Boost w stat i) f m = named w.side (sees_rise stat i) (rises stat i)
       (stages-meet (sees_rise stat i) (rises stat i) (λ z. with_stage stat (min 12 (stage_of stat z + i)) z) (λ x. refl) (λ y. refl)) m
   takes-meets (events.Unboost w stat i) f m = named w.side (sees_drop stat i) (drops stat i)

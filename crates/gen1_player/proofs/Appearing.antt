@@ -23,14 +23,13 @@ use Rattle.gen1_machine.specs.Health.{Health}
 use Rattle.gen1_machine.specs.Conditions.{ActiveConditions}
 use Rattle.gen1_machine.specs.LogBytes.{kind_or_0}
 use Rattle.gen1_machine.specs.Moves.{move_at}
-use Rattle.gen1_machine.specs.Numbers.{kind_number}
 use Rattle.gen1_machine.specs.Picks.{number_in}
 use Rattle.gen1_machine.specs.Sides.{other}
 use Rattle.gen1_player.specs.declared.public.Public.{Public}
 use Rattle.gen1_player.specs.declared.public_side.PublicSide.{PublicSide}
 use Rattle.gen1_player.specs.declared.seen.Seen.{Seen}
 use Rattle.gen1_player.specs.declared.seen.SeenMove.{SeenMove}
-use Rattle.gen1_player.specs.Public.{activates, begins, bide, comes_out, ends_recharging, gets_status, is_cleared, is_kept_by, not_seen, not_used, on_announced, on_out, on_seen, public_side, seen_at, set_volatile, settled, suffers_move, takes_damage, takes_in, takes_types, used_in, used_more}
+use Rattle.gen1_player.specs.Public.{activates, begins, bide, comes_out, ends_recharging, gets_status, has_fainted, is_afflicted, is_cleared, is_cured, is_kept_by, is_overtaken, not_seen, not_used, on_announced, on_out, on_seen, public_side, recharges_unless, seen_at, set_volatile, settled, suffers_move, takes_damage, takes_in, takes_types, used_in, uses_again}
 use Rattle.gen1_player.specs.True.{IsMoveOf, IsSeen}
 use Rattle.gen1_player.proofs.Facts.{side_out, is_noise, traits, Starts, Traits}
 use Rattle.gen1_player.proofs.HeardSides.{quiet-side, same-sides, settled-look}
@@ -62,7 +61,7 @@ faces x = record { place = x.place; last_move = x.last_move; members = map face 
 seen-faces : (g : Seen → Seen) → ((s : Seen) → face (g s) ≡ face s) → (x : PublicSide) → faces (on_seen g x) ≡ faces x
 seen-faces g h x = ap (λ (l : List Face). record (faces x) { members = l }) (map-set_same face x.members (x.place - 1) (g (seen_at x.place x)) not_seen (h (seen_at x.place x)))
 
-suffers-faces : (b : Bool) (x : PublicSide) → faces (if b then on_announced (λ a. record a { recharging = 0 }) x else x) ≡ faces x
+suffers-faces : (b : Bool) (x : PublicSide) → faces (recharges_unless b x) ≡ faces x
 suffers-faces true x = refl
 suffers-faces false x = refl
 
@@ -79,10 +78,10 @@ noise-faces (events.Damage w k source) h u p = quiet-side faces w.side u (λ x. 
     (λ x. seen-faces (λ m. record m { hp = k.hp }) (λ s. refl) x)
 noise-faces (events.Heal w k) h u p = quiet-side faces w.side u (on_seen (λ m. record m { hp = k.hp })) p (λ x. seen-faces (λ m. record m { hp = k.hp }) (λ s. refl) x)
 noise-faces (events.Status w kind) h u p = quiet-side faces w.side u
-    (λ x. on_announced (gets_status kind (public_side (other w.side) p).last_move) (on_seen (λ m. record m { status = kind_number kind }) x)) p
-    (λ x. seen-faces (λ m. record m { status = kind_number kind }) (λ s. refl) x)
-noise-faces (events.Cure w kind) h u p = quiet-side faces w.side u (on_seen (λ m. record m { status = 0 })) p (λ x. seen-faces (λ m. record m { status = 0 }) (λ s. refl) x)
-noise-faces (events.Faint w) h u p = quiet-side faces w.side u (on_seen (λ m. record m { hp = 0; status = 0 })) p (λ x. seen-faces (λ m. record m { hp = 0; status = 0 }) (λ s. refl) x)
+    (λ x. on_announced (gets_status kind (public_side (other w.side) p).last_move) (on_seen (is_afflicted kind) x)) p
+    (λ x. seen-faces (is_afflicted kind) (λ s. refl) x)
+noise-faces (events.Cure w kind) h u p = quiet-side faces w.side u (on_seen is_cured) p (λ x. seen-faces is_cured (λ s. refl) x)
+noise-faces (events.Faint w) h u p = quiet-side faces w.side u (on_seen has_fainted) p (λ x. seen-faces has_fainted (λ s. refl) x)
 noise-faces (events.Boost w stat i) h u p = quiet-side faces w.side u _ p (λ x. refl)
 noise-faces (events.Unboost w stat i) h u p = quiet-side faces w.side u _ p (λ x. refl)
 noise-faces events.ClearAll h u p = absurd (true≢false (sym h))
@@ -131,7 +130,8 @@ pub clear-faces : (u : Side) (p : Public) → faces (public_side u (on_out Two i
 clear-faces u p = quiet-side faces Two u is_cleared (on_out One is_cleared p) (λ x. refl) ∙ quiet-side faces One u is_cleared p (λ x. refl)
 
 pub suffers-same : (s u : Side) (move : ℕ) (p : Public) → faces (public_side u (on_out s (suffers_move move) p)) ≡ faces (public_side u p)
-suffers-same s u move p = quiet-side faces s u (suffers_move move) p (suffers-faces (ends_recharging (move_at move).effect))
+suffers-same s u move p = quiet-side faces s u (suffers_move move) p
+    (λ x. suffers-faces (ends_recharging (move_at move).effect) (on_seen is_overtaken x) ∙ seen-faces is_overtaken (λ z. refl) x)
 
 -- A member and what shows of it
 
@@ -188,7 +188,7 @@ used-allowed ids more None move slots h all = all
 used-allowed ids more (Some k) move slots h all = set-allowed ids slots k _ h all
 
 abbrev pub shows_use : ℕ → ℕ → PublicSide → PublicSide
-shows_use more move x = on_seen (λ m. record m { moves = used_more more move m.moves }) (record x { last_move = move })
+shows_use more move x = on_seen (uses_again more move) (record x { last_move = move })
 
 pub uses-shows : (more move : ℕ) (x : PublicSide) (qs : List Traits) → 1 ≤ x.place → x.place ≤ length x.members → Allowed (get_or qs (x.place - 1) no_traits).moves move
     → AllShow (map face x.members) qs → AllShow (map face (shows_use more move x).members) qs
@@ -198,8 +198,8 @@ uses-shows more move x qs low high h all =
     let at : get_or (map face x.members) i no_face ≡ face old = get_or-map face x.members i not_seen in
     let was : Shows (face old) (get_or qs i no_traits) = subst (λ (s : Face). Shows s (get_or qs i no_traits)) at (all i) in
     let counted : length (map face x.members) ≡ length x.members = length-map x.members face in
-    subst (λ (l : List Face). AllShow l qs) (sym (map-set face x.members i (record old { moves = used_more more move old.moves })))
-    (set-shows (map face x.members) qs i (face (record old { moves = used_more more move old.moves })) (omega (arith, counted, low, high))
+    subst (λ (l : List Face). AllShow l qs) (sym (map-set face x.members i (uses_again more move old)))
+    (set-shows (map face x.members) qs i (face (uses_again more move old)) (omega (arith, counted, low, high))
     (record { is = was.is; moves = used-allowed (get_or qs i no_traits).moves more _ move old.moves h was.moves }) all)
 
 -- Only Bide stores energy.
@@ -264,7 +264,7 @@ pub uses-face : (more move : ℕ) (x : PublicSide) → 1 ≤ x.place → x.place
     → (get_or (map face (shows_use more move x).members) (x.place - 1) no_face).species ≡ (get_or (map face x.members) (x.place - 1) no_face).species
 uses-face more move x low high =
     let old : Seen = seen_at x.place x in
-    ap (λ (s : Face). s.species) (set-face x.members (x.place - 1) (record old { moves = used_more more move old.moves }) (omega (arith, low, high)))
+    ap (λ (s : Face). s.species) (set-face x.members (x.place - 1) (uses_again more move old) (omega (arith, low, high)))
     ∙ sym (ap (λ (s : Face). s.species) (get_or-map face x.members (x.place - 1) not_seen))
 
 pub comes-face : (species place level : ℕ) (h : Health) (x : PublicSide) → 1 ≤ place → place ≤ length x.members

@@ -36,7 +36,7 @@ use Rattle.gen1_machine.proofs.Showing.{BothOut}
 use Rattle.gen1_machine.proofs.Watching.{before-leads, given-tells, if-sees, stay-tells, stop-leads, ◌⊳◌, Lands, Leads, Rests, Runs}
 use Rattle.gen1_player.specs.declared.public.Public.{Public}
 use Rattle.gen1_player.specs.declared.public_side.PublicSide.{PublicSide}
-use Rattle.gen1_player.specs.Public.{broken_off_if, ends_recharging, on_announced, on_out, public_side, settled_by, strikes, suffers_move, takes_damage, takes_in, uses_move}
+use Rattle.gen1_player.specs.Public.{broken_off_if, ends_recharging, is_overtaken, on_out, on_seen, public_side, recharges_unless, settled_by, strikes, suffers_move, takes_damage, takes_in, uses_move}
 use Rattle.gen1_player.proofs.Facts.{Sizes}
 use Rattle.gen1_player.proofs.HeardSides.{foe-side, move-hears, out-side}
 use Rattle.gen1_player.proofs.ToldActions.{spent-tame}
@@ -325,7 +325,7 @@ uses-spent Two move used f es m = record {
 unfoldable pub UsedBy : Side → ℕ → Public → Type 0
 UsedBy s k p = (public_side s p).last_move ≡ k
 
-suffers-if : (c : Bool) (x : PublicSide) → Fades (if c then on_announced (λ a. record a { recharging = 0 }) x else x) x
+suffers-if : (c : Bool) (x : PublicSide) → Fades (recharges_unless c (on_seen is_overtaken x)) x
 suffers-if true x = record { same = refl; reach = λ e. e; last = refl }
 suffers-if false x = record { same = refl; reach = λ e. e; last = refl }
 

@@ -12,7 +12,6 @@ use Rattle.gen1_machine.specs.declared.health.Kind.{Kind}
 use Rattle.gen1_machine.specs.declared.health.Kind.TheVariants as kinds
 use Rattle.gen1_machine.specs.declared.health.Who.{Who}
 use Rattle.gen1_machine.specs.Moves.{toxic, Move}
-use Rattle.gen1_machine.specs.Numbers.{kind_number}
 use Rattle.gen1_machine.specs.Rules.{bit_of}
 use Rattle.gen1_machine.specs.Sides.{other}
 use Rattle.gen1_machine.specs.Conditions.{after_haze, with_bad_poison, with_recharge, without_seed, ActiveConditions}
@@ -21,7 +20,7 @@ use Rattle.gen1_machine.specs.EarlyEffects.{with_levelled_stats}
 use Rattle.gen1_machine.proofs.Showing.{BothOut}
 use Rattle.gen1_player.specs.declared.public.Public.{Public}
 use Rattle.gen1_player.specs.declared.public_side.PublicSide.{PublicSide}
-use Rattle.gen1_player.specs.Public.{acting, first_public, gets_status, hears_all, is_cleared, on_announced, on_out, on_seen, public_side, set_volatile, settled, takes_in, takes_types}
+use Rattle.gen1_player.specs.Public.{acting, first_public, gets_status, hears_all, is_afflicted, is_cleared, on_announced, on_out, on_seen, public_side, set_volatile, settled, takes_in, takes_types}
 use Rattle.gen1_player.proofs.Facts.{followed, is_dull, noted, sparing-tame, starts-marks, with_cleared, Dull, Followed, Marks, Placid, Starts, Tame}
 use Rattle.gen1_player.proofs.Stories.{sickened, Story}
 use Rattle.gen1_player.proofs.HeardSides.{clear-hears, end-hears, foe-side, hears-in, hears_all-last, out-side, quiet-side, settled-look, start-hears, starts-begins, types-hears, rest-hears}
@@ -151,7 +150,7 @@ even-cleared f p o m =
     }
 
 does-poisoned : (b : Bool) (x : PublicSide) (t : Party) → Does x t
-    → Does (on_announced (λ a. if b then record a { toxic = 1 } else a) (on_seen (λ m. record m { status = kind_number kinds.Poison }) x)) (if b then with_conditions with_bad_poison t else t)
+    → Does (on_announced (λ a. if b then record a { toxic = 1 } else a) (on_seen (is_afflicted kinds.Poison) x)) (if b then with_conditions with_bad_poison t else t)
 unfolding with_bad_poison
 does-poisoned true x t m = record { same = ap (λ (k : Deeds). record k { toxic = 1 }) m.same; reach = m.reach; last = m.last; few = m.few }
 does-poisoned false x t m = record { same = m.same; reach = m.reach; last = m.last; few = m.few }
@@ -170,12 +169,12 @@ even-poisoned : (s : Side) (move : Move) (f : Field) (p : Public) → BothOut f 
     → Even (sickened s move f) (takes_in (events.Status (who_in (other s) f) kinds.Poison) p)
 unfolding takes_in
 even-poisoned One move f p o e m =
-    let h : ℕ → PublicSide → PublicSide = λ n x. on_announced (gets_status kinds.Poison n) (on_seen (λ m. record m { status = kind_number kinds.Poison }) x) in
+    let h : ℕ → PublicSide → PublicSide = λ n x. on_announced (gets_status kinds.Poison n) (on_seen (is_afflicted kinds.Poison) x) in
     subst (λ (n : ℕ). Even (sickened One move f) (on_out Two (h n) p)) (sym e)
     (subst (λ (g : Field). Even g (on_out Two (h move.number) p)) (sym (poisons-two (move.number == toxic) f))
     (even-party Two (h move.number) _ f p o (does-poisoned (move.number == toxic) p.two f.two m.two) m))
 even-poisoned Two move f p o e m =
-    let h : ℕ → PublicSide → PublicSide = λ n x. on_announced (gets_status kinds.Poison n) (on_seen (λ m. record m { status = kind_number kinds.Poison }) x) in
+    let h : ℕ → PublicSide → PublicSide = λ n x. on_announced (gets_status kinds.Poison n) (on_seen (is_afflicted kinds.Poison) x) in
     subst (λ (n : ℕ). Even (sickened Two move f) (on_out One (h n) p)) (sym e)
     (subst (λ (g : Field). Even g (on_out One (h move.number) p)) (sym (poisons-one (move.number == toxic) f))
     (even-party One (h move.number) _ f p o (does-poisoned (move.number == toxic) p.one f.one m.one) m))

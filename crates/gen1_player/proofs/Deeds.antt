@@ -17,7 +17,6 @@ use Rattle.gen1_machine.specs.declared.health.Kind.TheVariants as kinds
 use Rattle.gen1_machine.specs.declared.health.Who.{Who}
 use Rattle.gen1_machine.specs.declared.picks.UsedMove.{UsedMove}
 use Rattle.gen1_machine.specs.declared.picks.UsedMove.TheVariants.{Nothing, Slot, Struggle}
-use Rattle.gen1_machine.specs.Numbers.{kind_number}
 use Rattle.gen1_machine.specs.Picks.{number_in}
 use Rattle.gen1_machine.specs.Rules.{bit_of}
 use Rattle.gen1_machine.specs.Sides.{other}
@@ -26,7 +25,7 @@ use Rattle.gen1_machine.specs.State.{changed_active, changed_conditions, changed
 use Rattle.gen1_machine.proofs.Showing.{BothOut}
 use Rattle.gen1_player.specs.declared.public.Public.{Public}
 use Rattle.gen1_player.specs.declared.public_side.PublicSide.{PublicSide}
-use Rattle.gen1_player.specs.Public.{activates, broken_off_if, gets_status, has_hit_itself, if_seen_out, on_announced, on_out, on_seen, public_side, settled_by, takes_damage, takes_in, waiting_for}
+use Rattle.gen1_player.specs.Public.{activates, broken_off_if, gets_status, has_fainted, has_hit_itself, if_seen_out, is_afflicted, is_cured, on_announced, on_out, on_seen, public_side, settled_by, takes_damage, takes_in, waiting_for}
 use Rattle.gen1_player.proofs.Facts.{followed, is_dull, is_own_damage, is_poison, traits, Calm, Followed, Placid, Standing, Tame, Traits}
 use Rattle.gen1_player.proofs.HeardSides.{foe-side, out-side}
 use Rattle.gen1_player.proofs.Appearing.{no_traits}
@@ -186,11 +185,11 @@ dull-fades (events.Damage w k source) h u p = fades-side w.side u (λ x. takes_d
     (λ x. fades-then _ (on_seen (λ m. record m { hp = k.hp }) x) x (hurt-fades source h _) (seen-fades (on_seen (λ m. record m { hp = k.hp })) (λ y. refl) (λ y. refl) (λ y. refl) x))
 dull-fades (events.Heal w k) h u p = fades-side w.side u (on_seen (λ m. record m { hp = k.hp })) p (seen-fades _ (λ x. refl) (λ x. refl) (λ x. refl))
 dull-fades (events.Status w kind) h u p = fades-side w.side u
-    (λ x. on_announced (gets_status kind (public_side (other w.side) p).last_move) (on_seen (λ m. record m { status = kind_number kind }) x)) p
-    (λ x. fades-then _ (on_seen (λ m. record m { status = kind_number kind }) x) x (status-fades kind h _ _)
-    (seen-fades (on_seen (λ m. record m { status = kind_number kind })) (λ y. refl) (λ y. refl) (λ y. refl) x))
-dull-fades (events.Cure w kind) h u p = fades-side w.side u (on_seen (λ m. record m { status = 0 })) p (seen-fades _ (λ x. refl) (λ x. refl) (λ x. refl))
-dull-fades (events.Faint w) h u p = fades-side w.side u (on_seen (λ m. record m { hp = 0; status = 0 })) p (seen-fades _ (λ x. refl) (λ x. refl) (λ x. refl))
+    (λ x. on_announced (gets_status kind (public_side (other w.side) p).last_move) (on_seen (is_afflicted kind) x)) p
+    (λ x. fades-then _ (on_seen (is_afflicted kind) x) x (status-fades kind h _ _)
+    (seen-fades (on_seen (is_afflicted kind)) (λ y. refl) (λ y. refl) (λ y. refl) x))
+dull-fades (events.Cure w kind) h u p = fades-side w.side u (on_seen is_cured) p (seen-fades _ (λ x. refl) (λ x. refl) (λ x. refl))
+dull-fades (events.Faint w) h u p = fades-side w.side u (on_seen has_fainted) p (seen-fades _ (λ x. refl) (λ x. refl) (λ x. refl))
 dull-fades (events.Boost w stat i) h u p = fades-side w.side u _ p (seen-fades _ (λ x. refl) (λ x. refl) (λ x. refl))
 dull-fades (events.Unboost w stat i) h u p = fades-side w.side u _ p (seen-fades _ (λ x. refl) (λ x. refl) (λ x. refl))
 dull-fades events.ClearAll h u p = absurd (true≢false (sym h))

@@ -20,13 +20,12 @@ use Rattle.gen1_machine.specs.declared.event.Event.TheVariants as events
 use Rattle.gen1_machine.specs.Conditions.{ActiveConditions}
 use Rattle.gen1_machine.specs.Health.{Health}
 use Rattle.gen1_machine.specs.Moves.{move_at, toxic}
-use Rattle.gen1_machine.specs.Numbers.{kind_number}
 use Rattle.gen1_machine.specs.Rules.{bit_of}
 use Rattle.gen1_machine.specs.Sides.{other}
 use Rattle.gen1_machine.specs.State.{Party}
 use Rattle.gen1_player.specs.declared.public.Public.{Public}
 use Rattle.gen1_player.specs.declared.public_side.PublicSide.{PublicSide}
-use Rattle.gen1_player.specs.Public.{acting, activates, begins, broken_off_if, comes_out, ends_recharging, gets_status, has_hit_itself, hears, hears_all, if_seen_out, is_cleared, is_kept_by, on_announced, on_out, on_public_side, on_seen, prepares, public_side, set_volatile, settled, starts_bide, suffers_move, takes_damage, takes_in, takes_types, uses_move}
+use Rattle.gen1_player.specs.Public.{acting, activates, begins, broken_off_if, comes_out, ends_recharging, gets_status, has_fainted, has_hit_itself, hears, hears_all, if_seen_out, is_afflicted, is_cleared, is_cured, is_kept_by, is_overtaken, on_announced, on_out, on_public_side, on_seen, prepares, public_side, recharges_unless, set_volatile, settled, starts_bide, suffers_move, takes_damage, takes_in, takes_types, uses_move}
 use Rattle.gen1_player.proofs.Facts.{side_out, is_noise, marked, plain, standing, Plain, Standing, Starts}
 
 -- What the log tells of a side's types and conditions. A flag is 1 or 0.
@@ -164,12 +163,12 @@ status-heard kinds.Poison move x = poison-heard (move == toxic) x
 status-heard kinds.Freeze move x = refl
 status-heard _ move x = refl
 
-suffers-heard : (b : Bool) (x : PublicSide) → heard (if b then on_announced (λ a. record a { recharging = 0 }) x else x) ≡ heard x
+suffers-heard : (b : Bool) (x : PublicSide) → heard (recharges_unless b x) ≡ heard x
 suffers-heard true x = refl
 suffers-heard false x = refl
 
 pub moves-heard : (w foe u : Side) (move : ℕ) (p : Public) → heard (public_side u (on_out foe (suffers_move move) (on_out w (uses_move move) p))) ≡ heard (public_side u p)
-moves-heard w foe u move p = quiet-side heard foe u (suffers_move move) (on_out w (uses_move move) p) (suffers-heard (ends_recharging (move_at move).effect))
+moves-heard w foe u move p = quiet-side heard foe u (suffers_move move) (on_out w (uses_move move) p) (λ x. suffers-heard (ends_recharging (move_at move).effect) (on_seen is_overtaken x))
     ∙ quiet-side heard w u (uses_move move) p (λ x. refl)
 
 pub prepares-heard : (w u : Side) (move : ℕ) (p : Public) → heard (public_side u (on_out w (prepares move) p)) ≡ heard (public_side u p)
@@ -187,10 +186,10 @@ noise-heard (events.Cant w why) h u p = quiet-side heard w.side u (on_announced 
 noise-heard (events.Damage w k source) h u p = quiet-side heard w.side u (λ x. takes_damage source (on_seen (λ m. record m { hp = k.hp }) x)) p (λ x. hurt-heard source (on_seen (λ m. record m { hp = k.hp }) x))
 noise-heard (events.Heal w k) h u p = quiet-side heard w.side u (on_seen (λ m. record m { hp = k.hp })) p (λ x. refl)
 noise-heard (events.Status w kind) h u p = quiet-side heard w.side u
-    (λ x. on_announced (gets_status kind (public_side (other w.side) p).last_move) (on_seen (λ m. record m { status = kind_number kind }) x)) p
-    (λ x. status-heard kind (public_side (other w.side) p).last_move (on_seen (λ m. record m { status = kind_number kind }) x))
-noise-heard (events.Cure w kind) h u p = quiet-side heard w.side u (on_seen (λ m. record m { status = 0 })) p (λ x. refl)
-noise-heard (events.Faint w) h u p = quiet-side heard w.side u (on_seen (λ m. record m { hp = 0; status = 0 })) p (λ x. refl)
+    (λ x. on_announced (gets_status kind (public_side (other w.side) p).last_move) (on_seen (is_afflicted kind) x)) p
+    (λ x. status-heard kind (public_side (other w.side) p).last_move (on_seen (is_afflicted kind) x))
+noise-heard (events.Cure w kind) h u p = quiet-side heard w.side u (on_seen is_cured) p (λ x. refl)
+noise-heard (events.Faint w) h u p = quiet-side heard w.side u (on_seen has_fainted) p (λ x. refl)
 noise-heard (events.Boost w stat i) h u p = quiet-side heard w.side u _ p (λ x. refl)
 noise-heard (events.Unboost w stat i) h u p = quiet-side heard w.side u _ p (λ x. refl)
 noise-heard events.ClearAll h u p = absurd (true≢false (sym h))
@@ -390,10 +389,10 @@ noise-less (events.Cant w why) h u p = less-side w.side u (on_announced (is_kept
 noise-less (events.Damage w k source) h u p = less-side w.side u (λ x. takes_damage source (on_seen (λ m. record m { hp = k.hp }) x)) p (λ x. hurt-less source (on_seen (λ m. record m { hp = k.hp }) x))
 noise-less (events.Heal w k) h u p = less-side w.side u (on_seen (λ m. record m { hp = k.hp })) p (λ x e. e)
 noise-less (events.Status w kind) h u p = less-side w.side u
-    (λ x. on_announced (gets_status kind (public_side (other w.side) p).last_move) (on_seen (λ m. record m { status = kind_number kind }) x)) p
-    (λ x. status-less kind (public_side (other w.side) p).last_move (on_seen (λ m. record m { status = kind_number kind }) x))
-noise-less (events.Cure w kind) h u p = less-side w.side u (on_seen (λ m. record m { status = 0 })) p (λ x e. e)
-noise-less (events.Faint w) h u p = less-side w.side u (on_seen (λ m. record m { hp = 0; status = 0 })) p (λ x e. e)
+    (λ x. on_announced (gets_status kind (public_side (other w.side) p).last_move) (on_seen (is_afflicted kind) x)) p
+    (λ x. status-less kind (public_side (other w.side) p).last_move (on_seen (is_afflicted kind) x))
+noise-less (events.Cure w kind) h u p = less-side w.side u (on_seen is_cured) p (λ x e. e)
+noise-less (events.Faint w) h u p = less-side w.side u (on_seen has_fainted) p (λ x e. e)
 noise-less (events.Boost w stat i) h u p = less-side w.side u _ p (λ x e. e)
 noise-less (events.Unboost w stat i) h u p = less-side w.side u _ p (λ x e. e)
 noise-less events.ClearAll h u p = absurd (true≢false (sym h))
@@ -443,13 +442,13 @@ start-less s volatiles.Splash u p = less-side s u _ p (set-less volatiles.Splash
 pub clear-less : (u : Side) (p : Public) → Less (public_side u (on_out Two is_cleared (on_out One is_cleared p))) (public_side u p)
 clear-less u p e = less-side One u is_cleared p (λ x h. h) (less-side Two u is_cleared (on_out One is_cleared p) (λ x h. h) e)
 
-suffer-less : (b : Bool) (x : PublicSide) → Less (if b then on_announced (λ a. record a { recharging = 0 }) x else x) x
+suffer-less : (b : Bool) (x : PublicSide) → Less (recharges_unless b x) x
 suffer-less true x e = absurd (e refl)
 suffer-less false x e = e
 
 pub move-less : (s u : Side) (move : ℕ) (p : Public) → Less (public_side u (on_out (other s) (suffers_move move) (on_out s (uses_move move) p))) (public_side u p)
 move-less s u move p e = less-side s u (uses_move move) p (λ x h. absurd (h refl))
-    (less-side (other s) u (suffers_move move) (on_out s (uses_move move) p) (suffer-less (ends_recharging (move_at move).effect)) e)
+    (less-side (other s) u (suffers_move move) (on_out s (uses_move move) p) (λ x. suffer-less (ends_recharging (move_at move).effect) (on_seen is_overtaken x)) e)
 
 pub prepare-less : (s u : Side) (move : ℕ) (p : Public) → Less (public_side u (on_out s (prepares move) p)) (public_side u p)
 prepare-less s u move p = less-side s u (prepares move) p (λ x e. absurd (e refl))

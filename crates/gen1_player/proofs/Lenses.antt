@@ -22,7 +22,7 @@ use Rattle.gen1_player.specs.declared.public.Public.{Public}
 use Rattle.gen1_player.specs.declared.public_side.PublicSide.{PublicSide}
 use Rattle.gen1_player.specs.declared.seen.Seen.{Seen}
 use Rattle.gen1_player.specs.Player.{known_at}
-use Rattle.gen1_player.specs.Public.{bide, charges_up, comes_out, drops, ends_recharging, gets_status, hears, hears_all, if_seen_out, is_kept_by, new_uses, not_seen, on_announced, on_seen, prepares, public_side, rises, seen_at, set_volatile, starts_bide, strikes, suffers_move, takes_damage, takes_types, used_more, uses_move}
+use Rattle.gen1_player.specs.Public.{asleep_after, bide, charges_up, comes_out, drops, ends_recharging, gets_status, has_fainted, hears, hears_all, if_seen_out, is_afflicted, is_cured, is_kept_by, is_overtaken, new_uses, not_seen, on_announced, on_seen, prepares, public_side, recharges_unless, rests_no_more, rises, seen_at, set_volatile, starts_bide, strikes, suffers_move, takes_damage, takes_types, uses_again, uses_move}
 use Rattle.gen1_player.specs.Sides.{foe_hears, side_begins, side_hears}
 use Rattle.gen1_player.specs.True.{members_by, own_as_known, own_known, own_places}
 use Rattle.gen1_player.proofs.Facts.{side_out}
@@ -134,17 +134,20 @@ seen-eye l x g h o e =
     let back : slice_set l.places k r ≡ l.places = ap (λ (p : ℕ). slice_set l.places k p) (sym o.at) ∙ set-get_or l.places k 0 in
     ap (λ (ms : List Seen). record (eye l x) { members = ms }) (all ∙ ap (map after) back)
 
+abbrev pub with_status_by : (ℕ → ℕ) → (ℕ → ℕ) → Seen → Seen
+with_status_by c a m = record m { status = c m.status; asleep_by = a m.asleep_by }
+
 -- What a lens does to the active member, and that it sees whether there is one.
 pub record Sees (l : Lens) (place : ℕ) (members : List Seen) : Type 0 where
   pub none : l.number 0 ≡ 0
   pub some : place ≢ 0 → l.number place ≢ 0
   pub out : place ≢ 0 → Out l place members
-  pub status : place ≢ 0 → (c : ℕ) → let m : Seen = slice_index_or members (place - 1) not_seen in
-      record (l.known place m) { status = c } ≡ l.known place (record m { status = c })
+  pub status : place ≢ 0 → (c a : ℕ → ℕ) → let m : Seen = slice_index_or members (place - 1) not_seen in
+      with_status_by c a (l.known place m) ≡ l.known place (with_status_by c a m)
   pub falls : place ≢ 0 → let m : Seen = slice_index_or members (place - 1) not_seen in
-      record (l.known place m) { hp = 0; status = 0 } ≡ l.known place (record m { hp = 0; status = 0 })
+      has_fainted (l.known place m) ≡ l.known place (has_fainted m)
   pub moves : place ≢ 0 → (more id : ℕ) → let m : Seen = slice_index_or members (place - 1) not_seen in
-      record (l.known place m) { moves = used_more more id (l.known place m).moves } ≡ l.known place (record m { moves = used_more more id m.moves })
+      uses_again more id (l.known place m) ≡ l.known place (uses_again more id m)
 
 pub out-eye : (l : Lens) (x : PublicSide) (f h : PublicSide → PublicSide) → Sees l x.place x.members → (x.place ≢ 0 → h (eye l x) ≡ eye l (f x))
     → if_seen_out h (eye l x) ≡ eye l (if_seen_out f x)
@@ -164,7 +167,7 @@ begins-eye : (l k : Lens) (x foe : PublicSide) (what : Volatile) → Sees l x.pl
 begins-eye l k x foe volatiles.TypeChange s = out-eye l x (takes_types foe) (takes_types (eye k foe)) s (λ z. refl)
 begins-eye l k x foe volatiles.Confusion s = announced-eye l x (set_volatile volatiles.Confusion 1) s
 begins-eye l k x foe volatiles.Bide s = out-eye l x starts_bide starts_bide s (λ z. ap (λ (y : PublicSide). on_announced (set_volatile volatiles.Bide 1) (strikes y))
-    (seen-eye l (record x { last_move = bide }) (λ m. record m { moves = used_more 1 bide m.moves }) (λ m. record m { moves = used_more 1 bide m.moves }) (s.out z) (s.moves z 1 bide)))
+    (seen-eye l (record x { last_move = bide }) (uses_again 1 bide) (uses_again 1 bide) (s.out z) (s.moves z 1 bide)))
 begins-eye l k x foe volatiles.Substitute s = announced-eye l x (set_volatile volatiles.Substitute 1) s
 begins-eye l k x foe volatiles.LeechSeed s = announced-eye l x (set_volatile volatiles.LeechSeed 1) s
 begins-eye l k x foe volatiles.Mist s = announced-eye l x (set_volatile volatiles.Mist 1) s
@@ -190,36 +193,36 @@ hears-eye l k x foe s (events.Damage w h source) q = absurd (true≢false (sym q
 hears-eye l k x foe s (events.Heal w h) q = absurd (true≢false (sym q))
 hears-eye l k x foe s (events.Move w move target) q = out-eye l x (uses_move move) (uses_move move) s
     (λ z. ap strikes
-    (seen-eye l (record x { last_move = move }) (λ m. record m { moves = used_more (new_uses move x) move m.moves }) (λ m. record m { moves = used_more (new_uses move x) move m.moves }) (s.out z)
+    (seen-eye l (record x { last_move = move }) (uses_again (new_uses move x) move) (uses_again (new_uses move x) move) (s.out z)
     (s.moves z (new_uses move x) move)))
 hears-eye l k x foe s (events.Cant w why) q = announced-eye l x (is_kept_by why) s
 hears-eye l k x foe s (events.Status w kind) q = out-eye l x
-    (λ y. on_announced (gets_status kind foe.last_move) (on_seen (λ m. record m { status = kind_number kind }) y))
-    (λ y. on_announced (gets_status kind foe.last_move) (on_seen (λ m. record m { status = kind_number kind }) y)) s
+    (λ y. on_announced (gets_status kind foe.last_move) (on_seen (is_afflicted kind) y))
+    (λ y. on_announced (gets_status kind foe.last_move) (on_seen (is_afflicted kind) y)) s
     (λ z. ap (on_announced (gets_status kind foe.last_move))
-    (seen-eye l x (λ m. record m { status = kind_number kind }) (λ m. record m { status = kind_number kind }) (s.out z) (s.status z (kind_number kind))))
-hears-eye l k x foe s (events.Cure w kind) q = out-eye l x (on_seen (λ m. record m { status = 0 })) (on_seen (λ m. record m { status = 0 })) s
-    (λ z. seen-eye l x (λ m. record m { status = 0 }) (λ m. record m { status = 0 }) (s.out z) (s.status z 0))
-hears-eye l k x foe s (events.Faint w) q = out-eye l x (on_seen (λ m. record m { hp = 0; status = 0 })) (on_seen (λ m. record m { hp = 0; status = 0 })) s
-    (λ z. seen-eye l x (λ m. record m { hp = 0; status = 0 }) (λ m. record m { hp = 0; status = 0 }) (s.out z) (s.falls z))
+    (seen-eye l x (is_afflicted kind) (is_afflicted kind) (s.out z) (s.status z (λ c. kind_number kind) (asleep_after kind))))
+hears-eye l k x foe s (events.Cure w kind) q = out-eye l x (on_seen is_cured) (on_seen is_cured) s
+    (λ z. seen-eye l x is_cured is_cured (s.out z) (s.status z (λ c. 0) (λ a. 0)))
+hears-eye l k x foe s (events.Faint w) q = out-eye l x (on_seen has_fainted) (on_seen has_fainted) s
+    (λ z. seen-eye l x has_fainted has_fainted (s.out z) (s.falls z))
 hears-eye l k x foe s (events.Boost w stat n) q = out-eye l x (rises stat n) (rises stat n) s (λ z. refl)
 hears-eye l k x foe s (events.Unboost w stat n) q = out-eye l x (drops stat n) (drops stat n) s (λ z. refl)
 hears-eye l k x foe s (events.Start w what) q = begins-eye l k x foe what s
 hears-eye l k x foe s (events.End w what) q = announced-eye l x (set_volatile what 0) s
 hears-eye l k x foe s (events.Prepare w move) q = out-eye l x (prepares move) (prepares move) s
     (λ z. ap (charges_up (hides (move_at move).effect))
-    (seen-eye l (record x { last_move = move }) (λ m. record m { moves = used_more 0 move m.moves }) (λ m. record m { moves = used_more 0 move m.moves }) (s.out z) (s.moves z 0 move)))
+    (seen-eye l (record x { last_move = move }) (uses_again 0 move) (uses_again 0 move) (s.out z) (s.moves z 0 move)))
 hears-eye l k x foe s (events.MustRecharge w) q = announced-eye l x (λ a. record a { recharging = 1 }) s
 hears-eye l k x foe s _ q = refl
 
-suffers-eye : (b : Bool) (l : Lens) (x : PublicSide)
-    → (if b then on_announced (λ a. record a { recharging = 0 }) (eye l x) else eye l x) ≡ eye l (if b then on_announced (λ a. record a { recharging = 0 }) x else x)
+suffers-eye : (b : Bool) (l : Lens) (x : PublicSide) → recharges_unless b (eye l x) ≡ eye l (recharges_unless b x)
 suffers-eye true l x = refl
 suffers-eye false l x = refl
 
 pub overhears-eye : (l : Lens) (x : PublicSide) → Sees l x.place x.members → (e : Event) → foe_hears e (eye l x) ≡ eye l (foe_hears e x)
 overhears-eye l x s (events.Move w move target) =
-    out-eye l x (suffers_move move) (suffers_move move) s (λ z. suffers-eye (ends_recharging (move_at move).effect) l x)
+    out-eye l x (suffers_move move) (suffers_move move) s (λ z. ap (recharges_unless (ends_recharging (move_at move).effect))
+    (seen-eye l x is_overtaken is_overtaken (s.out z) (s.status z (λ c. c) rests_no_more)) ∙ suffers-eye (ends_recharging (move_at move).effect) l (on_seen is_overtaken x))
 overhears-eye l x s _ = refl
 
 -- Damage and healing, which are told with another HP
@@ -275,7 +278,7 @@ announced-touches x f = touches-out x (on_announced f) (λ z. stays x)
 begins-touches : (x foe : PublicSide) (what : Volatile) → TouchesTo x (side_begins what foe x)
 begins-touches x foe volatiles.TypeChange = touches-out x (takes_types foe) (λ z. stays x)
 begins-touches x foe volatiles.Confusion = announced-touches x (set_volatile volatiles.Confusion 1)
-begins-touches x foe volatiles.Bide = touches-out x starts_bide (touches-seen x (λ m. record m { moves = used_more 1 bide m.moves }) (λ m. refl))
+begins-touches x foe volatiles.Bide = touches-out x starts_bide (touches-seen x (uses_again 1 bide) (λ m. refl))
 begins-touches x foe volatiles.Substitute = announced-touches x (set_volatile volatiles.Substitute 1)
 begins-touches x foe volatiles.LeechSeed = announced-touches x (set_volatile volatiles.LeechSeed 1)
 begins-touches x foe volatiles.Mist = announced-touches x (set_volatile volatiles.Mist 1)
@@ -293,27 +296,28 @@ is_switch event = false
 
 pub hears-touches : (x foe : PublicSide) (e : Event) → is_switch e ≡ false → TouchesTo x (side_hears e foe x)
 hears-touches x foe (events.Switch w place level h) q = absurd (true≢false q)
-hears-touches x foe (events.Move w move target) q = touches-out x (uses_move move) (touches-seen x (λ m. record m { moves = used_more (new_uses move x) move m.moves }) (λ m. refl))
+hears-touches x foe (events.Move w move target) q = touches-out x (uses_move move) (touches-seen x (uses_again (new_uses move x) move) (λ m. refl))
 hears-touches x foe (events.Cant w why) q = announced-touches x (is_kept_by why)
 hears-touches x foe (events.Damage w h source) q = touches-out x (λ y. takes_damage source (on_seen (λ m. record m { hp = h.hp }) y)) (touches-seen x (λ m. record m { hp = h.hp }) (λ m. refl))
 hears-touches x foe (events.Heal w h) q = touches-out x (on_seen (λ m. record m { hp = h.hp })) (touches-seen x (λ m. record m { hp = h.hp }) (λ m. refl))
-hears-touches x foe (events.Status w kind) q = touches-out x (λ y. on_announced (gets_status kind foe.last_move) (on_seen (λ m. record m { status = kind_number kind }) y)) (touches-seen x (λ m. record m { status = kind_number kind }) (λ m. refl))
-hears-touches x foe (events.Cure w kind) q = touches-out x (on_seen (λ m. record m { status = 0 })) (touches-seen x (λ m. record m { status = 0 }) (λ m. refl))
-hears-touches x foe (events.Faint w) q = touches-out x (on_seen (λ m. record m { hp = 0; status = 0 })) (touches-seen x (λ m. record m { hp = 0; status = 0 }) (λ m. refl))
+hears-touches x foe (events.Status w kind) q = touches-out x (λ y. on_announced (gets_status kind foe.last_move) (on_seen (is_afflicted kind) y)) (touches-seen x (is_afflicted kind) (λ m. refl))
+hears-touches x foe (events.Cure w kind) q = touches-out x (on_seen is_cured) (touches-seen x is_cured (λ m. refl))
+hears-touches x foe (events.Faint w) q = touches-out x (on_seen has_fainted) (touches-seen x has_fainted (λ m. refl))
 hears-touches x foe (events.Boost w stat n) q = touches-out x (rises stat n) (λ z. stays x)
 hears-touches x foe (events.Unboost w stat n) q = touches-out x (drops stat n) (λ z. stays x)
 hears-touches x foe (events.Start w what) q = begins-touches x foe what
 hears-touches x foe (events.End w what) q = announced-touches x (set_volatile what 0)
-hears-touches x foe (events.Prepare w move) q = touches-out x (prepares move) (touches-seen x (λ m. record m { moves = used_more 0 move m.moves }) (λ m. refl))
+hears-touches x foe (events.Prepare w move) q = touches-out x (prepares move) (touches-seen x (uses_again 0 move) (λ m. refl))
 hears-touches x foe (events.MustRecharge w) q = announced-touches x (λ a. record a { recharging = 1 })
 hears-touches x foe _ q = stays x
 
-suffers-touches : (b : Bool) (x : PublicSide) → TouchesTo x (if b then on_announced (λ a. record a { recharging = 0 }) x else x)
-suffers-touches true x = stays x
-suffers-touches false x = stays x
+suffers-touches : (b : Bool) (x y : PublicSide) → TouchesTo x y → TouchesTo x (recharges_unless b y)
+suffers-touches true x y t = t
+suffers-touches false x y t = t
 
 pub overhears-touches : (x : PublicSide) (e : Event) → TouchesTo x (foe_hears e x)
-overhears-touches x (events.Move w move target) = touches-out x (suffers_move move) (λ z. suffers-touches (ends_recharging (move_at move).effect) x)
+overhears-touches x (events.Move w move target) = touches-out x (suffers_move move)
+    (λ z. suffers-touches (ends_recharging (move_at move).effect) x (on_seen is_overtaken x) (touches-seen x is_overtaken (λ m. refl) z))
 overhears-touches x _ = stays x
 
 -- A side's own members
@@ -362,9 +366,9 @@ own-sees team place ms k = record {
   none = refl;
   some = λ z. z;
   out = own-out team place ms k;
-  status = λ z c. own-same team place (slice_index_or ms (place - 1) not_seen) (λ m. record m { status = c }) (k.out z) refl;
-  falls = λ z. own-same team place (slice_index_or ms (place - 1) not_seen) (λ m. record m { hp = 0; status = 0 }) (k.out z) refl;
-  moves = λ z more id. own-same team place (slice_index_or ms (place - 1) not_seen) (λ m. record m { moves = used_more more id m.moves }) (k.out z) refl;
+  status = λ z c a. own-same team place (slice_index_or ms (place - 1) not_seen) (with_status_by c a) (k.out z) refl;
+  falls = λ z. own-same team place (slice_index_or ms (place - 1) not_seen) has_fainted (k.out z) refl;
+  moves = λ z more id. own-same team place (slice_index_or ms (place - 1) not_seen) (uses_again more id) (k.out z) refl;
 }
 
 pub own-touched : (r s : ℕ) (ms ns : List Seen) → OwnKept r ms → Touches r s ms ns → OwnKept s ns

@@ -2,6 +2,8 @@
 pub mod Hearing
 -- What becomes of a value to which the events of log bytes are applied.
 pub mod Following
+-- What numbers of HP say.
+pub mod HpForms
 -- What a side is told of an event, by its kind.
 pub mod Tellings
 -- A player that was fed log bytes.

@@ -14,10 +14,11 @@ use Rattle.gen1_machine.specs.declared.event.Event.{Event}
 use Rattle.gen1_machine.specs.declared.event.Event.TheVariants as events
 use Rattle.gen1_machine.specs.declared.side.Side.{Side}
 use Rattle.gen1_machine.specs.Numbers.{side_number}
-use Rattle.gen1_machine.specs.Rules.{bit_of}
 use Rattle.gen1_events.specs.Ranges.{IsEvent}
+use Rattle.gen1_player.specs.declared.hp_form.HpForm.{HpForm}
+use Rattle.gen1_player.specs.declared.hp_form.HpForm.TheVariants.{Bar, Exact, Hundredths}
 use Rattle.gen1_player.specs.declared.teller.Teller.{Teller}
-use Rattle.gen1_player.specs.Telling.{appears, is_own, is_place, meets, meets_all, slot_of, IsInSlot, IsTeller}
+use Rattle.gen1_player.specs.Telling.{form_number, appears, is_own, is_place, meets, meets_all, slot_of, IsInSlot, IsTeller}
 
 differ : (a b : ℕ) → a ≢ b → (a == b) ≡ false
 differ a b z = by (eqb_tells a b)
@@ -235,14 +236,15 @@ zero-at zero i = refl
 zero-at (suc n) zero = refl
 zero-at (suc n) (suc i) = zero-at n i
 
-bit-few : (b : Bool) → bit_of b ≤ 1
-bit-few true = omega arith
-bit-few false = omega arith
+form-few : (form : HpForm) → form_number form ≤ 2
+form-few Exact = omega arith
+form-few Bar = omega arith
+form-few Hundredths = omega arith
 
-pub first-of : (side : Side) (pixels : Bool) (t : Teller) → t ≡ record { side = side_number side; pixels = bit_of pixels; places = replicate 6 0 } → IsTeller side t
-first-of side pixels t is = subst (IsTeller side) (sym is) (record {
+pub first-of : (side : Side) (form : HpForm) (t : Teller) → t ≡ record { side = side_number side; pixels = form_number form; places = replicate 6 0 } → IsTeller side t
+first-of side form t is = subst (IsTeller side) (sym is) (record {
   side = refl;
-  pixels = bit-few pixels;
+  pixels = form-few form;
   full = refl;
   slots = λ i low z. absurd (z (zero-at 6 i));
 })
@@ -361,7 +363,7 @@ both : (a b : Bool) → (a && b) ≡ true → (a ≡ true) × (b ≡ true)
 both true b h = (refl, h)
 both false b h = absurd (true≢false (sym h))
 
-pub all_in_slots : (side : Side) (t : Teller) (own a b c d e f : Bool) → own ≡ is_own side t → own ≡ true → t.pixels ≤ 1 → length t.places ≡ 6
+pub all_in_slots : (side : Side) (t : Teller) (own a b c d e f : Bool) → own ≡ is_own side t → own ≡ true → t.pixels ≤ 2 → length t.places ≡ 6
     → (((((a && b) && c) && d) && e) && f) ≡ true
     → (a ≡ true → IsInSlot t.places 0) → (b ≡ true → IsInSlot t.places 1) → (c ≡ true → IsInSlot t.places 2)
     → (d ≡ true → IsInSlot t.places 3) → (e ≡ true → IsInSlot t.places 4) → (f ≡ true → IsInSlot t.places 5) → IsTeller side t

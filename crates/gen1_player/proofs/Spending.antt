@@ -44,7 +44,7 @@ use Rattle.gen1_player.specs.declared.public.Public.{Public}
 use Rattle.gen1_player.specs.declared.public_side.PublicSide.{PublicSide}
 use Rattle.gen1_player.specs.declared.seen.Seen.{Seen}
 use Rattle.gen1_player.specs.declared.seen.SeenMove.{SeenMove}
-use Rattle.gen1_player.specs.Public.{bide, is_going_on, new_uses, not_seen, on_out, prepares, public_side, seen_at, settled, starts_bide, takes_in, used_more, uses_move}
+use Rattle.gen1_player.specs.Public.{bide, is_going_on, new_uses, not_seen, on_out, prepares, public_side, seen_at, settled, starts_bide, takes_in, used_more, uses_again, uses_move}
 use Rattle.gen1_player.proofs.Facts.{Sizes}
 use Rattle.gen1_player.proofs.Stories.{at_end, begun-conditions, begun-member, draw-tells, mild-tells, stop-tells, MayFall, Now}
 use Rattle.gen1_player.proofs.ToldEffects.{early_effect-tells, late_effect-tells, may_poison_by, not-toxic, ruling_of-tells}
@@ -106,7 +106,7 @@ shown-use : (P : List SeenMove → Type 0) (more n i : ℕ) (x : PublicSide) →
 shown-use P more n i x new old =
     let k : ℕ = x.place - 1 in
     let was : Seen = seen_at x.place x in
-    let now : Seen = record was { moves = used_more more n was.moves } in
+    let now : Seen = uses_again more n was in
     let at : (get_or (map face x.members) k no_face).moves ≡ was.moves = ap (λ (s : Face). s.moves) (get_or-map face x.members k not_seen) in
     subst (λ (ss : List Face). P (get_or ss i no_face).moves) (sym (map-set face x.members k now))
     (set-at (λ (s : Face). P s.moves) (map face x.members) k i (face now) no_face

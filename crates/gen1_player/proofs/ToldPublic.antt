@@ -19,18 +19,20 @@ use Rattle.gen1_events.proofs.Readings.{one_split, reading_splits}
 use Rattle.gen1_player.specs.declared.public.Public.{Public}
 use Rattle.gen1_player.specs.declared.public_side.PublicSide.{PublicSide}
 use Rattle.gen1_player.specs.declared.seen.Seen.{Seen}
+use Rattle.gen1_player.specs.declared.hp_form.HpForm.{HpForm}
+use Rattle.gen1_player.specs.declared.hp_form.HpForm.TheVariants.{Bar, Exact, Hundredths}
 use Rattle.gen1_player.specs.declared.teller.Teller.{Teller}
 use Rattle.gen1_player.specs.declared.player.Player.{Player}
 use Rattle.gen1_player.specs.Player.{first_known}
-use Rattle.gen1_player.specs.Public.{acting, activates, broken_off_if, comes_out, first_public, has_hit_itself, hears, hears_all, if_seen_out, is_cleared, not_seen, on_out, public_side, seen_at, settled, settled_by, takes_in, used_more}
+use Rattle.gen1_player.specs.Public.{acting, activates, broken_off_if, comes_out, first_public, has_fainted, has_hit_itself, hears, hears_all, if_seen_out, is_cleared, not_seen, on_out, public_side, seen_at, settled, settled_by, takes_in, uses_again}
 use Rattle.gen1_player.specs.Sides.{foe_hears, side_hears, side_named}
-use Rattle.gen1_player.specs.Telling.{appears, health_for, health_told, is_own, meets, meets_all, pixels_of, slot_of, told, told_all}
+use Rattle.gen1_player.specs.Telling.{appears, form_of, health_for, health_told, is_own, meets, meets_all, slot_of, told, told_all, told_in}
 use Rattle.gen1_player.specs.True.{as_known, events_in, first_teller, foe_as_told, foe_known, own_as_known, own_known, team_of, with_hp_told, PlayerHolds}
 use Rattle.gen1_player.proofs.Facts.{side_out}
 use Rattle.gen1_player.proofs.Hearing.{both, hears_named}
 use Rattle.gen1_player.proofs.HeardSides.{hears-in}
 use Rattle.gen1_player.proofs.Slots.{Slot, crowded, find-slot, kept-slot, opened-each, opened-here, opened-kept, opened-none}
-use Rattle.gen1_player.proofs.Lenses.{not-zero, is-zero, is-some, taken, left, other-seen, out-eye, hears-eye, overhears-eye, damage-eye, heal-eye, stays, touches-out, hears-touches, overhears-touches, own-same, own-sees, own-touched, comes-is, comes-eye, own-comes, Tellable, AllTellable, eye, is_plain, Rises, TouchesTo, is_switch, own_lens, shown_as, Lens, Out, Sees, Touches, OwnKept}
+use Rattle.gen1_player.proofs.Lenses.{not-zero, with_status_by, is-zero, is-some, taken, left, other-seen, out-eye, hears-eye, overhears-eye, damage-eye, heal-eye, stays, touches-out, hears-touches, overhears-touches, own-same, own-sees, own-touched, comes-is, comes-eye, own-comes, Tellable, AllTellable, eye, is_plain, Rises, TouchesTo, is_switch, own_lens, shown_as, Lens, Out, Sees, Touches, OwnKept}
 
 -- The foe
 
@@ -76,32 +78,36 @@ foe-out t place ms k z =
 -- What the law needs of telling HP. The first is that it tells no HP of a member that has none.
 
 none-told : (max : ℕ) (t : Teller) → (health_told (record { hp = 0; max = max; kind = None }) t).hp ≡ 0
-none-told max t = by (t.pixels == 0)
+none-told max t = by (form_of t.pixels)
   where
-    by : (b : Bool) → (if b then record { hp = 0; max = max; kind = None } else pixels_of (record { hp = 0; max = max; kind = None })).hp ≡ 0
-    by true = refl
-    by false = refl
+    by : (form : HpForm) → (told_in form (record { hp = 0; max = max; kind = None })).hp ≡ 0
+    by Exact = refl
+    by Bar = refl
+    by Hundredths = refl
 
 hp-alone : (h : Health) (t : Teller) → (health_told h t).hp ≡ (health_told (record { hp = h.hp; max = h.max; kind = None }) t).hp
-hp-alone h t = by (t.pixels == 0)
+hp-alone h t = by (form_of t.pixels)
   where
-    by : (b : Bool) → (if b then h else pixels_of h).hp ≡ (if b then record { hp = h.hp; max = h.max; kind = None } else pixels_of (record { hp = h.hp; max = h.max; kind = None })).hp
-    by true = refl
-    by false = refl
+    by : (form : HpForm) → (told_in form h).hp ≡ (told_in form (record { hp = h.hp; max = h.max; kind = None })).hp
+    by Exact = refl
+    by Bar = refl
+    by Hundredths = refl
 
 max-alone : (h k : Health) (t : Teller) → h.max ≡ k.max → (health_told h t).max ≡ (health_told k t).max
-max-alone h k t e = by (t.pixels == 0)
+max-alone h k t e = by (form_of t.pixels)
   where
-    by : (b : Bool) → (if b then h else pixels_of h).max ≡ (if b then k else pixels_of k).max
-    by true = e
-    by false = refl
+    by : (form : HpForm) → (told_in form h).max ≡ (told_in form k).max
+    by Exact = e
+    by Bar = refl
+    by Hundredths = refl
 
 kind-told : (h : Health) (t : Teller) → (health_told h t).kind ≡ h.kind
-kind-told h t = by (t.pixels == 0)
+kind-told h t = by (form_of t.pixels)
   where
-    by : (b : Bool) → (if b then h else pixels_of h).kind ≡ h.kind
-    by true = refl
-    by false = refl
+    by : (form : HpForm) → (told_in form h).kind ≡ h.kind
+    by Exact = refl
+    by Bar = refl
+    by Hundredths = refl
 
 hp-told : (t : Teller) (h : Health) (m : Seen) → h.max ≡ m.max → record (with_hp_told t m) { hp = (health_told h t).hp } ≡ with_hp_told t (record m { hp = h.hp })
 hp-told t h m e =
@@ -110,10 +116,10 @@ hp-told t h m e =
     ∙ ap (λ (most : ℕ). record m { hp = (health_told (record { hp = h.hp; max = m.max; kind = None }) t).hp; max = most })
     (max-alone (record { hp = m.hp; max = m.max; kind = None }) (record { hp = h.hp; max = m.max; kind = None }) t refl)
 
-falls-told : (t : Teller) (m : Seen) → record (with_hp_told t m) { hp = 0; status = 0 } ≡ with_hp_told t (record m { hp = 0; status = 0 })
+falls-told : (t : Teller) (m : Seen) → has_fainted (with_hp_told t m) ≡ with_hp_told t (has_fainted m)
 falls-told t m =
-    ap (λ (hp : ℕ). record (with_hp_told t m) { hp = hp; status = 0 }) (sym (none-told m.max t))
-    ∙ ap (λ (most : ℕ). record m { hp = (health_told (record { hp = 0; max = m.max; kind = None }) t).hp; max = most; status = 0 })
+    ap (λ (hp : ℕ). record (with_hp_told t m) { hp = hp; status = 0; asleep_by = 0 }) (sym (none-told m.max t))
+    ∙ ap (λ (most : ℕ). record m { hp = (health_told (record { hp = 0; max = m.max; kind = None }) t).hp; max = most; status = 0; asleep_by = 0 })
     (max-alone (record { hp = m.hp; max = m.max; kind = None }) (record { hp = 0; max = m.max; kind = None }) t refl)
 
 comes-told : (t : Teller) (species level : ℕ) (h : Health) (m n : Seen) → n ≡ m ⊎ n ≡ with_hp_told t m
@@ -144,11 +150,11 @@ foe-sees t place ms k = record {
   none = refl;
   some = λ z e. let n = left (place == 0) 0 (slot_of place t.places + 1) (is-some place z) in omega (arith, n, e);
   out = foe-out t place ms k;
-  status = λ z c. foe-same t place (slice_index_or ms (place - 1) not_seen) (λ m. record m { status = c }) (λ m. record m { status = c }) z refl;
-  falls = λ z. foe-same t place (slice_index_or ms (place - 1) not_seen) (λ m. record m { hp = 0; status = 0 }) (λ m. record m { hp = 0; status = 0 }) z
+  status = λ z c a. foe-same t place (slice_index_or ms (place - 1) not_seen) (with_status_by c a) (with_status_by c a) z refl;
+  falls = λ z. foe-same t place (slice_index_or ms (place - 1) not_seen) has_fainted has_fainted z
       (falls-told t (slice_index_or ms (place - 1) not_seen));
   moves = λ z more id. foe-same t place (slice_index_or ms (place - 1) not_seen)
-      (λ m. record m { moves = used_more more id m.moves }) (λ m. record m { moves = used_more more id m.moves }) z refl;
+      (uses_again more id) (uses_again more id) z refl;
 }
 
 foe-touched : (ps : List ℕ) (r s : ℕ) (ms ns : List Seen) → FoeKept ps r ms → Touches r s ms ns → FoeKept ps s ns

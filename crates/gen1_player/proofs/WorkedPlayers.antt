@@ -52,13 +52,25 @@ by_appearance : told_all (comes 3 ∷ comes 5 ∷ comes 3 ∷ []) (teller 0) ≡
 unfolding told_all told meets
 by_appearance = refl
 
--- Pixels (docs/MECHANICS.md, "What a side is told"): 48 * 322 / 323 is 47.8, and 48 * 6 / 323 is 0.9, but some HP are left.
-in_pixels : (told (events.Damage starmie (health 322 323) Direct) (teller 1) ≡ events.Damage starmie (health 47 48) Direct)
+-- The bar (docs/MECHANICS.md, "What a side is told"): 12 * 322 / 80 is 48.3, 12 * 266 / 80 is 39.9, 48 * 254 / 255 is 47.8, and 12 * 6 / 80 is
+-- 0.9, but some HP are left.
+in_pixels : (told (events.Damage starmie (health 322 323) Direct) (teller 1) ≡ events.Damage starmie (health 48 48) Direct)
+    × (told (events.Damage starmie (health 266 323) Direct) (teller 1) ≡ events.Damage starmie (health 39 48) Direct)
+    × (told (events.Damage starmie (health 254 255) Direct) (teller 1) ≡ events.Damage starmie (health 47 48) Direct)
     × (told (events.Damage starmie (health 6 323) Direct) (teller 1) ≡ events.Damage starmie (health 1 48) Direct)
     × (told (events.Damage starmie (health 0 323) Direct) (teller 1) ≡ events.Damage starmie (health 0 48) Direct)
     × (told (events.Damage bull (health 6 353) Direct) (teller 1) ≡ events.Damage bull (health 6 353) Direct)
 unfolding told
-in_pixels = (refl, refl, refl, refl)
+in_pixels = (refl, refl, refl, refl, refl, refl)
+
+-- Hundredths: 100 * 322 / 323 is 99.7, 100 * 100 / 323 is 30.96, and 100 * 3 / 323 is 0.9.
+in_hundredths : (told (events.Damage starmie (health 323 323) Direct) (teller 2) ≡ events.Damage starmie (health 100 100) Direct)
+    × (told (events.Damage starmie (health 322 323) Direct) (teller 2) ≡ events.Damage starmie (health 99 100) Direct)
+    × (told (events.Damage starmie (health 100 323) Direct) (teller 2) ≡ events.Damage starmie (health 31 100) Direct)
+    × (told (events.Damage starmie (health 3 323) Direct) (teller 2) ≡ events.Damage starmie (health 1 100) Direct)
+    × (told (events.Damage starmie (health 0 323) Direct) (teller 2) ≡ events.Damage starmie (health 0 100) Direct)
+unfolding told
+in_hundredths = (refl, refl, refl, refl, refl)
 
 -- Starmie comes out at place 3, uses Surf twice, and Toxic on a Tauros, which it poisons.
 abbrev poisoned : Public

@@ -24,7 +24,7 @@ use Rattle.gen1_machine.specs.declared.event.Event.TheVariants as events
 use Rattle.gen1_machine.specs.Health.{Health}
 use Rattle.gen1_machine.specs.Layout.{outcome_byte}
 use Rattle.gen1_machine.specs.LogBytes.{kind_or_0}
-use Rattle.gen1_machine.specs.Moves.{move_at, toxic}
+use Rattle.gen1_machine.specs.Moves.{move_at, rest, toxic}
 use Rattle.gen1_machine.specs.Numbers.{kind_number, side_number}
 use Rattle.gen1_machine.specs.Sides.{other}
 use Rattle.gen1_machine.specs.State.{level_stages}
@@ -42,7 +42,7 @@ not_used = record { id = 0; uses = 0 }
 
 -- A place from which no member has appeared: its species is 0. A member shows at most five moves, four and Struggle.
 abbrev pub not_seen : Seen
-not_seen = record { hp = 0; max = 0; species = 0; level = 0; status = 0; moves = replicate 5 not_used; unused = 0 }
+not_seen = record { hp = 0; max = 0; species = 0; level = 0; status = 0; moves = replicate 5 not_used; asleep_by = 0 }
 
 abbrev pub nothing_announced : Announced
 nothing_announced = record {
@@ -119,6 +119,40 @@ is_slot move m = m.id == move || m.id == 0
 abbrev pub used_more : ℕ → ℕ → List SeenMove → List SeenMove
 used_more more move slots = used_in more (position (is_slot move) slots) move slots
 
+-- How a member fell asleep
+
+-- The numbers of what put it to sleep: 0 while it is awake, 1 for a move of the foe, 2 for Rest. It is 3 while it is awake, but has used
+-- Rest, and the foe no move since: if it falls asleep then, it is by Rest.
+abbrev pub may_rest : ℕ → ℕ
+may_rest move = if move == rest then 3 else 0
+
+abbrev pub rests_no_more : ℕ → ℕ
+rests_no_more n = if n == 3 then 0 else n
+
+abbrev pub put_to_sleep_by : ℕ → ℕ
+put_to_sleep_by n = if n == 3 then 2 else 1
+
+-- Changes of a member: it uses a move, the foe uses one, it gets a status, is cured, falls.
+
+abbrev pub uses_again : ℕ → ℕ → Seen → Seen
+uses_again more move m = record m { moves = used_more more move m.moves; asleep_by = may_rest move }
+
+abbrev pub is_overtaken : Seen → Seen
+is_overtaken m = record m { asleep_by = rests_no_more m.asleep_by }
+
+abbrev pub asleep_after : Kind → ℕ → ℕ
+asleep_after kinds.Sleep n = put_to_sleep_by n
+asleep_after _ n = n
+
+abbrev pub is_afflicted : Kind → Seen → Seen
+is_afflicted kind m = record m { status = kind_number kind; asleep_by = asleep_after kind m.asleep_by }
+
+abbrev pub is_cured : Seen → Seen
+is_cured m = record m { status = 0; asleep_by = 0 }
+
+abbrev pub has_fainted : Seen → Seen
+has_fainted m = record m { hp = 0; status = 0; asleep_by = 0 }
+
 -- A member that comes out has nothing from before.
 abbrev pub comes_out : ℕ → ℕ → ℕ → Health → PublicSide → PublicSide
 comes_out species place level h x =
@@ -156,7 +190,7 @@ new_uses move x = if is_going_on move x then 0 else 1
 
 -- A move that its user was seen to use, of which some uses are counted.
 abbrev pub uses_times : ℕ → ℕ → PublicSide → PublicSide
-uses_times more move x = strikes (on_seen (λ m. record m { moves = used_more more move m.moves }) (record x { last_move = move }))
+uses_times more move x = strikes (on_seen (uses_again more move) (record x { last_move = move }))
 
 abbrev pub uses_move : ℕ → PublicSide → PublicSide
 uses_move move x = uses_times (new_uses move x) move x
@@ -167,15 +201,19 @@ charges_up hidden x = record x { announced = record x.announced { charging = 1; 
 
 abbrev pub prepares : ℕ → PublicSide → PublicSide
 prepares move x = charges_up (hides (move_at move).effect)
-    (on_seen (λ m. record m { moves = used_more 0 move m.moves }) (record x { last_move = move }))
+    (on_seen (uses_again 0 move) (record x { last_move = move }))
 
--- Trapping moves and moves that put to sleep end the recharging of the foe (docs/MECHANICS.md, "Late effects", "Going on").
+-- Trapping moves and moves that put to sleep end the recharging of the foe (docs/MECHANICS.md, "Late effects", "Going on"). Any move
+-- comes after the foe's Rest.
 abbrev pub ends_recharging : Effect → Bool
 ends_recharging effects.InflictSleep = true
 ends_recharging effect = traps effect
 
+abbrev pub recharges_unless : Bool → PublicSide → PublicSide
+recharges_unless ended x = if ended then on_announced (λ a. record a { recharging = 0 }) x else x
+
 abbrev pub suffers_move : ℕ → PublicSide → PublicSide
-suffers_move move x = if ends_recharging (move_at move).effect then on_announced (λ a. record a { recharging = 0 }) x else x
+suffers_move move x = recharges_unless (ends_recharging (move_at move).effect) (on_seen is_overtaken x)
 
 -- What keeps a member from acting ends some of what it was doing.
 abbrev pub is_kept_by : CantReason → Announced → Announced
@@ -301,9 +339,9 @@ takes_in (events.Cant w why) p = on_out w.side (on_announced (is_kept_by why)) p
 takes_in (events.Damage w h source) p = on_out w.side (λ x. takes_damage source (on_seen (λ m. record m { hp = h.hp }) x)) p
 takes_in (events.Heal w h) p = on_out w.side (on_seen (λ m. record m { hp = h.hp })) p
 takes_in (events.Status w kind) p =
-    on_out w.side (λ x. on_announced (gets_status kind (public_side (other w.side) p).last_move) (on_seen (λ m. record m { status = kind_number kind }) x)) p
-takes_in (events.Cure w kind) p = on_out w.side (on_seen (λ m. record m { status = 0 })) p
-takes_in (events.Faint w) p = on_out w.side (on_seen (λ m. record m { hp = 0; status = 0 })) p
+    on_out w.side (λ x. on_announced (gets_status kind (public_side (other w.side) p).last_move) (on_seen (is_afflicted kind) x)) p
+takes_in (events.Cure w kind) p = on_out w.side (on_seen is_cured) p
+takes_in (events.Faint w) p = on_out w.side (on_seen has_fainted) p
 takes_in (events.Boost w stat n) p = on_out w.side (rises stat n) p
 takes_in (events.Unboost w stat n) p = on_out w.side (drops stat n) p
 takes_in events.ClearAll p = on_out Two is_cleared (on_out One is_cleared p)

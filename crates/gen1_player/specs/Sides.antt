@@ -5,10 +5,9 @@ use Rattle.gen1_machine.specs.declared.event.Event.TheVariants as events
 use Rattle.gen1_machine.specs.declared.event.Volatile.{Volatile}
 use Rattle.gen1_machine.specs.declared.event.Volatile.TheVariants as volatiles
 use Rattle.gen1_machine.specs.declared.side.Side.{Side}
-use Rattle.gen1_machine.specs.Numbers.{kind_number}
 use Rattle.gen1_player.specs.declared.public_side.PublicSide.{PublicSide}
 use Rattle.gen1_player.specs.declared.seen.Seen.{Seen}
-use Rattle.gen1_player.specs.Public.{comes_out, drops, gets_status, if_seen_out, is_kept_by, not_seen, on_announced, on_seen, prepares, rises, seen_at, set_volatile, starts_bide, suffers_move, takes_damage, takes_types, uses_move}
+use Rattle.gen1_player.specs.Public.{comes_out, drops, gets_status, has_fainted, if_seen_out, is_afflicted, is_cured, is_kept_by, not_seen, on_announced, on_seen, prepares, rises, seen_at, set_volatile, starts_bide, suffers_move, takes_damage, takes_types, uses_move}
 
 -- the side that an event names, if it changes what is public of it
 abbrev pub side_named : Event → Option Side
@@ -41,9 +40,9 @@ side_hears (events.Cant w why) foe x = if_seen_out (on_announced (is_kept_by why
 side_hears (events.Damage w h source) foe x = if_seen_out (λ y. takes_damage source (on_seen (λ m. record m { hp = h.hp }) y)) x
 side_hears (events.Heal w h) foe x = if_seen_out (on_seen (λ m. record m { hp = h.hp })) x
 side_hears (events.Status w kind) foe x =
-    if_seen_out (λ y. on_announced (gets_status kind foe.last_move) (on_seen (λ m. record m { status = kind_number kind }) y)) x
-side_hears (events.Cure w kind) foe x = if_seen_out (on_seen (λ m. record m { status = 0 })) x
-side_hears (events.Faint w) foe x = if_seen_out (on_seen (λ m. record m { hp = 0; status = 0 })) x
+    if_seen_out (λ y. on_announced (gets_status kind foe.last_move) (on_seen (is_afflicted kind) y)) x
+side_hears (events.Cure w kind) foe x = if_seen_out (on_seen is_cured) x
+side_hears (events.Faint w) foe x = if_seen_out (on_seen has_fainted) x
 side_hears (events.Boost w stat n) foe x = if_seen_out (rises stat n) x
 side_hears (events.Unboost w stat n) foe x = if_seen_out (drops stat n) x
 side_hears (events.Start w what) foe x = side_begins what foe x

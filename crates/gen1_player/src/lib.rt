@@ -5,6 +5,7 @@
 //! - `seen`: a member that has appeared
 //! - `announced`: the conditions that the log has announced
 //! - `stages`: the stages of the active member
+//! - `hp_form`: [`HpForm`], how HP is told
 //! - `teller`: [`Teller`], what one side is told of the events
 //! - `own`: [`own_side`], what a side is shown of itself
 //! - `player`: [`Player`], what a player knows
@@ -13,6 +14,7 @@
 #![tactic(auto)]
 
 mod announced;
+mod hp_form;
 mod laws;
 mod own;
 mod player;
@@ -24,7 +26,10 @@ mod teller;
 mod truth;
 
 pub use announced::Announced;
-pub use laws::{fair, fair_player, hides_the_counts, hides_the_foe, offers_what_is_shown};
+pub use hp_form::HpForm;
+pub use laws::{
+    fair, fair_player, hides_the_counts, hides_the_foe, offers_what_is_shown, tells_hp,
+};
 pub use own::{OwnMember, OwnSide, own_side};
 pub use player::{Player, players_with_the_same_are_alike};
 pub use public::Public;

@@ -72,11 +72,11 @@ impl PublicSide {
             }
             Event::Heal(_, health) => self.set_hp(health.hp()),
             Event::Status(_, kind) => {
-                self.set_status(kind.number());
+                self.show(self.active().afflicted(kind));
                 self.announced.afflict(kind, foe.last_move);
             }
-            Event::Cure(_, _) => self.set_status(0),
-            Event::Faint(_) => self.fall(),
+            Event::Cure(_, _) => self.show(self.active().cured()),
+            Event::Faint(_) => self.show(self.active().fainted()),
             Event::Boost(_, stat, count) => self.stages = self.stages.raised(stat, count.number()),
             Event::Unboost(_, stat, count) => {
                 self.stages = self.stages.lowered(stat, count.number())
@@ -228,7 +228,11 @@ impl PublicSide {
     fn suffer(&mut self, id: MoveId)
         ensures { self.new ≡ if_seen_out (suffers_move id) self.old }
     {
-        if self.place != 0 && ends_recharging(id.effect()) {
+        if self.place == 0 {
+            return;
+        }
+        self.show(self.active().overtaken());
+        if ends_recharging(id.effect()) {
             self.announced.recharging = 0;
         }
     }
@@ -239,25 +243,6 @@ impl PublicSide {
     {
         let mut seen = self.active();
         seen.hp = hp;
-        self.show(seen);
-    }
-
-    fn set_status(&mut self, status: u8)
-        requires out { 1 ≤ self.old.place }
-        ensures { self.new ≡ on_seen (λ m. record m { status = status }) self.old }
-    {
-        let mut seen = self.active();
-        seen.status = status;
-        self.show(seen);
-    }
-
-    fn fall(&mut self)
-        requires out { 1 ≤ self.old.place }
-        ensures { self.new ≡ on_seen (λ m. record m { hp = 0; status = 0 }) self.old }
-    {
-        let mut seen = self.active();
-        seen.hp = 0;
-        seen.status = 0;
         self.show(seen);
     }
 

@@ -1,7 +1,19 @@
 //! A member that has appeared, as the log showed it last (docs/MECHANICS.md, "What the log makes public").
 ghost use Rattle.std.specs.Prelude.{IfSome, length, ◌<◌, ◌≡◌};
 ghost use Rattle.std.specs.List.{position};
-ghost use Rattle.gen1_player.specs.Public.{is_slot, not_seen, used_more};
+ghost use Rattle.gen1_player.specs.Public.{is_afflicted, is_cured, is_overtaken, is_slot, has_fainted, may_rest, not_seen, put_to_sleep_by, uses_again};
+
+use gen1_machine::Kind;
+
+// The number of Rest.
+const REST: u8 = 156;
+
+// The numbers of `asleep_by`.
+const BY_FOE: u8 = 1;
+
+const BY_REST: u8 = 2;
+
+const MAY_REST: u8 = 3;
 
 /// A move that a member was seen to prepare or to use.
 #[repr(C)]
@@ -30,8 +42,9 @@ pub struct Seen {
     pub status: u8,
     /// In the order in which they were first seen. A member uses at most five moves, four and Struggle.
     pub moves: [SeenMove; 5],
-    /// 0.
-    pub unused: u8,
+    /// What put it to sleep: 1 a move of the foe, 2 its own Rest; 0 while it is awake. An awake member that has used Rest has 3 until it
+    /// falls asleep, uses another move, or the foe uses one.
+    pub asleep_by: u8,
 }
 
 impl Seen {
@@ -46,20 +59,79 @@ impl Seen {
             level: 0,
             status: 0,
             moves: [SeenMove { id: 0, uses: 0 }; 5],
-            unused: 0,
+            asleep_by: 0,
         }
     }
 
     /// The member after more uses of a move.
     pub(crate) fn after_use(self, id: u8, more: u8) -> Self
-        ensures { result ≡ record self { moves = used_more more id self.moves } }
+        ensures { result ≡ uses_again more id self }
     {
         let mut seen = self;
+        seen.asleep_by = may_rest(id);
         if let Some(slot) = slot_of(&seen.moves, id) {
             let uses = seen.moves[slot].uses.saturating_add(more);
             seen.moves[slot] = SeenMove { id, uses };
         }
         seen
+    }
+
+    /// The member after a move of the foe, which comes after its Rest.
+    pub(crate) fn overtaken(self) -> Self
+        ensures { result ≡ is_overtaken self }
+    {
+        let mut seen = self;
+        if seen.asleep_by == MAY_REST {
+            seen.asleep_by = 0;
+        }
+        seen
+    }
+
+    /// The member with a status.
+    pub(crate) fn afflicted(self, kind: Kind) -> Self
+        ensures { result ≡ is_afflicted kind self }
+    {
+        let mut seen = self;
+        seen.status = kind.number();
+        if matches!(kind, Kind::Sleep) {
+            seen.asleep_by = put_to_sleep_by(seen.asleep_by);
+        }
+        seen
+    }
+
+    /// The member without a status.
+    pub(crate) fn cured(self) -> Self
+        ensures { result ≡ is_cured self }
+    {
+        let mut seen = self;
+        seen.status = 0;
+        seen.asleep_by = 0;
+        seen
+    }
+
+    /// The member after its faint.
+    pub(crate) fn fainted(self) -> Self
+        ensures { result ≡ has_fainted self }
+    {
+        let mut seen = self.cured();
+        seen.hp = 0;
+        seen
+    }
+}
+
+fn may_rest(id: u8) -> u8
+    ensures { result ≡ may_rest id }
+{
+    if id == REST { MAY_REST } else { 0 }
+}
+
+fn put_to_sleep_by(asleep_by: u8) -> u8
+    ensures { result ≡ put_to_sleep_by asleep_by }
+{
+    if asleep_by == MAY_REST {
+        BY_REST
+    } else {
+        BY_FOE
     }
 }
 

@@ -5,8 +5,8 @@ ghost use Rattle.gen1_rolls.specs.Streams.{IsStream};
 
 use crate::rolls::Rolls;
 
-/// Every generator is at the beginning of its own stream. So what a clause says for each stream that a generator may
-/// draw, it says for each generator.
+/// Every generator is at the beginning of its own stream. A clause about each stream that agrees with the noted draws is
+/// also about this one, if it agrees (`KeepsOwn`).
 pub fn every_generator_stands<R: Rolls>()
     ensures { (r : R) → StandsAt R.drawing r (stream_of R.drawing r) 0 r }
 {}

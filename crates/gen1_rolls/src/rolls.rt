@@ -1,6 +1,6 @@
 //! A generator of bytes, which all draws of a battle come from (docs/MECHANICS.md, "Link numbers").
 ghost use Rattle.std.specs.Prelude.{◌≡◌, ℕ, ◌<◌, Bool, IfSome, IfNone};
-ghost use Rattle.gen1_rolls.specs.Draws.{Drawing, stream_of, Settles, FindsAlike, FindsNoDraw};
+ghost use Rattle.gen1_rolls.specs.Draws.{Drawing, stream_of, Settles, Steps, FindsAlike, FindsNoDraw};
 ghost use Rattle.gen1_rolls.specs.Looks.{sees};
 ghost use Rattle.gen1_rolls.specs.Streams.{IsStream};
 
@@ -16,7 +16,8 @@ pub trait Rolls {
 
     ghost SPAN: { ℕ };
 
-    // The byte that is drawn next, the generator after a draw, and how many draws in a row hold every byte.
+    // The byte that is drawn next, the generator after a draw, how many draws in a row hold every byte, and which streams
+    // agree with the noted draws.
     ghost drawing: { Drawing Self };
 
     /// Draws the next byte.
@@ -25,7 +26,8 @@ pub trait Rolls {
     fn draw(&mut self) -> u8
         ensures drawn { result ≡ drawing.byte self.old }
         ensures left { self.new ≡ drawing.next self.old }
-        ensures stream { IsStream (stream_of drawing self.old) };
+        ensures stream { IsStream (stream_of drawing self.old) }
+        ensures steps { Steps drawing self };
 
     /// Draws the next byte, of which no more is looked at than the look sees.
     ///
@@ -35,6 +37,7 @@ pub trait Rolls {
         ensures drawn { sees _look result ≡ sees _look (drawing.byte self.old) }
         ensures left { self.new ≡ drawing.next self.old }
         ensures stream { IsStream (stream_of drawing self.old) }
+        ensures steps { Steps drawing self }
     {
         self.draw()
     }
@@ -52,6 +55,7 @@ pub trait Rolls {
             → IfSome result (FindsAlike drawing p _look self) }
         ensures none { (p : ℕ → Bool) → Settles (F.post test) p
             → IfNone result (FindsNoDraw drawing p self) }
+        ensures steps { Steps drawing self }
     {
         'draws: for _ in 0..Self::SPAN {
             let byte = self.draw();

@@ -1,6 +1,6 @@
 //! The first draw that passes a test (docs/MECHANICS.md, "Link numbers").
 ghost use Rattle.std.specs.Prelude.{ℕ, Bool, IfSome, IfNone};
-ghost use Rattle.gen1_rolls.specs.Draws.{Settles, Finds, FindsNoDraw};
+ghost use Rattle.gen1_rolls.specs.Draws.{Settles, Steps, Finds, FindsNoDraw};
 
 use crate::look::Look;
 use crate::rolls::Rolls;
@@ -15,6 +15,7 @@ pub fn until<R: Rolls, F: Fn(u8) -> bool>(r: &mut R, test: F) -> Option<u8>
         → IfSome result (λ b. Finds R.drawing p r b) }
     ensures none { (p : ℕ → Bool) → Settles (F.post test) p
         → IfNone result (FindsNoDraw R.drawing p r) }
+    ensures steps { Steps R.drawing r }
 {
     r.until_as(test, Look::Remainder(256))
 }

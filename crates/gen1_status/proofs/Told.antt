@@ -1,7 +1,7 @@
 -- How results of the gate pass through phases. Only the hit on itself can change the outcome.
 use Rattle.std.proofs.Common.{◌+◌, ◌≡◌}
 use Rattle.gen1_layout.proofs.Words.{Action, ActiveConditions, Bool, Field, Frame, Parts, Phase, Progress, Shows, ShowsDrawn, Side, Some, Telling, ap, changed_active, changed_conditions, changed_member, choose, choose-false, choose-true, draw, false, given, refl, still, subst, sym, then-goes, then-stops, true, with_last_damage, ℕ, ◌∙◌, ◌▸◌}
-use Rattle.gen1_rolls.specs.Draws.{Drawing}
+use Rattle.gen1_rolls.specs.Draws.{Drawing, Source}
 use Rattle.gen1_rolls.specs.Streams.{Stream, byte_at}
 use Rattle.gen1_rolls.proofs.Standing.{byte_drawn, stands_after_draw}
 use Rattle.gen1_machine.specs.declared.terms.Outcome.{Outcome}
@@ -100,46 +100,46 @@ module _ {g : Frame} {parts : Parts} {events : Telling} {p : Progress} where
 
 -- With a generator
 
-module _ {A : Type 0} {d : Drawing A} {origin : A} {g : Frame} {parts : Parts} {events : Telling} {now : A} {p : Progress} where
+module _ {A : Type 0} {d : Drawing A} {source : Source A} {g : Frame} {parts : Parts} {events : Telling} {now : A} {p : Progress} where
   -- What code without draws reported, for a generator that hasn't moved.
-  pub still_tells : {parts' : Parts} {events' : Telling} {answer : Gate} {b : Bool} {q : Progress} → ShowsDrawn d origin g parts events now b p
-      → Tells (record g { drawn = p.drawn }) parts' events' answer p q → TellsDrawn d origin g parts' events' now answer p q
+  pub still_tells : {parts' : Parts} {events' : Telling} {answer : Gate} {b : Bool} {q : Progress} → ShowsDrawn d source g parts events now b p
+      → Tells (record g { stream = source.stream; drawn = p.drawn }) parts' events' answer p q → TellsDrawn d source g parts' events' now answer p q
   still_tells {answer = answer} {q = q} h a = record { shows = still {g' = frame_after answer q g} h a.shows refl; outcome = a.outcome }
 
   -- A phase that is shown and keeps the outcome.
   pub drawn_tells : (answer : Gate) (f : Phase) → outcome_after answer p.field.outcome ≡ p.field.outcome → Keeps (StaysAs p.field.outcome) f
-      → ShowsDrawn d origin g parts events now (stopped_by answer) (f p) → TellsDrawn d origin g parts events now answer p (f p)
+      → ShowsDrawn d source g parts events now (stopped_by answer) (f p) → TellsDrawn d source g parts events now answer p (f p)
   drawn_tells answer f e k h = record { shows = record { shows = known_so answer h.shows; stands = h.stands }; outcome = k.kept p refl ∙ sym e }
 
   pub tells_goes : {g' : Frame} {parts' : Parts} {events' : Telling} {now' : A} {answer : Gate} (f k : Phase)
-      → TellsDrawn d origin g parts events now Go p (f p) → TellsDrawn d origin g' parts' events' now' answer (f p) (k (f p))
-      → TellsDrawn d origin g' parts' events' now' answer p ((f ▸ k) p)
+      → TellsDrawn d source g parts events now Go p (f p) → TellsDrawn d source g' parts' events' now' answer (f p) (k (f p))
+      → TellsDrawn d source g' parts' events' now' answer p ((f ▸ k) p)
   tells_goes {answer = answer} f k a b =
       rw (then-goes f k p a.shows.shows.ends) (record { shows = b.shows; outcome = b.outcome ∙ ap (outcome_after answer) a.outcome })
 
   pub tells_stops : {answer : Gate} (f k : Phase) → stopped_by answer ≡ true
-      → TellsDrawn d origin g parts events now answer p (f p) → TellsDrawn d origin g parts events now answer p ((f ▸ k) p)
+      → TellsDrawn d source g parts events now answer p (f p) → TellsDrawn d source g parts events now answer p ((f ▸ k) p)
   tells_stops f k e a = rw (then-stops f k p (a.shows.shows.ends ∙ e)) a
 
   pub tells_if_so : {answer : Gate} (test : Progress → Bool) (f k : Phase) → test p ≡ true
-      → TellsDrawn d origin g parts events now answer p (f p) → TellsDrawn d origin g parts events now answer p (choose test f k p)
+      → TellsDrawn d source g parts events now answer p (f p) → TellsDrawn d source g parts events now answer p (choose test f k p)
   tells_if_so test f k e a = rw (choose-true test f k p e) a
 
   pub tells_if_not : {answer : Gate} (test : Progress → Bool) (f k : Phase) → test p ≡ false
-      → TellsDrawn d origin g parts events now answer p (k p) → TellsDrawn d origin g parts events now answer p (choose test f k p)
+      → TellsDrawn d source g parts events now answer p (k p) → TellsDrawn d source g parts events now answer p (choose test f k p)
   tells_if_not test f k e a = rw (choose-false test f k p e) a
 
   pub tells_seeing : {B : Type 0} {a : B} {answer : Gate} (read : Progress → B) (f : B → Phase) → a ≡ read p
-      → TellsDrawn d origin g parts events now answer p (f a p) → TellsDrawn d origin g parts events now answer p (given read f p)
+      → TellsDrawn d source g parts events now answer p (f a p) → TellsDrawn d source g parts events now answer p (given read f p)
   unfolding given
   tells_seeing read f e h = rw (← e) h
 
   -- A draw of a byte with which the phase does the same as with the drawn one.
   pub tells_drawing : {g' : Frame} {parts' : Parts} {events' : Telling} {old now' : A} {b : Bool} {answer : Gate} (f : ℕ → Phase) (drawn : ℕ)
-      → ShowsDrawn d origin g parts events old b p → f drawn ≡ f (d.byte old) → now ≡ d.next old
-      → (ShowsDrawn d origin g parts events now b (record p { drawn = p.drawn + 1 })
-      → TellsDrawn d origin g' parts' events' now' answer (record p { drawn = p.drawn + 1 }) (f drawn (record p { drawn = p.drawn + 1 })))
-      → TellsDrawn d origin g' parts' events' now' answer p (draw f p)
+      → ShowsDrawn d source g parts events old b p → f drawn ≡ f (d.byte old) → now ≡ d.next old
+      → (ShowsDrawn d source g parts events now b (record p { drawn = p.drawn + 1 })
+      → TellsDrawn d source g' parts' events' now' answer (record p { drawn = p.drawn + 1 }) (f drawn (record p { drawn = p.drawn + 1 })))
+      → TellsDrawn d source g' parts' events' now' answer p (draw f p)
   unfolding draw
   tells_drawing {old = old} f drawn a same left then =
       let at = byte_drawn {b = d.byte old} a.stands refl ∙ ap (λ (s : Stream). byte_at s p.drawn) (sym a.shows.stream) in
@@ -152,5 +152,5 @@ module _ {A : Type 0} {d : Drawing A} {origin : A} {g : Frame} {parts : Parts} {
 
   -- A result that doesn't stop is Go.
   pub went : {answer : Gate} {q : Progress} → stopped_by answer ≡ false
-      → TellsDrawn d origin g parts events now answer p q → TellsDrawn d origin g parts events now Go p q
-  went {answer = answer} {q = q} e a = subst (λ (x : Gate). TellsDrawn d origin g parts events now x p q) (gone answer e) a
+      → TellsDrawn d source g parts events now answer p q → TellsDrawn d source g parts events now Go p q
+  went {answer = answer} {q = q} e a = subst (λ (x : Gate). TellsDrawn d source g parts events now x p q) (gone answer e) a

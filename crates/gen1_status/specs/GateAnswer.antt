@@ -2,7 +2,7 @@
 -- after it.
 use Rattle.std.specs.Prelude.{◌≡◌}
 use Rattle.gen1_layout.specs.Words.{Bool, Frame, Phase, Progress, Shows, ShowsDrawn, Telling, false, true}
-use Rattle.gen1_rolls.specs.Draws.{Drawing, Ref}
+use Rattle.gen1_rolls.specs.Draws.{Drawing, Ref, Since, Source}
 use Rattle.gen1_machine.specs.declared.terms.Outcome.{Outcome}
 use Rattle.gen1_machine.specs.declared.terms.Outcome.TheVariants as outcomes
 use Rattle.gen1_machine.specs.Progress.{Action}
@@ -34,8 +34,8 @@ pub record Tells (g : Frame) (parts : Parts) (events : Telling) (answer : Gate) 
   pub outcome : after.field.outcome ≡ outcome_after answer before.field.outcome
 
 -- The same with a generator.
-pub record TellsDrawn {A : Type 0} (d : Drawing A) (origin : A) (g : Frame) (parts : Parts) (events : Telling) (now : A) (answer : Gate) (before after : Progress) : Type 0 where
-  pub shows : ShowsDrawn d origin (frame_after answer after g) parts events now (stopped_by answer) after
+pub record TellsDrawn {A : Type 0} (d : Drawing A) (source : Source A) (g : Frame) (parts : Parts) (events : Telling) (now : A) (answer : Gate) (before after : Progress) : Type 0 where
+  pub shows : ShowsDrawn d source (frame_after answer after g) parts events now (stopped_by answer) after
   pub outcome : after.field.outcome ≡ outcome_after answer before.field.outcome
 
 -- Code without draws does what a phase does, and its result says how that ended.
@@ -45,7 +45,7 @@ DoesTelling s answer phase = s λ parts events knows parts' events' knows'.
 
 -- The same with draws, if a premise holds.
 abbrev pub DrawsTelling : {A : Type 0} → Drawing A → Ref A → Premise → Scene → Gate → Phase → Type 0
-DrawsTelling {A = A} d random premise s answer phase = s λ parts events knows parts' events' knows'.
-    (origin : A) (g : Frame) (p : Progress) → premise g p
-    (ShowsDrawn d origin (knows g) parts events random.entry.now false p
-    → TellsDrawn d origin (knows' g) parts' events' random.exit.now answer p (phase p))
+DrawsTelling d random premise s answer phase = s λ parts events knows parts' events' knows'.
+    (since : Since d random.exit.now) (g : Frame) (p : Progress) → premise g p
+    (ShowsDrawn d since.source (knows g) parts events random.entry.now false p
+    → TellsDrawn d since.source (knows' g) parts' events' random.exit.now answer p (phase p))

@@ -1,4 +1,5 @@
 //! The beginning of Bide (docs/MECHANICS.md, "Late effects"). Its later turns are in gen1_multiturn.
+ghost use Rattle.gen1_rolls.specs.Draws.{Steps};
 ghost use Rattle.gen1_layout.specs.Operations.{DoesWhere, DrawsWhere, holding, scene};
 ghost use Rattle.gen1_layout.specs.Words.{AddsAtMost, HasRoom, false};
 ghost use Rattle.gen1_machine.specs.LateEffects.{bide_for, start_bide};
@@ -23,6 +24,7 @@ pub fn start_bide<R: Rolls, S: EventSink>(
     ensures shown { DrawsWhere R.drawing random (holding (IsUntied side)) (scene S.tells battle events)
         false (λ r. start_bide side) }
     ensures room { AddsAtMost S.room 1 events.old events.new }
+    ensures steps { Steps R.drawing random }
 {
     let byte = random.draw_as(Look::Remainder(2));
     bide_for(battle, side, byte, events);

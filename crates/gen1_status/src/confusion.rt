@@ -1,4 +1,5 @@
 //! Confusion that begins (docs/MECHANICS.md, "Early effects").
+ghost use Rattle.gen1_rolls.specs.Draws.{Steps};
 ghost use Rattle.gen1_layout.specs.Operations.{Does, Draws, scene};
 ghost use Rattle.gen1_layout.specs.Words.{AddsAtMost, HasRoom, false};
 ghost use Rattle.gen1_machine.specs.EarlyEffects.{confuse, confused_by};
@@ -21,6 +22,7 @@ pub fn confuse<R: Rolls, S: EventSink>(
     requires room { HasRoom S.room 1 events.old }
     ensures shown { Draws R.drawing random (scene S.tells battle events) false (confuse side) }
     ensures room { AddsAtMost S.room 1 events.old events.new }
+    ensures steps { Steps R.drawing random }
 {
     let byte = random.draw_as(Look::Remainder(4));
     confuse_by(battle, side, byte, events);

@@ -1,6 +1,7 @@
 //! The gate: what can keep a member from acting (docs/MECHANICS.md, "Gate"). The tests run in order, and the first
 //! that stops decides.
 ghost use Rattle.std.specs.Prelude.{◌≡◌};
+ghost use Rattle.gen1_rolls.specs.Draws.{Steps};
 ghost use Rattle.gen1_layout.specs.Operations.{Does, anything, looking, scene};
 ghost use Rattle.gen1_layout.specs.Words.{AddsAtMost, Field, HasRoom, Setting, Within, true};
 ghost use Rattle.gen1_machine.specs.Action.{gate_or_held};
@@ -45,6 +46,7 @@ pub fn gate<R: Rolls, S: EventSink>(
     ensures shown { DrawsTelling R.drawing random anything (scene S.tells battle events) result
         (gate_or_held side pick) }
     ensures room { AddsAtMost S.room 3 events.old events.new }
+    ensures steps { Steps R.drawing random }
 {
     if is_held(pick) {
         cant(battle, side, CantReason::PartiallyTrapped, events);
@@ -98,6 +100,7 @@ fn take_tests<R: Rolls, S: EventSink>(
     ensures shown { DrawsTelling R.drawing random anything (scene S.tells battle events) result
         (gate side pick) }
     ensures room { AddsAtMost S.room 3 events.old events.new }
+    ensures steps { Steps R.drawing random }
 {
     if gate_of_status(battle, side, events) {
         return Gate::Stop;

@@ -2,7 +2,7 @@
 -- requests").
 use Rattle.std.specs.Prelude.{◌≡◌, ◌⊎◌}
 use Rattle.gen1_layout.specs.Words.{Event, Frame, List, Progress, Setting, Telling, Within, false, true, ℕ}
-use Rattle.gen1_rolls.specs.Draws.{Drawing, StandsAt}
+use Rattle.gen1_rolls.specs.Draws.{Drawing, Since, Source, StandsIn}
 use Rattle.gen1_rolls.specs.Streams.{IsStream, Link, Stream}
 use Rattle.gen1_machine.specs.declared.choice.Choice.{Choice}
 use Rattle.gen1_machine.specs.declared.side.Side.TheVariants.{One, Two}
@@ -48,17 +48,17 @@ pub record Updated (g : Setting) (parts : Parts) (events : Telling) (q : Progres
   pub drawn : q.drawn ≡ g.drawn
 
 -- The same with draws. Afterwards the generator is at the place that q has drawn to.
-pub record UpdatedDrawing {A : Type 0} (d : Drawing A) (origin : A) (stream : Stream) (g : Setting) (parts : Parts) (events : Telling) (now : A) (q : Progress) : Type 0 where
+pub record UpdatedDrawing {A : Type 0} (d : Drawing A) (source : Source A) (g : Setting) (parts : Parts) (events : Telling) (now : A) (q : Progress) : Type 0 where
   pub within : Within g parts q.field
   pub written : events q.events
-  pub stands : StandsAt d origin stream q.drawn now
+  pub stands : StandsIn d source q.drawn now
 
 -- Code with draws makes such an update, from the generator that it is given to the one that it returns, at any place of
 -- any stream.
 abbrev pub UpdatesDrawing : {A : Type 0} → Drawing A → A → A → Setting → Scene → (Stream → ℕ → Progress) → Type 0
-UpdatesDrawing {A = A} d old new g s after = s λ _ _ _ parts' events' _.
-    (origin : A) (stream : Stream) (drawn : ℕ) → IsStream stream → StandsAt d origin stream drawn old
-    → UpdatedDrawing d origin stream g parts' events' new (after stream drawn)
+UpdatesDrawing d old new g s after = s λ _ _ _ parts' events' _.
+    (since : Since d new) (drawn : ℕ) → IsStream since.source.stream → StandsIn d since.source drawn old
+    → UpdatedDrawing d since.source g parts' events' new (after since.source.stream drawn)
 
 -- The bytes represent the state after a pair of choices. The pair was accepted, with these events.
 pub record Steps (s : State) (one two : Choice) (parts : Parts) (events : Telling) : Type 0 where

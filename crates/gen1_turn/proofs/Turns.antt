@@ -2,7 +2,7 @@
 use Rattle.std.proofs.Common.{◌+◌, ◌≡◌}
 use Rattle.std.proofs.lemmas.Bool.{false≢true}
 use Rattle.gen1_layout.proofs.Words.{Bool, Frame, Parts, Phase, Progress, Shows, ShowsDrawn, Side, Telling, active_in, ap, choose-false, choose-true, draw, drawn_goes, false, given, goes, if_not, if_so, length, member_in, nat_lt, on_active, on_conditions, on_field, refl, stay, stays, still, subst, sym, then-goes, true, ℕ, ◌∙◌, ◌▸◌}
-use Rattle.gen1_rolls.specs.Draws.{Drawing}
+use Rattle.gen1_rolls.specs.Draws.{Drawing, Source}
 use Rattle.gen1_rolls.specs.Streams.{byte_at, Stream}
 use Rattle.gen1_rolls.proofs.Standing.{byte_drawn, stands_after_draw}
 use Rattle.gen1_machine.specs.declared.choice.Choice.{Choice}
@@ -56,11 +56,11 @@ pub sent_left : (g : Frame) {parts : Parts} {events : Telling} (parts' : Parts) 
 sent_left g parts' events' true f s p a left = λ rest. let x = left rest in (x.0, goes f _ a x.1)
 sent_left g parts' events' false f s p a left = (left.0, left.1, λ rest. then-goes f _ p a.ends ∙ left.2 rest)
 
-module _ {A : Type 0} {d : Drawing A} {origin : A} where
+module _ {A : Type 0} {d : Drawing A} {source : Source A} where
   pub acted_left : (k : Known) (g : Frame) {parts : Parts} {events : Telling} (parts' : Parts) (events' : Telling) (now : A) (falls : Bool) (f : Phase) (s : Side) (p : Progress)
-      → (a : ShowsOver d origin k g parts events now false (f p))
-      → LeavesRest (Shows (record (knowing (with_broke a.0 k) g) { drawn = (f p).drawn }) parts' events') falls (suffering s) (residual s) (f p)
-      → PartLeaves (λ b q. ShowsOver d origin k g parts' events' now b q) falls f s p
+      → (a : ShowsOver d source k g parts events now false (f p))
+      → LeavesRest (Shows (record (knowing (with_broke a.0 k) g) { stream = source.stream; drawn = (f p).drawn }) parts' events') falls (suffering s) (residual s) (f p)
+      → PartLeaves (λ b q. ShowsOver d source k g parts' events' now b q) falls f s p
   acted_left k g parts' events' now true f s p a left =
       λ rest. let x = left rest in (x.0, (a.0, drawn_goes f _ a.1 (still {g' = knowing (with_broke a.0 k) g} a.1 x.1 refl)))
   acted_left k g parts' events' now false f s p a left = (
@@ -71,39 +71,39 @@ module _ {A : Type 0} {d : Drawing A} {origin : A} where
 
   -- What a switch shows, with a generator that hasn't moved.
   pub over_still : (k k' : Known) (g : Frame) {broke : Bool} {parts parts' : Parts} {events events' : Telling} {now : A} {b : Bool} {p q : Progress}
-      → ShowsDrawn d origin (knowing (with_broke broke k) g) parts events now false p → Shows (knowing k' (record g { drawn = p.drawn })) parts' events' b q
-      → ShowsOver d origin k' g parts' events' now b q
+      → ShowsDrawn d source (knowing (with_broke broke k) g) parts events now false p → Shows (knowing k' (record g { stream = source.stream; drawn = p.drawn })) parts' events' b q
+      → ShowsOver d source k' g parts' events' now b q
   over_still k k' g a h = (k'.broke, still {g' = knowing k' g} a h refl)
 
   pub ends_still : (k k' : Known) (g : Frame) {broke : Bool} {parts parts' : Parts} {events events' : Telling} {now : A} {p q : Progress}
-      → ShowsDrawn d origin (knowing (with_broke broke k) g) parts events now false p
-      → (stopped : Bool) × Shows (knowing k' (record g { drawn = p.drawn })) parts' events' stopped q → Ends d origin k' g parts' events' now q
+      → ShowsDrawn d source (knowing (with_broke broke k) g) parts events now false p
+      → (stopped : Bool) × Shows (knowing k' (record g { stream = source.stream; drawn = p.drawn })) parts' events' stopped q → Ends d source k' g parts' events' now q
   ends_still k k' g a x = (x.0, over_still k k' g a x.1)
 
   -- The end of a turn, and whether it was cut
 
   pub cut_as : (k : Known) (g : Frame) {parts : Parts} {events : Telling} {now : A} {cut : Bool} (q q' : Progress) → q ≡ q'
-      → EndsCut d origin k g parts events now cut q' → EndsCut d origin k g parts events now cut q
+      → EndsCut d source k g parts events now cut q' → EndsCut d source k g parts events now cut q
   cut_as k g q q' e a = rw e a
 
   pub ends_as : (k : Known) (g : Frame) {parts : Parts} {events : Telling} {now : A} (q q' : Progress) → q ≡ q'
-      → Ends d origin k g parts events now q' → Ends d origin k g parts events now q
+      → Ends d source k g parts events now q' → Ends d source k g parts events now q
   ends_as k g q q' e a = rw e a
 
   pub ended : (k : Known) (g : Frame) {parts parts' : Parts} {events events' : Telling} {now : A} {p : Progress} (f : Phase)
-      → Does (between parts events parts' events') false f → ShowsOver d origin k g parts events now false p → Ends d origin k g parts' events' now (f p)
+      → Does (between parts events parts' events') false f → ShowsOver d source k g parts events now false p → Ends d source k g parts' events' now (f p)
   ended k g f does (broke, a) = (false, (broke, still {g' = knowing (with_broke broke k) g} a (does _ _ a.shows) refl))
 
   -- A draw
 
   -- The drawn byte passes a test as the stream's does.
   pub drawn_side : {g : Frame} {parts : Parts} {events : Telling} {old : A} {b : Bool} {p : Progress} (byte : ℕ)
-      → ShowsDrawn d origin g parts events old b p → nat_lt byte 128 ≡ nat_lt (d.byte old) 128 → nat_lt byte 128 ≡ nat_lt (byte_at p.stream p.drawn) 128
+      → ShowsDrawn d source g parts events old b p → nat_lt byte 128 ≡ nat_lt (d.byte old) 128 → nat_lt byte 128 ≡ nat_lt (byte_at p.stream p.drawn) 128
   drawn_side {old = old} {p = p} byte a e =
       e ∙ ap (λ (n : ℕ). nat_lt n 128) (byte_drawn {b = d.byte old} a.stands refl ∙ ap (λ (s : Stream). byte_at s p.drawn) (sym a.shows.stream))
 
   pub drawn_next : {g : Frame} {parts : Parts} {events : Telling} {old new : A} {b : Bool} {p : Progress}
-      → ShowsDrawn d origin g parts events old b p → new ≡ d.next old → ShowsDrawn d origin g parts events new b (record p { drawn = p.drawn + 1 })
+      → ShowsDrawn d source g parts events old b p → new ≡ d.next old → ShowsDrawn d source g parts events new b (record p { drawn = p.drawn + 1 })
   drawn_next {p = p} a left =
       let h = a.shows in
       record {

@@ -3,7 +3,7 @@
 -- exception, since it doesn't matter after an action is over.
 use Rattle.std.specs.Prelude.{◌≡◌}
 use Rattle.gen1_layout.specs.Words.{Bool, Frame, Phase, Progress, Side, Telling, false}
-use Rattle.gen1_rolls.specs.Draws.{Drawing, Ref}
+use Rattle.gen1_rolls.specs.Draws.{Drawing, Ref, Since}
 use Rattle.gen1_machine.specs.declared.picks.Pick.{Pick}
 use Rattle.gen1_machine.specs.Ruling.{Ruling, ruling_of}
 use Rattle.gen1_machine.specs.Plans.{FitsPick, Plan}
@@ -37,14 +37,14 @@ ready side pick g p Then = picked side pick g p (p.action.letting_go ≡ false �
 
 -- The parts of an action that has begun.
 abbrev pub DoesParts : {A : Type 0} → Drawing A → Ref A → Premise → Acting → Bool → (Ruling → Phase) → Type 0
-DoesParts {A = A} d random premise s stopped phase = s λ parts events k parts' events' k'.
-    (origin : A) (g : Frame) (p : Progress) → premise g p
-    (ShowsKnown d origin k g parts events random.entry.now false p
-    → ShowsOver d origin k' g parts' events' random.exit.now stopped (phase (ruling_of g.setting.terms) p))
+DoesParts d random premise s stopped phase = s λ parts events k parts' events' k'.
+    (since : Since d random.exit.now) (g : Frame) (p : Progress) → premise g p
+    (ShowsKnown d since.source k g parts events random.entry.now false p
+    → ShowsOver d since.source k' g parts' events' random.exit.now stopped (phase (ruling_of g.setting.terms) p))
 
 -- A whole action.
 abbrev pub Acts : {A : Type 0} → Drawing A → Ref A → Premise → Acting → Bool → (Ruling → Phase) → Type 0
-Acts {A = A} d random premise s stopped phase = s λ parts events k parts' events' k'.
-    (origin : A) (g : Frame) (p : Progress) → premise g p
-    (ShowsOver d origin k g parts events random.entry.now false p
-    → ShowsOver d origin k' g parts' events' random.exit.now stopped (phase (ruling_of g.setting.terms) p))
+Acts d random premise s stopped phase = s λ parts events k parts' events' k'.
+    (since : Since d random.exit.now) (g : Frame) (p : Progress) → premise g p
+    (ShowsOver d since.source k g parts events random.entry.now false p
+    → ShowsOver d since.source k' g parts' events' random.exit.now stopped (phase (ruling_of g.setting.terms) p))

@@ -3,7 +3,7 @@
 use Rattle.std.specs.Prelude.{Bool, None, Option, Some, false, min, true, ℕ, ◌+◌, ◌≡◌, ◌≤◌, ◌⊎◌}
 use Rattle.gen1_tables.specs.declared.effect.Effect.{Effect}
 use Rattle.gen1_tables.specs.declared.effect.Effect.TheVariants as effects
-use Rattle.gen1_rolls.specs.Draws.{Drawing, Ref}
+use Rattle.gen1_rolls.specs.Draws.{Drawing, Ref, Since}
 use Rattle.gen1_rolls.specs.Looks.{limit_of}
 use Rattle.gen1_layout.specs.Operations.{Scene}
 use Rattle.gen1_layout.specs.Shows.{Frame, ShowsDrawn}
@@ -60,6 +60,6 @@ LikeUsual s move q r = LikeDamage s q r × (is_late move.effect ≡ true → q �
 
 -- Code with draws does what a phase does, but for what is alike: the bytes show q, and the phase leads to r.
 abbrev pub DrawsLike : {A : Type 0} → Drawing A → Ref A → Scene → Bool → (Progress → Progress → Type 0) → Phase → Type 0
-DrawsLike {A = A} d random s stopped Like phase = s λ parts events knows parts' events' knows'.
-    (origin : A) (g : Frame) (p : Progress) → ShowsDrawn d origin (knows g) parts events random.entry.now false p
-    → (q : Progress) × ShowsDrawn d origin (knows' g) parts' events' random.exit.now stopped q × Like q (phase p)
+DrawsLike d random s stopped Like phase = s λ parts events knows parts' events' knows'.
+    (since : Since d random.exit.now) (g : Frame) (p : Progress) → ShowsDrawn d since.source (knows g) parts events random.entry.now false p
+    → (q : Progress) × ShowsDrawn d since.source (knows' g) parts' events' random.exit.now stopped q × Like q (phase p)

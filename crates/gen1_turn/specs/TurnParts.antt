@@ -1,7 +1,7 @@
 -- What the parts of a turn show, each with the residual damage of its side (docs/MECHANICS.md, "Order of a turn").
 use Rattle.std.specs.Prelude.{◌∷◌, ◌≡◌}
 use Rattle.gen1_layout.specs.Words.{Bool, Event, Field, Frame, List, Phase, Progress, ShowsDrawn, Side, Telling, Told, [], false, is_living, member_at, other, party, true, ℕ, ◌▸◌}
-use Rattle.gen1_rolls.specs.Draws.{Drawing, Ref}
+use Rattle.gen1_rolls.specs.Draws.{Drawing, Ref, Since, Source}
 use Rattle.gen1_machine.specs.declared.choice.Choice.{Choice}
 use Rattle.gen1_machine.specs.declared.choice.Choice.TheVariants as choices
 use Rattle.gen1_machine.specs.declared.picks.Pick.{Pick}
@@ -19,9 +19,9 @@ use Rattle.gen1_turn.specs.Action.{Acting, picked}
 
 -- The side that begins. Nothing changes but the draws, and any phase that follows in the machine gets this side.
 abbrev pub Orders : {A : Type 0} → Drawing A → Ref A → Parts → Side → ((Side → Phase) → Phase) → Type 0
-Orders {A = A} d random parts result order =
-    (origin : A) (g : Frame) (events : List Event) (p : Progress) → ShowsDrawn d origin g parts (Told events) random.entry.now false p
-    → (n : ℕ) × ShowsDrawn d origin g parts (Told events) random.exit.now false (record p { drawn = n })
+Orders d random parts result order =
+    (since : Since d random.exit.now) (g : Frame) (events : List Event) (p : Progress) → ShowsDrawn d since.source g parts (Told events) random.entry.now false p
+    → (n : ℕ) × ShowsDrawn d since.source g parts (Told events) random.exit.now false (record p { drawn = n })
     × ((begins : Side → Phase) → order begins p ≡ begins result (record p { drawn = n }))
 
 -- What is shown when the rest of a turn may be skipped. If it is skipped, the whole turn is shown, whatever its rest
@@ -40,25 +40,25 @@ PartLeaves Shown falls part s = LeavesRest Shown falls (λ rest. part ▸ suffer
 
 -- A side's action by this pick, and its residual damage.
 abbrev pub ActsAndSuffers : {A : Type 0} → Drawing A → Ref A → Side → Pick → Acting → Bool → Type 0
-ActsAndSuffers {A = A} d random side pick s falls = s λ parts events k parts' events' k'.
-    (origin : A) (g : Frame) (p : Progress) → picked side pick g p
-    (ShowsOver d origin k g parts events random.entry.now false p
-    → PartLeaves (ShowsOver d origin k' g parts' events' random.exit.now) falls (do_part (ruling_of g.setting.terms) (Acts side pick)) side p)
+ActsAndSuffers d random side pick s falls = s λ parts events k parts' events' k'.
+    (since : Since d random.exit.now) (g : Frame) (p : Progress) → picked side pick g p
+    (ShowsOver d since.source k g parts events random.entry.now false p
+    → PartLeaves (ShowsOver d since.source k' g parts' events' random.exit.now) falls (do_part (ruling_of g.setting.terms) (Acts side pick)) side p)
 
 -- Code of a turn, for callers to which it doesn't matter whether the rest is skipped.
-abbrev pub Ends : {A : Type 0} → Drawing A → A → Known → Frame → Parts → Telling → A → Progress → Type 0
-Ends d origin k g parts events now p = (stopped : Bool) × ShowsOver d origin k g parts events now stopped p
+abbrev pub Ends : {A : Type 0} → Drawing A → Source A → Known → Frame → Parts → Telling → A → Progress → Type 0
+Ends d source k g parts events now p = (stopped : Bool) × ShowsOver d source k g parts events now stopped p
 
 -- The same with an answer: unless it is true, the turn isn't cut.
-abbrev pub EndsCut : {A : Type 0} → Drawing A → A → Known → Frame → Parts → Telling → A → Bool → Progress → Type 0
-EndsCut d origin k g parts events now cut p = Ends d origin k g parts events now p × (cut ≡ false → is_cut p ≡ false)
+abbrev pub EndsCut : {A : Type 0} → Drawing A → Source A → Known → Frame → Parts → Telling → A → Bool → Progress → Type 0
+EndsCut d source k g parts events now cut p = Ends d source k g parts events now p × (cut ≡ false → is_cut p ≡ false)
 
 -- It does what a phase does under the rules of the battle, if a premise holds, and says whether the turn may be cut.
 abbrev pub DoesTurn : {A : Type 0} → Drawing A → Ref A → Premise → Acting → Bool → (Ruling → Phase) → Type 0
-DoesTurn {A = A} d random premise s cut phase = s λ parts events k parts' events' k'.
-    (origin : A) (g : Frame) (p : Progress) → premise g p
-    (ShowsOver d origin k g parts events random.entry.now false p
-    → EndsCut d origin k' g parts' events' random.exit.now cut (phase (ruling_of g.setting.terms) p))
+DoesTurn d random premise s cut phase = s λ parts events k parts' events' k'.
+    (since : Since d random.exit.now) (g : Frame) (p : Progress) → premise g p
+    (ShowsOver d since.source k g parts events random.entry.now false p
+    → EndsCut d since.source k' g parts' events' random.exit.now cut (phase (ruling_of g.setting.terms) p))
 
 -- A member that may come out is in the party, and lives.
 abbrev pub MayCome : Side → ℕ → Field → Type 0

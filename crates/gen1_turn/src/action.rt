@@ -1,5 +1,6 @@
 //! One side's action (docs/MECHANICS.md, "Action").
 ghost use Rattle.std.specs.Prelude.{unwrap_or, ◌||◌, ◌≡◌};
+ghost use Rattle.gen1_rolls.specs.Draws.{Steps};
 ghost use Rattle.gen1_layout.specs.Operations.{scene};
 ghost use Rattle.gen1_layout.specs.Words.{AddsAtMost, Bool, Event, Frame, HasRoom, List, Progress, Reads, Shows, Told, active_in, is_some, underway_in};
 ghost use Rattle.gen1_machine.specs.Action.{act, action_parts, keep_accuracy};
@@ -32,6 +33,7 @@ pub fn act<R: Rolls, S: EventSink>(
     ensures shown { Acts R.drawing random (picked side pick)
         (acting known (scene S.tells battle events)) result (λ r. act r side pick) }
     ensures room { AddsAtMost S.room 21 events.old events.new }
+    ensures steps { Steps R.drawing random }
 {
     *known = known.begun(side);
     action_parts(battle, side, pick, known, random, events);
@@ -52,6 +54,7 @@ fn action_parts<R: Rolls, S: EventSink>(
     ensures shown { DoesParts R.drawing random (ready side pick)
         (acting known (scene S.tells battle events)) result (λ r. action_parts r side pick) }
     ensures room { AddsAtMost S.room 21 events.old events.new }
+    ensures steps { Steps R.drawing random }
 {
     if gate(battle, side, pick, random, events).stops() {
         return true;

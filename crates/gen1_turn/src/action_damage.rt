@@ -1,5 +1,6 @@
 //! The damage of an action (docs/MECHANICS.md, "Action", step 7).
 ghost use Rattle.std.specs.Prelude.{◌≡◌};
+ghost use Rattle.gen1_rolls.specs.Draws.{Steps};
 ghost use Rattle.gen1_layout.specs.Operations.{quiet};
 ghost use Rattle.gen1_layout.specs.Words.{Event, List, Reads, move_at, nat_lt};
 ghost use Rattle.gen1_machine.specs.Action.{damage_of, usual_damage};
@@ -47,6 +48,7 @@ pub(crate) fn damage_of<R: Rolls>(
     ensures shown { (told : List Event) → DrawsLike R.drawing random (aware known (quiet told battle))
         result (LikeUsual side (move_at id)) (damage_of side (move_at id) (move_at id).effect) }
     ensures counts { IsUncounted known.old → IsUncounted known.new }
+    ensures steps { Steps R.drawing random }
 {
     match way_of(id.effect()) {
         Way::Counter => {
@@ -73,6 +75,7 @@ fn damage_by_power<R: Rolls>(
         result (LikeUsual side (move_at id)) (choose (λ _. nat_lt 0 (move_at id).power)
         (usual_damage side (move_at id)) (set_last_damage 0)) }
     ensures counts { IsUncounted known.old → IsUncounted known.new }
+    ensures steps { Steps R.drawing random }
 {
     battle.put_last_damage(0);
     if id.power() == 0 {
@@ -97,6 +100,7 @@ fn roll_damage<R: Rolls>(
     ensures shown { (told : List Event) → DrawsLike R.drawing random (aware known (quiet told battle))
         result (LikeDamage side) (roll_damage side (move_at id)) }
     ensures counts { IsUncounted known.old → IsUncounted known.new }
+    ensures steps { Steps R.drawing random }
 {
     let numbers = numbers(battle, side, id, known.critical);
     let Some(before) = damage(&numbers) else {

@@ -1,5 +1,6 @@
 //! An action after its move is settled (docs/MECHANICS.md, "Action", from step 2 on).
 ghost use Rattle.std.specs.Prelude.{◌&&◌, ◌||◌, ◌≡◌};
+ghost use Rattle.gen1_rolls.specs.Draws.{Steps};
 ghost use Rattle.gen1_layout.specs.Operations.{DrawsWhere, quiet, scene};
 ghost use Rattle.gen1_layout.specs.Words.{AddsAtMost, AddsNone, Event, HasRoom, List, false, move_at, stop, ◌▸◌};
 ghost use Rattle.gen1_machine.specs.Action.{carry_out, damage_of, lands_at_once, lead_up, lets_energy_go};
@@ -38,6 +39,7 @@ pub(crate) fn carry_out<R: Rolls, S: EventSink>(
     ensures shown { DrawsWhere R.drawing random (taking side pick (move_at id).effect)
         (aware known (scene S.tells battle events)) result (λ r. carry_out r side pick (move_at id)) }
     ensures room { AddsAtMost S.room 18 events.old events.new }
+    ensures steps { Steps R.drawing random }
 {
     if bide_knowing(battle, side, known, events) {
         return true;
@@ -64,6 +66,7 @@ fn lead_up_unless_let_go<R: Rolls, S: EventSink>(
     ensures same { result ≡ false → known.new ≡ known.old }
     ensures room { AddsAtMost S.room 4 events.old events.new }
     ensures few { result ≡ false → AddsAtMost S.room 3 events.old events.new }
+    ensures steps { Steps R.drawing random }
 {
     if known.letting_go {
         return false;
@@ -86,6 +89,7 @@ fn damage_and_strike<R: Rolls, S: EventSink>(
         (aware known (scene S.tells battle events)) result
         (λ r. damage_and_strike r side (move_at id)) }
     ensures room { AddsAtMost S.room 14 events.old events.new }
+    ensures steps { Steps R.drawing random }
 {
     if damage_unless_landing(battle, side, id, known, random) {
         return true;
@@ -107,6 +111,7 @@ fn damage_unless_landing<R: Rolls>(
         result (LikeUsual side (move_at id)) (unless (lands_at_once (move_at id))
         (damage_of side (move_at id) (move_at id).effect)) }
     ensures counts { IsUncounted known.old → IsUncounted known.new }
+    ensures steps { Steps R.drawing random }
 {
     if lands_at_once(known, id.effect()) {
         return false;
@@ -135,6 +140,7 @@ fn late_part<R: Rolls, S: EventSink>(
     ensures same { result ≡ false → known.new ≡ known.old }
     ensures room { AddsAtMost S.room 2 events.old events.new }
     ensures quiet { result ≡ false → AddsNone S.room events.old events.new }
+    ensures steps { Steps R.drawing random }
 {
     if known.letting_go {
         return false;
@@ -159,6 +165,7 @@ fn late_effect<R: Rolls, S: EventSink>(
     ensures same { result ≡ false → known.new ≡ known.old }
     ensures room { AddsAtMost S.room 2 events.old events.new }
     ensures quiet { result ≡ false → AddsNone S.room events.old events.new }
+    ensures steps { Steps R.drawing random }
 {
     if is_late(id.effect()) {
         group_two_knowing(battle, side, id, known, random, events);

@@ -1,6 +1,7 @@
 //! The lead-up, before any damage: charging, the use of the move, an early effect, and what trapping and thrashing do
 //! first (docs/MECHANICS.md, "Action", steps 3 to 6).
 ghost use Rattle.std.specs.Prelude.{◌≡◌};
+ghost use Rattle.gen1_rolls.specs.Draws.{Steps};
 ghost use Rattle.gen1_layout.specs.Operations.{Draws, DrawsWhere, scene};
 ghost use Rattle.gen1_layout.specs.Words.{AddsAtMost, AddsNone, HasRoom, false, move_at, stop, ◌▸◌};
 ghost use Rattle.gen1_machine.specs.Action.{lead_up, prelude};
@@ -35,6 +36,7 @@ pub(crate) fn lead_up<R: Rolls, S: EventSink>(
     ensures same { result ≡ false → known.new ≡ known.old }
     ensures room { AddsAtMost S.room 4 events.old events.new }
     ensures few { result ≡ false → AddsAtMost S.room 3 events.old events.new }
+    ensures steps { Steps R.drawing random }
 {
     if charge_knowing(battle, side, pick, id, known, random, events) {
         return true;
@@ -58,6 +60,7 @@ fn begin_move<R: Rolls, S: EventSink>(
     ensures same { result ≡ false → known.new ≡ known.old }
     ensures room { AddsAtMost S.room 2 events.old events.new }
     ensures few { result ≡ false → AddsAtMost S.room 1 events.old events.new }
+    ensures steps { Steps R.drawing random }
 {
     if early_effect(battle, side, id, known, random, events) {
         return true;
@@ -83,6 +86,7 @@ fn early_effect<R: Rolls, S: EventSink>(
     ensures same { result ≡ false → known.new ≡ known.old }
     ensures room { AddsAtMost S.room 2 events.old events.new }
     ensures quiet { result ≡ false → AddsNone S.room events.old events.new }
+    ensures steps { Steps R.drawing random }
 {
     if is_early(id.effect()) {
         group_one_knowing(battle, side, id, known, random, events);
@@ -104,6 +108,7 @@ fn prelude<R: Rolls, S: EventSink>(
     ensures shown { DrawsWhere R.drawing random (using side (move_at id).effect)
         (aware_of known.now (scene S.tells battle events)) false (λ r. prelude side (move_at id)) }
     ensures room { AddsAtMost S.room 1 events.old events.new }
+    ensures steps { Steps R.drawing random }
 {
     if id.effect().traps() {
         trap_knowing(battle, side, known, random);

@@ -1,5 +1,6 @@
 //! A move that hits or misses, and its side effect (docs/MECHANICS.md, "Action", from step 9 on).
 ghost use Rattle.std.specs.Prelude.{◌||◌};
+ghost use Rattle.gen1_rolls.specs.Draws.{Steps};
 ghost use Rattle.gen1_layout.specs.Operations.{DrawsWhere, anything, scene};
 ghost use Rattle.gen1_layout.specs.Words.{AddsAtMost, HasRoom, Reads, move_at, other};
 ghost use Rattle.gen1_machine.specs.Action.{strike};
@@ -29,6 +30,7 @@ pub(crate) fn strike<R: Rolls, S: EventSink>(
     ensures shown { DrawsWhere R.drawing random anything (aware known (scene S.tells battle events))
         result (λ r. strike r side (move_at id)) }
     ensures room { AddsAtMost S.room 14 events.old events.new }
+    ensures steps { Steps R.drawing random }
 {
     if known.missed {
         missed_move(battle, side, id, events);
@@ -51,6 +53,7 @@ fn hits_with_effect<R: Rolls, S: EventSink>(
     ensures shown { DrawsWhere R.drawing random anything (aware known (scene S.tells battle events))
         result (λ r. hits_with_effect r side (move_at id)) }
     ensures room { AddsAtMost S.room 14 events.old events.new }
+    ensures steps { Steps R.drawing random }
 {
     hits(battle, side, id, known, random, events);
     if has_no_effect(battle, side, known) {

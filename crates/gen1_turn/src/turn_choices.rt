@@ -1,5 +1,6 @@
 //! A turn, by both choices (docs/MECHANICS.md, "Order of a turn").
 ghost use Rattle.std.specs.Prelude.{◌≡◌};
+ghost use Rattle.gen1_rolls.specs.Draws.{Steps};
 ghost use Rattle.gen1_layout.specs.Operations.{Does, DoesAnyway, DoesWhere, holding, quiet, scene};
 ghost use Rattle.gen1_layout.specs.Words.{AddsAtMost, Bool, Event, Frame, HasRoom, List, Progress, Shows, Told, false, length, member_in, other};
 ghost use Rattle.gen1_machine.specs.declared.side.Side.TheVariants as sides;
@@ -39,6 +40,7 @@ pub(crate) fn take_turn<R: Rolls, S: EventSink>(
     ensures shown { DoesTurn R.drawing random (planning (Chooses one two))
         (acting known (scene S.tells battle events)) result (λ r. turn r one two) }
     ensures room { AddsAtMost S.room 48 events.old events.new }
+    ensures steps { Steps R.drawing random }
 {
     end_flinch(battle, Side::One);
     end_flinch(battle, Side::Two);
@@ -65,6 +67,7 @@ fn act_on_choices<R: Rolls, S: EventSink>(
     ensures shown { DoesTurn R.drawing random (planning (Chooses one two))
         (acting known (scene S.tells battle events)) result (λ r. play_turn r one two) }
     ensures room { AddsAtMost S.room 48 events.old events.new }
+    ensures steps { Steps R.drawing random }
 {
     match one {
         Choice::Move(_) => match two {
@@ -104,6 +107,7 @@ fn both_pick<R: Rolls, S: EventSink>(
         (planning (λ plan p. FitsPick one (plan sides.One) × FitsPick two (plan sides.Two)))
         (acting known (scene S.tells battle events)) result (λ r. both_pick r one two) }
     ensures room { AddsAtMost S.room 48 events.old events.new }
+    ensures steps { Steps R.drawing random }
 {
     let first = settle_pick(battle, Side::One, one);
     let second = settle_pick(battle, Side::Two, two);
@@ -170,6 +174,7 @@ fn both_act<R: Rolls, S: EventSink>(
         (planning (λ plan p. FitsPick mine (plan side) × FitsPick others (plan (other side))))
         (acting known (scene S.tells battle events)) result (λ r. do_parts r (acts_in_turn side mine others)) }
     ensures room { AddsAtMost S.room 48 events.old events.new }
+    ensures steps { Steps R.drawing random }
 {
     if act_and_suffer(battle, side, mine, known, random, events) {
         return true;
@@ -198,6 +203,7 @@ fn one_picks<R: Rolls, S: EventSink>(
         × MayCome (other side) place p.field × (is_cut p ≡ false))) (acting known (scene S.tells battle events))
         result (λ r. one_picks r side pick place) }
     ensures room { AddsAtMost S.room 48 events.old events.new }
+    ensures steps { Steps R.drawing random }
 {
     set_picked(battle, side, pick);
     if sends_and_suffers(battle, side.other(), place, known, events) {

@@ -1,5 +1,6 @@
 //! Who acts first in a turn (docs/MECHANICS.md, "Order of a turn").
 ghost use Rattle.std.specs.Prelude.{◌≡◌};
+ghost use Rattle.gen1_rolls.specs.Draws.{Steps};
 ghost use Rattle.gen1_layout.specs.Words.{Reads};
 ghost use Rattle.gen1_machine.specs.TurnOrder.{in_order, in_order_of_rank, in_order_of_speed, rank, rank_in};
 ghost use Rattle.gen1_turn.specs.TurnParts.{Orders};
@@ -19,6 +20,7 @@ const SIDE_1_BELOW: u8 = 128;
 #[inline(always)] // docs/SPEED.md, "Hints on inlining"
 pub fn first_side<R: Rolls>(battle: &Packed, random: &mut R) -> Side
     ensures shown { Orders R.drawing random battle.now result in_order }
+    ensures steps { Steps R.drawing random }
 {
     let one = rank_of(battle, Side::One);
     let two = rank_of(battle, Side::Two);
@@ -29,6 +31,7 @@ pub fn first_side<R: Rolls>(battle: &Packed, random: &mut R) -> Side
 #[inline(always)] // docs/SPEED.md, "Hints on inlining"
 pub(crate) fn side_by_ranks<R: Rolls>(battle: &Packed, one: u8, two: u8, random: &mut R) -> Side
     ensures shown { Orders R.drawing random battle.now result (in_order_of_rank one two) }
+    ensures steps { Steps R.drawing random }
 {
     if one < two {
         return Side::One;
@@ -41,6 +44,7 @@ pub(crate) fn side_by_ranks<R: Rolls>(battle: &Packed, one: u8, two: u8, random:
 
 fn faster_side<R: Rolls>(battle: &Packed, random: &mut R) -> Side
     ensures shown { Orders R.drawing random battle.now result in_order_of_speed }
+    ensures steps { Steps R.drawing random }
 {
     let one = battle.current_stat(Side::One, Stat::Speed);
     let two = battle.current_stat(Side::Two, Stat::Speed);

@@ -1,5 +1,6 @@
 //! The parts of a turn, each with the residual damage of its side (docs/MECHANICS.md, "Order of a turn").
 ghost use Rattle.std.specs.Prelude.{◌||◌, ◌≡◌};
+ghost use Rattle.gen1_rolls.specs.Draws.{Steps};
 ghost use Rattle.gen1_layout.specs.Operations.{Does, quiet, scene};
 ghost use Rattle.gen1_layout.specs.Words.{AddsAtMost, Bool, Event, Frame, HasRoom, List, Progress, Reads, Shows, false, member_at, party};
 ghost use Rattle.gen1_machine.specs.declared.side.Side.TheVariants as sides;
@@ -37,6 +38,7 @@ pub(crate) fn act_and_suffer<R: Rolls, S: EventSink>(
     ensures shown { ActsAndSuffers R.drawing random side pick
         (acting known (scene S.tells battle events)) result }
     ensures room { AddsAtMost S.room 24 events.old events.new }
+    ensures steps { Steps R.drawing random }
 {
     match side {
         Side::One => act_and_suffer_as(battle, Side::One, pick, known, &mut random.0, events),
@@ -61,6 +63,7 @@ pub fn act_and_suffer_as<R: Rolls, S: EventSink>(
     ensures shown { ActsAndSuffers R.drawing random side pick
         (acting known (scene S.tells battle events)) result }
     ensures room { AddsAtMost S.room 24 events.old events.new }
+    ensures steps { Steps R.drawing random }
 {
     *known = known.begun(side);
     if known.skips {

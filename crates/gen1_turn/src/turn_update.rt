@@ -1,6 +1,7 @@
 //! The update of a battle that asks both sides for a move: a turn, and its close (docs/MECHANICS.md, "Order of a
 //! turn", "Falls and requests").
 ghost use Rattle.std.specs.Prelude.{◌≡◌};
+ghost use Rattle.gen1_rolls.specs.Draws.{StepsTo};
 ghost use Rattle.gen1_layout.specs.Operations.{DoesAnyway, scene};
 ghost use Rattle.gen1_layout.specs.Words.{AddsAtMost, HasRoom, [], false, ℕ};
 ghost use Rattle.gen1_machine.specs.declared.terms.Request.TheVariants.{Move};
@@ -42,6 +43,7 @@ pub fn turn<R: Rolls, S: EventSink>(
         (λ stream drawn. close_update (ruling_of s.terms)
         (turn (ruling_of s.terms) one two (drawing_on stream drawn s))) }
     ensures room { AddsAtMost S.room 51 events.old events.new }
+    ensures steps { StepsTo R.drawing random result }
 {
     let mut known = Known::new();
     let mut by_side = BySide(random);

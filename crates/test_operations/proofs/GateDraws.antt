@@ -1,7 +1,7 @@
 -- What the clause of the gate says about a generator at the beginning of its own stream, and about a member that is free.
 use Rattle.std.proofs.Common.{◌≡◌}
 use Rattle.gen1_layout.proofs.Words.{Bool, Event, Field, List, Parts, Progress, Setting, Side, Told, ap, choose, choose-true, draw, false, nat_lt, note, on_conditions, on_field, refl, stay, stop, sym, true, ℕ, ◌∙◌, ◌▸◌}
-use Rattle.gen1_rolls.specs.Draws.{Drawing, stream_of}
+use Rattle.gen1_rolls.specs.Draws.{Drawing, own_source, stream_of}
 use Rattle.gen1_rolls.specs.Streams.{byte_at, iterate}
 use Rattle.gen1_stats.specs.declared.status.Status.TheVariants.{Healthy, Paralysed}
 use Rattle.gen1_stats.specs.Members.{is_paralysed, sleeps_or_freezes}
@@ -33,7 +33,7 @@ paralysed true s p e = rw e (refl, refl)
 paralysed false s p e = rw e (refl, refl)
 
 module _ {A : Type 0} (d : Drawing A) (r new : A) (s : Side) (used : UsedMove) (g : Setting) (parts : Parts) (f : Field) (before after : List Event) (answer : Gate)
-    (h : TellsDrawn d r (frame g (stream_of d r) s) parts (Told after) new answer (begun f (stream_of d r) s before)
+    (h : TellsDrawn d (own_source d r) (frame g (stream_of d r) s) parts (Told after) new answer (begun f (stream_of d r) s before)
     (gate_or_held s (Use used) (begun f (stream_of d r) s before)))
     (free : IsFree s f) where
   abbrev p : Progress

@@ -1,7 +1,7 @@
 -- What the clauses of the operations of a hit say about a generator at the beginning of its own stream.
 use Rattle.gen1_layout.proofs.Words.{Action, Bool, Field, None, Option, Parts, Progress, Setting, ShowsDrawn, Side, Some, Told, [], ap, arith, choose, draw, false, given, nat_le, nat_lt, nat_tests, on_conditions, on_field, refl, set_last_damage, stay, sym, true, with_last_damage, ℕ, ◌∙◌, ◌▸◌}
 use Rattle.std.proofs.Common.{if◌then◌else◌, not, ◌+◌, ◌<◌, ◌≡◌, ◌≤◌}
-use Rattle.gen1_rolls.specs.Draws.{Drawing, draws_of, stream_of}
+use Rattle.gen1_rolls.specs.Draws.{Drawing, draws_of, own_source, stream_of}
 use Rattle.gen1_rolls.specs.Streams.{byte_at, first, iterate, Stream}
 use Rattle.gen1_machine.specs.declared.side.Side.TheVariants.{One}
 use Rattle.gen1_machine.specs.CriticalHits.{critical_bound_in, critical_by, roll_critical, rotated_left_3, set_critical}
@@ -20,7 +20,7 @@ module _ {A : Type 0} (d : Drawing A) (r new : A) where
   own = stream_of d r
 
   pub critical-is : (side : Side) (move : Move) (g : Setting) (parts : Parts) (f : Field) (result : Bool)
-      → ShowsDrawn d r (record (frame g own side) { action = record (new_action side) { critical = result } }) parts (Told []) new false
+      → ShowsDrawn d (own_source d r) (record (frame g own side) { action = record (new_action side) { critical = result } }) parts (Told []) new false
       (roll_critical side move (begun f own side []))
       → (result ≡ nat_lt (rotated_left_3 (d.byte r)) (critical_bound_in side move f)) × (new ≡ d.next r)
   unfolding roll_critical critical_by set_critical draw given on_action byte_at
@@ -34,13 +34,13 @@ module _ {A : Type 0} (d : Drawing A) (r new : A) where
   unfolding set_last_damage on_field with_last_damage
   varied-is result value m n e = (sym (ap (λ (p : Progress). p.field.last_damage) e), sym (ap (λ (p : Progress). p.drawn) e))
 
-  pub factor-keeps : (damage result : ℕ) → damage ≤ 1 → VariesFrom d r own 0 damage result new → (result ≡ damage) × (new ≡ r)
+  pub factor-keeps : (damage result : ℕ) → damage ≤ 1 → VariesFrom d (own_source d r) 0 damage result new → (result ≡ damage) × (new ≡ r)
   factor-keeps damage result few v =
       let small : nat_le damage 1 ≡ true = grind (arith, nat_tests) in
       let same = varied-is result damage v.drawn 0 (sym (vary-keeps damage 0 any_begun small refl) ∙ v.sets any_begun refl refl) in
       (same.0, v.stands.reached ∙ ap (λ (k : ℕ). iterate k d.next r) same.1)
 
-  pub factor-draws : (damage result m : ℕ) → 1 < damage → first own 0 is_factor ≡ Some m → VariesFrom d r own 0 damage result new
+  pub factor-draws : (damage result m : ℕ) → 1 < damage → first own 0 is_factor ≡ Some m → VariesFrom d (own_source d r) 0 damage result new
       → (result ≡ times_factor (rotated_right_1 (draws_of d r m)) damage) × (new ≡ iterate (m + 1) d.next r)
   unfolding byte_at
   factor-draws damage result m many at v =
@@ -64,7 +64,7 @@ hit-of false false e = refl
 
 module _ {A : Type 0} (d : Drawing A) (r new : A) where
   pub hit_test-is : (side : Side) (move : Move) (base : ℕ) (g : Setting) (parts : Parts) (f : Field) (hit : Bool) (kept : ℕ) → settled_hit_in side move f ≡ None
-      → ShowsDrawn d r (with_test hit kept (frame g (stream_of d r) side)) parts (Told []) new false (hit_test side move base (begun f (stream_of d r) side []))
+      → ShowsDrawn d (own_source d r) (with_test hit kept (frame g (stream_of d r) side)) parts (Told []) new false (hit_test side move base (begun f (stream_of d r) side []))
       → (hit ≡ nat_lt (d.byte r) (scaled_in side base f)) × (new ≡ d.next r)
   unfolding hit_test test_by set_tested hits_below given on_action draw byte_at ◌▸◌ unless_stopped
   hit_test-is side move base g parts f hit kept unsettled h =

@@ -2,7 +2,7 @@
 ghost use Rattle.std.specs.Prelude.{◌+◌, ◌<◌, ◌≡◌, ◌≤◌};
 ghost use Rattle.gen1_events.specs.Sink.{events_room};
 ghost use Rattle.gen1_layout.specs.Words.{Field, HasRoom, None, Setting, Some, Within, move_at, nat_lt, status_in, ℕ};
-ghost use Rattle.gen1_rolls.specs.Draws.{draws_of, stream_of};
+ghost use Rattle.gen1_rolls.specs.Draws.{KeepsOwn, draws_of, stream_of};
 ghost use Rattle.gen1_rolls.specs.Streams.{first, iterate};
 ghost use Rattle.gen1_stats.specs.declared.status.Status.TheVariants.{Healthy, Paralysed};
 ghost use Rattle.gen1_machine.specs.CriticalHits.{critical_bound_in, rotated_left_3};
@@ -21,7 +21,7 @@ use gen1_tables::MoveId;
 /// The critical draw: it takes the generator's next byte. The hit is critical if that byte, rotated, is below the
 /// machine's bound.
 pub fn critical_by<R: Rolls>(battle: &Packed, side: Side, id: MoveId, random: &mut R) -> bool
-    ensures { (g : Setting) (f : Field) → Within g battle.now f
+    ensures { KeepsOwn R.drawing random → (g : Setting) (f : Field) → Within g battle.now f
         → (result ≡ nat_lt (rotated_left_3 (R.drawing.byte random.old))
         (critical_bound_in side (move_at id) f)) × (random.new ≡ R.drawing.next random.old) }
 {
@@ -31,8 +31,8 @@ pub fn critical_by<R: Rolls>(battle: &Packed, side: Side, id: MoveId, random: &m
 /// The factor of damage: 0 and 1 stay as they are without a draw. Other damage is multiplied by the first byte that
 /// is a factor, rotated.
 pub fn factor_by<R: Rolls>(damage: u16, random: &mut R) -> u16
-    ensures kept { damage ≤ 1 → (result ≡ damage) × (random.new ≡ random.old) }
-    ensures drawn { (m : ℕ) → 1 < damage
+    ensures kept { KeepsOwn R.drawing random → damage ≤ 1 → (result ≡ damage) × (random.new ≡ random.old) }
+    ensures drawn { KeepsOwn R.drawing random → (m : ℕ) → 1 < damage
         → first (stream_of R.drawing random.old) 0 is_factor ≡ Some m
         → (result ≡ times_factor (rotated_right_1 (draws_of R.drawing random.old m)) damage)
         × (random.new ≡ iterate (m + 1) R.drawing.next random.old) }
@@ -49,7 +49,7 @@ pub fn hit_test_by<R: Rolls>(
     base: u8,
     random: &mut R,
 ) -> Hit
-    ensures { (g : Setting) (f : Field) → Within g battle.old f
+    ensures { KeepsOwn R.drawing random → (g : Setting) (f : Field) → Within g battle.old f
         → settled_hit_in side (move_at id) f ≡ None
         → (result.hit ≡ nat_lt (R.drawing.byte random.old) (scaled_in side base f))
         × (random.new ≡ R.drawing.next random.old) }
@@ -67,10 +67,10 @@ pub fn gate_by<R: Rolls>(
     events: &mut EventList,
 ) -> Gate
     requires room { HasRoom events_room 3 events.old }
-    ensures healthy { (g : Setting) (f : Field) → Within g battle.old f → IsFree side f
+    ensures healthy { KeepsOwn R.drawing random → (g : Setting) (f : Field) → Within g battle.old f → IsFree side f
         → status_in side f ≡ Healthy
         → (result ≡ Gate.Go) × (random.new ≡ random.old) }
-    ensures paralysed { (g : Setting) (f : Field) → Within g battle.old f → IsFree side f
+    ensures paralysed { KeepsOwn R.drawing random → (g : Setting) (f : Field) → Within g battle.old f → IsFree side f
         → status_in side f ≡ Paralysed
         → (stopped_by result ≡ nat_lt (R.drawing.byte random.old) 63) × (random.new ≡ R.drawing.next random.old) }
 {

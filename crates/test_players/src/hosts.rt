@@ -9,7 +9,7 @@ use gen1_host::{
 };
 use gen1_layout::Packed;
 use gen1_machine::{Outcome, Side};
-use gen1_player::Teller;
+use gen1_player::{HpForm, Teller};
 use gen1_rolls::LinkRandom;
 use gen1_room::plain::{PlainRoom, begin as begin_room, choices, reseed, submit};
 use gen1_stats::Team;
@@ -102,8 +102,8 @@ fn room() -> Result<PlainRoom, Fail> {
 fn table(late_forfeits: bool) -> Result<Host, Fail> {
     let mut host = Host {
         room: room()?,
-        one: Teller::new(TWO, false),
-        two: Teller::new(TWO, false),
+        one: Teller::new(TWO, HpForm::Exact),
+        two: Teller::new(TWO, HpForm::Exact),
         ending: 2,
         draw: 2,
         may_cancel: 2,
@@ -113,7 +113,7 @@ fn table(late_forfeits: bool) -> Result<Host, Fail> {
         may_cancel: true,
         late_forfeits,
     };
-    begin(&mut host, true, rules);
+    begin(&mut host, HpForm::Bar, rules);
     Ok(host)
 }
 
@@ -180,7 +180,7 @@ fn a_table_tells_what_its_tellers_tell(rt: HostRuntime) -> Result<(), Fail> {
     let mut host = table(false)?;
     let mut room = room()?;
     begin_room(&mut room);
-    let mut tellers = (Teller::new(ONE, true), Teller::new(TWO, true));
+    let mut tellers = (Teller::new(ONE, HpForm::Bar), Teller::new(TWO, HpForm::Bar));
     expect_told(&rt, &host, &room, &mut tellers)?;
     play(&rt, &mut host, &STEPS[..9]);
     let _ = submit(&mut room, TWO, 0, 0x11);

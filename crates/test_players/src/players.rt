@@ -10,7 +10,7 @@ use crate::events::{CHANSEY, ONE, STARMIE, TAUROS, TWO, Tell, event};
 use crate::teams::lead_and_chansey;
 use gen1_events::{LogBuf, LogFault, write};
 use gen1_machine::{CantReason, DamageSource, Kind, Side, Volatile};
-use gen1_player::{Player, Public, PublicSide, Seen, Teller};
+use gen1_player::{HpForm, Player, Public, PublicSide, Seen, Teller};
 use gen1_tables::Stat;
 use std::process::Abort;
 use std::test::Fail;
@@ -583,14 +583,22 @@ static BY_APPEARANCE: [Telling; 10] = [
     ),
 ];
 
-// 48 * 323 / 323 is 48, 48 * 322 / 323 is 47.8, 48 * 6 / 323 is 0.9.
-static IN_48THS: [Telling; 10] = [
+// Above 255 both are divided by 4 first: 12 * 322 / 80 is 48.3, 12 * 266 / 80 is 39.9, 12 * 6 / 80 is 0.9. 48 * 254 / 255 is 47.8.
+static BAR: [Telling; 12] = [
     (
         Damage(TWO, 323, 323, DamageSource::Direct),
         Damage(TWO, 48, 48, DamageSource::Direct),
     ),
     (
         Damage(TWO, 322, 323, DamageSource::Direct),
+        Damage(TWO, 48, 48, DamageSource::Direct),
+    ),
+    (
+        Damage(TWO, 266, 323, DamageSource::Direct),
+        Damage(TWO, 39, 48, DamageSource::Direct),
+    ),
+    (
+        Damage(TWO, 254, 255, DamageSource::Direct),
         Damage(TWO, 47, 48, DamageSource::Direct),
     ),
     (
@@ -619,7 +627,7 @@ static IN_48THS: [Telling; 10] = [
     ),
     (
         Heal(TWO, 161, 323, Some(Kind::Sleep)),
-        Heal(TWO, 23, 48, Some(Kind::Sleep)),
+        Heal(TWO, 24, 48, Some(Kind::Sleep)),
     ),
     (
         Switch(TWO, STARMIE, 6, 7, 703, None),
@@ -627,9 +635,41 @@ static IN_48THS: [Telling; 10] = [
     ),
 ];
 
+// 100 * 322 / 323 is 99.7, 100 * 162 / 323 is 50.2, 100 * 1 / 323 is 0.3, 100 * 161 / 323 is 49.8.
+static HUNDREDTHS: [Telling; 7] = [
+    (
+        Damage(TWO, 323, 323, DamageSource::Direct),
+        Damage(TWO, 100, 100, DamageSource::Direct),
+    ),
+    (
+        Damage(TWO, 322, 323, DamageSource::Direct),
+        Damage(TWO, 99, 100, DamageSource::Direct),
+    ),
+    (
+        Damage(TWO, 162, 323, DamageSource::Direct),
+        Damage(TWO, 51, 100, DamageSource::Direct),
+    ),
+    (
+        Damage(TWO, 1, 323, DamageSource::Direct),
+        Damage(TWO, 1, 100, DamageSource::Direct),
+    ),
+    (
+        Damage(TWO, 0, 323, DamageSource::Direct),
+        Damage(TWO, 0, 100, DamageSource::Direct),
+    ),
+    (
+        Damage(ONE, 100, 353, DamageSource::Direct),
+        Damage(ONE, 100, 353, DamageSource::Direct),
+    ),
+    (
+        Heal(TWO, 161, 323, Some(Kind::Sleep)),
+        Heal(TWO, 50, 100, Some(Kind::Sleep)),
+    ),
+];
+
 // Tells each event, and returns the places that have appeared.
-fn tell(rt: &impl Abort, in_48ths: bool, rows: &[Telling]) -> Result<[u8; 6], Fail> {
-    let mut teller = Teller::new(ONE, in_48ths);
+fn tell(rt: &impl Abort, form: HpForm, rows: &[Telling]) -> Result<[u8; 6], Fail> {
+    let mut teller = Teller::new(ONE, form);
     for (number, (whole, told)) in rows.iter().enumerate() {
         let found = teller.tell(&event(*whole, OUT)?);
         assert_eq!(rt; found, event(*told, OUT)?, "at {number}");
@@ -639,8 +679,13 @@ fn tell(rt: &impl Abort, in_48ths: bool, rows: &[Telling]) -> Result<[u8; 6], Fa
 
 #[test]
 fn what_a_side_is_told(rt: HostRuntime) -> Result<(), Fail> {
-    assert_same(&rt, tell(&rt, false, &BY_APPEARANCE)?, [3, 5, 1, 6, 2, 4]);
-    tell(&rt, true, &IN_48THS)?;
+    assert_same(
+        &rt,
+        tell(&rt, HpForm::Exact, &BY_APPEARANCE)?,
+        [3, 5, 1, 6, 2, 4],
+    );
+    tell(&rt, HpForm::Bar, &BAR)?;
+    tell(&rt, HpForm::Hundredths, &HUNDREDTHS)?;
     Ok(())
 }
 
@@ -655,7 +700,7 @@ fn log_of(tells: &[Tell]) -> Result<LogBuf, Fail> {
 
 #[test]
 fn an_update_is_told_in_log_bytes(rt: HostRuntime) -> Result<(), Fail> {
-    let mut teller = Teller::new(ONE, true);
+    let mut teller = Teller::new(ONE, HpForm::Bar);
     let log = log_of(&[
         Switch(ONE, TAUROS, 2, 353, 353, None),
         Switch(TWO, STARMIE, 5, 323, 323, None),
@@ -675,7 +720,7 @@ fn an_update_is_told_in_log_bytes(rt: HostRuntime) -> Result<(), Fail> {
 
 #[test]
 fn what_is_not_a_log_is_not_told(rt: HostRuntime) -> Result<(), Fail> {
-    let mut teller = Teller::new(TWO, false);
+    let mut teller = Teller::new(TWO, HpForm::Exact);
     // A switch of side 1 to its Tauros at place 4, level 100, with 353 of 353 HP, without the byte of its status.
     let cut = [2, 1, 128, 4, 100, 0x61, 1, 0x61, 1];
     assert_same(&rt, teller.tell_log(&cut), Err(LogFault::Truncated));
@@ -684,7 +729,7 @@ fn what_is_not_a_log_is_not_told(rt: HostRuntime) -> Result<(), Fail> {
         teller.tell_log(&[0x1B, 0x1D]),
         Err(LogFault::UnknownTag),
     );
-    assert_same(&rt, teller, Teller::new(TWO, false));
+    assert_same(&rt, teller, Teller::new(TWO, HpForm::Exact));
     Ok(())
 }
 

@@ -321,7 +321,7 @@ def test_two_players_see_what_a_host_sends():
     for seed in range(10):
         observations, _ = env.reset(seed=seed)
         numbers = np.random.default_rng(seed).integers(0, 256, (1, 10), np.uint8).tobytes()
-        host = Host(Battle(DEFAULT_TEAM, DEFAULT_TEAM, numbers), exact_hp=True)
+        host = Host(Battle(DEFAULT_TEAM, DEFAULT_TEAM, numbers))
         players = [Player(side, DEFAULT_TEAM, len(DEFAULT_TEAM)) for side in Side]
         while True:
             assert host.battle == env.battle

@@ -29,7 +29,7 @@ CHANSEY = Member("Chansey", ["Ice Beam"])
 @pytest.fixture
 def player():
     """Side 1 after the first turn of a battle with Alakazam, whose Psychic it has seen; its own Body Slam was used once."""
-    battle, teller, made = Battle([TAUROS], [ALAKAZAM, CHANSEY], SEED), Teller(1), Player(1, [TAUROS])
+    battle, teller, made = Battle([TAUROS], [ALAKAZAM, CHANSEY], SEED), Teller(1, pixels=False), Player(1, [TAUROS])
     for choice in (0, 17):
         teller.report(battle, battle.update(choice, choice).log, made)
     return made
@@ -60,11 +60,12 @@ def test_what_is_known_and_what_is_guessed(player):
 
 
 def test_conditions_that_were_announced(player):
-    """Substitute and confusion with middle counts; Rage if the guess has a move that explains it."""
+    """Substitute and confusion with middle counts; Rage, whose use of Rage explains it."""
     told = player.copy()
     told.feed(bytes([18, 2, 65, 3, 18, 2, 65, 1, 18, 2, 65, 12]))
     out = Battle.from_player(told, [ALAKAZAM], SEED).state.two.active
     assert out.conditions == Conditions.SUBSTITUTE | Conditions.CONFUSED and (out.substitute, out.confusion) == (78, 3)
+    told.feed(bytes([3, 2, 65, 99, 1, 128, 18, 2, 65, 12]))
     raging = Battle.from_player(told, [Member("Alakazam", ["Psychic", "Rage"])], SEED).state.two.active
     assert raging.conditions & Conditions.RAGE and (raging.current_move, raging.kept_accuracy) == (2, 255)
 
@@ -75,7 +76,7 @@ def test_random_battles():
     for _ in range(20):
         teams = random_team(dice), random_team(dice)
         battle, tellers = Battle(*teams, dice.randbytes(10), dice.randint(0, 3), limit=40), [
-            Teller(it) for it in (1, 2)
+            Teller(it, pixels=False) for it in (1, 2)
         ]
         players = [Player(it, teams[it - 1]) for it in (1, 2)]
         while not battle.result.is_over:
@@ -112,15 +113,17 @@ def agrees(copy, battle, side, places):
     )
     for at, place in enumerate(places, 1):
         one, two = state.member(side.foe, at), true.member(side.foe, place)
-        assert (one.species, one.level, one.hp, one.max_hp, one.status, one.moves, one.stats) == (
+        assert (one.species, one.level, one.hp, one.max_hp, one.status, one.marked, one.moves, one.stats) == (
             two.species,
             two.level,
             two.hp,
             two.max_hp,
             two.status,
+            two.marked,
             two.moves,
             two.stats,
         )
+    assert [it.marked for it in state.side(side).members] == [it.marked for it in true.side(side).members]
     assert state.side(side.foe).active.stages == true.side(side.foe).active.stages
     copy.update(*(copy.choices(it)[0] for it in (1, 2)))
 

@@ -85,7 +85,8 @@ class OnPaper:
             order += [] if event.place in order else [event.place]
             made = dataclasses.replace(made, place=1 + order.index(event.place))
         if not self.exact:
-            pixels = max(48 * hp.hp // hp.max_hp, hp.hp > 0)
+            part = 12 * hp.hp // (hp.max_hp // 4) if hp.max_hp > 255 else 48 * hp.hp // hp.max_hp
+            pixels = max(part, hp.hp > 0)
             made = dataclasses.replace(made, health=dataclasses.replace(hp, hp=pixels, max_hp=48))
         return made
 

@@ -10,6 +10,7 @@ import pytest
 from conftest import BIG, LIB, NO_NUMBERS, random_team
 from gen1 import (
     Announced,
+    AsleepBy,
     BadArgument,
     BadBytes,
     BadLog,
@@ -19,6 +20,7 @@ from gen1 import (
     Choice,
     Conditions,
     Error,
+    HpForm,
     Member,
     Move,
     Outcome,
@@ -101,21 +103,51 @@ def test_before_the_battle(player):
 
 def test_places_of_the_foe_are_told_by_appearance():
     """The foe's places 5, 2 and 5 again are told as 1, 2 and 1; the own place 5 as it is."""
-    teller = Teller(Side.ONE)
+    teller = Teller(Side.ONE, pixels=False)
     for place, told in ((5, 1), (2, 2), (5, 1)):
         assert teller.tell(switch(2, 113, place, 322, 323)) == switch(2, 113, told, 322, 323)
     assert teller.tell(switch(1, 113, 5, 322, 323)) == switch(1, 113, 5, 322, 323) and teller.places == (5, 2)
     assert teller.tell(b"") == b"" and teller.side is Side.ONE and not teller.pixels
 
 
-def test_pixels():
-    """docs/MECHANICS.md, "Player's view": 322 of 323 HP are told as 47 of 48, 6 as 1, 0 as 0. Own HP is told as it is."""
-    for hp, told in ((322, 47), (323, 48), (6, 1), (7, 1), (0, 0)):
-        teller = Teller(1, pixels=True)
-        assert teller.tell(switch(2, 113, 3, hp, 323)) == switch(2, 113, 1, told, 48)
-        assert teller.tell(damage(2, 113, hp, 323) + damage(1, 113, hp, 323)) == damage(2, 113, told, 48) + damage(
-            1, 113, hp, 323
-        )
+def test_forms_of_hp():
+    """docs/MECHANICS.md, "Player's view": as the bar 322 of 323 HP are 48, since 12 * 322 / 80 is 48.3, and 254 of 255 are 47; in hundredths
+    322 of 323 are 99. Own HP is told as it is.
+    """
+    for hp, most, bar, hundredths in (
+        *((322, 323, 48, 99), (323, 323, 48, 100), (266, 323, 39, 83), (7, 323, 1, 3), (6, 323, 1, 2), (0, 323, 0, 0)),
+        *((254, 255, 47, 99), (255, 255, 48, 100), (5, 255, 1, 2)),
+    ):
+        for teller, told, parts in (
+            (Teller(1), bar, 48),
+            (Teller(1, pixels=False), hp, most),
+            (Teller(1, hp_form=HpForm.BAR), bar, 48),
+            (Teller(1, True, hp_form=HpForm.HUNDREDTHS), hundredths, 100),
+            (Teller(1, True, hp_form=HpForm.EXACT), hp, most),
+        ):
+            assert teller.tell(switch(2, 113, 3, hp, most)) == switch(2, 113, 1, told, parts)
+            own = damage(1, 113, hp, most)
+            assert teller.tell(damage(2, 113, hp, most) + own) == damage(2, 113, told, parts) + own
+            assert teller.hp_form is {48: HpForm.BAR, 100: HpForm.HUNDREDTHS}.get(parts, HpForm.EXACT)
+            assert teller.pixels is (parts == 48) and Teller.from_bytes(bytes(teller)) == teller
+
+
+def test_what_put_a_member_to_sleep(player):
+    """A sleep after the member's own Rest is by it; after a later move of the foe it is by that (docs/MECHANICS.md, "What the log makes
+    public").
+    """
+    rest, spore, sleeps, wakes = [3, 2, 130, 156, 1, 128], [3, 1, 128, 147, 2, 130], [13, 2, 130, 1], [14, 2, 130, 1]
+    seen_by(player, switch(1, 128, 1, 353, 353), switch(2, 130, 1, 393, 393))
+    for events, by in (
+        ([spore, sleeps], AsleepBy.MOVE),
+        ([wakes], None),
+        ([rest], None),
+        ([sleeps], AsleepBy.REST),
+        ([spore], AsleepBy.REST),
+        ([wakes, rest, spore, sleeps], AsleepBy.MOVE),
+        ([[25, 2, 130]], None),
+    ):
+        assert seen_by(player, *events).active.asleep_by is by
 
 
 def test_what_events_make_public(player):
@@ -251,7 +283,7 @@ def test_before_the_first_update():
 def test_the_battle_of_the_example():
     """As README.md shows it: two Tauros with Strength; the first turn hits each, and the second fells side 2."""
     battle = Battle([TAUROS], [TAUROS], SEED)
-    tellers, players = [Teller(it) for it in (1, 2)], [Player(it, [TAUROS], 1) for it in (1, 2)]
+    tellers, players = [Teller(it, pixels=False) for it in (1, 2)], [Player(it, [TAUROS], 1) for it in (1, 2)]
     for choice in (0, 17, 17):
         update = battle.update(choice, choice)
         for teller, player in zip(tellers, players):
@@ -280,7 +312,7 @@ def test_what_is_hidden_changes_nothing():
     other = dataclasses.replace(lead, moves=["Splash", "Ice Beam"], exp=[65535, 0, 65535, 0, 65535])
     foes, known = ([lead, gengar, GYARADOS], [other, GYARADOS, gengar]), []
     for seed, two, place in ((SEED, foes[0], 2), (bytes(10), foes[1], 3)):
-        battle, teller, player, logs = Battle([tauros], two, seed), Teller(1), Player(1, [tauros], 3), b""
+        battle, teller, player, logs = Battle([tauros], two, seed), Teller(1, pixels=False), Player(1, [tauros], 3), b""
         for pair in ((0, 0), (17, 17), (17, Choice.switch(place)), (17, 17), (17, Choice.SWITCH_1)):
             log = battle.update(*pair).log
             teller.report(battle, log, player)
@@ -298,7 +330,7 @@ def test_random_battles():
         teams = random_team(dice), random_team(dice)
         battle, side = Battle(*teams, dice.randbytes(10), dice.randint(0, 3), limit=60), dice.randint(1, 2)
         own_team, foe_side, spectator = teams[side - 1], 3 - side, Spectator(*teams)
-        teller, player = Teller(side), Player(side, own_team, len(teams[foe_side - 1]))
+        teller, player = Teller(side, pixels=False), Player(side, own_team, len(teams[foe_side - 1]))
         raw_teller, raw, buffer = TellerStruct(), PlayerStruct(), ctypes.create_string_buffer(512)
         LIB.gen1_teller_begin(ctypes.byref(raw_teller), side, 0)
         LIB.gen1_player_begin(ctypes.byref(raw), side, ctypes.byref(own_team._struct), len(teams[foe_side - 1]))
@@ -532,7 +564,7 @@ def known_table():
     one = "Tauros||||BodySlam,HyperBeam,Blizzard,Earthquake|||||||]Chansey||||IceBeam,Thunderbolt,SoftBoiled|||||||"
     two = "Gengar||||Hypnosis,Dig,NightShade|||||||]Snorlax||||BodySlam,Substitute,Amnesia|||||||"
     teams = [Team.from_packed(it) for it in (one, two)]
-    tellers, players = [Teller(1), Teller(2, pixels=True)], [Player(1, teams[0], 2), Player(2, teams[1])]
+    tellers, players = [Teller(1, pixels=False), Teller(2)], [Player(1, teams[0], 2), Player(2, teams[1])]
     return [Room(Battle(*teams, SEED)), *tellers, *players, Spectator(*teams)]
 
 
@@ -570,7 +602,7 @@ def test_bytes_are_those_of_the_c_structs():
         pairs += 1
     room = known_table()[0]
     room.forfeit(2)
-    assert pairs == 25 and fnv(found, bytes(Room.from_bytes(bytes(room)))) == 0x8838AACA0CF38FA3
+    assert pairs == 25 and fnv(found, bytes(Room.from_bytes(bytes(room)))) == 0x7449E54FBF29F323
 
 
 def test_bytes_that_are_refused():
@@ -585,7 +617,7 @@ def test_bytes_that_are_refused():
             (table[3], at, byte, field)
             for at, byte, field in ((441, 16, "offered"), (444, 9, "held"), (442, 3, "side"))
         ),
-        *((table[1], at, byte, field) for at, byte, field in ((0, 0, "side"), (1, 2, "pixels"), (3, 1, "places"))),
+        *((table[1], at, byte, field) for at, byte, field in ((0, 0, "side"), (1, 3, "pixels"), (3, 1, "places"))),
         *(
             (table[5], at, byte, field)
             for at, byte, field in ((24, 7, "count"), (25, 3, "place"), (75, 10, "held_count"))

@@ -245,7 +245,7 @@ def test_two_secrets_decide_a_seed_and_the_sides():
 
 
 def test_a_simulator_begins_as_the_program_does():
-    simulator, said = begun([TAUROS, MEW])
+    simulator, said = begun([TAUROS, MEW], hp=Hp.EXACT)
     assert said.startswith(BEGUN + "\nsideupdate\np1\n|request|")
     assert simulator.take(">p1 move 1").text == ""
     reply = simulator.take(">p1 move 5")

@@ -275,10 +275,23 @@ def test_teams_to_text_and_back():
         team = Team([it | {"moves": [[name, 3] for name, _ in it["moves"]]} for it in team.to_dicts()])
         read = Team.from_text(team.to_text())
         assert Battle(team, read, bytes(10)) == Battle(read, team, bytes(10)) == Battle(team, team, bytes(10))
-        assert Team.from_text(read.to_text()) == read
-    with pytest.raises(BadArgument) as fault:
-        Team([Member("Tauros", ["Pound"], pp_ups=[0])]).to_text()
-    assert "PP ups" in str(fault.value)
+        assert Team.from_text(read.to_text()) == read == Team.from_packed(team.to_packed())
+    refused = Team([Member("Tauros", ["Pound"]), Member("Tauros", ["Pound", "Cut"], pp_ups=[3, 0])])
+    for call in (refused.to_text, refused.to_packed):
+        with pytest.raises(BadArgument) as fault:
+            call()
+        assert str(fault.value) == "member 2: in a text each move has three PP ups, but the moves have [3, 0]"
+
+
+def test_the_form_of_a_written_team():
+    """docs/TEAM_TEXT.md, "Writing", worked out on paper."""
+    tauros = Member("Tauros", ["Body Slam"], 88, (0, 15, 15, 15))
+    mime = Member("Mr. Mime", ["Psychic", "Double-Edge"], exp=(65535, 0, 0, 9, 0))
+    text = "Mr. Mime\nEVs: 252 HP / 0 Atk / 0 Def / 0 SpA / 0 SpD / 3 Spe\n- Psychic\n- Double-Edge\n"
+    team = Team([tauros, mime])
+    assert team.to_text() == f"Tauros\nLevel: 88\nIVs: 14 HP / 0 Atk\n- Body Slam\n\n{text}"
+    line = "Tauros||||bodyslam||||14,0,,,,||88|]Mr. Mime||||psychic,doubleedge||252,0,0,0,0,3|||||\n"
+    assert team.to_packed() == line
 
 
 FILES = sorted((ROOT / "examples" / "teams").glob("*.txt"))

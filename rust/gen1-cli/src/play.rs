@@ -9,8 +9,7 @@ use crate::random::Random;
 use crate::screen;
 use clap::{Args, ValueEnum};
 use gen1::{
-    Battle, Choice, Host, HostOptions, LogFault, Offered, Player, Rules, Side, Team, TurnLimit,
-    events_of,
+    Battle, Choice, Host, LogFault, Offered, Player, Rules, Side, Team, TurnLimit, events_of,
 };
 use std::path::{Path, PathBuf};
 
@@ -62,11 +61,7 @@ pub fn play(game: &Game) -> Result<(), Fault> {
     let mut foe = game
         .level
         .map(|level| Searcher::new(level, &teams, &mut random, &battle));
-    let options = HostOptions {
-        exact_hp: true,
-        ..HostOptions::default()
-    };
-    let mut host = Host::with_options(battle, options);
+    let mut host = Host::new(battle);
     loop {
         report(&host, &mut foe)?;
         if host.is_closed() {

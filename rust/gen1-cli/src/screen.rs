@@ -1,6 +1,6 @@
 //! Battles as text for people.
 use crate::input::chosen::{move_of, species_of};
-use gen1::{Battle, Choice, KnownMove, MemberState, Side};
+use gen1::{Battle, Choice, Health, HpForm, KnownMove, MemberState, Side};
 
 /// The width of an HP bar in characters.
 const BAR: u16 = 20;
@@ -16,29 +16,29 @@ pub fn bar(hp: u16, max: u16) -> String {
     )
 }
 
-/// A member on one line: name, level, HP and status.
-fn member(it: &MemberState) -> String {
+/// A member on one line: name, level, HP in a form, and status.
+fn member(it: &MemberState, form: HpForm) -> String {
     let status = it
         .status
         .filter(|_| it.hp > 0)
         .map_or(String::new(), |kind| format!("  {kind}"));
-    format!(
-        "{:<12} L{:<3} {} {:>3}/{}{status}",
-        it.species,
-        it.level,
-        bar(it.hp, it.max_hp),
-        it.hp,
-        it.max_hp
-    )
+    // HP of a state are at most the maximum, which is 11 to 999.
+    let (hp, max) = Health::new(it.hp, it.max_hp, None).map_or((it.hp, it.max_hp), |health| {
+        let told = form.tell(health);
+        (told.hp(), told.max())
+    });
+    let (species, level, bar) = (it.species, it.level, bar(hp, max));
+    format!("{species:<12} L{level:<3} {bar} {hp:>3}/{max}{status}")
 }
 
-/// The active members of both sides.
+/// The active members of both sides, as side 1 may see them.
 pub fn both(battle: &Battle) -> String {
     let state = battle.state();
     let mut text = format!("-- turn {} --\n", state.turn);
-    for (side, name) in state.sides.iter().rev().zip(["foe", "you"]) {
+    let shown = [("foe", HpForm::Bar), ("you", HpForm::Exact)];
+    for (side, (name, form)) in state.sides.iter().rev().zip(shown) {
         if let Some(it) = side.member_out() {
-            text += &format!("{name}  {}\n", member(it));
+            text += &format!("{name}  {}\n", member(it, form));
         }
     }
     text
@@ -69,7 +69,7 @@ pub fn whole(battle: &Battle) -> String {
             text += &format!(
                 "{mark} {} {}\n      {}\n",
                 place + 1,
-                member(one),
+                member(one, HpForm::Exact),
                 moves.join(", ")
             );
         }
@@ -105,7 +105,9 @@ pub fn choice(battle: &Battle, side: Side, it: Choice) -> String {
         Choice::Switch(place) => of_side
             .members
             .get(usize::from(place.number()) - 1)
-            .map_or(it.to_string(), |it| format!("switch to {}", member(it))),
+            .map_or(it.to_string(), |it| {
+                format!("switch to {}", member(it, HpForm::Exact))
+            }),
     }
 }
 

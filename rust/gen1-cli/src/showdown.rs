@@ -14,7 +14,7 @@ use std::time::SystemTime;
 /// The arguments of `showdown`.
 #[derive(Args)]
 pub struct Showdown {
-    /// How a player sees the HP of the foe's members; without it exactly in gen1customgame, and in hundredths in other formats
+    /// How a player sees the HP of the foe's members; without it in 48ths in gen1customgame, and in hundredths in other formats
     #[arg(long, value_enum)]
     hp: Option<Shown>,
     /// The same as --hp pixels

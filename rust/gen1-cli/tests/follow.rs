@@ -4,8 +4,13 @@ use common::played::{
     battle, commands, count, inputs, is_played_by_showdown, members, name, pairs, team, view,
 };
 use common::{fed, file_with, gen1, ran};
-use gen1::{Player, PublicSide, Side, Teller};
+use gen1::{HpForm, Player, PublicSide, Side, Teller};
 use serde_json::{Value, json};
+
+/// A teller of exact HP.
+fn exact(side: Side) -> Teller {
+    Teller::with_hp(side, HpForm::Exact)
+}
 
 /// The player of a side that the battle tells of each update.
 fn told(input: &Value, side: Side, mut teller: Teller) -> Player {
@@ -121,7 +126,7 @@ fn a_log_of_a_recorded_battle_is_what_the_battle_tells() {
         let printed = ran(&["run", "--showdown"], input.to_string().as_bytes()).stdout;
         let log = String::from_utf8(printed).expect("UTF-8");
         for side in Side::BOTH {
-            let player = told(input, side, Teller::new(side));
+            let player = told(input, side, exact(side));
             let own = members(input, side);
             compare(&followed(&log, side, Some(&own)), &player, true);
             if number % 4 == 0 {
@@ -138,26 +143,16 @@ fn what_a_side_is_sent_is_what_the_battle_tells() {
     let mut compared = 0;
     for input in inputs.iter().filter(|it| is_played_by_showdown(it)) {
         let commands = commands(input);
-        for pixels in [false, true] {
-            let words: &[&str] = if pixels {
-                &["showdown", "--pixels"]
-            } else {
-                &["showdown", "--hp", "exact"]
-            };
-            let printed = ran(words, commands.as_bytes());
+        for (hp, form) in [("exact", HpForm::Exact), ("percent", HpForm::Hundredths)] {
+            let printed = ran(&["showdown", "--hp", hp], commands.as_bytes());
             assert!(printed.status.success());
             let printed = String::from_utf8(printed.stdout).expect("UTF-8");
             assert!(!printed.contains("|error|"), "{commands}\n{printed}");
             for side in Side::BOTH {
-                let teller = if pixels {
-                    Teller::in_pixels(side)
-                } else {
-                    Teller::new(side)
-                };
-                let player = told(input, side, teller);
+                let player = told(input, side, Teller::with_hp(side, form));
                 let own = members(input, side);
                 // For one side what the simulator prints, for the other what it gets of that.
-                let is_whole = pixels == (side == Side::One);
+                let is_whole = (form == HpForm::Exact) == (side == Side::Two);
                 let log = if is_whole {
                     printed.clone()
                 } else {
@@ -180,7 +175,7 @@ fn the_bytes_of_a_log_are_read_by_a_player() {
         let team_file = file_with("follow_log.json", own);
         let words = ["follow", "--log", "--side", "p2", "--team", &team_file];
         let bytes = ran(&words, &log).stdout;
-        let due = told(input, side, Teller::new(side));
+        let due = told(input, side, exact(side));
         let mut player = Player::with_foes(side, &team(input, side), count(input, Side::One));
         player.feed(&bytes).expect("a log");
         assert_eq!(

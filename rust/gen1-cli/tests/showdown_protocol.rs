@@ -9,6 +9,9 @@ const TAUROS: &str = "Bob|Tauros|||bodyslam,hyperbeam|||||||]Chansey||||softboil
 const MEW: &str = "Mew||||substitute|||||||]Tauros||||bodyslam||||||50|";
 
 /// What the program prints for a battle of Alice with Tauros and Eve with Mew, and its messages.
+/// The words for lines with exact HP, which are the same for everybody.
+const EXACT: &[&str] = &["--hp", "exact"];
+
 fn played(options: &[&str], commands: &[&str]) -> (String, Vec<Vec<String>>) {
     played_against(MEW, options, commands)
 }
@@ -50,7 +53,7 @@ fn requested(message: &[String]) -> Value {
 
 #[test]
 fn a_battle_begins_with_an_update_and_two_requests() {
-    let (text, messages) = played(&[], &[]);
+    let (text, messages) = played(EXACT, &[]);
     let due = "update\n|gametype|singles\n|player|p1|Alice||\n|player|p2|Eve||\n|teamsize|p1|2\n|teamsize|p2|2\n|gen|1\n\
         |tier|[Gen 1] Link battle\n|\n|start\n|switch|p1a: Bob|Tauros|353/353\n|switch|p2a: Mew|Mew|403/403\n|turn|1\n\nsideupdate\np1\n";
     assert!(text.starts_with(due), "{text}");
@@ -190,11 +193,9 @@ fn pixels_stand_beside_the_hp() {
     ] {
         assert!(text.contains(due), "{text}");
     }
-    assert!(
-        !played(&[], &[">p1 switch 2", ">p2 move 1"])
-            .0
-            .contains("|split|")
-    );
+    assert_eq!(played(&[], &[">p1 switch 2", ">p2 move 1"]).0, text);
+    let (exact, _) = played(EXACT, &[">p1 switch 2", ">p2 move 1"]);
+    assert!(!exact.contains("|split|"));
 }
 
 #[test]
@@ -312,7 +313,7 @@ fn has_lines(teams: [&str; 2], seed: u64, turns: &[[&str; 2]], due: &[&str]) -> 
     for [one, two] in turns {
         input.extend([format!(">p1 {one}"), format!(">p2 {two}")]);
     }
-    let text = printed(&[], &input);
+    let text = printed(EXACT, &input);
     assert!(!text.contains("|error|"), "{text}");
     let mut lines = text.lines();
     for due in due {

@@ -137,6 +137,7 @@ fn a_dash_is_standard_input() {
     let page = page.to_str().expect("UTF-8");
     let (start, json) = (start().into_bytes(), calculation().into_bytes());
     let begun = "|switch|p1a: Tauros|Tauros|353/353\n|switch|p2a: Tauros|Tauros|353/353\n|turn|1\n";
+    let shown = begun.replace("p2a: Tauros|Tauros|353/353", "p2a: Tauros|Tauros|48/48");
     let held = PAGE.replace("null", r#"{"log":"1a01"}"#);
     for (words, input, due) in [
         (&["run", "-"][..], &start[..], begun),
@@ -144,7 +145,7 @@ fn a_dash_is_standard_input() {
         (&["state", "-"], &start, "turn 1 of 1000: "),
         (&["print", "-"], &BYTES, "|win|p1\n"),
         (&["calc", "-"], &json, "95 95 96 96 97 97 97 98 "),
-        (&["play", "-"], &start, begun),
+        (&["play", "-"], &start, &shown),
         (&["replay", "-", "--page", page], &BYTES, &held),
         (&["replay", "--page", page, "--out", "-"], &BYTES, &held),
     ] {

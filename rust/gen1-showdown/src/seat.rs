@@ -2,8 +2,8 @@
 use crate::words::Hp;
 use crate::{Fault, Members, names_of};
 use gen1::{
-    Battle, Choice, Conditions, Event, EventList, Kind, LogBuf, Message, MoveId, OfferedMask,
-    OwnSide, Player, Side, Team, Teller, Volatile, events_of, write_log,
+    Battle, Choice, Conditions, Event, EventList, HpForm, Kind, LogBuf, Message, MoveId,
+    OfferedMask, OwnSide, Player, Side, Team, Teller, Volatile, events_of, write_log,
 };
 
 /// A player of a battle. Requests and choices are made only from these fields, which hold nothing that the player may not know.
@@ -55,7 +55,8 @@ impl Seat {
             order: (0..names.len()).collect(),
             members: names,
             player: Player::new(side, team),
-            teller: Teller::new(side),
+            // The form of HP is that of the lines.
+            teller: Teller::with_hp(side, HpForm::Exact),
             hp,
             current: None,
             foes_use: None,

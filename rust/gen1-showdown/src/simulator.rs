@@ -11,7 +11,7 @@ use std::hash::{BuildHasher, Hasher, RandomState};
 /// The settings of a simulator.
 #[derive(Clone, Copy, Debug, Default)]
 pub struct Options {
-    /// How a player sees the HP of the foe's members; without it exactly in `gen1customgame`, and in hundredths in any other format.
+    /// How a player sees the HP of the foe's members; without it in 48ths in `gen1customgame`, and in hundredths in any other format.
     pub hp: Option<Hp>,
     /// A clock, in seconds since 1970. With it each update begins with `|t:|`.
     pub clock: Option<fn() -> u64>,
@@ -197,7 +197,7 @@ impl Simulator {
             return Ok(String::new());
         };
         let is_custom = format.id == "gen1customgame";
-        let otherwise = if is_custom { Hp::Exact } else { Hp::Percent };
+        let otherwise = if is_custom { Hp::Pixels } else { Hp::Percent };
         let setup = Setup {
             rules: format.rules,
             tier: self

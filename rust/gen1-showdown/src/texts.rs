@@ -1,4 +1,4 @@
-//! Teams written as text: an export text, or a packed line (docs/TEAM_TEXT.md).
+//! Teams written as text: an export text, or a packed line (docs/TEAM_TEXT.md), with nicknames, which `gen1::text::team_to_text` does not know.
 use crate::{Members, id_of};
 use gen1::MemberSpec;
 

@@ -542,7 +542,7 @@ mod hosts {
     };
     use gen1::generated::layout::Packed;
     use gen1::generated::machine::{Outcome, Side};
-    use gen1::generated::player::Teller;
+    use gen1::generated::player::{HpForm, Teller};
     use gen1::generated::rolls::LinkRandom;
     use gen1::generated::room::plain::{PlainRoom, begin as begin_room, choices, reseed, submit};
     use gen1::generated::stats::Team;
@@ -635,8 +635,8 @@ mod hosts {
     fn table(late_forfeits: bool) -> Result<Host, Fail> {
         let mut host = Host {
             room: room()?,
-            one: Teller::new(TWO, false),
-            two: Teller::new(TWO, false),
+            one: Teller::new(TWO, HpForm::Exact),
+            two: Teller::new(TWO, HpForm::Exact),
             ending: 2,
             draw: 2,
             may_cancel: 2,
@@ -646,7 +646,7 @@ mod hosts {
             may_cancel: true,
             late_forfeits,
         };
-        begin(&mut host, true, rules);
+        begin(&mut host, HpForm::Bar, rules);
         Ok(host)
     }
 
@@ -713,7 +713,7 @@ mod hosts {
         let mut host = table(false)?;
         let mut room = room()?;
         begin_room(&mut room);
-        let mut tellers = (Teller::new(ONE, true), Teller::new(TWO, true));
+        let mut tellers = (Teller::new(ONE, HpForm::Bar), Teller::new(TWO, HpForm::Bar));
         expect_told(&rt, &host, &room, &mut tellers)?;
         play(&rt, &mut host, &STEPS[..9]);
         let _ = submit(&mut room, TWO, 0, 0x11);
@@ -1133,7 +1133,7 @@ mod players {
     use crate::teams::lead_and_chansey;
     use gen1::generated::events::{LogBuf, LogFault, write};
     use gen1::generated::machine::{CantReason, DamageSource, Kind, Side, Volatile};
-    use gen1::generated::player::{Player, Public, PublicSide, Seen, Teller};
+    use gen1::generated::player::{HpForm, Player, Public, PublicSide, Seen, Teller};
     use gen1::generated::tables::Stat;
     use gen1_tests::testing::Abort;
     use gen1_tests::testing::Fail;
@@ -1706,14 +1706,22 @@ mod players {
         ),
     ];
 
-    // 48 * 323 / 323 is 48, 48 * 322 / 323 is 47.8, 48 * 6 / 323 is 0.9.
-    static IN_48THS: [Telling; 10] = [
+    // Above 255 both are divided by 4 first: 12 * 322 / 80 is 48.3, 12 * 266 / 80 is 39.9, 12 * 6 / 80 is 0.9. 48 * 254 / 255 is 47.8.
+    static BAR: [Telling; 12] = [
         (
             Damage(TWO, 323, 323, DamageSource::Direct),
             Damage(TWO, 48, 48, DamageSource::Direct),
         ),
         (
             Damage(TWO, 322, 323, DamageSource::Direct),
+            Damage(TWO, 48, 48, DamageSource::Direct),
+        ),
+        (
+            Damage(TWO, 266, 323, DamageSource::Direct),
+            Damage(TWO, 39, 48, DamageSource::Direct),
+        ),
+        (
+            Damage(TWO, 254, 255, DamageSource::Direct),
             Damage(TWO, 47, 48, DamageSource::Direct),
         ),
         (
@@ -1742,7 +1750,7 @@ mod players {
         ),
         (
             Heal(TWO, 161, 323, Some(Kind::Sleep)),
-            Heal(TWO, 23, 48, Some(Kind::Sleep)),
+            Heal(TWO, 24, 48, Some(Kind::Sleep)),
         ),
         (
             Switch(TWO, STARMIE, 6, 7, 703, None),
@@ -1750,9 +1758,41 @@ mod players {
         ),
     ];
 
+    // 100 * 322 / 323 is 99.7, 100 * 162 / 323 is 50.2, 100 * 1 / 323 is 0.3, 100 * 161 / 323 is 49.8.
+    static HUNDREDTHS: [Telling; 7] = [
+        (
+            Damage(TWO, 323, 323, DamageSource::Direct),
+            Damage(TWO, 100, 100, DamageSource::Direct),
+        ),
+        (
+            Damage(TWO, 322, 323, DamageSource::Direct),
+            Damage(TWO, 99, 100, DamageSource::Direct),
+        ),
+        (
+            Damage(TWO, 162, 323, DamageSource::Direct),
+            Damage(TWO, 51, 100, DamageSource::Direct),
+        ),
+        (
+            Damage(TWO, 1, 323, DamageSource::Direct),
+            Damage(TWO, 1, 100, DamageSource::Direct),
+        ),
+        (
+            Damage(TWO, 0, 323, DamageSource::Direct),
+            Damage(TWO, 0, 100, DamageSource::Direct),
+        ),
+        (
+            Damage(ONE, 100, 353, DamageSource::Direct),
+            Damage(ONE, 100, 353, DamageSource::Direct),
+        ),
+        (
+            Heal(TWO, 161, 323, Some(Kind::Sleep)),
+            Heal(TWO, 50, 100, Some(Kind::Sleep)),
+        ),
+    ];
+
     // Tells each event, and returns the places that have appeared.
-    fn tell(rt: &impl Abort, in_48ths: bool, rows: &[Telling]) -> Result<[u8; 6], Fail> {
-        let mut teller = Teller::new(ONE, in_48ths);
+    fn tell(rt: &impl Abort, form: HpForm, rows: &[Telling]) -> Result<[u8; 6], Fail> {
+        let mut teller = Teller::new(ONE, form);
         for (number, (whole, told)) in rows.iter().enumerate() {
             let found = teller.tell(&event(*whole, OUT)?);
             assert_eq!(found, event(*told, OUT)?, "at {number}");
@@ -1762,8 +1802,13 @@ mod players {
 
     #[test]
     fn what_a_side_is_told() -> Result<(), Fail> { let rt = gen1_tests::testing::HostRuntime;
-        assert_same(&rt, tell(&rt, false, &BY_APPEARANCE)?, [3, 5, 1, 6, 2, 4]);
-        tell(&rt, true, &IN_48THS)?;
+        assert_same(
+            &rt,
+            tell(&rt, HpForm::Exact, &BY_APPEARANCE)?,
+            [3, 5, 1, 6, 2, 4],
+        );
+        tell(&rt, HpForm::Bar, &BAR)?;
+        tell(&rt, HpForm::Hundredths, &HUNDREDTHS)?;
         Ok(())
     }
 
@@ -1778,7 +1823,7 @@ mod players {
 
     #[test]
     fn an_update_is_told_in_log_bytes() -> Result<(), Fail> { let rt = gen1_tests::testing::HostRuntime;
-        let mut teller = Teller::new(ONE, true);
+        let mut teller = Teller::new(ONE, HpForm::Bar);
         let log = log_of(&[
             Switch(ONE, TAUROS, 2, 353, 353, None),
             Switch(TWO, STARMIE, 5, 323, 323, None),
@@ -1798,7 +1843,7 @@ mod players {
 
     #[test]
     fn what_is_not_a_log_is_not_told() -> Result<(), Fail> { let rt = gen1_tests::testing::HostRuntime;
-        let mut teller = Teller::new(TWO, false);
+        let mut teller = Teller::new(TWO, HpForm::Exact);
         // A switch of side 1 to its Tauros at place 4, level 100, with 353 of 353 HP, without the byte of its status.
         let cut = [2, 1, 128, 4, 100, 0x61, 1, 0x61, 1];
         assert_same(&rt, teller.tell_log(&cut), Err(LogFault::Truncated));
@@ -1807,7 +1852,7 @@ mod players {
             teller.tell_log(&[0x1B, 0x1D]),
             Err(LogFault::UnknownTag),
         );
-        assert_same(&rt, teller, Teller::new(TWO, false));
+        assert_same(&rt, teller, Teller::new(TWO, HpForm::Exact));
         Ok(())
     }
 

@@ -1,6 +1,6 @@
 //! A host: two players at a table, and an audience.
 use crate::generated::host as plain;
-use crate::generated::player::Teller;
+use crate::generated::player::{HpForm, Teller};
 use crate::generated::rolls::LinkRandom;
 use crate::generated::room::plain::PlainRoom;
 use crate::{
@@ -12,7 +12,7 @@ use crate::{
 #[cfg_attr(feature = "serde", derive(serde::Serialize, serde::Deserialize))]
 #[cfg_attr(feature = "serde", serde(default, deny_unknown_fields))]
 pub struct HostOptions {
-    /// Whether a side and the audience are told the exact HP of a foe. Otherwise it is told in 48ths of the maximum.
+    /// Whether a side and the audience are told the exact HP of a foe. Otherwise it is told as the game's bar of 48 pixels shows it.
     pub exact_hp: bool,
     /// Whether a side may take its choice back while the other's is missing.
     pub may_cancel: bool,
@@ -70,6 +70,17 @@ impl Host {
     /// Like [`Host::new`], with options.
     #[must_use]
     pub fn with_options(battle: Battle, options: HostOptions) -> Self {
+        let form = if options.exact_hp {
+            HpForm::Exact
+        } else {
+            HpForm::Bar
+        };
+        Self::with_hp(battle, options, form)
+    }
+
+    /// Like [`Host::with_options`], with the form in which HP of a foe is told, in place of `options.exact_hp`.
+    #[must_use]
+    pub fn with_hp(battle: Battle, options: HostOptions, form: HpForm) -> Self {
         let teller = Teller {
             side: 0,
             pixels: 0,
@@ -97,8 +108,14 @@ impl Host {
             may_cancel: options.may_cancel,
             late_forfeits: options.late_forfeits,
         };
-        plain::begin(&mut inner, !options.exact_hp, rules);
+        plain::begin(&mut inner, form, rules);
         Host { inner }
+    }
+
+    /// The form in which HP of a foe is told.
+    #[must_use]
+    pub fn hp_form(&self) -> HpForm {
+        HpForm::of_number(self.inner.one.pixels)
     }
 
     /// The number of the current pair: how many have ended.

@@ -135,7 +135,7 @@ pub use crate::generated::odds::Reason as OddsReason;
 pub use crate::generated::outcomes::{Chance, Outcomes, OutcomesFault, Successor};
 #[doc(inline)]
 pub use crate::generated::player::{
-    Announced, OwnMember, OwnSide, Public, PublicSide, Seen, SeenMove, SeenStages,
+    Announced, HpForm, OwnMember, OwnSide, Public, PublicSide, Seen, SeenMove, SeenStages,
 };
 #[doc(inline)]
 pub use crate::generated::playouts::{PlayoutOptions, Playouts};
@@ -144,10 +144,10 @@ pub use crate::generated::room::{Reply, RoomRefusal, Submitted};
 #[doc(inline)]
 pub use crate::generated::stats::{KnownMove, Member, MemberSpec, Status, Team, TeamRefusal};
 #[doc(inline)]
-pub use crate::generated::tables::{Effect, Element, MoveId, Species, Stat};
+pub use crate::generated::tables::{Effect, Element, MoveId, Species, Stat, effectiveness};
 #[doc(inline)]
 pub use crate::generated::words::{ChoiceWords, WordsFault};
-pub use additions::{OutOfRange, UnknownName, UnknownText, Weights};
+pub use additions::{AsleepBy, OutOfRange, UnknownName, UnknownText, Weights};
 /// A list with a fixed capacity, stored inline: the type of lists in [`MemberSpec::moves`], [`State`] and [`Choices`].
 #[doc(no_inline)]
 pub use arrayvec::ArrayVec;
@@ -172,7 +172,7 @@ pub use update::{Chosen, EventSink, Offered, OfferedMask, Silent, Update};
 #[doc(inline)]
 pub use wire::WireFault;
 
-/// Teams from the text of a team builder: its export text, and packed lines ([docs/TEAM_TEXT.md](https://hibsuloy.example/gen1/blob/main/docs/TEAM_TEXT.md)).
+/// Teams as the text of a team builder: its export text, and packed lines ([docs/TEAM_TEXT.md](https://hibsuloy.example/gen1/blob/main/docs/TEAM_TEXT.md)).
 ///
 /// ```
 /// use gen1::{Battle, text::team_in_text};
@@ -182,12 +182,24 @@ pub use wire::WireFault;
 /// let fault = team_in_text(b"Tauros\n- Body Slap").unwrap_err();
 /// assert_eq!(fault.to_string(), "line 2: expected the name of a move of the first generation");
 /// ```
+///
+/// Members are written as bytes of ASCII:
+///
+/// ```
+/// use gen1::text::{members_in_text, team_to_packed};
+///
+/// let members = members_in_text(b"Tauros\nLevel: 88\n- Body Slam").unwrap();
+/// let line = team_to_packed(&members).unwrap();
+/// assert_eq!(line.as_slice(), b"Tauros||||bodyslam||||||88|\n");
+/// ```
 pub mod text {
     #[doc(inline)]
     pub use crate::generated::text::{
         MemberFault, PackedFault, TextFault, members_in_packed, members_in_text, move_called,
         species_called, team_in_packed, team_in_text,
     };
+    #[doc(inline)]
+    pub use crate::generated::writer::{WriteFault, team_to_packed, team_to_text};
 }
 
 /// Runs the example of the README as a test.

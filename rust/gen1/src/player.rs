@@ -1,5 +1,5 @@
 //! The knowledge that one side of a battle may have.
-use crate::generated::player::{self as plain, OwnSide, Public, PublicSide};
+use crate::generated::player::{self as plain, HpForm, OwnSide, Public, PublicSide};
 use crate::{Battle, Choice, Event, LogBuf, LogFault, OfferedMask, Outcome, Request, Side, Team};
 use core::fmt;
 
@@ -174,8 +174,8 @@ impl fmt::Debug for Player {
 ///
 /// [view]: https://hibsuloy.example/gen1/blob/main/docs/MECHANICS.md#players-view
 ///
-/// A side must not see the foe's places, so its log numbers the foe's members in the order in which they appeared. It may also hide exact
-/// HP. Everything else is reported unchanged.
+/// A side must not see the foe's places, so its log numbers the foe's members in the order in which they appeared. The foe's HP is reported
+/// in an [`HpForm`]. Everything else is reported unchanged.
 #[derive(Clone, Copy, Debug, PartialEq, Eq)]
 pub struct Teller {
     inner: plain::Teller,
@@ -183,18 +183,30 @@ pub struct Teller {
 }
 
 impl Teller {
-    /// The teller of a side before the first event of a battle. The foe's HP is reported unchanged.
+    /// The teller of a side before the first event of a battle. The HP of the foe's members is reported as the game's bar of 48 pixels shows
+    /// it: the maximum is 48. Exact HP would tell a player DVs; [`Teller::with_hp`] reports it.
     #[must_use]
     pub fn new(side: Side) -> Self {
-        let inner = plain::Teller::new(side, false);
+        Self::with_hp(side, HpForm::Bar)
+    }
+
+    /// The same as [`Teller::new`].
+    #[must_use]
+    pub fn in_pixels(side: Side) -> Self {
+        Self::new(side)
+    }
+
+    /// Like [`Teller::new`], with the form in which the HP of the foe's members is reported.
+    #[must_use]
+    pub fn with_hp(side: Side, form: HpForm) -> Self {
+        let inner = plain::Teller::new(side, form);
         Teller { inner, side }
     }
 
-    /// Like [`Teller::new`], but the HP of the foe's members is reported in 48ths: the maximum is 48.
+    /// The form in which the HP of the foe's members is reported.
     #[must_use]
-    pub fn in_pixels(side: Side) -> Self {
-        let inner = plain::Teller::new(side, true);
-        Teller { inner, side }
+    pub fn hp_form(&self) -> HpForm {
+        HpForm::of_number(self.inner.pixels)
     }
 
     pub(crate) fn plain(&self) -> &plain::Teller {

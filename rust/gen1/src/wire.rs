@@ -3,8 +3,8 @@ use crate::generated::events::LogReader;
 use crate::generated::host::{self as plain, HostFault};
 use crate::generated::layout::Packed;
 use crate::generated::player::{
-    Announced, OwnMember, Player as PlainPlayer, Public, PublicSide, Seen, SeenMove, SeenStages,
-    Teller as PlainTeller,
+    Announced, HpForm, OwnMember, Player as PlainPlayer, Public, PublicSide, Seen, SeenMove,
+    SeenStages, Teller as PlainTeller,
 };
 use crate::generated::room::plain::{PlainRoom, forfeit, result};
 use crate::generated::spectator::plain::{PlainMember, PlainSide, PlainSpectator, PlainStages};
@@ -144,7 +144,7 @@ structs! {
         request 2, outcome 5, count 6,
     }
     SeenMove { id 165, uses 255 }
-    Seen { hp 999, max 999, species 151, level 100, status 5, moves ANY, unused 0 }
+    Seen { hp 999, max 999, species 151, level 100, status 5, moves ANY, asleep_by 3 }
     Announced {
         substitute 1, confused 1, mist 1, focus_energy 1, light_screen 1, reflect 1, seeded 1, toxic 1, disabled 1, rage 1,
         bide 1, charging 1, recharging 1,
@@ -154,7 +154,7 @@ structs! {
     }
     Public { one ANY, two ANY, turn 9999, outcome 5, may_hit_itself 2 }
     PlainPlayer { public ANY, own ANY, offered 0xfff, side 2, foes 6, held_count 9, held 255, unused 0 }
-    PlainTeller { side 2, pixels 1, places 6 }
+    PlainTeller { side 2, pixels 2, places 6 }
     PlainMember { hp 999, status 5, reserved 0 }
     PlainSide {
         members ANY, count 6, place 6, stages 12, substitute 1, confused 1, light_screen 1, reflect 1,
@@ -506,8 +506,8 @@ fn tested_room(room: PlainRoom) -> Result<PlainRoom, &'static str> {
 fn of_a_host(room: PlainRoom) -> Result<PlainRoom, &'static str> {
     let host = loaded(plain::Host {
         room,
-        one: PlainTeller::new(Side::One, false),
-        two: PlainTeller::new(Side::Two, false),
+        one: PlainTeller::new(Side::One, HpForm::Exact),
+        two: PlainTeller::new(Side::Two, HpForm::Exact),
         ending: 0,
         draw: 0,
         may_cancel: 0,

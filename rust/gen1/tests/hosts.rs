@@ -1,8 +1,8 @@
 //! Hosts against rooms and tellers that are called by hand; what a side is sent while the other side's choices differ; endings; rows.
 use gen1::{
-    Battle, Choice, Host, HostOptions, HostRefusal, MemberSpec, Message, MoveId, Notice, Outcome,
-    OwnSide, Player, Replied, Request, Room, RoomRefusal, Row, Side, Species, Submitted, Team,
-    Teller, member,
+    Battle, Choice, Host, HostOptions, HostRefusal, HpForm, MemberSpec, Message, MoveId, Notice,
+    Outcome, OwnSide, Player, Replied, Request, Room, RoomRefusal, Row, Side, Species, Submitted,
+    Team, Teller, member,
 };
 
 /// Knuth's generator: the upper bits of its states.
@@ -79,14 +79,8 @@ struct ByHand {
 }
 
 impl ByHand {
-    fn new(battle: Battle, exact_hp: bool) -> Self {
-        let teller = |side| {
-            if exact_hp {
-                Teller::new(side)
-            } else {
-                Teller::in_pixels(side)
-            }
-        };
+    fn new(battle: Battle, form: HpForm) -> Self {
+        let teller = |side| Teller::with_hp(side, form);
         let mut it = ByHand {
             room: Room::new(battle),
             tellers: Side::BOTH.map(teller),
@@ -160,13 +154,20 @@ fn a_host_is_a_room_with_tellers() {
     for seed in 0..60 {
         let mut dice = Dice(seed);
         let battle = Battle::new(&dice.team(), &dice.team(), dice.numbers());
-        let exact_hp = seed % 2 == 0;
         let options = HostOptions {
-            exact_hp,
+            exact_hp: seed % 3 == 0,
             ..HostOptions::default()
         };
-        let mut host = Host::with_options(battle.clone(), options);
-        let mut by_hand = ByHand::new(battle, exact_hp);
+        let (mut host, form) = match seed % 3 {
+            0 => (Host::with_options(battle.clone(), options), HpForm::Exact),
+            1 => (Host::with_options(battle.clone(), options), HpForm::Bar),
+            _ => {
+                let form = HpForm::Hundredths;
+                (Host::with_hp(battle.clone(), options, form), form)
+            }
+        };
+        assert_eq!(host.hp_form(), form);
+        let mut by_hand = ByHand::new(battle, form);
         for _ in 0..200 {
             by_hand.is_shown_by(&host);
             let side = dice.side();
@@ -682,7 +683,7 @@ fn bytes_of_no_host_are_refused_by_their_field() {
         (&[(two, 7)], "chosen"),
         (&[(one, 0x11), (two, 0x11)], "chosen"),
         (&[(teller_one, 2)], "one"),
-        (&[(teller_one + 1, 2)], "one"),
+        (&[(teller_one + 1, 3)], "one"),
         (&[(teller_one + 2, 7)], "one"),
         (&[(teller_one + 3, 2)], "one"),
         (&[(teller_one + 2, 2), (teller_one + 3, 2)], "one"),

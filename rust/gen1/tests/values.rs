@@ -1,14 +1,53 @@
 //! Traits that Rust users expect of values: keys of maps, order, text, and serde.
 use gen1::{
     ArrayVec, Battle, Choice, ChoiceWords, Element, Event, Kind, LineFault, MoveId, Outcome, Place,
-    Request, Room, RoomRefusal, Rules, Side, Species, Stat, Submitted, Team, TurnNumber,
-    WordsFault, member,
+    Request, Room, RoomRefusal, Rules, Side, Species, Stat, Submitted, Team, TeamRefusal,
+    TurnNumber, WordsFault, member,
+    text::{WriteFault, team_in_packed, team_in_text, team_to_packed, team_to_text},
 };
 use std::collections::{BTreeMap, BTreeSet, HashMap, HashSet};
 
 fn battle() -> Battle {
     let team = Team::new(&[member("Tauros", &["Strength"]).unwrap()]).unwrap();
     Battle::new(&team, &team, [1, 36, 255, 7, 31, 100, 179, 254, 127, 10])
+}
+
+#[test]
+fn teams_are_written_as_text() {
+    let mut members = [
+        member("Tauros", &["Body Slam", "Double-Edge"]).unwrap(),
+        member("Mr. Mime", &["Psychic"]).unwrap(),
+    ];
+    (members[0].level, members[0].dvs) = (88, [0, 15, 15, 14]);
+    members[1].exp = [0, 65535, 10, 255, 256];
+    let export = "Tauros\nLevel: 88\nIVs: 12 HP / 0 Atk / 28 SpA / 28 SpD\n- Body Slam\n- Double-Edge\n\n\
+                  Mr. Mime\nEVs: 0 HP / 252 Atk / 4 Def / 16 SpA / 16 SpD / 16 Spe\n- Psychic\n";
+    assert_eq!(
+        team_to_text(&members).unwrap().as_slice(),
+        export.as_bytes()
+    );
+    let packed = "Tauros||||bodyslam,doubleedge||||12,0,,28,28,||88|]\
+                  Mr. Mime||||psychic||0,252,4,16,16,16|||||\n";
+    assert_eq!(
+        team_to_packed(&members).unwrap().as_slice(),
+        packed.as_bytes()
+    );
+    for read in [
+        team_in_text(export.as_bytes()).unwrap(),
+        team_in_packed(packed.as_bytes()).unwrap(),
+    ] {
+        assert_eq!(read, Team::new(&members).unwrap());
+    }
+    members[1].moves[0].1 = 2;
+    assert_eq!(team_to_text(&members), Err(WriteFault::PpUps(2)));
+    assert_eq!(
+        WriteFault::PpUps(2).to_string(),
+        "member 2: expected three PP ups for each move, since a text has none"
+    );
+    assert_eq!(
+        team_to_packed(&[]),
+        Err(WriteFault::Team(TeamRefusal::Empty))
+    );
 }
 
 #[test]

@@ -1,8 +1,8 @@
 //! Rooms, tellers, players and spectators as bytes: those of the C structs, of battles, and damaged ones.
 use gen1::text::team_in_packed;
 use gen1::{
-    Battle, Choice, Guess, Host, LogReader, MemberSpec, Message, MoveId, OfferedMask, Player, Room,
-    Side, Species, Spectator, Team, Teller, WireFault, member,
+    Battle, Choice, Guess, Host, HpForm, LogReader, MemberSpec, Message, MoveId, OfferedMask,
+    Player, Room, Side, Species, Spectator, Team, Teller, WireFault, member,
 };
 
 /// Knuth's generator: the upper bits of its states.
@@ -72,7 +72,10 @@ impl Table {
         let [one, two] = &teams;
         let mut table = Table {
             room: Room::new(Battle::new(one, two, numbers)),
-            tellers: [Teller::new(Side::One), Teller::in_pixels(Side::Two)],
+            tellers: [
+                Teller::with_hp(Side::One, HpForm::Exact),
+                Teller::new(Side::Two),
+            ],
             players: [
                 Player::with_foes(Side::One, one, 2),
                 Player::new(Side::Two, two),
@@ -167,7 +170,7 @@ fn the_bytes_are_those_of_the_c_structs() {
     let mut room = known_table().room;
     room.forfeit(Side::Two).unwrap();
     assert_eq!(pairs, 25);
-    assert_eq!(hash(all, &room.to_bytes()), 0x8838_aaca_0cf3_8fa3);
+    assert_eq!(hash(all, &room.to_bytes()), 0x7449_e54f_bf29_f323);
 }
 
 /// Random battles to their end: at each step a table from bytes is the one that was stored, and goes on as it does.
@@ -252,10 +255,8 @@ const OF_A_PLAYER: Cases = {
         ("status", &[&[(FOE + 6, 6)], &[(SHOWN + 2, 6)]]),
         ("id", &[&[(FOE + 7, 166)], &[(FOE + 15, 166)]]),
         ("uses", &[&[(FOE + 16, 1)]]),
-        (
-            "unused",
-            &[&[(FOE + 17, 1)], &[(SHOWN + 3, 1)], &[(455, 1)]],
-        ),
+        ("asleep_by", &[&[(FOE + 17, 4)]]),
+        ("unused", &[&[(SHOWN + 3, 1)], &[(455, 1)]]),
         ("substitute", &[&[(FOE + 108, 2)]]),
         ("recharging", &[&[(OWN + 120, 2)]]),
         (
@@ -335,7 +336,7 @@ const OF_A_TELLER: Cases = {
     &[
         ("", &[&[], &[(3, 2)], &[(2, 0)], &[(2, 6), (3, 5)]]),
         ("side", &[&[(0, 0)], &[(0, 3)]]),
-        ("pixels", &[&[(1, 2)]]),
+        ("pixels", &[&[(1, 3)]]),
         (
             "places",
             &[&[(2, 7)], &[(3, 1)], &[(2, 0), (3, 1)], &[(7, 2)]],

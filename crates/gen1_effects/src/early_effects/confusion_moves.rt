@@ -1,4 +1,5 @@
 //! Supersonic and Confuse Ray (docs/MECHANICS.md, "Early effects").
+ghost use Rattle.gen1_rolls.specs.Draws.{Steps};
 ghost use Rattle.gen1_layout.specs.Operations.{Draws, scene};
 ghost use Rattle.gen1_layout.specs.Words.{AddsAtMost, HasRoom, move_at, stop, true, ◌▸◌};
 ghost use Rattle.gen1_machine.specs.EarlyEffects.{confuse_foe};
@@ -26,6 +27,7 @@ pub(super) fn confuse_foe<R: Rolls, S: EventSink>(
         (confuse_foe side (move_at id) ▸ stop) }
     ensures counts { IsUncounted known.old → IsUncounted known.new }
     ensures room { AddsAtMost S.room 2 events.old events.new }
+    ensures steps { Steps R.drawing random }
 {
     let foe = side.other();
     if has_substitute(battle, foe) {

@@ -1,5 +1,6 @@
 //! An early effect, by the effect of the move (docs/MECHANICS.md, "Early effects").
 ghost use Rattle.std.specs.Prelude.{◌≡◌};
+ghost use Rattle.gen1_rolls.specs.Draws.{Steps};
 ghost use Rattle.gen1_layout.specs.Operations.{Draws, anything, scene};
 ghost use Rattle.gen1_layout.specs.Words.{AddsAtMost, HasRoom, move_at, stop, true, ◌▸◌};
 ghost use Rattle.gen1_machine.specs.EarlyEffects.{early_effect, is_early};
@@ -65,6 +66,7 @@ pub fn group_one<R: Rolls, S: EventSink>(
     ensures shown { Leaves R.drawing random anything (beginning side (scene S.tells battle events))
         (λ rules. early_effect side (move_at id) (move_at id).effect ▸ stop) }
     ensures room { AddsAtMost S.room 2 events.old events.new }
+    ensures steps { Steps R.drawing random }
 {
     let mut known = Known::new().begun(side);
     group_one_knowing(battle, side, id, &mut known, random, events);
@@ -87,6 +89,7 @@ pub fn group_one_knowing<R: Rolls, S: EventSink>(
         (early_effect side (move_at id) (move_at id).effect ▸ stop) }
     ensures counts { IsUncounted known.old → IsUncounted known.new }
     ensures room { AddsAtMost S.room 2 events.old events.new }
+    ensures steps { Steps R.drawing random }
 {
     match way_of(id.effect()) {
         Way::Fails => fail(battle, side, events),

@@ -1,5 +1,6 @@
 //! Leech Seed (docs/MECHANICS.md, "Early effects").
 ghost use Rattle.std.specs.Prelude.{◌||◌};
+ghost use Rattle.gen1_rolls.specs.Draws.{Steps};
 ghost use Rattle.gen1_layout.specs.Operations.{Draws, scene};
 ghost use Rattle.gen1_layout.specs.Words.{AddsAtMost, HasRoom, Reads, active_in, conditions_in, move_at, stop, true, ◌▸◌};
 ghost use Rattle.gen1_machine.specs.EarlyEffects.{seed_foe};
@@ -29,6 +30,7 @@ pub(super) fn seed_foe<R: Rolls, S: EventSink>(
         (seed_foe side (move_at id) ▸ stop) }
     ensures counts { IsUncounted known.old → IsUncounted known.new }
     ensures room { AddsAtMost S.room 2 events.old events.new }
+    ensures steps { Steps R.drawing random }
 {
     if must_hit(battle, side, id, known, random, events) {
         return;

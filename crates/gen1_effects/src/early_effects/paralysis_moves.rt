@@ -1,4 +1,5 @@
 //! Stun Spore, Thunder Wave and Glare (docs/MECHANICS.md, "Early effects").
+ghost use Rattle.gen1_rolls.specs.Draws.{Steps};
 ghost use Rattle.gen1_layout.specs.Operations.{Draws, scene};
 ghost use Rattle.gen1_layout.specs.Words.{AddsAtMost, HasRoom, move_at, stop, true, ◌▸◌};
 ghost use Rattle.gen1_machine.specs.EarlyEffects.{paralyse_foe};
@@ -26,6 +27,7 @@ pub(super) fn paralyse_foe<R: Rolls, S: EventSink>(
         (paralyse_foe side (move_at id) ▸ stop) }
     ensures counts { IsUncounted known.old → IsUncounted known.new }
     ensures room { AddsAtMost S.room 2 events.old events.new }
+    ensures steps { Steps R.drawing random }
 {
     let foe = side.other();
     if has_status(battle, foe) {

@@ -1,4 +1,5 @@
 //! Poison Powder, Poison Gas and Toxic (docs/MECHANICS.md, "Early effects").
+ghost use Rattle.gen1_rolls.specs.Draws.{Steps};
 ghost use Rattle.gen1_layout.specs.Operations.{Does, Draws, scene};
 ghost use Rattle.gen1_layout.specs.Words.{AddsAtMost, HasRoom, false, move_at, stop, true, ◌▸◌};
 ghost use Rattle.std.specs.Prelude.{◌==◌, ◌≡◌};
@@ -32,6 +33,7 @@ pub(super) fn poison_foe<R: Rolls, S: EventSink>(
         (poison_foe side (move_at id) ▸ stop) }
     ensures counts { IsUncounted known.old → IsUncounted known.new }
     ensures room { AddsAtMost S.room 2 events.old events.new }
+    ensures steps { Steps R.drawing random }
 {
     let foe = side.other();
     if has_substitute(battle, foe) {

@@ -1,5 +1,6 @@
 //! Moves that put the foe to sleep (docs/MECHANICS.md, "Late effects", "Rules (sleep clause, freeze clause)").
 ghost use Rattle.std.specs.Prelude.{◌≡◌};
+ghost use Rattle.gen1_rolls.specs.Draws.{Steps};
 ghost use Rattle.gen1_layout.specs.Operations.{DoesWhere, Draws, DrawsWhere, anything, scene, under};
 ghost use Rattle.gen1_layout.specs.Words.{AddsAtMost, HasRoom, false, move_at, true};
 ghost use Rattle.gen1_machine.specs.LateEffects.{put_to_sleep, ready_to_sleep};
@@ -28,6 +29,7 @@ pub(super) fn put_to_sleep<R: Rolls, S: EventSink>(
     ensures shown { DrawsWhere R.drawing random anything (aware known (scene S.tells battle events))
         result (λ r. put_to_sleep r side (move_at id)) }
     ensures room { AddsAtMost S.room 2 events.old events.new }
+    ensures steps { Steps R.drawing random }
 {
     if ready_to_sleep(battle, side, id, known, random, events) {
         return true;
@@ -48,6 +50,7 @@ fn ready_to_sleep<R: Rolls, S: EventSink>(
     ensures shown { Draws R.drawing random (aware known (scene S.tells battle events)) result
         (ready_to_sleep side (move_at id)) }
     ensures room { AddsAtMost S.room 1 events.old events.new }
+    ensures steps { Steps R.drawing random }
 {
     let foe = side.other();
     if battle.is_on(foe, Conditions::RECHARGE) {
@@ -72,6 +75,7 @@ fn sleep_by_rules<R: Rolls, S: EventSink>(
     ensures shown { DrawsWhere R.drawing random anything (scene S.tells battle events) result
         (λ r. r.sleeps side) }
     ensures room { AddsAtMost S.room 1 events.old events.new }
+    ensures steps { Steps R.drawing random }
 {
     if battle.sleep_clause() {
         return sleep_only_one(battle, side, random, events);
@@ -91,6 +95,7 @@ fn sleep_only_one<R: Rolls, S: EventSink>(
     ensures shown { DrawsWhere R.drawing random (under λ t. t.rules.sleep_clause ≡ true)
         (scene S.tells battle events) result (λ r. sleep_only_one side) }
     ensures room { AddsAtMost S.room 1 events.old events.new }
+    ensures steps { Steps R.drawing random }
 {
     let foe = side.other();
     if has_marked_sleeper(battle, foe) {
@@ -114,6 +119,7 @@ fn fall_asleep<R: Rolls, S: EventSink>(
     ensures shown { DrawsWhere R.drawing random (under λ t. t.rules.sleep_clause ≡ marked)
         (scene S.tells battle events) false (λ r. fall_asleep marked side) }
     ensures room { AddsAtMost S.room 1 events.old events.new }
+    ensures steps { Steps R.drawing random }
 {
     let Some(byte) = random.until_as(|byte| byte % 8 != 0, Look::Remainder(8)) else {
         // Each byte from 0 to 255 is drawn, and most of them give a count.

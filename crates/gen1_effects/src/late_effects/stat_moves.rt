@@ -1,4 +1,5 @@
 //! Moves that raise a stat of the user or lower a stat of the foe (docs/MECHANICS.md, "Late effects", "Stage shift").
+ghost use Rattle.gen1_rolls.specs.Draws.{Steps};
 ghost use Rattle.gen1_layout.specs.Operations.{Does, Draws, scene};
 ghost use Rattle.gen1_layout.specs.Words.{AddsAtMost, HasRoom, IsBetween, move_at, other, ◌▸◌};
 ghost use Rattle.gen1_machine.specs.LateEffects.{lower_foes_stat};
@@ -49,6 +50,7 @@ pub(super) fn lower_foes_stat<R: Rolls, S: EventSink>(
     ensures shown { IsBetween 1 2 by → Draws R.drawing random
         (aware known (scene S.tells battle events)) result (lower_foes_stat side (move_at id) stat by) }
     ensures room { AddsAtMost S.room 2 events.old events.new }
+    ensures steps { Steps R.drawing random }
 {
     let foe = side.other();
     if battle.is_on(foe, Conditions::SUBSTITUTE) {

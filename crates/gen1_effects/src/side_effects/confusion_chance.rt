@@ -1,4 +1,5 @@
 //! Confusion by chance (docs/MECHANICS.md, "Side effects").
+ghost use Rattle.gen1_rolls.specs.Draws.{Steps};
 ghost use Rattle.gen1_layout.specs.Operations.{Draws, scene};
 ghost use Rattle.gen1_layout.specs.Words.{AddsAtMost, HasRoom, false};
 ghost use Rattle.gen1_machine.specs.SideEffects.{may_confuse};
@@ -22,6 +23,7 @@ pub(super) fn may_confuse<R: Rolls, S: EventSink>(
     ensures shown { Draws R.drawing random (scene S.tells battle events) false
         (may_confuse side bound) }
     ensures room { AddsAtMost S.room 1 events.old events.new }
+    ensures steps { Steps R.drawing random }
 {
     let foe = side.other();
     if !is_drawn_below(bound, random) {

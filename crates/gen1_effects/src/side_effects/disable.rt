@@ -1,5 +1,6 @@
 //! Disable, with its draws (docs/MECHANICS.md, "Side effects").
 ghost use Rattle.std.specs.Prelude.{if◌then◌else◌, ◌≡◌};
+ghost use Rattle.gen1_rolls.specs.Draws.{Steps};
 ghost use Rattle.gen1_rolls.specs.declared.look.Look.TheVariants.{Remainder};
 ghost use Rattle.gen1_layout.specs.Operations.{DoesWhere, Draws, DrawsWhere, holding, scene};
 ghost use Rattle.gen1_layout.specs.Words.{AddsAtMost, Field, HasRoom, Reads, Setting, Within, false, member_in, move_at, other, true};
@@ -29,6 +30,7 @@ pub(super) fn disable<R: Rolls, S: EventSink>(
         (disable side (move_at id)) }
     ensures counts { IsUncounted known.old → IsUncounted known.new }
     ensures room { AddsAtMost S.room 1 events.old events.new }
+    ensures steps { Steps R.drawing random }
 {
     if must_hit(battle, side, id, known, random, events) {
         return true;
@@ -50,6 +52,7 @@ fn draw_slot<R: Rolls, S: EventSink>(
     requires room { HasRoom S.room 1 events.old }
     ensures shown { Draws R.drawing random (scene S.tells battle events) result (draw_slot side) }
     ensures room { AddsAtMost S.room 1 events.old events.new }
+    ensures steps { Steps R.drawing random }
 {
     let foe = side.other();
     let any_pp = has_pp(battle, foe);
@@ -77,6 +80,7 @@ fn disable_slot<R: Rolls, S: EventSink>(
         (member (other side) p).moves byte ≡ true → Then) (scene S.tells battle events) result
         (λ r p. disable_slot side (member (other side) p).moves byte p) }
     ensures room { AddsAtMost S.room 1 events.old events.new }
+    ensures steps { Steps R.drawing random }
 {
     if !any_pp {
         fail(battle, side, events);

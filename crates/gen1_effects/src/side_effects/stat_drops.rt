@@ -1,4 +1,5 @@
 //! Stages of the foe that fall by chance (docs/MECHANICS.md, "Side effects", "Stage shift").
+ghost use Rattle.gen1_rolls.specs.Draws.{Steps};
 ghost use Rattle.gen1_layout.specs.Operations.{Draws, scene};
 ghost use Rattle.gen1_layout.specs.Words.{AddsAtMost, HasRoom, false, other};
 ghost use Rattle.gen1_machine.specs.Progress.{stay};
@@ -25,6 +26,7 @@ pub(super) fn may_lower<R: Rolls, S: EventSink>(
     ensures shown { Draws R.drawing random (scene S.tells battle events) false
         (by_chance 85 (lower_stage side (other side) stat 1 stay)) }
     ensures room { AddsAtMost S.room 1 events.old events.new }
+    ensures steps { Steps R.drawing random }
 {
     let foe = side.other();
     if !is_drawn_below(85, random) {

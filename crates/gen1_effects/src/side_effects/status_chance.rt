@@ -1,5 +1,6 @@
 //! Statuses by chance, and the thaw (docs/MECHANICS.md, "Side effects", "Rules (sleep clause, freeze clause)").
 ghost use Rattle.std.specs.Prelude.{◌&&◌, ◌||◌, ◌≡◌};
+ghost use Rattle.gen1_rolls.specs.Draws.{Steps};
 ghost use Rattle.gen1_layout.specs.Operations.{Does, DoesWhere, Draws, DrawsWhere, anything, scene};
 ghost use Rattle.gen1_layout.specs.Words.{AddsAtMost, Field, HasRoom, Reads, Setting, Within, active_in, false, is_frozen, move_at, not, party, status_in};
 ghost use Rattle.gen1_tables.specs.declared.element.Element.TheVariants.{Fire, Poison};
@@ -31,6 +32,7 @@ pub(super) fn may_poison<R: Rolls, S: EventSink>(
     requires room { HasRoom S.room 1 events.old }
     ensures shown { Draws R.drawing random (scene S.tells battle events) false (may_poison side bound) }
     ensures room { AddsAtMost S.room 1 events.old events.new }
+    ensures steps { Steps R.drawing random }
 {
     let foe = side.other();
     if resists_poison(battle, foe) {
@@ -68,6 +70,7 @@ pub(super) fn may_inflict<R: Rolls, S: EventSink>(
         (scene S.tells battle events) false
         (λ r. may_inflict side (move_at id) bound (afflict r side kind)) }
     ensures room { AddsAtMost S.room 1 events.old events.new }
+    ensures steps { Steps R.drawing random }
 {
     let foe = side.other();
     if has_status(battle, foe) {

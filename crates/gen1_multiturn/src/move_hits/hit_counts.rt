@@ -1,5 +1,6 @@
 //! How many hits a move makes (docs/MECHANICS.md, "Many hits").
 ghost use Rattle.std.specs.Prelude.{unwrap_or, ◌-◌, ◌≡◌, ◌≤◌};
+ghost use Rattle.gen1_rolls.specs.Draws.{Steps};
 ghost use Rattle.gen1_layout.specs.Operations.{Does, Draws, at_rest, looking};
 ghost use Rattle.gen1_layout.specs.Words.{AddsAtMost, Event as EventOf, HasRoom, List, false, is_some, move_at, true};
 ghost use Rattle.gen1_machine.specs.HitEffects.{hit_effect, plan_hits};
@@ -32,6 +33,7 @@ pub(crate) fn plan_unless_broken<R: Rolls>(
         (unless broke_substitute (hit_effect side (move_at id) (move_at id).effect)) }
     ensures made { known.new.hits_made ≡ known.old.hits_made }
     ensures few { IsFew known.old → IsFew known.new }
+    ensures steps { Steps R.drawing random }
 {
     if known.broke {
         return;
@@ -45,6 +47,7 @@ fn plan_more<R: Rolls>(side: Side, id: MoveId, known: &mut Known, random: &mut R
         (aware known (at_rest events parts)) false (hit_effect side (move_at id) (move_at id).effect) }
     ensures made { known.new.hits_made ≡ known.old.hits_made }
     ensures few { IsFew known.old → IsFew known.new }
+    ensures steps { Steps R.drawing random }
 {
     if is_multi_hit(id.effect()) {
         plan_hits(known, random);
@@ -65,6 +68,7 @@ fn plan_hits<R: Rolls>(known: &mut Known, random: &mut R)
         (aware known (at_rest events parts)) false plan_hits }
     ensures made { known.new.hits_made ≡ known.old.hits_made }
     ensures few { IsFew known.old → IsFew known.new }
+    ensures steps { Steps R.drawing random }
 {
     if known.hits_planned.is_some() {
         return;

@@ -1,5 +1,6 @@
 //! The hits of a move, one after another (docs/MECHANICS.md, "Many hits").
 ghost use Rattle.std.specs.Prelude.{◌*◌, ◌+◌, ◌||◌, ◌≡◌, ◌≤◌};
+ghost use Rattle.gen1_rolls.specs.Draws.{Steps};
 ghost use Rattle.gen1_layout.specs.Operations.{Does, Draws, between, scene};
 ghost use Rattle.gen1_layout.specs.Words.{AddsAtMost, HasRoom, Reads, false, move_at, other, true};
 ghost use Rattle.gen1_machine.specs.State.{has_fallen_in};
@@ -49,6 +50,7 @@ pub fn hits<R: Rolls, S: EventSink>(
     ensures shown { Draws R.drawing random (aware known (scene S.tells battle events)) false
         (hits side (move_at id)) }
     ensures room { AddsAtMost S.room 13 events.old events.new }
+    ensures steps { Steps R.drawing random }
 {
     note_first_hit(battle, side, id, known, events);
     if hits_more(id.effect()) {
@@ -108,6 +110,7 @@ fn hit_of_many<R: Rolls, S: EventSink>(
     ensures room { AddsAtMost S.room 2 events.old events.new }
     ensures made { known.new.hits_made ≡ known.old.hits_made + 1 }
     ensures few { IsFew known.old → IsFew known.new }
+    ensures steps { Steps R.drawing random }
 {
     land_hit(battle, side, known, events);
     known.hits_made += 1;
@@ -187,6 +190,7 @@ fn other_hits<R: Rolls, S: EventSink>(
     ensures shown { Draws R.drawing random (aware known (scene S.tells battle events)) false
         (other_hits side (move_at id)) }
     ensures room { AddsAtMost S.room 9 events.old events.new }
+    ensures steps { Steps R.drawing random }
 {
     let left = hits_left(known.hits_planned);
     hit_again(battle, side, id, left, known, random, events);
@@ -211,6 +215,7 @@ fn hit_again<R: Rolls, S: EventSink>(
     ensures room { AddsAtMost S.room (2 * left) events.old events.new }
     ensures low { known.old.hits_made ≤ known.new.hits_made }
     ensures high { known.new.hits_made ≤ known.old.hits_made + left }
+    ensures steps { Steps R.drawing random }
 {
     if left == 0 {
         return;

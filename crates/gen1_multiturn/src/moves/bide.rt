@@ -1,6 +1,7 @@
 //! Bide: it stores the last damage of each turn, then deals twice the sum (docs/MECHANICS.md, "Going on"). `start_bide`
 //! of gen1_status begins it.
 ghost use Rattle.std.specs.Prelude.{◌-◌, ◌≡◌};
+ghost use Rattle.gen1_rolls.specs.Draws.{Steps};
 ghost use Rattle.gen1_layout.specs.Operations.{Does, DoesWhere, holding, scene};
 ghost use Rattle.gen1_layout.specs.Words.{AddsAtMost, HasRoom, Reads, Some, false, true, underway_in, ℕ};
 ghost use Rattle.gen1_tables.specs.declared.effect.Effect.TheVariants.{Bide};
@@ -39,6 +40,7 @@ pub fn bide<R: Rolls, S: EventSink>(
     ensures energy { Reads battle.old result λ f. energy_let_out f.last_damage
         (underway_in side f).bide }
     ensures room { AddsAtMost S.room 1 events.old events.new }
+    ensures steps { Steps R.drawing random }
 {
     let energy = energy_let_out(battle, side);
     match battle.bide(side) {

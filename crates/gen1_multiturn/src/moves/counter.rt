@@ -1,5 +1,6 @@
 //! Counter, which deals twice the last damage (docs/MECHANICS.md, "Counter").
 ghost use Rattle.std.specs.Prelude.{◌≡◌, ◌≤◌};
+ghost use Rattle.gen1_rolls.specs.Draws.{Steps};
 ghost use Rattle.gen1_layout.specs.Operations.{Draws, quiet};
 ghost use Rattle.gen1_layout.specs.Words.{Event, List, Reads, false, move_at};
 ghost use Rattle.gen1_machine.specs.Counter.{can_be_countered, counter};
@@ -42,6 +43,7 @@ pub fn counter_knowing<R: Rolls>(
     ensures shown { (told : List Event) → Draws R.drawing random (aware known (quiet told battle))
         false (counter side (move_at id)) }
     ensures counts { IsUncounted known.old → IsUncounted known.new }
+    ensures steps { Steps R.drawing random }
 {
     known.critical = critical(battle, side, id, random);
     let Some(damage) = counter(battle, side) else {

@@ -1,5 +1,6 @@
 //! Moves of fixed damage, Super Fang and Psywave (docs/MECHANICS.md, "Fixed damage and one-hit moves").
 ghost use Rattle.std.specs.Prelude.{◌≡◌};
+ghost use Rattle.gen1_rolls.specs.Draws.{Steps};
 ghost use Rattle.gen1_layout.specs.Operations.{Draws, quiet};
 ghost use Rattle.gen1_layout.specs.Words.{Event, List, Reads, false, member_in, move_at};
 ghost use Rattle.gen1_layout.specs.Parts.{Parts};
@@ -28,6 +29,7 @@ const SUPER_FANG: u8 = 162;
 /// Psywave at level 1, which draws nothing.
 pub fn fixed<R: Rolls>(battle: &Packed, side: Side, id: MoveId, random: &mut R) -> Option<u16>
     ensures deals { DealsAs R.drawing random battle.now result (deal_fixed side id) }
+    ensures steps { Steps R.drawing random }
 {
     let number = id.number();
     if number == SONIC_BOOM {
@@ -61,6 +63,7 @@ pub fn fixed_knowing<R: Rolls>(
     ensures shown { (told : List Event) → Draws R.drawing random (aware known (quiet told battle))
         result (fixed_damage side (move_at id)) }
     ensures counts { IsUncounted known.old → IsUncounted known.new }
+    ensures steps { Steps R.drawing random }
 {
     hit_or_miss(battle, side, id, known, random);
     if known.missed {
@@ -82,6 +85,7 @@ pub fn fixed_knowing<R: Rolls>(
 fn psywave<R: Rolls>(level: u8, random: &mut R) -> Option<u16>
     ensures deals { (parts : Parts)
         → DealsAs R.drawing random parts result (psywave level) }
+    ensures steps { Steps R.drawing random }
 {
     if level <= 1 {
         return None;

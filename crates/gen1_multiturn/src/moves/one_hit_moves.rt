@@ -1,4 +1,5 @@
 //! One-hit moves (docs/MECHANICS.md, "Fixed damage and one-hit moves").
+ghost use Rattle.gen1_rolls.specs.Draws.{Steps};
 ghost use Rattle.gen1_layout.specs.Operations.{Draws, quiet};
 ghost use Rattle.gen1_layout.specs.Words.{Event, List, Reads, false, move_at, nat_lt, now_in, other};
 ghost use Rattle.gen1_tables.specs.declared.effect.Stat.TheVariants.{Speed};
@@ -31,6 +32,7 @@ pub fn knock_out<R: Rolls>(
     ensures shown { (told : List Event) → Draws R.drawing random (aware known (quiet told battle))
         false (knock_out side (move_at id)) }
     ensures counts { IsUncounted known.old → IsUncounted known.new }
+    ensures steps { Steps R.drawing random }
 {
     battle.put_last_damage(0);
     known.critical = critical(battle, side, id, random);
@@ -59,6 +61,7 @@ fn knock_out_by_type<R: Rolls>(
     ensures shown { (told : List Event) → Draws R.drawing random (aware known (quiet told battle))
         false (knock_out_by_type side (move_at id)) }
     ensures counts { IsUncounted known.old → IsUncounted known.new }
+    ensures steps { Steps R.drawing random }
 {
     if is_immune(battle, side.other(), id.kind()) {
         known.missed = true;
@@ -71,6 +74,7 @@ fn knock_out_by_type<R: Rolls>(
 fn deal_everything<R: Rolls>(battle: &mut Packed, random: &mut R)
     ensures shown { (told : List Event) → Draws R.drawing random (quiet told battle) false
         (draw_until is_factor deal_everything) }
+    ensures steps { Steps R.drawing random }
 {
     let Some(_) = random.until_as(|byte| is_factor(byte), Look::Remainder(1)) else {
         // Each byte from 0 to 255 is drawn, and some of them are factors.

@@ -1,5 +1,6 @@
 //! Thrashing, which begins, goes on, and ends in confusion (docs/MECHANICS.md, "Going on").
 ghost use Rattle.std.specs.Prelude.{◌≡◌};
+ghost use Rattle.gen1_rolls.specs.Draws.{Steps};
 ghost use Rattle.gen1_layout.specs.Operations.{DrawsWhere, holding, quiet, scene};
 ghost use Rattle.gen1_layout.specs.Words.{AddsAtMost, Event, HasRoom, List, None, draw, false, move_at, true};
 ghost use Rattle.gen1_tables.specs.declared.effect.Effect.{Effect};
@@ -40,6 +41,7 @@ pub fn thrash<R: Rolls, S: EventSink>(
     ensures left { (move : Move) → accuracy_byte move ≡ 255 → Leaves R.drawing random
         (using side Thrash) (beginning side (scene S.tells battle events)) (λ r. use_thrash side move) }
     ensures room { AddsAtMost S.room 1 events.old events.new }
+    ensures steps { Steps R.drawing random }
 {
     let known = seen_going_on(battle, side);
     thrash_with(battle, side, ACCURACY, &known, random, events);
@@ -60,6 +62,7 @@ pub fn thrash_knowing<R: Rolls, S: EventSink>(
     ensures shown { DrawsWhere R.drawing random (using side (move_at id).effect)
         (aware_of known.now (scene S.tells battle events)) false (λ r. thrash_about side (move_at id)) }
     ensures room { AddsAtMost S.room 1 events.old events.new }
+    ensures steps { Steps R.drawing random }
 {
     thrash_with(battle, side, id.accuracy_byte(), known, random, events);
 }
@@ -77,6 +80,7 @@ fn thrash_with<R: Rolls, S: EventSink>(
     ensures shown { (move : Move) (effect : Effect) → accuracy_byte move ≡ accuracy → thrashes effect
         ≡ true → DrawsWhere R.drawing random (using side effect) (aware_of known.now (scene S.tells battle events)) false (λ r. thrash_about side move) }
     ensures room { AddsAtMost S.room 1 events.old events.new }
+    ensures steps { Steps R.drawing random }
 {
     if known.going_on {
         thrash_on(battle, side, battle.thrash(side), random, events);
@@ -97,6 +101,7 @@ fn thrash_on<R: Rolls, S: EventSink>(
     ensures shown { DrawsWhere R.drawing random (holding λ p. (underway side p).thrash ≡ left)
         (scene S.tells battle events) false (λ r. thrash_less side left) }
     ensures room { AddsAtMost S.room 1 events.old events.new }
+    ensures steps { Steps R.drawing random }
 {
     let Some(turns) = left else {
         return;
@@ -115,6 +120,7 @@ fn begin_thrashing<R: Rolls>(battle: &mut Packed, side: Side, accuracy: u8, rand
     ensures shown { (told : List Event) (move : Move) → accuracy_byte move ≡ accuracy → DrawsWhere
         R.drawing random (λ g p Then. (underway side p).bide ≡ None → (underway side p).trapping ≡
         None → Then) (quiet told battle) false (λ r. draw (thrash_for side move)) }
+    ensures steps { Steps R.drawing random }
 {
     let byte = random.draw_as(Look::Remainder(2));
     battle.put_thrash(side, byte % 2 + 2);

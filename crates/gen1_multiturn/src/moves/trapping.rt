@@ -1,5 +1,6 @@
 //! Trapping, which begins or goes on (docs/MECHANICS.md, "Going on").
 ghost use Rattle.std.specs.Prelude.{◌≡◌};
+ghost use Rattle.gen1_rolls.specs.Draws.{Steps};
 ghost use Rattle.gen1_layout.specs.Operations.{Does, DrawsWhere, quiet};
 ghost use Rattle.gen1_layout.specs.Words.{Event, List, None, false, other, true, ◌▸◌};
 ghost use Rattle.gen1_tables.specs.declared.effect.Effect.{Effect};
@@ -28,6 +29,7 @@ use gen1_rolls::Rolls;
 pub fn trap<R: Rolls>(battle: &mut Packed, side: Side, random: &mut R)
     ensures left { (told : List Event) → Leaves R.drawing random (using side Trapping)
         (beginning side (quiet told battle)) (λ r. use_trap side) }
+    ensures steps { Steps R.drawing random }
 {
     let known = seen_going_on(battle, side);
     trap_knowing(battle, side, &known, random);
@@ -38,6 +40,7 @@ pub fn trap<R: Rolls>(battle: &mut Packed, side: Side, random: &mut R)
 pub fn trap_knowing<R: Rolls>(battle: &mut Packed, side: Side, known: &Known, random: &mut R)
     ensures shown { (told : List Event) (effect : Effect) → traps effect ≡ true → DrawsWhere R.drawing
         random (using side effect) (aware_of known.now (quiet told battle)) false (λ r. trap side) }
+    ensures steps { Steps R.drawing random }
 {
     if known.going_on {
         trap_one_turn_less(battle, side);
@@ -62,6 +65,7 @@ fn begin_trapping<R: Rolls>(battle: &mut Packed, side: Side, random: &mut R)
         (λ g p Then. (underway side p).bide ≡ None → (underway side p).thrash ≡ None → Then)
         (quiet told battle) false (λ r. on_conditions (other side) without_recharge ▸ draw_count
         (trap_for side)) }
+    ensures steps { Steps R.drawing random }
 {
     battle.put_flag(side.other(), Conditions::RECHARGE, false);
     let count = draw_count(random);

@@ -1,5 +1,6 @@
 //! The tests that rule out the picked move: confusion, Disable, paralysis, and that nothing was picked.
 ghost use Rattle.std.specs.Prelude.{◌≡◌};
+ghost use Rattle.gen1_rolls.specs.Draws.{Steps};
 ghost use Rattle.gen1_layout.specs.Operations.{Does, Draws, anything, scene};
 ghost use Rattle.gen1_layout.specs.Words.{AddsAtMost, AddsNone, HasRoom, Reads, false, is_paralysed};
 ghost use Rattle.gen1_machine.specs.Picks.{bars, is_disabled_in, is_idle};
@@ -26,6 +27,7 @@ pub(super) fn gate_of_move<R: Rolls, S: EventSink>(
     ensures shown { DrawsTelling R.drawing random anything (scene S.tells battle events) result
         (gate_of_move side pick) }
     ensures room { AddsAtMost S.room 2 events.old events.new }
+    ensures steps { Steps R.drawing random }
 {
     let confused = confusion_test(battle, side, battle.confused(side), random, events);
     if confused.stops() {
@@ -71,6 +73,7 @@ fn paralysis_test<R: Rolls, S: EventSink>(
     ensures shown { Draws R.drawing random (scene S.tells battle events) result (paralysis_test side) }
     ensures room { AddsAtMost S.room 1 events.old events.new }
     ensures quiet { result ≡ false → AddsNone S.room events.old events.new }
+    ensures steps { Steps R.drawing random }
 {
     if !is_paralysed(battle.status(side)) {
         return false;

@@ -1,5 +1,6 @@
 //! The test of confusion. Confusion counts down, and ends at 0. Until then the member may hit itself.
 ghost use Rattle.std.specs.Prelude.{◌≡◌};
+ghost use Rattle.gen1_rolls.specs.Draws.{Steps};
 ghost use Rattle.gen1_layout.specs.Operations.{Does, holding, scene};
 ghost use Rattle.gen1_layout.specs.Words.{AddsAtMost, HasRoom, Some, conditions, draw, false, ◌▸◌};
 ghost use Rattle.gen1_machine.specs.declared.event.Volatile.TheVariants as volatiles;
@@ -28,6 +29,7 @@ pub(super) fn confusion_test<R: Rolls, S: EventSink>(
         (confusion_test side confused) }
     ensures room { AddsAtMost S.room 2 events.old events.new }
     ensures quiet { result ≡ Gate.Go → AddsAtMost S.room 1 events.old events.new }
+    ensures steps { Steps R.drawing random }
 {
     let Some(turns) = confused else {
         return Gate::Go;
@@ -65,6 +67,7 @@ fn confusion_lasts<R: Rolls, S: EventSink>(
         (lasts side volatiles.Confusion with_confusion_one_less ▸ draw (may_hurt_itself side)) }
     ensures room { AddsAtMost S.room 2 events.old events.new }
     ensures quiet { result ≡ Gate.Go → AddsAtMost S.room 1 events.old events.new }
+    ensures steps { Steps R.drawing random }
 {
     battle.put_confused(side, Some(turns.saturating_sub(1)));
     events.push(Event::Activate(battle.who(side), Volatile::Confusion));

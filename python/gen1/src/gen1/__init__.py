@@ -106,12 +106,14 @@ from gen1.errors import (
 from gen1.hosts import Host, Row
 from gen1.messages import Message, Notice
 from gen1.names import (
+    AsleepBy,
     Conditions,
     DamageFault,
     Effect,
     EventKind,
     HostFault,
     HostRefusal,
+    HpForm,
     LoadFault,
     LogFault,
     Move,
@@ -188,6 +190,7 @@ __all__ = [
     "ActivateEvent",
     "ActiveState",
     "Announced",
+    "AsleepBy",
     "BadArgument",
     "BadBytes",
     "BadHost",
@@ -229,6 +232,7 @@ __all__ = [
     "HostRefusal",
     "HostRefused",
     "HpChange",
+    "HpForm",
     "ImmuneEvent",
     "LibraryMissing",
     "LoadFault",

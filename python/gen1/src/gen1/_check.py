@@ -15,7 +15,7 @@ from typing import Any, TypeVar
 from gen1 import _library
 from gen1._structs import first_above
 from gen1.errors import BadArgument, BadPlace, BadTeam, BadType
-from gen1.names import Move, Named, NamedType, NewFault, Species
+from gen1.names import HpForm, Move, Named, NamedType, NewFault, Species
 
 N = TypeVar("N", bound=Named)
 
@@ -80,6 +80,11 @@ def truth(value: object, what: str) -> bool:
     if not isinstance(value, bool):
         raise BadType(f"{what} must be True or False, not {shown(value)}")
     return value
+
+
+def a_form(value: object, otherwise: HpForm) -> HpForm:
+    """The form of HP that `hp_form` names, or that of other arguments."""
+    return otherwise if value is None else HpForm(within(value, "hp_form", 0, 2, HpForm))
 
 
 def byte(number: int) -> int:

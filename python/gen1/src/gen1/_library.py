@@ -18,6 +18,7 @@ from gen1._structs import (
     BattleBytes,
     BetweenStruct,
     ChancesStruct,
+    GuessFaultStruct,
     HostStruct,
     MessageStruct,
     MoveStruct,
@@ -46,6 +47,8 @@ BATTLE_BYTES = 384
 LINE_ROOM = 96
 SENTENCE_ROOM = 128
 WORDS_ROOM = 32
+TEAM_TEXT_ROOM = 1408
+TEAM_PACKED_ROOM = 832
 LOG_END = 35
 WORDS_CHOICE = 43
 WORDS_UNKNOWN, WORDS_AMBIGUOUS = 58, 59
@@ -72,6 +75,18 @@ class TeamStruct(Structure):
     """gen1_team."""
 
     _fields_ = [("members", MemberStruct * 6), ("count", c_uint8), ("reserved", c_uint8)]
+
+
+class GuessStruct(Structure):
+    """gen1_guess."""
+
+    _fields_ = [
+        ("team", TeamStruct),
+        ("limit", c_uint16),
+        ("numbers", c_uint8 * 10),
+        ("rules", c_uint8),
+        ("reserved", c_uint8),
+    ]
 
 
 class EventStruct(Structure):
@@ -211,6 +226,8 @@ player_feed = bind("gen1_player_feed", c_uint8, _PLAYER, _BYTES, c_size_t)
 player_show = bind("gen1_player_show", None, _PLAYER, _OWN, c_uint16)
 get_own_side = bind("gen1_get_own_side", c_uint8, _BATTLE, c_uint8, _OWN)
 teller_begin = bind("gen1_teller_begin", c_uint8, _TELLER, c_uint8, c_uint8)
+_GUESS = (POINTER(GuessStruct), POINTER(GuessFaultStruct))
+battle_from_player = bind("gen1_battle_from_player", c_uint32, _BATTLE, _PLAYER, *_GUESS)
 tell = bind("gen1_tell", c_uint8, _TELLER, _BYTES, c_size_t, ctypes.c_void_p, c_size_t, _SIZES)
 _HOST = POINTER(HostStruct)
 host_begin = bind("gen1_host_begin", None, _HOST, c_uint8, c_uint8, c_uint8)

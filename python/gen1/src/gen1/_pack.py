@@ -60,8 +60,8 @@ def packed(state: State) -> StateStruct:
     return to
 
 
-def bad_state(of: StateFaultStruct, state: State) -> BadState:
-    """The error for the field of a state that the library found wrong."""
+def bad_state(of: StateFaultStruct, state: State | None) -> BadState:
+    """The error for the field of a state that the library found wrong; None for a state that only the library has seen."""
     code = StateField(of.field)
     index, field = _place(code, of)
     below = 6 if code is StateField.STAGE else 0
@@ -95,9 +95,9 @@ def _place(code: StateField, of: StateFaultStruct) -> tuple[int | None, str]:
     return index, f"active.{name}" if of.side and not of.place else name
 
 
-def _value(code: StateField, of: StateFaultStruct, state: State, held: int) -> int:
+def _value(code: StateField, of: StateFaultStruct, state: State | None, held: int) -> int:
     """The value of the field, which may be too large for the struct; `held` if the state has no such item."""
-    if code in (StateField.UNNAMED, StateField.TIED_CONDITION):
+    if state is None or code in (StateField.UNNAMED, StateField.TIED_CONDITION):
         return held
     if code is StateField.REQUEST:
         return int(state.requests[of.side - 1])

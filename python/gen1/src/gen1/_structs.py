@@ -289,7 +289,7 @@ class SeenStruct(Structure):
         ("level", c_uint8),
         ("status", c_uint8),
         ("moves", SeenMoveStruct * 5),
-        ("unused", c_uint8),
+        ("asleep_by", c_uint8),
     ]
 
 
@@ -388,6 +388,18 @@ class PlayerStruct(Structure):
     ]
 
 
+class GuessFaultStruct(Structure):
+    """gen1_guess_fault."""
+
+    _fields_ = [
+        ("state", StateFaultStruct),
+        ("count", c_uint8),
+        ("member", c_uint8),
+        ("move_number", c_uint8),
+        ("unused", c_uint8),
+    ]
+
+
 class TellerStruct(Structure):
     """gen1_teller."""
 
@@ -458,14 +470,14 @@ _MOST: dict[str, dict[str, int]] = {
         **{"disabled_slot": 4, "held": 1, "request": 2, "outcome": 5, "count": 6},
     },
     "SeenMoveStruct": {"id": 165},
-    "SeenStruct": {"hp": 999, "max": 999, "species": 151, "level": 100, "status": 5, "unused": 0},
+    "SeenStruct": {"hp": 999, "max": 999, "species": 151, "level": 100, "status": 5, "asleep_by": 3},
     "AnnouncedStruct": dict.fromkeys(ANNOUNCED, 1),
     "PublicSideStruct": {
         **{"stages": 12, "place": 6, "first_type": 14, "second_type": 14, "last_move": 165, "invulnerable": 1},
     },
     "PublicStruct": {"turn": 9999, "outcome": 5, "may_hit_itself": 2},
     "PlayerStruct": {"offered": 0xFFF, "side": 2, "foes": 6, "held_count": 9, "unused": 0},
-    "TellerStruct": {"side": 2, "pixels": 1, "places": 6},
+    "TellerStruct": {"side": 2, "pixels": 2, "places": 6},
     "ShownMemberStruct": {"hp": 999, "status": 5, "reserved": 0},
     "ShownSideStruct": {
         **{"count": 6, "place": 6, "stages": 12, "substitute": 1, "confused": 1, "light_screen": 1, "reflect": 1},

@@ -188,20 +188,18 @@ class Battle:
         `team` is the guess of the foe's team: first the members that have
         appeared, in the order in which they did, then the others. `seed`
         has the numbers to draw; `rules` and `limit` are as in `Battle(..)`.
-        The player's own side is as it was shown. The foe's members have the
-        HP, status and stages that were reported, and the moves and stats of
-        the guess; their PP are those left after the uses that were seen. A
-        condition that was announced is on if a move of the guess explains
-        it. Hidden counts have middle values: three turns of sleep and
-        confusion, four of Disable, two of Bide, thrashing and trapping, a
-        Substitute of a quarter of the maximum HP.
+        The player's own side is as it was shown, the foe's as the log made
+        it public, with the moves and stats of the guess. Hidden counts have
+        middle values (docs/MECHANICS.md, "A battle that fits").
 
         Raises `BadArgument` for a guess that does not fit, and for a battle
         that has not begun or is over; `BadState`, `BadTeam`, `BadType`.
         """
-        from gen1.guesses import guessed
+        from gen1.guesses import forked
 
-        return cls.from_state(guessed(player, as_team(team), seed_bytes(seed), rules, limit))
+        made = cls.__new__(cls)
+        made._held = forked(player, as_team(team), seed_bytes(seed), rules, limit)
+        return made
 
     @property
     def bytes(self) -> bytes:

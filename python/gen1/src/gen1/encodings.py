@@ -166,7 +166,9 @@ def _foe_member(foe: int, place: int) -> Iterator[_Cell]:
     yield _share(f"{name} level", of + SeenStruct.level.offset, 100, "the level")
     yield _category(f"{name} status", of + SeenStruct.status.offset, STATUSES, "the status")
     yield _hp(name, of + SeenStruct.hp.offset, of + SeenStruct.max.offset)
-    yield _stat(f"{name} max_hp", of + SeenStruct.max.offset, "maximum HP, or 48 where HP are told in 48ths")
+    yield _stat(
+        f"{name} max_hp", of + SeenStruct.max.offset, "maximum HP, or 48 or 100 where HP are told in parts of it"
+    )
     yield _flag(f"{name} is out", _public(foe) + PublicSideStruct.place.offset, "whether it is active", place)
     yield from _shown_moves(name, of)
 

@@ -13,13 +13,13 @@ from threading import RLock
 from typing import TYPE_CHECKING, Any, Literal, TypeAlias
 
 from gen1 import _library
-from gen1._check import octets, seed_bytes, shown, ten_bytes, truth, within
+from gen1._check import a_form, octets, seed_bytes, shown, ten_bytes, truth, within
 from gen1._structs import BattleBytes, HostStruct, MessageStruct, NoticeStruct, RowStruct
 from gen1.battle import RESULTS, Battle, Result, SeedLike, battle_of
 from gen1.choices import Choice, Side, a_choice, a_side, not_offered
 from gen1.errors import BadArgument, BadHost, BadType, HostRefused
 from gen1.messages import Message, Notice, message_of, notice_of, record
-from gen1.names import HostFault, HostRefusal, RowKind
+from gen1.names import HostFault, HostRefusal, HpForm, RowKind
 
 if TYPE_CHECKING:
     from _typeshed import ReadableBuffer
@@ -178,16 +178,22 @@ class Host:
     __slots__ = ("_held", "_lock")
 
     def __init__(
-        self, battle: Battle, *, exact_hp: bool = False, may_cancel: bool = False, late_forfeits: bool = False
+        self,
+        battle: Battle,
+        *,
+        exact_hp: bool = False,
+        may_cancel: bool = False,
+        late_forfeits: bool = False,
+        hp_form: HpForm | None = None,
     ) -> None:
         """Creates the host of a copy of the battle. A battle that has not
         begun is started at once.
 
-        With `exact_hp` a side and the audience are told the exact HP of a
-        foe, otherwise 48ths of the maximum. With `may_cancel` a side may
-        take its choice back while the other's is missing. With
-        `late_forfeits` a side whose time has run out forfeits, otherwise
-        its first choice is made. Raises `BadType`.
+        A side and the audience are told HP of a foe in the form `hp_form`;
+        without it exactly with `exact_hp`, else as the game's bar. With
+        `may_cancel` a side may take its choice back while the other's is
+        missing. With `late_forfeits` a side whose time has run out
+        forfeits, otherwise its first choice is made. Raises `BadType`.
         """
         if not isinstance(battle, Battle):
             raise BadType(f"battle must be a Battle, not {shown(battle)}")
@@ -196,9 +202,10 @@ class Host:
             truth(may_cancel, "may_cancel"),
             truth(late_forfeits, "late_forfeits"),
         )
+        form = a_form(hp_form, HpForm.EXACT if exact else HpForm.BAR)
         self._held, self._lock = HostStruct(), RLock()
         self._held.room.battle[:] = battle.bytes
-        _library.host_begin(byref(self._held), not exact, cancels, late)
+        _library.host_begin(byref(self._held), form, cancels, late)
 
     @classmethod
     def from_bytes(cls, data: ReadableBuffer) -> Host:

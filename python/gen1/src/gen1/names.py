@@ -565,6 +565,15 @@ class HostFault(Named):
     UNUSED = 90, "an unused byte, or the forfeit of the room, is not 0"
 
 
+class GuessFault(Named):
+    """Why a guess of what a player can't know does not fit."""
+
+    NOT_GOING_ON = 96, "the player is in no battle that has begun and is not over"
+    COUNT = 97, "the guessed team does not have as many members as the foe"
+    MEMBER = 98, "a member of the guessed team is not the one that appeared"
+    MOVE = 99, "a member of the guessed team does not know a move that it was seen to use"
+
+
 class RowKind(Named):
     """What happens at a host, of `Row.kind`."""
 
@@ -697,6 +706,21 @@ class Effect(Named):
     STAT_DOWN_CHANCE = 44, "stat down chance"
     STAT_UP = 45, "stat up"
     STAT_DOWN = 46, "stat down"
+
+
+class AsleepBy(Named):
+    """What put a member to sleep, of `Seen.asleep_by`."""
+
+    MOVE = 1, "a move of the foe"
+    REST = 2, "its own Rest"
+
+
+class HpForm(Named):
+    """How a foe's HP is told, of `Teller` and `Host`."""
+
+    EXACT = 0, "as it is"
+    BAR = 1, "as the game's bar of 48 pixels shows it; the maximum is 48"
+    HUNDREDTHS = 2, "in hundredths of the maximum; the maximum is 100"
 
 
 class OddsReason(Named):

@@ -20,6 +20,7 @@ from gen1.battle import Battle, TeamLike, sides_of
 from gen1.choices import Choice, Side, a_side
 from gen1.encodings import PLAYER, Encoding, Rows, filler
 from gen1.errors import BadArgument
+from gen1.names import HpForm
 from gen1.players import Player, Teller
 
 TELLER = np.dtype(TellerStruct)
@@ -39,7 +40,9 @@ class Start:
     tellers: Pairs
 
 
-def start_of(one: TeamLike, two: TeamLike, rules: int, limit: int, pixels: bool = False) -> Start:
+def start_of(
+    one: TeamLike, two: TeamLike, rules: int, limit: int, pixels: bool = True, hp_form: HpForm | None = None
+) -> Start:
     """The start of a battle of two teams. The first update draws nothing, so
     the battle can be reseeded.
     """
@@ -47,7 +50,7 @@ def start_of(one: TeamLike, two: TeamLike, rules: int, limit: int, pixels: bool 
     battle = Battle(*teams, bytes(10), rules, limit)
     log = battle.update(Choice.PASS, Choice.PASS).log
     players = [Player(side, teams[side - 1], len(teams[2 - side])) for side in Side]
-    tellers = [Teller(side, pixels) for side in Side]
+    tellers = [Teller(side, pixels, hp_form=hp_form) for side in Side]
     for teller, player in zip(tellers, players):
         teller.report(battle, log, player)
     known = np.frombuffer(b"".join(bytes(it._held) for it in players), PLAYER)
@@ -86,18 +89,18 @@ class PlayerArray:
         *,
         rules: int = 0,
         limit: int = 1000,
-        pixels: bool = False,
+        pixels: bool = True,
         threads: int = 1,
+        hp_form: HpForm | None = None,
     ) -> None:
         """Begins `n` battles of two teams, which draw the numbers of `seeds`,
         (n, 10) bytes, or all zeros.
 
-        `rules` and `limit` are those of `Battle`. With `pixels` the foe's
-        HP is reported in 48ths. `threads`, 1 to 256, is how many threads
-        `step` and `observe` use. Raises `BadTeam`, `BadArgument`,
-        `BadType`.
+        `rules` and `limit` are those of `Battle`, `pixels` and `hp_form`
+        those of `Teller`. `threads`, 1 to 256, is how many threads `step`
+        and `observe` use. Raises `BadTeam`, `BadArgument`, `BadType`.
         """
-        self._terms = rules, limit, pixels
+        self._terms = rules, limit, pixels, hp_form
         start = start_of(one, two, *self._terms)
         self._battles = BattleArray(n, start.battle, seeds, threads=threads)
         self._first = np.tile(start.players, (n, 1)), np.tile(start.tellers, (n, 1))

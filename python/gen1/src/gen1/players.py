@@ -7,20 +7,30 @@ from __future__ import annotations
 from collections.abc import Iterable
 from ctypes import byref, c_size_t, create_string_buffer, sizeof
 from dataclasses import dataclass
+from functools import lru_cache
 from struct import Struct
 from typing import TYPE_CHECKING, Any
 
 from gen1 import _library
-from gen1._check import digits, first_false, listed, octets, shown, struct_from, truth, whole, within
-from gen1._structs import ANNOUNCED, LOG_ROOM, OwnMemberStruct, PlayerStruct, PublicSideStruct, SeenStruct, TellerStruct
+from gen1._check import a_form, by_number, digits, first_false, listed, octets, shown, struct_from, truth, whole, within
+from gen1._structs import (
+    ANNOUNCED,
+    LOG_ROOM,
+    OwnMemberStruct,
+    PlayerStruct,
+    PublicSideStruct,
+    SeenStruct,
+    TellerStruct,
+    reader,
+)
 from gen1.battle import Battle, TeamLike
 from gen1.choices import Choice, Side, a_side
 from gen1.errors import BadArgument, BadLog, BadTeam, BadType
 from gen1.messages import Message, a_message
-from gen1.names import LogFault, Move, NewFault, Outcome, Request, Species, Stat, Status, Type
+from gen1.names import AsleepBy, HpForm, LogFault, Move, NewFault, Outcome, Request, Species, Stat, Status, Type
 from gen1.own_sides import OwnSide, mask_fault, own_fault, own_side_from
 from gen1.spectators import fault_place, held_fault
-from gen1.states import stage_in, stages_of
+from gen1.states import KEPT, stage_in, stages_of
 from gen1.teams import as_team
 
 if TYPE_CHECKING:
@@ -46,9 +56,11 @@ class SeenMove:
 class Seen:
     """A member as the log last showed it.
 
-    `hp` is 0 to `max_hp`, which is 48 for a foe whose HP is given in 48ths.
-    `moves` are those that it was seen to prepare or to use, at most five
-    (four and Struggle), in the order in which they were first seen.
+    `hp` is 0 to `max_hp`, which is 48 or 100 for a foe whose HP is given as
+    the bar or in hundredths. `asleep_by` is what put it to sleep, None
+    while it is awake. `moves` are those that it was seen to prepare or to
+    use, at most five (four and Struggle), in the order in which they were
+    first seen.
     """
 
     species: Species
@@ -57,6 +69,7 @@ class Seen:
     max_hp: int
     status: Status
     moves: tuple[SeenMove, ...]
+    asleep_by: AsleepBy | None = None
 
 
 @dataclass(frozen=True)
@@ -228,19 +241,19 @@ class Player:
 
     def public(self, side: Side | int) -> PublicSide:
         """The information about a side that the log has made public."""
-        return _public(self._held.known.sides[a_side(side) - 1])
+        return _public(_SIDE(self._held, _MEMBERS[a_side(side) - 1])[0])
 
     @property
     def foe(self) -> PublicSide:
         """The information about the foe that the log has made public."""
-        return self.public(self.side.foe)
+        return _public(_SIDE(self._held, _MEMBERS[2 - self._held.side])[0])
 
     @property
     def choices(self) -> tuple[Choice, ...]:
         """The choices that the side is offered, in rising order; none before
         `show`, and none once the battle is over.
         """
-        return tuple(it for at, it in enumerate(CHOICES) if self._held.offered >> at & 1)
+        return _choices_in(self._held.offered)
 
     @property
     def turn(self) -> int:
@@ -295,25 +308,26 @@ class Teller:
     a teller for each side.
 
     A side must not see the foe's places, so its log numbers the foe's
-    members in the order in which they appeared. It may also hide exact HP.
-    Everything else is reported unchanged. Two tellers are equal if they
-    report the same; a teller has no hash. A teller must be used by one
-    thread at a time. `bytes` of a teller are the 8 bytes of a
-    `gen1_teller`.
+    members in the order in which they appeared. The foe's HP is reported
+    as the bar shows it, or in another form. Everything else is reported
+    unchanged. Two tellers are equal if they report the same; a teller has
+    no hash. A teller must be used by one thread at a time. `bytes` of a
+    teller are the 8 bytes of a `gen1_teller`.
     """
 
     __slots__ = ("_held",)
     _held: TellerStruct
 
-    def __init__(self, side: Side | int, pixels: bool = False) -> None:
+    def __init__(self, side: Side | int, pixels: bool = True, *, hp_form: HpForm | None = None) -> None:
         """Creates the teller of a side before the first event of a battle.
-        With `pixels` the foe's HP is reported in 48ths.
 
-        Raises `BadArgument`, `BadType`.
+        The foe's HP is reported in the form `hp_form`; without it as the
+        bar of 48 pixels, or as it is if `pixels` is False. Raises
+        `BadArgument`, `BadType`.
         """
-        known, hides = a_side(side), truth(pixels, "pixels")
+        known, form = a_side(side), a_form(hp_form, HpForm(truth(pixels, "pixels")))
         self._held = TellerStruct()
-        _library.teller_begin(byref(self._held), known, hides)
+        _library.teller_begin(byref(self._held), known, form)
 
     @property
     def side(self) -> Side:
@@ -321,9 +335,14 @@ class Teller:
         return Side(self._held.side)
 
     @property
+    def hp_form(self) -> HpForm:
+        """The form in which the foe's HP is reported."""
+        return HpForm(self._held.pixels)
+
+    @property
     def pixels(self) -> bool:
-        """Whether the foe's HP is reported in 48ths."""
-        return bool(self._held.pixels)
+        """Whether the foe's HP is reported as the bar of 48 pixels."""
+        return self.hp_form is HpForm.BAR
 
     @property
     def places(self) -> tuple[int, ...]:
@@ -405,25 +424,39 @@ class Teller:
     __hash__ = None  # type: ignore[assignment]
 
     def __repr__(self) -> str:
-        return f"<Teller of {self.side.label}{', in pixels' * self.pixels}>"
+        forms = {HpForm.EXACT: "", HpForm.BAR: ", in pixels", HpForm.HUNDREDTHS: ", in hundredths"}
+        return f"<Teller of {self.side.label}{forms[self.hp_form]}>"
 
 
-def _seen(of: SeenStruct) -> Seen:
-    moves = tuple(SeenMove(Move(it.id), it.uses) for it in of.moves if it.id)
-    return Seen(Species(of.species), of.level, of.hp, of.max, Status(of.status), moves)
+@lru_cache(KEPT)
+def _choices_in(mask: int) -> tuple[Choice, ...]:
+    return tuple(it for at, it in enumerate(CHOICES) if mask >> at & 1)
 
 
-def _public(of: PublicSideStruct) -> PublicSide:
-    members = tuple(_seen(it) for it in of.members if it.species)
-    flags = {name: bool(getattr(of.announced, name)) for name in ANNOUNCED}
+@lru_cache(KEPT)
+def _seen(held: bytes) -> Seen:
+    """The member with these bytes. Most members did not change since they were last asked for."""
+    of = _SEEN(held)
+    pairs = zip(of["moves"][::2], of["moves"][1::2])
+    moves = tuple([SeenMove(_MOVE[number], uses) for number, uses in pairs if number])
+    by = _ASLEEP_BY.get(of["asleep_by"])
+    return Seen(_SPECIES[of["species"]], of["level"], of["hp"], of["max"], _STATUS[of["status"]], moves, by)
+
+
+@lru_cache(KEPT)
+def _public(held: bytes) -> PublicSide:
+    """The public side with these bytes, which is asked for more than once a turn."""
+    of = _PUBLIC(held)
+    seen = [_seen(it) if it != _NOBODY else None for it in _SEEN_BY_PLACE(of["members"])]
+    flags = dict(zip(ANNOUNCED, map(bool, of["announced"])))
     return PublicSide(
-        members=members,
-        place=of.place,
-        active=_seen(of.members[of.place - 1]) if of.place else None,
-        stages=stages_of(of.stages),
-        types=(Type(of.first_type), Type(of.second_type)),
-        last_move=Move(of.last_move) if of.last_move else None,
-        announced=Announced(**flags, invulnerable=bool(of.invulnerable)),
+        members=tuple([it for it in seen if it]),
+        place=of["place"],
+        active=seen[of["place"] - 1] if of["place"] else None,
+        stages=stages_of(of["stages"]),
+        types=(_TYPE[of["first_type"]], _TYPE[of["second_type"]]),
+        last_move=_MOVE[of["last_move"]] if of["last_move"] else None,
+        announced=Announced(**flags, invulnerable=bool(of["invulnerable"])),
     )
 
 
@@ -464,6 +497,13 @@ def _names(team: tuple[int, ...]) -> str:
 _TEAM = Struct(6 * f"{SeenStruct.species.offset}x2B{sizeof(SeenStruct) - SeenStruct.species.offset - 2}x").unpack_from
 _OWN_TEAM = Struct(6 * f"2B{sizeof(OwnMemberStruct) - 2}x").unpack_from
 _MEMBERS = [PlayerStruct.known.offset + at * sizeof(PublicSideStruct) for at in range(2)]
+# Reads the bytes of a public side from the same places, and of such a side the bytes of each member.
+_SIDE = Struct(f"{sizeof(PublicSideStruct)}s").unpack_from
+_SEEN_BY_PLACE = Struct(6 * f"{sizeof(SeenStruct)}s").unpack
+_SEEN, _PUBLIC = reader(SeenStruct), reader(PublicSideStruct)
+_NOBODY = bytes(sizeof(SeenStruct))
+_SPECIES, _MOVE, _STATUS, _TYPE = by_number(Species), by_number(Move), by_number(Status), by_number(Type)
+_ASLEEP_BY = by_number(AsleepBy)
 
 
 def _player(held: bytes) -> Player:

@@ -541,7 +541,7 @@ class Simulator(_Kept):
         """Creates a simulator that waits for `>start`.
 
         `hp` is how a player sees the HP of the foe's members; without it
-        exactly in gen1customgame, and in hundredths in other formats. With
+        in 48ths in gen1customgame, and in hundredths in other formats. With
         `clock` each update begins with the time. Raises `BadType`.
         """
         if formats is not None and not isinstance(formats, Formats):

@@ -1,7 +1,6 @@
 """Members from the export text of Pokemon Showdown's team builder or its packed line, and back to text (docs/TEAM_TEXT.md)."""
 
-import math
-from ctypes import POINTER, Structure, byref, c_size_t, c_uint8
+from ctypes import POINTER, Structure, byref, c_size_t, c_uint8, c_uint32, create_string_buffer
 from typing import Any
 
 from gen1 import _library
@@ -27,7 +26,9 @@ class FaultStruct(Structure):
 _TAKES = _library._BYTES, c_size_t, POINTER(_library.TeamStruct), POINTER(FaultStruct)
 _from_text = _library.bind("gen1_team_from_text", c_uint8, *_TAKES)
 _from_packed = _library.bind("gen1_team_from_packed", c_uint8, *_TAKES)
-STATS = ("HP", "Atk", "Def", "Spe", "Spc")
+_WRITES = POINTER(_library.TeamStruct), _library._TEXT, c_size_t, POINTER(c_size_t)
+_to_text = _library.bind("gen1_team_to_text", c_uint32, *_WRITES)
+_to_packed = _library.bind("gen1_team_to_packed", c_uint32, *_WRITES)
 
 
 def read_text(text: object) -> list[dict[str, Any]]:
@@ -40,9 +41,22 @@ def read_packed(line: object) -> list[dict[str, Any]]:
     return _members(_from_packed, line)
 
 
-def written(members: list[dict[str, Any]]) -> str:
-    """An export text of these members, whose moves must all have three PP ups."""
-    return "\n".join(_block(at, it) for at, it in enumerate(members, 1))
+def text_of(team: _library.TeamStruct) -> str:
+    """The export text of a team, whose moves must all have three PP ups."""
+    return _written(_to_text, team, _library.TEAM_TEXT_ROOM)
+
+
+def packed_of(team: _library.TeamStruct) -> str:
+    """The packed line of a team, with a line feed."""
+    return _written(_to_packed, team, _library.TEAM_PACKED_ROOM)
+
+
+def _written(call: Any, team: _library.TeamStruct, room: int) -> str:
+    text, length = create_string_buffer(room), c_size_t(0)
+    if place := call(byref(team), text, room, byref(length)) >> 8:
+        ups = [number for _, number in _member(team.members[place - 1])["moves"]]
+        raise BadArgument(f"member {place}: in a text each move has three PP ups, but the moves have {ups}")
+    return text.raw[: length.value].decode("ascii")
 
 
 def _members(call: Any, text: object) -> list[dict[str, Any]]:
@@ -107,14 +121,3 @@ def _is_no_move(name: str) -> bool:
         return not a_move(name.strip())
     except BadTeam:
         return True
-
-
-def _block(place: int, of: dict[str, Any]) -> str:
-    if any(ups != 3 for _, ups in of["moves"]):
-        raise BadArgument(f"member {place}: in a text each move has three PP ups, but the moves are {of['moves']}")
-    evs = [min(255, math.isqrt(it - 1) + 1 if it else 0) for it in of["exp"]]
-    lines = [of["species"]] + [f"Level: {of['level']}"] * (of["level"] != 100)
-    lines.append("EVs: " + " / ".join(f"{ev} {stat}" for ev, stat in zip(evs, STATS)))
-    low = [f"{2 * dv} {stat}" for dv, stat in zip(of["dvs"], STATS[1:]) if dv != 15]
-    lines += ["IVs: " + " / ".join(low)] * bool(low)
-    return "\n".join(lines + [f"- {name}" for name, _ in of["moves"]]) + "\n"

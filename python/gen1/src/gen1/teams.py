@@ -15,7 +15,7 @@ from gen1._check import species as a_species
 from gen1._structs import BattleBytes
 from gen1.errors import BadTeam, BadType
 from gen1.names import Move, Named, NewFault, Species
-from gen1.team_text import read_packed, read_text, written
+from gen1.team_text import packed_of, read_packed, read_text, text_of
 
 STATS = c_uint16 * 5
 KEYS = ("species", "level", "dvs", "exp", "moves")
@@ -194,7 +194,13 @@ class Team:
         may differ. In texts each move has three PP ups; a team with other
         PP ups raises `BadArgument`.
         """
-        return written(self.to_dicts())
+        return text_of(self._struct)
+
+    def to_packed(self) -> str:
+        """A packed line with a line feed, which `from_packed` reads, and which
+        raises as `to_text` does.
+        """
+        return packed_of(self._struct)
 
     def __len__(self) -> int:
         return len(self.members)

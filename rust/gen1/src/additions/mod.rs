@@ -11,6 +11,6 @@ mod tables;
 
 pub use chances::Weights;
 pub use machine::UnknownText;
-pub(crate) use player::elements_at;
+pub use player::AsleepBy;
 pub use tables::{OutOfRange, UnknownName};
 pub(crate) use tables::{as_number, ordered_by_key};

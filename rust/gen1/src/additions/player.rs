@@ -4,6 +4,15 @@ use crate::generated::player::{OwnMember, OwnSide, PublicSide, Seen};
 use crate::generated::tables::{Element, MoveId, Species};
 use core::fmt;
 
+/// What put a member to sleep.
+#[derive(Clone, Copy, Debug, PartialEq, Eq, Hash)]
+pub enum AsleepBy {
+    /// A move of the foe.
+    Move,
+    /// Its own Rest.
+    Rest,
+}
+
 impl Seen {
     /// The species of the member; `None` if it has not appeared.
     #[must_use]
@@ -15,6 +24,16 @@ impl Seen {
     #[must_use]
     pub fn status(&self) -> Option<Kind> {
         Kind::from_number(self.status)
+    }
+
+    /// What put it to sleep; `None` while it is awake.
+    #[must_use]
+    pub fn asleep_by(&self) -> Option<AsleepBy> {
+        match self.asleep_by {
+            1 => Some(AsleepBy::Move),
+            2 => Some(AsleepBy::Rest),
+            _ => None,
+        }
     }
 
     /// The moves that it was seen to prepare or to use, and how often it used them: 0 to 255, where 255 means 255 or more.
@@ -47,30 +66,8 @@ impl PublicSide {
 }
 
 /// The types with two numbers, and Normal for a number that has none.
-pub(crate) fn elements_at(numbers: [u8; 2]) -> [Element; 2] {
-    const ELEMENTS: [Element; 15] = [
-        Element::Normal,
-        Element::Fighting,
-        Element::Flying,
-        Element::Poison,
-        Element::Ground,
-        Element::Rock,
-        Element::Bug,
-        Element::Ghost,
-        Element::Fire,
-        Element::Water,
-        Element::Grass,
-        Element::Electric,
-        Element::Psychic,
-        Element::Ice,
-        Element::Dragon,
-    ];
-    numbers.map(|number| {
-        let found = ELEMENTS
-            .into_iter()
-            .find(|element| element.number() == number);
-        found.unwrap_or(Element::Normal)
-    })
+fn elements_at(numbers: [u8; 2]) -> [Element; 2] {
+    numbers.map(|number| Element::new(number).unwrap_or(Element::Normal))
 }
 
 impl OwnMember {

@@ -141,6 +141,31 @@ impl FromStr for MoveId {
     }
 }
 
+impl Element {
+    /// The type with a number. Returns `None` outside 0 to 14.
+    #[must_use]
+    pub fn new(number: u8) -> Option<Self> {
+        const ELEMENTS: [Element; 15] = [
+            Element::Normal,
+            Element::Fighting,
+            Element::Flying,
+            Element::Poison,
+            Element::Ground,
+            Element::Rock,
+            Element::Bug,
+            Element::Ghost,
+            Element::Fire,
+            Element::Water,
+            Element::Grass,
+            Element::Electric,
+            Element::Psychic,
+            Element::Ice,
+            Element::Dragon,
+        ];
+        ELEMENTS.get(usize::from(number)).copied()
+    }
+}
+
 impl fmt::Display for Element {
     fn fmt(&self, f: &mut fmt::Formatter<'_>) -> fmt::Result {
         f.pad(match self {

@@ -219,7 +219,8 @@ mod rolls {
         /// at most this many.
         const SPAN: usize;
 
-        // The byte that is drawn next, the generator after a draw, and how many draws in a row hold every byte.
+        // The byte that is drawn next, the generator after a draw, how many draws in a row hold every byte, and which streams
+        // agree with the noted draws.
         /// Draws the next byte.
         ///
         /// The draws from this one on are a stream: bytes, of which any `SPAN` in a row hold every number from 0 to 255.

@@ -21,7 +21,7 @@ returns-in-Some-clause-stepped t c s h plays =
     let long : 9 ≤ length s.seed = omega (arith, h.valid.seed.0) in
     let is : c.in-Some.generator ≡ ring_at s.seed s.drawn = let e = c.in-Some.ensures.stands (setting_of s) s.field w in cc in
     let at = subst (λ (r : Ring). StandsAt link (ring_of s.seed) (Link s.seed) s.drawn r) (sym is) (ring_at-stands s.seed s.drawn long) in
-    let left = c.turn-left.ensures.updated s h plays (ring_of s.seed) (Link s.seed) s.drawn h.valid.seed at in
+    let left = c.turn-left.ensures.updated s h plays (record { source = record { origin = ring_of s.seed; stream = Link s.seed }; agrees = tt }) s.drawn h.valid.seed at in
     let q = close_update (ruling_of s.terms) (turn (ruling_of s.terms) c.args.one c.args.two (opened s)) in
     turned_so s c.args.one c.args.two q h.valid (turn_made s c.args.one c.args.two h.valid plays)
     (c.put_generator.ensures.stands (setting_of s) q.field q.drawn left.within (ring-stands left.stands long)) left.written

@@ -5,13 +5,13 @@ use Rattle.gen1_hits.proofs.action_hit_test.must_hit.Goals as goal
 
 pub returns-then-not-known-clause-shown : goal.returns-then-not-known-clause-shown
 unfolding must_hit
-returns-then-not-known-clause-shown t c origin g p h =
-    let a = drawn_quietly h (c.hit_or_miss.ensures.shown _ origin g p) in
+returns-then-not-known-clause-shown t c since g p h =
+    let a = drawn_quietly h (c.hit_or_miss.ensures.shown _ since g p) in
     drawn_goes _ _ a (drawn_if_not _ _ _ (ap (λ (x : Action). x.missed) a.shows.action ∙ c.if-not-known.true) (drawn_stays a))
 
 pub returns-clause-shown : goal.returns-clause-shown
 unfolding must_hit
-returns-clause-shown t c origin g p h =
-    let a = drawn_quietly h (c.hit_or_miss.ensures.shown _ origin g p) in
+returns-clause-shown t c since g p h =
+    let a = drawn_quietly h (c.hit_or_miss.ensures.shown _ since g p) in
     let b = plain_still c.hit_or_miss.new.known g _ c.note_miss.ensures.shown a in
     drawn_goes _ _ a (drawn_if_so _ _ _ (ap (λ (x : Action). x.missed) a.shows.action ∙ c.if-not-known.false) (drawn_goes _ _ b (still b (halted b.shows) refl)))

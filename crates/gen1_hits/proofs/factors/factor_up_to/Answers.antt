@@ -6,7 +6,7 @@ use Rattle.gen1_hits.proofs.Varying.{varied-most, vary-draws, vary-keeps}
 use Rattle.gen1_hits.proofs.factors.factor_up_to.Goals as goal
 
 pub returns-then-damage-le1-clause-varies : goal.returns-then-damage-le1-clause-varies
-returns-then-damage-le1-clause-varies g c origin stream n a =
+returns-then-damage-le1-clause-varies g c since n a =
     let small : nat_le c.args.damage 1 ≡ true = grind (arith, nat_tests) in
     record { drawn = n; stands = a; dealt = c.args.damage; sets = λ p same at. vary-keeps c.args.damage n p small at; alike = refl; most = omega arith }
 
@@ -16,14 +16,14 @@ unreachable-requires g c =
     let none : true ≡ false = (c.in-None.ensures.none is_factor (λ x answer lt post. search rules)).none_meets 255 (lit< tt) in cc
 
 pub returns-clause-varies : goal.returns-clause-varies
-returns-clause-varies g c origin stream n a =
+returns-clause-varies g c since n a =
     let large : nat_le c.args.damage 1 ≡ false = grind (arith, nat_tests) in
     let like = c.in-Some.ensures.found is_factor (λ x answer lt post. search rules) in
     found_then a like.finds (λ m found byte stands. record {
       drawn = m + 1;
       stands = stands;
       dealt = times_factor (rotated_right_1 like.byte) c.args.damage;
-      sets = λ p same at. vary-draws c.args.damage n m stream p large same at found ∙ rw byte refl;
+      sets = λ p same at. vary-draws c.args.damage n m since.source.stream p large same at found ∙ rw byte refl;
       alike = rw (c.times_factor.ensures.is, c.rotated.ensures) (sym like.alike);
       most = varied-most c.args.damage like.byte like.fits;
     })

@@ -4,14 +4,14 @@ use Rattle.gen1_multiturn.proofs.Counted.{counted_once, counted_twice, drawn_bit
 use Rattle.gen1_multiturn.proofs.counts.draw_count.Goals as goal
 
 pub returns-then-first-le1-clause-shown : goal.returns-then-first-le1-clause-shown
-returns-then-first-le1-clause-shown t c origin g parts events p h = (
+returns-then-first-le1-clause-shown t c since g parts events p h = (
   p.drawn + 1,
   drawn_next h c.draw_as-first.ensures.left,
   λ f. counted_once f p c.draw_as-first.result (drawn_bits c.draw_as-first.result h c.draw_as-first.ensures.drawn) (at_most _ _ c.if-first-le1.true),
 )
 
 pub returns-clause-shown : goal.returns-clause-shown
-returns-clause-shown t c origin g parts events p h =
+returns-clause-shown t c since g parts events p h =
     let one = drawn_next h c.draw_as-first.ensures.left in (
       p.drawn + 1 + 1,
       drawn_next one c.draw_as.ensures.left,

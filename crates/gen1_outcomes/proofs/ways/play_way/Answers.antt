@@ -1,4 +1,4 @@
-use Rattle.gen1_rolls.specs.Draws.{draws_of, stream_of}
+use Rattle.gen1_rolls.specs.Draws.{draws_of, own_source}
 use Rattle.gen1_rolls.proofs.Standing.{stands_at_itself}
 use Rattle.gen1_outcomes.specs.Script.{scripted}
 use Rattle.gen1_outcomes.proofs.ways.play_way.Goals as goal
@@ -8,7 +8,7 @@ returns-clause-plays g c s h o =
     let now = c.args.explorer in
     record {
       by_turn = λ asked.
-          let u = (c.play.ensures.played s h o).by_turn asked now (stream_of scripted now) 0 c.draws_a_stream.ensures (stands_at_itself scripted now) in
+          let u = (c.play.ensures.played s h o).by_turn asked (record { source = own_source scripted now; agrees = tt }) 0 c.draws_a_stream.ensures (stands_at_itself scripted now) in
           record { within = u.within; written = u.written };
       by_step = λ apart. ((c.play.ensures.played s h o).by_step apart).0;
     }

@@ -9,6 +9,6 @@ use Rattle.gen1_status.proofs.bide.start_bide.Goals as goal
 
 pub returns-clause-shown : goal.returns-clause-shown
 unfolding start_bide bide_for
-returns-clause-shown t c origin g p untied h =
+returns-clause-shown t c since g p untied h =
     let same = ap (λ (n : ℕ). starts c.args.side volatiles.Bide (with_bide (n + 2))) c.draw_as-byte.ensures.drawn in
     drawing_like (bide_for c.args.side) c.draw_as-byte.result h same c.draw_as-byte.ensures.left (λ d. still d (c.bide_for.ensures.shown _ _ untied d.shows) refl)

@@ -9,6 +9,6 @@ use Rattle.gen1_status.proofs.confusion.confuse.Goals as goal
 
 pub returns-clause-shown : goal.returns-clause-shown
 unfolding confuse confused_by
-returns-clause-shown t c origin g p h =
+returns-clause-shown t c since g p h =
     let same = ap (λ (n : ℕ). starts c.args.side volatiles.Confusion (with_confusion (n + 2))) c.draw_as-byte.ensures.drawn in
     drawing_like (confused_by c.args.side) c.draw_as-byte.result h same c.draw_as-byte.ensures.left (λ d. still d (c.confuse_by.ensures.shown _ _ d.shows) refl)

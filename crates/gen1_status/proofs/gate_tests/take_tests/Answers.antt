@@ -7,13 +7,13 @@ use Rattle.gen1_status.proofs.gate_tests.take_tests.Goals as goal
 
 pub returns-then-gate_of_status-clause-shown : goal.returns-then-gate_of_status-clause-shown
 unfolding gate
-returns-then-gate_of_status-clause-shown t c origin g p h =
+returns-then-gate_of_status-clause-shown t c since g p h =
     tells_stops _ _ refl (still_tells h (tells Stop (gate_of_status c.args.side) refl (gate_of_status-steady (outcome-steady _) c.args.side)
     (settled c.if-gate_of_status.true (c.gate_of_status.ensures.shown _ _ h.shows))))
 
 pub returns-then-gate_of_turn-clause-shown : goal.returns-then-gate_of_turn-clause-shown
 unfolding gate
-returns-then-gate_of_turn-clause-shown t c origin g p h =
+returns-then-gate_of_turn-clause-shown t c since g p h =
     let a = still_tells h (tells Go (gate_of_status c.args.side) refl (gate_of_status-steady (outcome-steady _) c.args.side)
     (settled c.if-gate_of_status.false (c.gate_of_status.ensures.shown _ _ h.shows))) in
     tells_goes _ _ a (tells_stops _ _ refl (still_tells a.shows (tells Stop (gate_of_turn c.args.side) refl (gate_of_turn-steady (outcome-steady _) c.args.side)
@@ -21,9 +21,9 @@ returns-then-gate_of_turn-clause-shown t c origin g p h =
 
 pub returns-clause-shown : goal.returns-clause-shown
 unfolding gate
-returns-clause-shown t c origin g p h =
+returns-clause-shown t c since g p h =
     let a = still_tells h (tells Go (gate_of_status c.args.side) refl (gate_of_status-steady (outcome-steady _) c.args.side)
     (settled c.if-gate_of_status.false (c.gate_of_status.ensures.shown _ _ h.shows))) in
     let b = still_tells a.shows (tells Go (gate_of_turn c.args.side) refl (gate_of_turn-steady (outcome-steady _) c.args.side)
     (settled c.if-gate_of_turn.false (c.gate_of_turn.ensures.shown _ _ a.shows.shows))) in
-    tells_goes _ _ a (tells_goes _ _ b (c.gate_of_move.ensures.shown _ _ _ b.shows))
+    tells_goes _ _ a (tells_goes _ _ b (c.gate_of_move.ensures.shown since _ _ b.shows))

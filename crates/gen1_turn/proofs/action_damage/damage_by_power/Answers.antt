@@ -11,10 +11,11 @@ use Rattle.gen1_status.proofs.Comparing.{below}
 use Rattle.gen1_hits.specs.Knowing.{knowing}
 use Rattle.gen1_turn.specs.Damage.{LikeDamage}
 use Rattle.gen1_turn.proofs.Damage.{late-power, like-goes, like-halted, tested-like}
+use Rattle.gen1_rolls.specs.Draws.{by_then}
 use Rattle.gen1_turn.proofs.action_damage.damage_by_power.Goals as goal
 
 pub returns-then-power-eq0-clause-shown : goal.returns-then-power-eq0-clause-shown
-returns-then-power-eq0-clause-shown t c events origin g p h =
+returns-then-power-eq0-clause-shown t c events since g p h =
     let s = c.args.side in
     let move = move_at c.args.id in
     let none : nat_lt 0 move.power ≡ false = ap (nat_lt 0) (sym c.power.ensures ∙ c.if-power-eq0.true) in (
@@ -25,14 +26,14 @@ returns-then-power-eq0-clause-shown t c events origin g p h =
 
 pub returns-then-roll_damage-clause-shown : goal.returns-then-roll_damage-clause-shown
 unfolding usual_damage
-returns-then-roll_damage-clause-shown t c events origin g p h =
+returns-then-roll_damage-clause-shown t c events since g p h =
     let s = c.args.side in
     let move = move_at c.args.id in
     let some : nat_lt 0 move.power ≡ true = ap (nat_lt 0) (sym c.power.ensures) ∙ below 0 c.power.result (omega (arith, c.if-power-eq0.false)) in
     let a = still h (put_damage h.shows 0 (c.put_last_damage.ensures.stands _ _ h.shows.within)) refl in
-    let b = c.critical-known.ensures.shown events origin (knowing c.args.known.now g) _ a in
+    let b = c.critical-known.ensures.shown events (by_then c.roll_damage.ensures.steps since) (knowing c.args.known.now g) _ a in
     let x = roll_critical s move (set_last_damage 0 p) in
-    let d = c.roll_damage.ensures.shown events origin g x b in
+    let d = c.roll_damage.ensures.shown events since g x b in
     let ends = d.1.shows.ends ∙ c.if-roll_damage.true in
     let same = like-halted s d.0 (roll_damage s move x) d.2 ends in
     let is = choose-true (λ _. nat_lt 0 move.power) (usual_damage s move) (set_last_damage 0) p some
@@ -44,16 +45,16 @@ returns-then-roll_damage-clause-shown t c events origin g p h =
 
 pub returns-clause-shown : goal.returns-clause-shown
 unfolding usual_damage
-returns-clause-shown t c events origin g p h =
+returns-clause-shown t c events since g p h =
     let s = c.args.side in
     let move = move_at c.args.id in
     let some : nat_lt 0 move.power ≡ true = ap (nat_lt 0) (sym c.power.ensures) ∙ below 0 c.power.result (omega (arith, c.if-power-eq0.false)) in
     let a = still h (put_damage h.shows 0 (c.put_last_damage.ensures.stands _ _ h.shows.within)) refl in
-    let b = c.critical-known.ensures.shown events origin (knowing c.args.known.now g) _ a in
+    let b = c.critical-known.ensures.shown events (by_then c.roll_damage.ensures.steps (by_then c.hit_or_miss.ensures.steps since)) (knowing c.args.known.now g) _ a in
     let x = roll_critical s move (set_last_damage 0 p) in
-    let d = c.roll_damage.ensures.shown events origin g x b in
+    let d = c.roll_damage.ensures.shown events (by_then c.hit_or_miss.ensures.steps since) g x b in
     let found = drawn_settled c.if-roll_damage.false d.1 in
-    let tested = c.hit_or_miss.ensures.shown events origin g d.0 found in
+    let tested = c.hit_or_miss.ensures.shown events since g d.0 found in
     let is = choose-true (λ _. nat_lt 0 move.power) (usual_damage s move) (set_last_damage 0) p some
     ∙ then-goes (set_last_damage 0) (roll_critical s move ▸ roll_damage s move ▸ hit_or_miss s move) p a.shows.ends
     ∙ then-goes (roll_critical s move) (roll_damage s move ▸ hit_or_miss s move) (set_last_damage 0 p) b.shows.ends

@@ -14,7 +14,7 @@ use Rattle.gen1_turn.proofs.action_damage.roll_damage.Goals as goal
 
 pub returns-in_default-clause-shown : goal.returns-in_default-clause-shown
 unfolding roll_damage damage_from fault with_outcome
-returns-in_default-clause-shown t c events origin g p h =
+returns-in_default-clause-shown t c events since g p h =
     let n = c.numbers-numbers.ensures.stands _ _ h.shows.within ∙ ap (λ (a : Action). numbers_in c.args.side (move_at c.args.id) a.critical p.field) (sym h.shows.action) in
     let none : before_types c.numbers-numbers.result ≡ None = sym c.damage.ensures.is ∙ c.in_default.is in
     let a = put h.shows (with_outcome (outcomes.Fault 1)) (c.put_outcome.ensures.stands _ p.field h.shows.within (lit≤ tt, lit≤ tt)) in (
@@ -25,7 +25,7 @@ returns-in_default-clause-shown t c events origin g p h =
 
 pub returns-clause-shown : goal.returns-clause-shown
 unfolding roll_damage damage_from set_through_types set_missed set_last_damage with_last_damage given on_action on_field
-returns-clause-shown t c events origin g p h =
+returns-clause-shown t c events since g p h =
     let s = c.args.side in
     let move = move_at c.args.id in
     let found = c.numbers-numbers.result in
@@ -38,7 +38,7 @@ returns-clause-shown t c events origin g p h =
     let b = drawn_acted (λ (x : Action). record x { missed = (damage == 0) }) a in
     let x = set_missed (damage == 0) (set_through_types p) in
     let edge = c.damage_edge-edge.result in
-    let v = varying (limit_of edge.0 edge.1) damage result b c.factor_up_to-varied.ensures.varies (c.put_last_damage.ensures.stands _ _ b.shows.within) in
+    let v = varying (limit_of edge.0 edge.1) damage result b (c.factor_up_to-varied.ensures.varies since) (c.put_last_damage.ensures.stands _ _ b.shows.within) in
     let q = set_last_damage result (record x { drawn = v.0 }) in
     let is : roll_damage s move p ≡ vary damage x =
     ap (λ (k : DamageNumbers). damage_from k (before_types k) p) (sym n) ∙ ap (λ (o : Option ℕ). damage_from found o p) some

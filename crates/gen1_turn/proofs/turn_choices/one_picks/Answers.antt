@@ -14,19 +14,19 @@ use Rattle.gen1_turn.proofs.turn_choices.one_picks.Goals as goal
 
 pub returns-then-sends_and_suffers-clause-shown : goal.returns-then-sends_and_suffers-clause-shown
 unfolding one_picks do_parts do_part
-returns-then-sends_and_suffers-clause-shown t c origin g p plan (fits, any, may, whole) v h =
+returns-then-sends_and_suffers-clause-shown t c since g p plan (fits, any, may, whole) v h =
     let terms = g.setting.terms in
     let s = c.args.side in
     let k = c.sends_and_suffers.new.known in
     let rest : Phase = do_parts (ruling_of terms) (Acts s c.args.pick ∷ Suffers s ∷ []) in
     let a = still {g' = knowing (with_broke h.0 c.args.known.now) g} h.1 (quietly h.1.shows (c.set_picked.ensures.shown _ _ _ (picked-fits terms plan s c.args.pick p fits v))) refl in
     let first = rw c.other.ensures at c.sends_and_suffers.ensures.shown in
-    let x = rw c.if-sends_and_suffers.true at (first (record g { drawn = (set_picked s c.args.pick p).drawn }) _ h.0 (ruling_of terms) (picked-may s (other s) c.args.pick c.args.place p may) (picked-whole s c.args.pick p whole) a.shows) in
+    let x = rw c.if-sends_and_suffers.true at (first (record g { stream = since.source.stream; drawn = (set_picked s c.args.pick p).drawn }) _ h.0 (ruling_of terms) (picked-may s (other s) c.args.pick c.args.place p may) (picked-whole s c.args.pick p whole) a.shows) in
     (ends_as k g _ _ (then-goes (set_picked s c.args.pick) _ p a.shows.ends) (ends_still c.args.known.now k g a (x rest)), λ e. cut_short e)
 
 pub returns-then-act_and_suffer-clause-shown : goal.returns-then-act_and_suffer-clause-shown
 unfolding one_picks do_parts do_part
-returns-then-act_and_suffer-clause-shown t c origin g p plan (fits, any, may, whole) v h =
+returns-then-act_and_suffer-clause-shown t c since g p plan (fits, any, may, whole) v h =
     let terms = g.setting.terms in
     let s = c.args.side in
     let k = c.sends_and_suffers.new.known in
@@ -35,14 +35,14 @@ returns-then-act_and_suffer-clause-shown t c origin g p plan (fits, any, may, wh
     let va = (set_picked-keeps terms plan s c.args.pick fits).kept p v in
     let sends = picked-may s (other s) c.args.pick c.args.place p may in
     let first = rw c.other.ensures at c.sends_and_suffers.ensures.shown in
-    let x = rw c.if-sends_and_suffers.false at (first (record g { drawn = (set_picked s c.args.pick p).drawn }) _ h.0 (ruling_of terms) sends (picked-whole s c.args.pick p whole) a.shows) in
+    let x = rw c.if-sends_and_suffers.false at (first (record g { stream = since.source.stream; drawn = (set_picked s c.args.pick p).drawn }) _ h.0 (ruling_of terms) sends (picked-whole s c.args.pick p whole) a.shows) in
     let vx = (suffers_part terms plan (other s)).kept _ ((send_part terms plan (other s) c.args.place any).led _ (va, sends.0)) in
-    let y = rw c.if-act_and_suffer.true at (c.act_and_suffer.ensures.shown origin g _ plan fits vx (over_still c.args.known.now k g a x.0)) in
+    let y = rw c.if-act_and_suffer.true at (c.act_and_suffer.ensures.shown since g _ plan fits vx (over_still c.args.known.now k g a x.0)) in
     (ends_as c.act_and_suffer.new.known g _ _ (then-goes (set_picked s c.args.pick) _ p a.shows.ends ∙ x.2 rest) (y end_turn), λ e. cut_short e)
 
 pub returns-clause-shown : goal.returns-clause-shown
 unfolding one_picks do_parts do_part
-returns-clause-shown t c origin g p plan (fits, any, may, whole) v h =
+returns-clause-shown t c since g p plan (fits, any, may, whole) v h =
     let terms = g.setting.terms in
     let s = c.args.side in
     let k = c.sends_and_suffers.new.known in
@@ -51,7 +51,7 @@ returns-clause-shown t c origin g p plan (fits, any, may, whole) v h =
     let va = (set_picked-keeps terms plan s c.args.pick fits).kept p v in
     let sends = picked-may s (other s) c.args.pick c.args.place p may in
     let first = rw c.other.ensures at c.sends_and_suffers.ensures.shown in
-    let x = rw c.if-sends_and_suffers.false at (first (record g { drawn = (set_picked s c.args.pick p).drawn }) _ h.0 (ruling_of terms) sends (picked-whole s c.args.pick p whole) a.shows) in
+    let x = rw c.if-sends_and_suffers.false at (first (record g { stream = since.source.stream; drawn = (set_picked s c.args.pick p).drawn }) _ h.0 (ruling_of terms) sends (picked-whole s c.args.pick p whole) a.shows) in
     let vx = (suffers_part terms plan (other s)).kept _ ((send_part terms plan (other s) c.args.place any).led _ (va, sends.0)) in
     let sent : Progress = residual (other s) (do_part (ruling_of terms) (Sends (other s) c.args.place) (set_picked s c.args.pick p)) in
     let done : Progress = residual s (do_part (ruling_of terms) (Acts s c.args.pick) sent) in
@@ -59,7 +59,7 @@ returns-clause-shown t c origin g p plan (fits, any, may, whole) v h =
     let plans = with_plan (other s) idle plan in
     let vi = idle-planned plan (other s) sent (sends-nothing (ruling_of terms) (other s) c.args.place (set_picked s c.args.pick p) a.shows.ends) vx in
     let own = subst (λ (z : Plan). FitsPick c.args.pick z) (sym (own-plan s idle plan)) fits in
-    let y = rw c.if-act_and_suffer.false at (c.act_and_suffer.ensures.shown origin g _ plans own vi (over_still c.args.known.now k g a x.0)) in
+    let y = rw c.if-act_and_suffer.false at (c.act_and_suffer.ensures.shown since g _ plans own vi (over_still c.args.known.now k g a x.0)) in
     let vy = (suffers_part terms (with_plan s Any plans) s).kept (do_part (ruling_of terms) (Acts s c.args.pick) sent) ((act_part terms plans s c.args.pick own).led sent vi) in
     let is = then-goes (set_picked s c.args.pick) _ p a.shows.ends ∙ x.2 rest ∙ y.2 end_turn in
     let ends = is ∙ end-one s done y.0.1.shows.ends (idle-untrapped plan s sent.field done vy) in (

@@ -9,7 +9,7 @@ use Rattle.gen1_turn.proofs.turn_choices.take_turn.Goals as goal
 
 pub returns-clause-shown : goal.returns-clause-shown
 unfolding turn
-returns-clause-shown t c origin g p plan (one, two, x, y, whole) v h =
+returns-clause-shown t c since g p plan (one, two, x, y, whole) v h =
     let terms = g.setting.terms in
     let a = still {g' = knowing (with_broke h.0 c.args.known.now) g} h.1 (quietly h.1.shows (c.end_flinch.ensures.shown _ _ _)) refl in
     let va = (flinch-planned terms plan One).kept p v in
@@ -17,5 +17,5 @@ returns-clause-shown t c origin g p plan (one, two, x, y, whole) v h =
     let vb = (flinch-planned terms plan Two).kept _ va in
     let still_one = flinch-brings c.args.one Two One _ (flinch-brings c.args.one One One p x) in
     let still_two = flinch-brings c.args.two Two Two _ (flinch-brings c.args.two One Two p y) in
-    let q = c.act_on_choices.ensures.shown origin g _ plan (one, two, still_one, still_two, flinch-whole Two _ (flinch-whole One p whole)) vb (h.0, b) in
+    let q = c.act_on_choices.ensures.shown since g _ plan (one, two, still_one, still_two, flinch-whole Two _ (flinch-whole One p whole)) vb (h.0, b) in
     cut_as c.act_on_choices.new.known g _ _ (then-goes (on_conditions One without_flinch) _ p a.shows.ends ∙ then-goes (on_conditions Two without_flinch) _ _ b.shows.ends) q

@@ -9,53 +9,45 @@ use Rattle.gen1_status.proofs.Comparing.{below, not_below}
 use Rattle.gen1_turn.proofs.Turns.{drawn_next, drawn_side, tossed_one, tossed_two}
 use Rattle.gen1_turn.proofs.turn_order.faster_side.Goals as goal
 
-pub returns-then-two-one : goal.returns-then-two-one
+pub returns-then-two-one-clause-shown : goal.returns-then-two-one-clause-shown
 unfolding in_order_of_speed
-returns-then-two-one t c = record {
-  shown = λ origin g events p h.
-      let one = c.current_stat-one.ensures.stands _ _ h.shows.within refl in
-      let two = c.current_stat-two.ensures.stands _ _ h.shows.within refl in
-      let e : nat_lt (now_in Speed Two p.field) (now_in Speed One p.field) ≡ true = rw (← two, ← one) (below _ _ c.if-two-one.true) in
-      (p.drawn, h, λ begins. choose-true _ _ _ p e);
-}
+returns-then-two-one-clause-shown t c since g events p h =
+    let one = c.current_stat-one.ensures.stands _ _ h.shows.within refl in
+    let two = c.current_stat-two.ensures.stands _ _ h.shows.within refl in
+    let e : nat_lt (now_in Speed Two p.field) (now_in Speed One p.field) ≡ true = rw (← two, ← one) (below _ _ c.if-two-one.true) in
+    (p.drawn, h, λ begins. choose-true _ _ _ p e)
 
-pub returns-then-one-two : goal.returns-then-one-two
+pub returns-then-one-two-clause-shown : goal.returns-then-one-two-clause-shown
 unfolding in_order_of_speed
-returns-then-one-two t c = record {
-  shown = λ origin g events p h.
-      let one = c.current_stat-one.ensures.stands _ _ h.shows.within refl in
-      let two = c.current_stat-two.ensures.stands _ _ h.shows.within refl in
-      let e : nat_lt (now_in Speed Two p.field) (now_in Speed One p.field) ≡ false = rw (← two, ← one) (not_below _ _ c.if-two-one.false) in
-      let e' : nat_lt (now_in Speed One p.field) (now_in Speed Two p.field) ≡ true = rw (← two, ← one) (below _ _ c.if-one-two.true) in
-      (p.drawn, h, λ begins. choose-false _ _ _ p e ∙ choose-true _ _ _ p e');
-}
+returns-then-one-two-clause-shown t c since g events p h =
+    let one = c.current_stat-one.ensures.stands _ _ h.shows.within refl in
+    let two = c.current_stat-two.ensures.stands _ _ h.shows.within refl in
+    let e : nat_lt (now_in Speed Two p.field) (now_in Speed One p.field) ≡ false = rw (← two, ← one) (not_below _ _ c.if-two-one.false) in
+    let e' : nat_lt (now_in Speed One p.field) (now_in Speed Two p.field) ≡ true = rw (← two, ← one) (below _ _ c.if-one-two.true) in
+    (p.drawn, h, λ begins. choose-false _ _ _ p e ∙ choose-true _ _ _ p e')
 
-pub returns-then-draw_as-lt-SIDE_1_BELOW : goal.returns-then-draw_as-lt-SIDE_1_BELOW
+pub returns-then-draw_as-lt-SIDE_1_BELOW-clause-shown : goal.returns-then-draw_as-lt-SIDE_1_BELOW-clause-shown
 unfolding in_order_of_speed
-returns-then-draw_as-lt-SIDE_1_BELOW t c = record {
-  shown = λ origin g events p h.
-      let one = c.current_stat-one.ensures.stands _ _ h.shows.within refl in
-      let two = c.current_stat-two.ensures.stands _ _ h.shows.within refl in
-      let e : nat_lt (now_in Speed Two p.field) (now_in Speed One p.field) ≡ false = rw (← two, ← one) (not_below _ _ c.if-two-one.false) in
-      let e' : nat_lt (now_in Speed One p.field) (now_in Speed Two p.field) ≡ false = rw (← two, ← one) (not_below _ _ c.if-one-two.false) in (
-        p.drawn + 1,
-        drawn_next h c.draw_as.ensures.left,
-        λ begins. choose-false _ _ _ p e ∙ choose-false _ _ _ p e'
-            ∙ tossed_one begins p c.draw_as.result (drawn_side c.draw_as.result h (alike_below _ _ 128 c.draw_as.ensures.drawn)) (below _ _ c.if-draw_as-lt-SIDE_1_BELOW.true),
-      );
-}
+returns-then-draw_as-lt-SIDE_1_BELOW-clause-shown t c since g events p h =
+    let one = c.current_stat-one.ensures.stands _ _ h.shows.within refl in
+    let two = c.current_stat-two.ensures.stands _ _ h.shows.within refl in
+    let e : nat_lt (now_in Speed Two p.field) (now_in Speed One p.field) ≡ false = rw (← two, ← one) (not_below _ _ c.if-two-one.false) in
+    let e' : nat_lt (now_in Speed One p.field) (now_in Speed Two p.field) ≡ false = rw (← two, ← one) (not_below _ _ c.if-one-two.false) in (
+      p.drawn + 1,
+      drawn_next h c.draw_as.ensures.left,
+      λ begins. choose-false _ _ _ p e ∙ choose-false _ _ _ p e'
+          ∙ tossed_one begins p c.draw_as.result (drawn_side c.draw_as.result h (alike_below _ _ 128 c.draw_as.ensures.drawn)) (below _ _ c.if-draw_as-lt-SIDE_1_BELOW.true),
+    )
 
-pub returns : goal.returns
+pub returns-clause-shown : goal.returns-clause-shown
 unfolding in_order_of_speed
-returns t c = record {
-  shown = λ origin g events p h.
-      let one = c.current_stat-one.ensures.stands _ _ h.shows.within refl in
-      let two = c.current_stat-two.ensures.stands _ _ h.shows.within refl in
-      let e : nat_lt (now_in Speed Two p.field) (now_in Speed One p.field) ≡ false = rw (← two, ← one) (not_below _ _ c.if-two-one.false) in
-      let e' : nat_lt (now_in Speed One p.field) (now_in Speed Two p.field) ≡ false = rw (← two, ← one) (not_below _ _ c.if-one-two.false) in (
-        p.drawn + 1,
-        drawn_next h c.draw_as.ensures.left,
-        λ begins. choose-false _ _ _ p e ∙ choose-false _ _ _ p e'
-            ∙ tossed_two begins p c.draw_as.result (drawn_side c.draw_as.result h (alike_below _ _ 128 c.draw_as.ensures.drawn)) (not_below _ _ c.if-draw_as-lt-SIDE_1_BELOW.false),
-      );
-}
+returns-clause-shown t c since g events p h =
+    let one = c.current_stat-one.ensures.stands _ _ h.shows.within refl in
+    let two = c.current_stat-two.ensures.stands _ _ h.shows.within refl in
+    let e : nat_lt (now_in Speed Two p.field) (now_in Speed One p.field) ≡ false = rw (← two, ← one) (not_below _ _ c.if-two-one.false) in
+    let e' : nat_lt (now_in Speed One p.field) (now_in Speed Two p.field) ≡ false = rw (← two, ← one) (not_below _ _ c.if-one-two.false) in (
+      p.drawn + 1,
+      drawn_next h c.draw_as.ensures.left,
+      λ begins. choose-false _ _ _ p e ∙ choose-false _ _ _ p e'
+          ∙ tossed_two begins p c.draw_as.result (drawn_side c.draw_as.result h (alike_below _ _ 128 c.draw_as.ensures.drawn)) (not_below _ _ c.if-draw_as-lt-SIDE_1_BELOW.false),
+    )

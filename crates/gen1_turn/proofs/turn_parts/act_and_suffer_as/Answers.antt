@@ -9,7 +9,7 @@ use Rattle.gen1_turn.proofs.turn_parts.act_and_suffer_as.Goals as goal
 
 pub returns-then-known-clause-shown : goal.returns-then-known-clause-shown
 unfolding do_part
-returns-then-known-clause-shown t c origin g p plan fits v h =
+returns-then-known-clause-shown t c since g p plan fits v h =
     let k = c.begun.result in
     let s = c.args.side in
     let a = begun_so c.args.known.now k g s c.begun.ensures h in
@@ -18,21 +18,21 @@ returns-then-known-clause-shown t c origin g p plan fits v h =
 
 pub returns-then-act-clause-shown : goal.returns-then-act-clause-shown
 unfolding do_part
-returns-then-act-clause-shown t c origin g p plan fits v h =
+returns-then-act-clause-shown t c since g p plan fits v h =
     let a = begun_so c.args.known.now c.begun.result g c.args.side c.begun.ensures h in
     let valid = (begin-keeps g.setting.terms plan c.args.side).kept p v in
-    let b = c.act.ensures.shown origin g _ plan fits valid (over c.begun.result g a) in
+    let b = c.act.ensures.shown since g _ plan fits valid (over c.begun.result g a) in
     let d = drawn_goes _ _ a (drawn_if_not _ _ _ (a.shows.skips ∙ c.if-known.false) b.1) in
     λ rest. (true, over_stops c.act.new.known g _ _ (b.0, drawn_settled c.if-act.true d))
 
 pub returns-clause-shown : goal.returns-clause-shown
 unfolding do_part
-returns-clause-shown t c origin g p plan fits v h =
+returns-clause-shown t c since g p plan fits v h =
     let k = c.act.new.known in
     let s = c.args.side in
     let a = begun_so c.args.known.now c.begun.result g s c.begun.ensures h in
     let valid = (begin-keeps g.setting.terms plan s).kept p v in
-    let b = c.act.ensures.shown origin g _ plan fits valid (over c.begun.result g a) in
+    let b = c.act.ensures.shown since g _ plan fits valid (over c.begun.result g a) in
     let d = drawn_settled c.if-act.false (drawn_goes _ _ a (drawn_if_not _ _ _ (a.shows.skips ∙ c.if-known.false) b.1)) in
     let goes_on = acted-goes_on (ruling_of g.setting.terms) s c.args.pick p h.1.shows.ends (a.shows.skips ∙ c.if-known.false) d.shows.ends in
     acted_left k g _ _ _ c.suffer.result (do_part (ruling_of g.setting.terms) (Acts s c.args.pick)) s p (b.0, d) (c.suffer.ensures.shown _ _ goes_on d.shows)

@@ -1,5 +1,6 @@
 use Rattle.std.proofs.Common.{◌≡◌}
 use Rattle.gen1_layout.proofs.Words.{false, refl, sym}
+use Rattle.gen1_rolls.specs.Draws.{Since}
 use Rattle.gen1_rolls.proofs.Standing.{stands_there}
 use Rattle.gen1_machine.specs.declared.side.Side.TheVariants.{One}
 use Rattle.gen1_machine.specs.declared.terms.Request.TheVariants as requests
@@ -19,7 +20,8 @@ use Rattle.gen1_turn.proofs.turn_update.turn.Goals as goal
 
 pub returns-clause-updated : goal.returns-clause-updated
 unfolding close_update
-returns-clause-updated t c s stands plays origin stream drawn w at =
+returns-clause-updated t c s stands plays since drawn w at =
+    let stream = since.source.stream in
     let one = c.args.one in let two = c.args.two in
     let apart : (requests.Pass ≡ requests.Move → ⊥) = λ e. cc in
     let v = started s requests.Move one two stands.valid apart plays in
@@ -28,7 +30,8 @@ returns-clause-updated t c s stands plays origin stream drawn w at =
     let shown = rw c.new-known.ensures at c.take_turn-cut.ensures.shown in
     let plans = both-plan_of one two s.field in
     let brings = both-bring s one two v plays in
-    let a = shown origin g p (both_plan one two s.field) (plans.0, plans.1, brings.0, brings.1, begins-whole s one two v plays) (planned s one two stream drawn v plays w) (
+    let earlier : Since t.R.Rolls.drawing c.take_turn-cut.new.random = record { source = since.source; agrees = rw c.by_side.view_is at since.agrees } in
+    let a = shown earlier g p (both_plan one two s.field) (plans.0, plans.1, brings.0, brings.1, begins-whole s one two v plays) (planned s one two stream drawn v plays w) (
       false,
       record {
         shows = record { within = within_of _ s stands v.field; written = c.requires.empty; ends = refl; stream = refl; drawn = refl; skips = refl; action = refl };

@@ -13,4 +13,4 @@ at_once n e =
 
 pub returns-clause-drawn : goal.returns-clause-drawn
 returns-clause-drawn c many e =
-    let h = c.factor_by.ensures.drawn 0 many (rw c.new.ensures.start (at_once c.args.number e)) in rw c.new.ensures.start at h.0
+    let h = c.factor_by.ensures.drawn tt 0 many (rw c.new.ensures.start (at_once c.args.number e)) in rw c.new.ensures.start at h.0

@@ -15,20 +15,20 @@ unseeded s p = (conditions s p).seeded || is_of s Grass p
 
 pub returns-then-must_hit-clause-shown : goal.returns-then-must_hit-clause-shown
 unfolding seed_foe
-returns-then-must_hit-clause-shown t c origin g p h = drawn_ended _ (drawn_stops _ _ (drawn_settled c.if-must_hit.true (c.must_hit.ensures.shown origin g p h)))
+returns-then-must_hit-clause-shown t c since g p h = drawn_ended _ (drawn_stops _ _ (drawn_settled c.if-must_hit.true (c.must_hit.ensures.shown since g p h)))
 
 pub returns-then-takes_no_seed-clause-shown : goal.returns-then-takes_no_seed-clause-shown
 unfolding seed_foe
-returns-then-takes_no_seed-clause-shown t c origin g p h =
-    let a = drawn_settled c.if-must_hit.false (c.must_hit.ensures.shown origin g p h) in
+returns-then-takes_no_seed-clause-shown t c since g p h =
+    let a = drawn_settled c.if-must_hit.false (c.must_hit.ensures.shown since g p h) in
     rw (← c.other-foe.ensures) (drawn_ended _ (drawn_goes _ _ a (drawn_fails c.must_hit.new.known g c.args.side (unseeded c.other-foe.result) _
     (sym (c.takes_no_seed.ensures.stands _ _ a.shows.within) ∙ c.if-takes_no_seed.true) c.fail.ensures.shown a)))
 
 pub returns-clause-shown : goal.returns-clause-shown
 unfolding seed_foe starts with_seed
-returns-clause-shown t c origin g p h =
+returns-clause-shown t c since g p h =
     let foe = c.other-foe.result in
-    let a = drawn_settled c.if-must_hit.false (c.must_hit.ensures.shown origin g p h) in
+    let a = drawn_settled c.if-must_hit.false (c.must_hit.ensures.shown since g p h) in
     let w = c.put_flag.ensures.stands 12 refl (lit< tt) _ _ with_seed a.shows.within refl (seed-same (conditions_in foe _)) in
     let b = told_so a.shows (changed_conditions foe with_seed) (λ (f : Field). events.Start (who_in foe f) volatiles.LeechSeed) w c.push.ensures.told
     (ap (λ (who : Who). events.Start who volatiles.LeechSeed) (c.who.ensures.stands _ _ w)) in

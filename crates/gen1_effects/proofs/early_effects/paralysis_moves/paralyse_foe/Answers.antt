@@ -15,13 +15,13 @@ grounded s move p = same_type move.kind Electric && is_of s Ground p
 
 pub returns-then-has_status-clause-shown : goal.returns-then-has_status-clause-shown
 unfolding paralyse_foe
-returns-then-has_status-clause-shown t c origin g p h =
+returns-then-has_status-clause-shown t c since g p h =
     rw (← c.other-foe.ensures) (drawn_ended _ (drawn_fails c.args.known.now g c.args.side (has_status c.other-foe.result) _
     (sym (c.has_status.ensures.stands _ _ h.shows.within) ∙ c.if-has_status.true) c.fail.ensures.shown h))
 
 pub returns-then-is_grounded-clause-shown : goal.returns-then-is_grounded-clause-shown
 unfolding paralyse_foe
-returns-then-is_grounded-clause-shown t c origin g p h =
+returns-then-is_grounded-clause-shown t c since g p h =
     rw (← c.other-foe.ensures) (drawn_ended _ (drawn_past c.args.side (has_status c.other-foe.result) _
     (sym (c.has_status.ensures.stands _ _ h.shows.within) ∙ c.if-has_status.false) h
     (drawn_fails c.args.known.now g c.args.side (grounded c.other-foe.result (move_at c.args.id)) _
@@ -29,17 +29,17 @@ returns-then-is_grounded-clause-shown t c origin g p h =
 
 pub returns-then-must_hit-clause-shown : goal.returns-then-must_hit-clause-shown
 unfolding paralyse_foe
-returns-then-must_hit-clause-shown t c origin g p h =
+returns-then-must_hit-clause-shown t c since g p h =
     rw (← c.other-foe.ensures) (drawn_ended _ (drawn_past c.args.side (has_status c.other-foe.result) _
     (sym (c.has_status.ensures.stands _ _ h.shows.within) ∙ c.if-has_status.false) h
     (drawn_past c.args.side (grounded c.other-foe.result (move_at c.args.id)) _
     (sym (c.is_grounded.ensures.stands _ _ h.shows.within ∙ ap (λ (t : Element). same_type t Electric && is_of c.other-foe.result Ground p) c.kind.ensures) ∙ c.if-is_grounded.false) h
-    (drawn_stops _ _ (drawn_settled c.if-must_hit.true (c.must_hit.ensures.shown origin g p h))))))
+    (drawn_stops _ _ (drawn_settled c.if-must_hit.true (c.must_hit.ensures.shown since g p h))))))
 
 pub returns-clause-shown : goal.returns-clause-shown
 unfolding paralyse_foe
-returns-clause-shown t c origin g p h =
-    let a = drawn_settled c.if-must_hit.false (c.must_hit.ensures.shown origin g p h) in
+returns-clause-shown t c since g p h =
+    let a = drawn_settled c.if-must_hit.false (c.must_hit.ensures.shown since g p h) in
     rw (← c.other-foe.ensures) (drawn_ended _ (drawn_past c.args.side (has_status c.other-foe.result) _
     (sym (c.has_status.ensures.stands _ _ h.shows.within) ∙ c.if-has_status.false) h
     (drawn_past c.args.side (grounded c.other-foe.result (move_at c.args.id)) _

@@ -8,13 +8,13 @@ use Rattle.gen1_effects.proofs.early_effects.poison_moves.poison_foe.Goals as go
 
 pub returns-then-has_substitute-clause-shown : goal.returns-then-has_substitute-clause-shown
 unfolding poison_foe
-returns-then-has_substitute-clause-shown t c origin g p h =
+returns-then-has_substitute-clause-shown t c since g p h =
     rw (← c.other-foe.ensures) (drawn_ended _ (drawn_fails c.args.known.now g c.args.side (has_substitute c.other-foe.result) _
     (sym (c.has_substitute.ensures.stands _ _ h.shows.within) ∙ c.if-has_substitute.true) c.fail.ensures.shown h))
 
 pub returns-then-has_status-clause-shown : goal.returns-then-has_status-clause-shown
 unfolding poison_foe
-returns-then-has_status-clause-shown t c origin g p h =
+returns-then-has_status-clause-shown t c since g p h =
     rw (← c.other-foe.ensures) (drawn_ended _ (drawn_past c.args.side (has_substitute c.other-foe.result) _
     (sym (c.has_substitute.ensures.stands _ _ h.shows.within) ∙ c.if-has_substitute.false) h
     (drawn_fails c.args.known.now g c.args.side (has_status c.other-foe.result) _
@@ -22,7 +22,7 @@ returns-then-has_status-clause-shown t c origin g p h =
 
 pub returns-then-has_type-clause-shown : goal.returns-then-has_type-clause-shown
 unfolding poison_foe
-returns-then-has_type-clause-shown t c origin g p h =
+returns-then-has_type-clause-shown t c since g p h =
     rw (← c.other-foe.ensures) (drawn_ended _ (drawn_past c.args.side (has_substitute c.other-foe.result) _
     (sym (c.has_substitute.ensures.stands _ _ h.shows.within) ∙ c.if-has_substitute.false) h
     (drawn_past c.args.side (has_status c.other-foe.result) _
@@ -32,19 +32,19 @@ returns-then-has_type-clause-shown t c origin g p h =
 
 pub returns-then-must_hit-clause-shown : goal.returns-then-must_hit-clause-shown
 unfolding poison_foe
-returns-then-must_hit-clause-shown t c origin g p h =
+returns-then-must_hit-clause-shown t c since g p h =
     rw (← c.other-foe.ensures) (drawn_ended _ (drawn_past c.args.side (has_substitute c.other-foe.result) _
     (sym (c.has_substitute.ensures.stands _ _ h.shows.within) ∙ c.if-has_substitute.false) h
     (drawn_past c.args.side (has_status c.other-foe.result) _
     (sym (c.has_status.ensures.stands _ _ h.shows.within) ∙ c.if-has_status.false) h
     (drawn_past c.args.side (is_of c.other-foe.result Poison) _
     (sym (c.has_type.ensures.stands _ _ h.shows.within) ∙ c.if-has_type.false) h
-    (drawn_stops _ _ (drawn_settled c.if-must_hit.true (c.must_hit.ensures.shown origin g p h)))))))
+    (drawn_stops _ _ (drawn_settled c.if-must_hit.true (c.must_hit.ensures.shown since g p h)))))))
 
 pub returns-clause-shown : goal.returns-clause-shown
 unfolding poison_foe
-returns-clause-shown t c origin g p h =
-    let a = drawn_settled c.if-must_hit.false (c.must_hit.ensures.shown origin g p h) in
+returns-clause-shown t c since g p h =
+    let a = drawn_settled c.if-must_hit.false (c.must_hit.ensures.shown since g p h) in
     rw (← c.other-foe.ensures) (drawn_ended _ (drawn_past c.args.side (has_substitute c.other-foe.result) _
     (sym (c.has_substitute.ensures.stands _ _ h.shows.within) ∙ c.if-has_substitute.false) h
     (drawn_past c.args.side (has_status c.other-foe.result) _

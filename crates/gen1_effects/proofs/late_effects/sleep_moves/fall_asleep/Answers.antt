@@ -14,7 +14,7 @@ unreachable-requires t c =
 
 pub returns-clause-shown : goal.returns-clause-shown
 unfolding fall_asleep sleep_for
-returns-clause-shown t c origin g p clause h =
+returns-clause-shown t c since g p clause h =
     let like = c.in-Some.ensures.found is_sleep_count (λ x answer lt post. grind (post, arith, nat_tests)) in
     let same = ap (λ (n : ℕ). inflict c.args.side (Asleep n c.args.marked) kinds.Sleep) like.alike in
     drawn_until is_sleep_count (sleep_for c.args.marked c.args.side) h like same

@@ -10,7 +10,7 @@ use Rattle.gen1_effects.proofs.late_effects.sleep_moves.ready_to_sleep.Goals as 
 
 pub returns-then-is_on-clause-shown : goal.returns-then-is_on-clause-shown
 unfolding ready_to_sleep without_recharge
-returns-then-is_on-clause-shown t c origin g p h =
+returns-then-is_on-clause-shown t c since g p h =
     let foe = c.other-foe.result in
     let on = sym (c.is_on.ensures.stands 10 refl _ p.field h.shows.within) ∙ c.if-is_on.true in
     rw (← c.other-foe.ensures)
@@ -20,7 +20,7 @@ returns-then-is_on-clause-shown t c origin g p h =
 
 pub returns-then-not-is_healthy-clause-shown : goal.returns-then-not-is_healthy-clause-shown
 unfolding ready_to_sleep fails_if
-returns-then-not-is_healthy-clause-shown t c origin g p h =
+returns-then-not-is_healthy-clause-shown t c since g p h =
     let off = sym (c.is_on.ensures.stands 10 refl _ p.field h.shows.within) ∙ c.if-is_on.false in
     let ill = ap not (sym (c.is_healthy.ensures ∙ ap is_healthy (c.status.ensures.stands _ p.field h.shows.within)) ∙ c.if-not-is_healthy.true) in
     rw (← c.other-foe.ensures)
@@ -28,8 +28,8 @@ returns-then-not-is_healthy-clause-shown t c origin g p h =
 
 pub returns-clause-shown : goal.returns-clause-shown
 unfolding ready_to_sleep fails_if
-returns-clause-shown t c origin g p h =
+returns-clause-shown t c since g p h =
     let off = sym (c.is_on.ensures.stands 10 refl _ p.field h.shows.within) ∙ c.if-is_on.false in
     let healthy = ap not (sym (c.is_healthy.ensures ∙ ap is_healthy (c.status.ensures.stands _ p.field h.shows.within)) ∙ c.if-not-is_healthy.false) in
     let a = drawn_if_not (has_status c.other-foe.result) (fail c.args.side) stay healthy (drawn_stays h) in
-    rw (← c.other-foe.ensures) (drawn_if_not _ _ _ off (drawn_goes _ _ a (c.must_hit.ensures.shown origin g _ a)))
+    rw (← c.other-foe.ensures) (drawn_if_not _ _ _ off (drawn_goes _ _ a (c.must_hit.ensures.shown since g _ a)))

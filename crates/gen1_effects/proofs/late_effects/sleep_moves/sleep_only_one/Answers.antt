@@ -5,13 +5,13 @@ use Rattle.gen1_effects.proofs.late_effects.sleep_moves.sleep_only_one.Goals as 
 
 pub returns-then-has_marked_sleeper-clause-shown : goal.returns-then-has_marked_sleeper-clause-shown
 unfolding sleep_only_one fails_if
-returns-then-has_marked_sleeper-clause-shown t c origin g p clause h =
+returns-then-has_marked_sleeper-clause-shown t c since g p clause h =
     let some = sym (c.has_marked_sleeper.ensures.stands _ p.field h.shows.within) ∙ c.if-has_marked_sleeper.true in
     rw (← c.other-foe.ensures) (drawn_stops _ _ (drawn_if_so _ _ _ some (still {g' = g} h (c.fail.ensures.shown _ _ h.shows) refl)))
 
 pub returns-clause-shown : goal.returns-clause-shown
 unfolding sleep_only_one fails_if
-returns-clause-shown t c origin g p clause h =
+returns-clause-shown t c since g p clause h =
     let none = sym (c.has_marked_sleeper.ensures.stands _ p.field h.shows.within) ∙ c.if-has_marked_sleeper.false in
     let a = drawn_if_not (has_marked_sleeper c.other-foe.result) (fail c.args.side) stay none (drawn_stays h) in
-    rw (← c.other-foe.ensures) (drawn_goes _ _ a (c.fall_asleep.ensures.shown origin g _ clause a))
+    rw (← c.other-foe.ensures) (drawn_goes _ _ a (c.fall_asleep.ensures.shown since g _ clause a))

@@ -8,12 +8,12 @@ use Rattle.gen1_effects.proofs.side_effects.confusion_chance.may_confuse.Goals a
 
 pub returns-then-not-is_drawn_below-clause-shown : goal.returns-then-not-is_drawn_below-clause-shown
 unfolding may_confuse
-returns-then-not-is_drawn_below-clause-shown t c origin g p h =
+returns-then-not-is_drawn_below-clause-shown t c since g p h =
     passes c.args.bound _ h c.is_drawn_below.ensures.drawn c.is_drawn_below.ensures.left c.if-not-is_drawn_below.true
 
 pub returns-then-is_on-clause-shown : goal.returns-then-is_on-clause-shown
 unfolding may_confuse
-returns-then-is_on-clause-shown t c origin g p h =
+returns-then-is_on-clause-shown t c since g p h =
     let foe = other c.args.side in
     comes c.args.bound (unless (is_confused foe) (confuse foe)) h c.is_drawn_below.ensures.drawn c.is_drawn_below.ensures.left c.if-not-is_drawn_below.false
     (λ d. let is = rw c.other-foe.ensures at (c.is_on.ensures.stands 6 refl _ _ d.shows.within) in
@@ -21,8 +21,8 @@ returns-then-is_on-clause-shown t c origin g p h =
 
 pub returns-clause-shown : goal.returns-clause-shown
 unfolding may_confuse
-returns-clause-shown t c origin g p h =
+returns-clause-shown t c since g p h =
     let foe = other c.args.side in
     comes c.args.bound (unless (is_confused foe) (confuse foe)) h c.is_drawn_below.ensures.drawn c.is_drawn_below.ensures.left c.if-not-is_drawn_below.false
     (λ d. let is = rw c.other-foe.ensures at (c.is_on.ensures.stands 6 refl _ _ d.shows.within) in
-    drawn_if_not _ _ _ (sym is ∙ c.if-is_on.false) ((rw c.other-foe.ensures at c.confuse.ensures.shown) _ _ _ d))
+    drawn_if_not _ _ _ (sym is ∙ c.if-is_on.false) ((rw c.other-foe.ensures at c.confuse.ensures.shown) since _ _ d))

@@ -10,7 +10,7 @@ use Rattle.gen1_effects.proofs.DisabledSlots.{slot_alike}
 use Rattle.gen1_effects.proofs.side_effects.disable.draw_slot.Goals as goal
 
 pub returns-in-Some-clause-shown : goal.returns-in-Some-clause-shown
-returns-in-Some-clause-shown t c origin g p h =
+returns-in-Some-clause-shown t c since g p h =
     let s = c.args.side in
     let moves = (member c.other-foe.result p).moves in
     let within = h.shows.within in
@@ -19,10 +19,10 @@ returns-in-Some-clause-shown t c origin g p h =
     let same = slot_alike s moves c.has_pp-any_pp.result _ _ any (subst (λ (look : Look). sees look c.in-Some.byte ≡ sees look like.byte) c.slot_look.ensures like.alike) in
     drawn_seeing (λ (q : Progress). (member (other s) q).moves) (λ ms. draw_until (names_slot ms) (disable_slot s ms)) (ap (λ (x : Side). (member x p).moves) c.other-foe.ensures)
     (finding (names_slot moves) (disable_slot s moves) h like same
-    (λ m named d. rw c.other-foe.ensures (c.disable_slot.ensures.shown origin g _ (rw c.other-foe.ensures at any) (rw c.other-foe.ensures at named) d)))
+    (λ m named d. rw c.other-foe.ensures (c.disable_slot.ensures.shown since g _ (rw c.other-foe.ensures at any) (rw c.other-foe.ensures at named) d)))
 
 pub returns-in-None-clause-shown : goal.returns-in-None-clause-shown
-returns-in-None-clause-shown t c origin g p h =
+returns-in-None-clause-shown t c since g p h =
     let s = c.args.side in
     let moves = (member c.other-foe.result p).moves in
     let within = h.shows.within in

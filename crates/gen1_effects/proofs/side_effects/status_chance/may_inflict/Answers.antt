@@ -7,20 +7,20 @@ use Rattle.gen1_effects.proofs.side_effects.status_chance.may_inflict.Goals as g
 
 pub returns-then-has_status-clause-shown : goal.returns-then-has_status-clause-shown
 unfolding may_inflict
-returns-then-has_status-clause-shown t c count origin g p h =
+returns-then-has_status-clause-shown t c count since g p h =
     let is = rw c.other-foe.ensures at (c.has_status.ensures.stands _ _ h.shows.within) in
     drawn_if_so _ _ _ (sym is ∙ c.if-has_status.true) (still h (c.thaw.ensures.shown _ _ h.shows) refl)
 
 pub returns-then-has_type-clause-shown : goal.returns-then-has_type-clause-shown
 unfolding may_inflict
-returns-then-has_type-clause-shown t c count origin g p h =
+returns-then-has_type-clause-shown t c count since g p h =
     let is = rw c.other-foe.ensures at (c.has_status.ensures.stands _ _ h.shows.within) in
     let own = rw (c.other-foe.ensures, c.kind.ensures) at (c.has_type.ensures.stands _ _ h.shows.within) in
     drawn_if_not _ _ _ (sym is ∙ c.if-has_status.false) (drawn_if_so _ _ _ (sym own ∙ c.if-has_type.true) (drawn_stays h))
 
 pub returns-then-not-is_drawn_below-clause-shown : goal.returns-then-not-is_drawn_below-clause-shown
 unfolding may_inflict
-returns-then-not-is_drawn_below-clause-shown t c count origin g p h =
+returns-then-not-is_drawn_below-clause-shown t c count since g p h =
     let is = rw c.other-foe.ensures at (c.has_status.ensures.stands _ _ h.shows.within) in
     let own = rw (c.other-foe.ensures, c.kind.ensures) at (c.has_type.ensures.stands _ _ h.shows.within) in
     drawn_if_not _ _ _ (sym is ∙ c.if-has_status.false) (drawn_if_not _ _ _ (sym own ∙ c.if-has_type.false)
@@ -28,7 +28,7 @@ returns-then-not-is_drawn_below-clause-shown t c count origin g p h =
 
 pub returns-clause-shown : goal.returns-clause-shown
 unfolding may_inflict
-returns-clause-shown t c count origin g p h =
+returns-clause-shown t c count since g p h =
     let is = rw c.other-foe.ensures at (c.has_status.ensures.stands _ _ h.shows.within) in
     let own = rw (c.other-foe.ensures, c.kind.ensures) at (c.has_type.ensures.stands _ _ h.shows.within) in
     drawn_if_not _ _ _ (sym is ∙ c.if-has_status.false) (drawn_if_not _ _ _ (sym own ∙ c.if-has_type.false)

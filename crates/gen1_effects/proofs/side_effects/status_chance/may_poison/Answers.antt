@@ -9,20 +9,20 @@ use Rattle.gen1_effects.proofs.side_effects.status_chance.may_poison.Goals as go
 
 pub returns-then-resists_poison-clause-shown : goal.returns-then-resists_poison-clause-shown
 unfolding may_poison
-returns-then-resists_poison-clause-shown t c origin g p h =
+returns-then-resists_poison-clause-shown t c since g p h =
     let is = rw c.other-foe.ensures at (c.resists_poison.ensures.stands _ _ h.shows.within) in
     drawn_if_so _ _ _ (sym is ∙ c.if-resists_poison.true) (drawn_stays h)
 
 pub returns-then-not-is_drawn_below-clause-shown : goal.returns-then-not-is_drawn_below-clause-shown
 unfolding may_poison
-returns-then-not-is_drawn_below-clause-shown t c origin g p h =
+returns-then-not-is_drawn_below-clause-shown t c since g p h =
     let is = rw c.other-foe.ensures at (c.resists_poison.ensures.stands _ _ h.shows.within) in
     drawn_if_not _ _ _ (sym is ∙ c.if-resists_poison.false)
     (passes c.args.bound _ h c.is_drawn_below.ensures.drawn c.is_drawn_below.ensures.left c.if-not-is_drawn_below.true)
 
 pub returns-clause-shown : goal.returns-clause-shown
 unfolding may_poison
-returns-clause-shown t c origin g p h =
+returns-clause-shown t c since g p h =
     let is = rw c.other-foe.ensures at (c.resists_poison.ensures.stands _ _ h.shows.within) in
     drawn_if_not _ _ _ (sym is ∙ c.if-resists_poison.false)
     (comes c.args.bound (inflict (other c.args.side) Poisoned kinds.Poison) h c.is_drawn_below.ensures.drawn c.is_drawn_below.ensures.left c.if-not-is_drawn_below.false

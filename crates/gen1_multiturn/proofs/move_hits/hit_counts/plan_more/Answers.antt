@@ -6,12 +6,12 @@ use Rattle.gen1_multiturn.proofs.ManyHits.{planned-many, planned-two}
 use Rattle.gen1_multiturn.proofs.move_hits.hit_counts.plan_more.Goals as goal
 
 pub returns-then-is_multi_hit-clause-shown : goal.returns-then-is_multi_hit-clause-shown
-returns-then-is_multi_hit-clause-shown t c parts events origin g p h =
+returns-then-is_multi_hit-clause-shown t c parts events since g p h =
     let e = sym (c.is_multi_hit.ensures ∙ ap is_multi_hit c.effect.ensures) ∙ c.if-is_multi_hit.true in
-    rw (planned-many c.args.side (move_at c.args.id) (move_at c.args.id).effect e) (c.plan_hits.ensures.shown parts events origin g p h)
+    rw (planned-many c.args.side (move_at c.args.id) (move_at c.args.id).effect e) (c.plan_hits.ensures.shown parts events since g p h)
 
 pub returns-clause-shown : goal.returns-clause-shown
 unfolding set_planned
-returns-clause-shown t c parts events origin g p h =
+returns-clause-shown t c parts events since g p h =
     let e = sym (c.is_multi_hit.ensures ∙ ap is_multi_hit c.effect.ensures) ∙ c.if-is_multi_hit.false in
     rw (planned-two c.args.side (move_at c.args.id) (move_at c.args.id).effect c.requires.many e) (drawn_acted (λ (x : Action). record x { hits_planned = Some 2 }) h)

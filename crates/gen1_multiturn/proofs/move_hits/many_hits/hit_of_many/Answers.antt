@@ -10,9 +10,9 @@ use Rattle.gen1_multiturn.proofs.move_hits.many_hits.hit_of_many.Goals as goal
 
 pub returns-clause-shown : goal.returns-clause-shown
 unfolding hit_once count_hit
-returns-clause-shown t c origin g p h =
+returns-clause-shown t c since g p h =
     let a = does_still g (land (other c.args.side)) c.land_hit.ensures.shown h in
     let b = drawn_if_not _ _ _ (plain-hit (move_at c.args.id).effect c.requires.many) (drawn_stays a) in
     let d = drawn_acted (λ (x : Action). record x { hits_made = x.hits_made + 1 }) b in
-    let e = drawn_quietly d (c.plan_unless_broken.ensures.shown _ _ origin g _) in
+    let e = drawn_quietly d (c.plan_unless_broken.ensures.shown _ _ since g _) in
     drawn_goes _ _ a (drawn_goes _ _ b (drawn_goes _ _ d (drawn_goes _ _ e (plain_still c.plan_unless_broken.new.known g _ c.rage.ensures.shown e))))

@@ -8,8 +8,8 @@ use Rattle.gen1_multiturn.proofs.move_hits.many_hits.other_hits.Goals as goal
 
 pub returns-clause-shown : goal.returns-clause-shown
 unfolding other_hits given
-returns-clause-shown t c origin g p h =
+returns-clause-shown t c since g p h =
     let left = c.hits_left-left.ensures.value ∙ ap (λ (a : Action). unwrap_or a.hits_planned 1 - 1) (sym h.shows.action) in
-    let a = rw left at (c.hit_again.ensures.shown origin g p h) in
+    let a = rw left at (c.hit_again.ensures.shown since g p h) in
     let count = rw c.other.ensures at c.note_hit_count.ensures.shown in
     drawn_goes _ _ a (does_still g (when (λ q. is_some q.action.hits_planned) (given (λ q. q.action.hits_made) (note_hit_count (other c.args.side)))) count a)

@@ -8,13 +8,13 @@ use Rattle.gen1_multiturn.proofs.Underways.{alone-biding, not-stored, stored-is}
 use Rattle.gen1_multiturn.proofs.moves.bide.bide.Goals as goal
 
 pub returns-in-None-clause-left : goal.returns-in-None-clause-left
-returns-in-None-clause-left t c origin g p plan doing v h =
+returns-in-None-clause-left t c since g p plan doing v h =
     let off = not-stored (underway_in c.args.side p.field).bide (sym (c.bide.ensures.stands _ _ h.shows.within) ∙ c.in-None.is) in
     leaves {k = just_begun c.args.side} g
-    (drawn_if_not _ _ _ (ap (λ (o : Option Storing). is_some o) off) (c.start_bide.ensures.shown origin (knowing (just_begun c.args.side) g) p (alone-biding g.setting.terms plan c.args.side Bide p doing refl v) h))
+    (drawn_if_not _ _ _ (ap (λ (o : Option Storing). is_some o) off) (c.start_bide.ensures.shown since (knowing (just_begun c.args.side) g) p (alone-biding g.setting.terms plan c.args.side Bide p doing refl v) h))
 
 pub returns-in-Some-clause-left : goal.returns-in-Some-clause-left
-returns-in-Some-clause-left t c origin g p plan doing v h =
+returns-in-Some-clause-left t c since g p plan doing v h =
     let on = stored-is (underway_in c.args.side p.field).bide _ (sym (c.bide.ensures.stands _ _ h.shows.within) ∙ c.in-Some.is) in
     leaves {k = c.bide_knowing.new.known} g
     (drawn_if_so _ _ _ (ap (λ (o : Option Storing). is_some o) on)

@@ -7,12 +7,10 @@ use Rattle.gen1_hits.proofs.Searching.{found_by_drawing}
 use Rattle.gen1_multiturn.proofs.FixedDamage.{above_level_one, at_level_one}
 use Rattle.gen1_multiturn.proofs.moves.fixed_damage.psywave.Goals as goal
 
-pub returns-then-level-le1 : goal.returns-then-level-le1
-returns-then-level-le1 t c = record {
-  deals = λ parts origin g events p h.
-      let small : nat_le c.args.level 1 ≡ true = grind (arith, nat_tests) in
-      (p.drawn, h, at_level_one c.args.level p small);
-}
+pub returns-then-level-le1-clause-deals : goal.returns-then-level-le1-clause-deals
+returns-then-level-le1-clause-deals t c parts since g events p h =
+    let small : nat_le c.args.level 1 ≡ true = grind (arith, nat_tests) in
+    (p.drawn, h, at_level_one c.args.level p small)
 
 -- 1 is below each limit, and each byte is drawn.
 pub unreachable-requires : goal.unreachable-requires
@@ -20,11 +18,9 @@ unreachable-requires t c =
     let meets : is_psywave c.args.level 1 ≡ true = grind (arith, nat_tests) in
     let none = (c.in-None.ensures.none (is_psywave c.args.level) (λ x answer lt post. search rules)).none_meets 1 (lit< tt) in cc
 
-pub returns : goal.returns
-returns t c = record {
-  deals = λ parts origin g events p h.
-      let large : nat_le c.args.level 1 ≡ false = grind (arith, nat_tests) in
-      let like = c.in-Some.ensures.found (is_psywave c.args.level) (λ x answer lt post. search rules) in
-      let found = found_by_drawing (is_psywave c.args.level) set_last_damage h like (ap set_last_damage (exact_byte like)) in
-      rw c.from.ensures (found.0, found.1, above_level_one c.args.level p large ∙ found.2);
-}
+pub returns-clause-deals : goal.returns-clause-deals
+returns-clause-deals t c parts since g events p h =
+    let large : nat_le c.args.level 1 ≡ false = grind (arith, nat_tests) in
+    let like = c.in-Some.ensures.found (is_psywave c.args.level) (λ x answer lt post. search rules) in
+    let found = found_by_drawing (is_psywave c.args.level) set_last_damage h like (ap set_last_damage (exact_byte like)) in
+    rw c.from.ensures (found.0, found.1, above_level_one c.args.level p large ∙ found.2)

@@ -10,10 +10,8 @@ pub unreachable-requires : goal.unreachable-requires
 unreachable-requires t c =
     let none : true ≡ false = (c.in_default.ensures.none is_factor (λ x answer lt post. search rules)).none_meets 255 (lit< tt) in cc
 
-pub returns : goal.returns
+pub returns-clause-shown : goal.returns-clause-shown
 unfolding deal_everything
-returns t c = record {
-  shown = λ events origin g p h.
-      drawn_until is_factor deal_everything h (c.in-Some.ensures.found is_factor (λ x answer lt post. search rules)) refl
-      (λ q a. still {g' = g} a (put_damage a.shows 65535 (c.put_last_damage.ensures.stands _ _ a.shows.within)) refl);
-}
+returns-clause-shown t c events since g p h =
+    drawn_until is_factor deal_everything h (c.in-Some.ensures.found is_factor (λ x answer lt post. search rules)) refl
+    (λ q a. still {g' = g} a (put_damage a.shows 65535 (c.put_last_damage.ensures.stands _ _ a.shows.within)) refl)

@@ -10,9 +10,9 @@ use Rattle.gen1_hits.specs.Alone.{just_begun}
 use Rattle.gen1_multiturn.proofs.moves.thrash.thrash.Goals as goal
 
 pub returns-clause-left : goal.returns-clause-left
-returns-clause-left t c move is origin g p plan doing v h =
+returns-clause-left t c move is since g p plan doing v h =
     let s = c.args.side in
     let k = c.seen_going_on-known.result in
     let a = drawn_quietly h (does_still {k = just_begun s} {k' = k} g (see_if_going_on s Continue) (c.seen_going_on-known.ensures.shown _)) in
     let w = (see_if_going_on-sound (planned-sound g.setting.terms plan) s Continue).kept p v in
-    leaves {k = k} g (drawn_goes (see_if_going_on s Continue) (thrash_about s move) a (c.thrash_with.ensures.shown move Thrash is refl origin g _ plan doing w a))
+    leaves {k = k} g (drawn_goes (see_if_going_on s Continue) (thrash_about s move) a (c.thrash_with.ensures.shown move Thrash is refl since g _ plan doing w a))

@@ -8,19 +8,19 @@ use Rattle.gen1_multiturn.proofs.moves.thrash.thrash_on.Goals as goal
 
 pub returns-in_default-clause-shown : goal.returns-in_default-clause-shown
 unfolding thrash_less
-returns-in_default-clause-shown t c origin g p is h = rw c.in_default.is (drawn_stays h)
+returns-in_default-clause-shown t c since g p is h = rw c.in_default.is (drawn_stays h)
 
 pub returns-then-turns-le1-clause-shown : goal.returns-then-turns-le1-clause-shown
 unfolding thrash_less without_thrash
-returns-then-turns-le1-clause-shown t c origin g p is h =
+returns-then-turns-le1-clause-shown t c since g p is h =
     let s = c.args.side in
     let w = c.end_thrash.ensures.stands _ p.field without_thrash h.shows.within refl in
     let a = still h (put_on_conditions h.shows s without_thrash w) refl in
-    rw c.in-Some.is (drawn_if_so _ _ _ (at_most _ 1 c.if-turns-le1.true) (drawn_goes _ _ a (c.confuse.ensures.shown origin g _ a)))
+    rw c.in-Some.is (drawn_if_so _ _ _ (at_most _ 1 c.if-turns-le1.true) (drawn_goes _ _ a (c.confuse.ensures.shown since g _ a)))
 
 pub returns-clause-shown : goal.returns-clause-shown
 unfolding thrash_less
-returns-clause-shown t c origin g p is h =
+returns-clause-shown t c since g p is h =
     let s = c.args.side in
     let now = conditions_in s p.field in
     let turns = c.in-Some.turns in

@@ -6,14 +6,14 @@ use Rattle.gen1_multiturn.proofs.moves.thrash.thrash_with.Goals as goal
 
 pub returns-then-known-clause-shown : goal.returns-then-known-clause-shown
 unfolding thrash_about
-returns-then-known-clause-shown t c move effect is tie origin g p plan doing v h =
+returns-then-known-clause-shown t c move effect is tie since g p plan doing v h =
     let left = c.thrash.ensures.stands _ _ h.shows.within in
     drawn_if_so _ _ _ (ap (λ (a : Action). a.going_on) h.shows.action ∙ c.if-known.true)
-    (drawn_seeing _ (λ (o : Option ℕ). thrash_less c.args.side o) left (c.thrash_on.ensures.shown origin (knowing c.args.known.now g) p (sym left) h))
+    (drawn_seeing _ (λ (o : Option ℕ). thrash_less c.args.side o) left (c.thrash_on.ensures.shown since (knowing c.args.known.now g) p (sym left) h))
 
 pub returns-clause-shown : goal.returns-clause-shown
 unfolding thrash_about
-returns-clause-shown t c move effect is tie origin g p plan doing v h =
+returns-clause-shown t c move effect is tie since g p plan doing v h =
     let alone = alone-thrashing g.setting.terms plan c.args.side effect p doing tie v in
     drawn_if_not _ _ _ (ap (λ (a : Action). a.going_on) h.shows.action ∙ c.if-known.false)
-    (drawn_quietly h (c.begin_thrashing.ensures.shown _ move is origin (knowing c.args.known.now g) p alone.0 alone.1))
+    (drawn_quietly h (c.begin_thrashing.ensures.shown _ move is since (knowing c.args.known.now g) p alone.0 alone.1))

@@ -9,12 +9,10 @@ use Rattle.gen1_hits.proofs.Knowledge.{does_still, leaves}
 use Rattle.gen1_hits.specs.Alone.{just_begun}
 use Rattle.gen1_multiturn.proofs.moves.trapping.trap.Goals as goal
 
-pub returns : goal.returns
-returns t c = record {
-  left = λ events origin g p plan doing v h.
-      let s = c.args.side in
-      let k = c.seen_going_on-known.result in
-      let a = does_still {k = just_begun s} {k' = k} g (see_if_going_on s Continue) (c.seen_going_on-known.ensures.shown events) h in
-      let w = (see_if_going_on-sound (planned-sound g.setting.terms plan) s Continue).kept p v in
-      leaves {k = k} g (drawn_goes (see_if_going_on s Continue) (trap s) a (c.trap_knowing.ensures.shown events Trapping refl origin g _ plan doing w a));
-}
+pub returns-clause-left : goal.returns-clause-left
+returns-clause-left t c events since g p plan doing v h =
+    let s = c.args.side in
+    let k = c.seen_going_on-known.result in
+    let a = does_still {k = just_begun s} {k' = k} g (see_if_going_on s Continue) (c.seen_going_on-known.ensures.shown events) h in
+    let w = (see_if_going_on-sound (planned-sound g.setting.terms plan) s Continue).kept p v in
+    leaves {k = k} g (drawn_goes (see_if_going_on s Continue) (trap s) a (c.trap_knowing.ensures.shown events Trapping refl since g _ plan doing w a))

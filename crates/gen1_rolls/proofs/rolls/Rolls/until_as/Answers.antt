@@ -28,6 +28,10 @@ draws-preserved g c =
       drawn = c.draw-byte.ensures.left ∙ ap g.Self.Rolls.drawing.next c.draws.invariant.drawn ∙ sym (iterate-more g.Self.Rolls.drawing.next c.draws.counter c.args.self.now);
       failed = λ p settles. below_more _ _ (c.draws.invariant.failed p settles)
           (ap p (sym drawn) ∙ sym (settles c.draw-byte.result false c.draw-byte.type_inv c.if-test.ensures));
+      steps = record {
+        later = λ origin s agrees. c.draws.invariant.steps.later origin s (c.draw-byte.ensures.steps.later origin s agrees);
+        comes = λ before came. c.draw-byte.ensures.steps.comes before (c.draws.invariant.steps.comes before came);
+      };
       full = λ _.
           full_from g.Self.Rolls.drawing c.args.self.now c.draws.self g.Self.Rolls.drawing.width c.draws.counter c.draws.invariant.drawn
           c.draws.invariant.full (draws_of-full (stands_at_itself g.Self.Rolls.drawing c.draws.self) c.draw-byte.ensures.stream);

@@ -10,13 +10,13 @@ use Rattle.gen1_status.proofs.gate_tests.by_move.paralysis_test.Goals as goal
 
 pub returns-then-not-is_paralysed-clause-shown : goal.returns-then-not-is_paralysed-clause-shown
 unfolding paralysis_test
-returns-then-not-is_paralysed-clause-shown t c origin g p h =
+returns-then-not-is_paralysed-clause-shown t c since g p h =
     let is = c.is_paralysed.ensures ∙ ap is_paralysed (c.status.ensures.stands _ p.field h.shows.within) in
     drawn_if_not _ _ _ (sym is ∙ c.if-not-is_paralysed.true) (still h (stays h.shows) refl)
 
 pub returns-then-draw_as-ge-FULLY_PARALYSED_BELOW-clause-shown : goal.returns-then-draw_as-ge-FULLY_PARALYSED_BELOW-clause-shown
 unfolding paralysis_test may_be_paralysed
-returns-then-draw_as-ge-FULLY_PARALYSED_BELOW-clause-shown t c origin g p h =
+returns-then-draw_as-ge-FULLY_PARALYSED_BELOW-clause-shown t c since g p h =
     let is = c.is_paralysed.ensures ∙ ap is_paralysed (c.status.ensures.stands _ p.field h.shows.within) in
     let same = ap (λ (x : Bool). choose (λ _. x) (on_conditions c.args.side broken_off ▸ cant c.args.side reasons.Paralysed) stay) (alike_below _ _ 63 c.draw_as.ensures.drawn) in
     drawn_if_so _ _ _ (sym is ∙ c.if-not-is_paralysed.false) (drawing_like (may_be_paralysed c.args.side) c.draw_as.result h same c.draw_as.ensures.left
@@ -24,7 +24,7 @@ returns-then-draw_as-ge-FULLY_PARALYSED_BELOW-clause-shown t c origin g p h =
 
 pub returns-clause-shown : goal.returns-clause-shown
 unfolding paralysis_test may_be_paralysed
-returns-clause-shown t c origin g p h =
+returns-clause-shown t c since g p h =
     let is = c.is_paralysed.ensures ∙ ap is_paralysed (c.status.ensures.stands _ p.field h.shows.within) in
     let same = ap (λ (x : Bool). choose (λ _. x) (on_conditions c.args.side broken_off ▸ cant c.args.side reasons.Paralysed) stay) (alike_below _ _ 63 c.draw_as.ensures.drawn) in
     drawn_if_so _ _ _ (sym is ∙ c.if-not-is_paralysed.false) (drawing_like (may_be_paralysed c.args.side) c.draw_as.result h same c.draw_as.ensures.left

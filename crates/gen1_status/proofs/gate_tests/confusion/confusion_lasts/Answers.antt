@@ -16,7 +16,7 @@ use Rattle.gen1_status.proofs.gate_tests.confusion.confusion_lasts.Goals as goal
 
 pub returns-then-draw_as-lt-HITS_ITSELF_FROM-clause-shown : goal.returns-then-draw_as-lt-HITS_ITSELF_FROM-clause-shown
 unfolding lasts may_hurt_itself
-returns-then-draw_as-lt-HITS_ITSELF_FROM-clause-shown t c origin g p is h =
+returns-then-draw_as-lt-HITS_ITSELF_FROM-clause-shown t c since g p is h =
     let known = subst (λ (o : Option ℕ). IsCount 0 5 o) is (active_ok c.args.side h.shows.within).conditions.confused in
     let less = less_confused (conditions_in c.args.side p.field) c.args.turns is
     ∙ ap (λ (n : ℕ). record (conditions_in c.args.side p.field) { confused = Some n }) (sym c.saturating_sub.ensures) in
@@ -30,7 +30,7 @@ returns-then-draw_as-lt-HITS_ITSELF_FROM-clause-shown t c origin g p is h =
 
 pub returns-clause-shown : goal.returns-clause-shown
 unfolding lasts may_hurt_itself
-returns-clause-shown t c origin g p is h =
+returns-clause-shown t c since g p is h =
     let known = subst (λ (o : Option ℕ). IsCount 0 5 o) is (active_ok c.args.side h.shows.within).conditions.confused in
     let less = less_confused (conditions_in c.args.side p.field) c.args.turns is
     ∙ ap (λ (n : ℕ). record (conditions_in c.args.side p.field) { confused = Some n }) (sym c.saturating_sub.ensures) in

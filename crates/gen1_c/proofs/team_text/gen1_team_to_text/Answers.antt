@@ -1,0 +1,26 @@
+use Rattle.std.proofs.Common.{Ok, ap, arith, sym, ◌≡◌, ◌∙◌}
+use Rattle.gen1_writer.specs.Export.{text_of}
+use Rattle.gen1_writer.specs.Written.{write_refusal}
+use Rattle.gen1_c.proofs.Faults.{due_refusal, due_text, not_refused, sheets-of}
+use Rattle.gen1_c.proofs.Writing.{refused, written}
+use Rattle.gen1_c.proofs.team_text.gen1_team_to_text.Goals as goal
+
+pub returns-in-Ok-clause-writes : goal.returns-in-Ok-clause-writes
+returns-in-Ok-clause-writes c =
+    let none : c.number_fault-fault.result ≡ 0 = omega (arith, c.if-fault-gt0.false) in
+    let same = sheets-of c.args.team.now _ _ c.specs_of-specs.ensures c.from-count.ensures in
+    let due = due_text text_of c.args.team.now (sym c.number_fault-fault.ensures.value ∙ none) (ap write_refusal (sym same) ∙ c.in-Ok.ensures.allowed) in
+    let text = ap text_of (sym same) ∙ sym c.in-Ok.ensures.written ∙ sym c.as_slice.ensures.value in
+    rw c.from.ensures (written _ _ _ (due ∙ ap Ok text) c.write_text.ensures.writes)
+
+pub returns-in-Err-clause-writes : goal.returns-in-Err-clause-writes
+returns-in-Err-clause-writes c =
+    let none : c.number_fault-fault.result ≡ 0 = omega (arith, c.if-fault-gt0.false) in
+    let same = sheets-of c.args.team.now _ _ c.specs_of-specs.ensures c.from-count.ensures in
+    rw c.of_write.ensures
+    (refused _ (due_refusal text_of c.args.team.now _ (sym c.number_fault-fault.ensures.value ∙ none) (ap write_refusal (sym same) ∙ c.in-Err.ensures.refused)))
+
+pub returns-in-Err-clause-fits : goal.returns-in-Err-clause-fits
+returns-in-Err-clause-fits c room zero fine =
+    let same = sheets-of c.args.team.now _ _ c.specs_of-specs.ensures c.from-count.ensures in
+    absurd (not_refused _ _ (ap write_refusal (sym same) ∙ c.in-Err.ensures.refused) fine)

@@ -1,0 +1,8 @@
+-- The members of both sides.
+pub mod Members
+-- The active members.
+pub mod Active
+-- Whether a guess fits.
+pub mod Tests
+-- The battle, and its state.
+pub mod Forks

@@ -1,0 +1,20 @@
+//! A battle that fits what a player knows, with a guess of the rest (docs/MECHANICS.md, "A battle that fits").
+//!
+//! - `guess`: [`Guess`], what a player can't know
+//! - `fault`: [`GuessFault`], why a guess does not fit
+//! - `tests`: whether a guess fits
+//! - `members`: the members of both sides
+//! - `active`: the active members
+//! - `forks`: [`from_player`], the battle, and [`guessed_state`], its state
+#![tactic(auto)]
+
+mod active;
+mod fault;
+mod forks;
+mod guess;
+mod members;
+mod tests;
+
+pub use fault::GuessFault;
+pub use forks::{from_player, guessed_state};
+pub use guess::Guess;

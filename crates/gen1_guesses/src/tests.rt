@@ -1,0 +1,124 @@
+//! Whether a guess fits what a player knows (docs/MECHANICS.md, "A battle that fits").
+ghost use Rattle.std.specs.Prelude.{◌<◌, ◌≡◌};
+ghost use Rattle.gen1_guesses.specs.Tests.{at_index, id_in, knows, tested, tested_count, tested_going, tested_member, tested_members, tested_use, tested_uses};
+
+use crate::fault::GuessFault;
+use crate::members::member_at;
+use gen1_player::{Player, PublicSide, Seen};
+use gen1_states::MemberState;
+
+// The number of Struggle, which every member may use.
+const STRUGGLE: u8 = 165;
+
+/// The first fact that does not fit, of a guess with so many members, which are `fresh`.
+#[tactic(auto, unfolding(crate::specs::Tests::tested))]
+pub(crate) fn test(
+    player: &Player,
+    foe: &PublicSide,
+    count: u8,
+    fresh: &[MemberState; 6],
+) -> Result<(), GuessFault>
+    ensures { result ≡ tested player.now foe.now count fresh.now }
+{
+    test_going(player, foe)?;
+    test_count(player.foes, count)?;
+    test_members(&foe.members, fresh)?;
+    test_use(foe.place, foe.last_move, &member_at(foe.place, fresh))
+}
+
+// Both sides have a member out, and the battle is not over.
+fn test_going(player: &Player, foe: &PublicSide) -> Result<(), GuessFault>
+    ensures { result ≡ tested_going player.now foe.now }
+{
+    let is_out = player.own.place != 0 && foe.place != 0;
+    let goes_on = player.own.outcome == 0 && player.public.outcome == 0;
+    if is_out && goes_on {
+        Ok(())
+    } else {
+        Err(GuessFault::NotGoingOn)
+    }
+}
+
+// The foe has as many members as the player knows, if it does.
+fn test_count(known: u8, count: u8) -> Result<(), GuessFault>
+    ensures { result ≡ tested_count known count }
+{
+    if known == 0 || known == count {
+        Ok(())
+    } else {
+        Err(GuessFault::Count(known))
+    }
+}
+
+#[tactic(auto, unfolding(crate::specs::Tests::tested_members))]
+fn test_members(seen: &[Seen; 6], fresh: &[MemberState; 6]) -> Result<(), GuessFault>
+    ensures { result ≡ tested_members seen.now fresh.now }
+{
+    test_at(0, seen, fresh, 1)?;
+    test_at(1, seen, fresh, 2)?;
+    test_at(2, seen, fresh, 3)?;
+    test_at(3, seen, fresh, 4)?;
+    test_at(4, seen, fresh, 5)?;
+    test_at(5, seen, fresh, 6)
+}
+
+fn test_at(
+    index: usize,
+    seen: &[Seen; 6],
+    fresh: &[MemberState; 6],
+    number: u8,
+) -> Result<(), GuessFault>
+    requires { index < 6 }
+    ensures { result ≡ at_index index seen.now fresh.now number }
+{
+    test_member(number, &seen[index], &fresh[index])
+}
+
+// A member that has appeared is the one of the guess.
+fn test_member(number: u8, seen: &Seen, fresh: &MemberState) -> Result<(), GuessFault>
+    ensures { result ≡ tested_member number seen.now fresh.now }
+{
+    if seen.species == 0 {
+        Ok(())
+    } else if seen.species == fresh.species && seen.level == fresh.level {
+        test_uses(number, seen, fresh)
+    } else {
+        Err(GuessFault::Member(number))
+    }
+}
+
+// It knows the moves that it was seen to prepare or to use.
+#[tactic(auto, unfolding(crate::specs::Tests::tested_uses))]
+fn test_uses(number: u8, seen: &Seen, fresh: &MemberState) -> Result<(), GuessFault>
+    ensures { result ≡ tested_uses number seen.now fresh.now }
+{
+    test_use(number, id_in(0, seen), fresh)?;
+    test_use(number, id_in(1, seen), fresh)?;
+    test_use(number, id_in(2, seen), fresh)?;
+    test_use(number, id_in(3, seen), fresh)?;
+    test_use(number, id_in(4, seen), fresh)
+}
+
+fn id_in(index: usize, seen: &Seen) -> u8
+    requires { index < 5 }
+    ensures { result ≡ id_in index seen.now }
+{
+    seen.moves[index].id
+}
+
+fn test_use(number: u8, id: u8, fresh: &MemberState) -> Result<(), GuessFault>
+    ensures { result ≡ tested_use number id fresh.now }
+{
+    if id == 0 || id == STRUGGLE || knows(id, fresh) {
+        Ok(())
+    } else {
+        Err(GuessFault::Move(number, id))
+    }
+}
+
+fn knows(id: u8, fresh: &MemberState) -> bool
+    ensures { result ≡ knows id fresh.now }
+{
+    let ids = &fresh.moves;
+    ids[0] == id || ids[1] == id || ids[2] == id || ids[3] == id
+}
