@@ -58,7 +58,7 @@ fn side(bytes: &[u8]) -> [f32; COUNT] {
 }
 
 /// The number of two bytes.
-fn number(bytes: &[u8], at: usize) -> u16 {
+pub(crate) fn number(bytes: &[u8], at: usize) -> u16 {
     u16::from_le_bytes([bytes[at], bytes[at + 1]])
 }
 

@@ -22,8 +22,8 @@ use core::fmt;
 use core::str::FromStr;
 use core::time::Duration;
 use gen1::{
-    Battle, Choice, Guess, MemberSpec, MoveId, Outcome, Player, PlayoutOptions, Side, Species,
-    Team, Teller,
+    Battle, Choice, Guess, HpForm, MemberSpec, MoveId, Outcome, Player, PlayoutOptions, Side,
+    Species, Team, Teller,
 };
 
 /// A player of a league. Its name is what `FromStr` reads: `random`, `greedy`, `monte:MS`, `think:MS`, `nodes:N` or `level:N`.
@@ -240,7 +240,7 @@ pub fn play(
     mut see: impl FnMut(&Battle),
 ) -> Outcome {
     let mut battle = Battle::new(teams[0], teams[1], dice.numbers());
-    let mut tellers = Side::BOTH.map(Teller::new);
+    let mut tellers = Side::BOTH.map(|side| Teller::with_hp(side, HpForm::Exact));
     let mut players = [0, 1].map(|at| {
         let foes = teams[1 - at].members().len() as u8;
         Player::with_foes(Side::BOTH[at], teams[at], foes)

@@ -24,6 +24,7 @@ extern crate alloc;
 #[cfg(feature = "std")]
 extern crate std;
 
+mod expected;
 pub mod leaf;
 #[cfg(feature = "league")]
 pub mod league;

@@ -140,12 +140,12 @@ impl Thought {
         self.choices.first().map_or(Choice::Pass, |it| it.choice)
     }
 
-    /// A choice drawn by the probabilities, without those below half of the highest: they are mostly the noise of the search, and a bot that
-    /// makes them loses more often.
+    /// A choice drawn by the probabilities, without those below nine tenths of the highest: they are mostly the noise of the search, and a
+    /// bot that makes them loses more often.
     pub fn draw(&self, dice: &mut Dice) -> Choice {
         let most = self.choices.first().map_or(0.0, |it| it.probability);
         let weight = |it: &Considered| {
-            if it.probability < most / 2.0 {
+            if it.probability < 0.9 * most {
                 0.0
             } else {
                 it.probability
@@ -164,7 +164,8 @@ impl Thought {
 /// The foe's team is guessed from the prior ([`Prior::guess`]), and [`Battle::from_player`] makes battles that fit. Each tree plays passes
 /// through them: both sides choose at once by regret matching, each pass draws its own numbers, and ends at a position that is new to the
 /// tree with its leaf value ([`leaf::value`]). At the root the side's regrets are those of all guesses together, so its strategy does not
-/// depend on what it doesn't know. The strategies of the trees are averaged.
+/// depend on what it doesn't know. Below it moves that are expected to deal much damage are tried first. The strategies of the trees are
+/// averaged.
 ///
 /// ```
 /// use gen1::{Battle, Choice, Player, Side, Team, Teller, member};
@@ -449,7 +450,7 @@ fn root(square: f64) -> f64 {
 fn line(tree: &Tree<'_>, guess: &Battle, side: Side, first: usize) -> Vec<[String; 2]> {
     let (mut battle, mut way, mut line) = (guess.clone(), 0, Vec::new());
     let mut dice = Dice::new(0);
-    while let Some((node, [ones, twos])) = tree.strategies(&battle, way) {
+    while let Some((node, [ones, twos])) = tree.made(&battle, way) {
         let (mut one, mut two) = (most(&ones), most(&twos));
         if line.is_empty() {
             match side {
@@ -474,7 +475,7 @@ fn line(tree: &Tree<'_>, guess: &Battle, side: Side, first: usize) -> Vec<[Strin
             let mut after = battle.clone();
             after.reseed(dice.numbers());
             after.update_silent(ones[one], twos[two]).ok()?;
-            tree.strategies(&after, way).map(|_| after)
+            tree.made(&after, way).map(|_| after)
         });
         match after {
             Some(after) if line.len() < SHOWN => battle = after,

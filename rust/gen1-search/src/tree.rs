@@ -3,30 +3,37 @@
 //! Each pass draws numbers for a fork, and plays choices until it meets a position without a node, whose leaf value goes back along the
 //! pass. Battles that share a node have the same members out, with the same moves, status, stages and conditions, and HP in the same
 //! eighth; which numbers were drawn on the way makes no difference otherwise.
-use crate::Dice;
-use crate::leaf;
+use crate::{Dice, expected, leaf};
 use alloc::vec::Vec;
+use core::num::NonZeroUsize;
 use core::ops::Range;
 use gen1::layout::{self, active, member};
-use gen1::{ArrayVec, Battle, OfferedMask, Side};
+use gen1::{ArrayVec, Battle, Choice, Offered, OfferedMask, Side};
 
 /// The most updates of one pass.
 const DEPTH: usize = 64;
 /// Up to so many nodes have their memory from the start. A search by time, which may have any number, takes it as it is needed.
 const MOST_EXPECTED: u64 = 1 << 16;
 /// How often a side explores, by any of its choices.
-const EXPLORED: f32 = 0.1;
+const EXPLORED: f32 = 0.03;
+/// The sum of the first regrets of a side.
+const EXPECTED: f32 = 0.5;
 
-/// Where the numbers of a node begin, and how many choices it has.
+/// Where the numbers of a node begin, and how many choices it has. A node gets numbers when it is met again: most nodes never are.
 ///
-/// The numbers: for each side the regrets of its choices, then the weights of its average strategy; then for each pair of choices how often
-/// it was played, and the sum of what side 1 got.
+/// The numbers: for each side the regrets of its choices; then for each pair of choices how often it was played, and the sum of what
+/// side 1 got.
 #[derive(Clone, Copy, Debug)]
 struct Node {
-    begin: usize,
-    rows: usize,
-    columns: usize,
-    visits: u32,
+    begin: Option<NonZeroUsize>,
+    rows: u8,
+    columns: u8,
+}
+
+impl Node {
+    fn sizes(self) -> (usize, usize) {
+        (usize::from(self.rows), usize::from(self.columns))
+    }
 }
 
 /// A node on the way of a pass, with the choices made there.
@@ -113,7 +120,8 @@ impl<'a> Tree<'a> {
             },
             nodes: Vec::with_capacity(expected),
             slots: alloc::vec![(0, 0); (2 * expected + 1).next_power_of_two().max(1 << 10)],
-            numbers: Vec::new(),
+            // No node begins at 0.
+            numbers: alloc::vec![0.0],
             dice: Dice::new(seed),
         }
     }
@@ -155,6 +163,9 @@ impl<'a> Tree<'a> {
             let Some(node) = self.node(class, ones.len(), twos.len()) else {
                 break;
             };
+            if self.nodes[node].begin.is_none() {
+                self.begin(node, battle, ones, twos);
+            }
             let (one, two) = self.chosen(node, steps.is_empty());
             steps.push(Step { node, one, two });
             let (Some(first), Some(second)) = (ones.get(one), twos.get(two)) else {
@@ -178,25 +189,35 @@ impl<'a> Tree<'a> {
                 break;
             }
             let at = number as usize - 1;
-            if hash == class && (self.nodes[at].rows, self.nodes[at].columns) == (rows, columns) {
+            if hash == class && self.nodes[at].sizes() == (rows, columns) {
                 return Some(at);
             }
             slot = (slot + 1) & mask;
         }
         let node = Node {
-            begin: self.numbers.len(),
-            rows,
-            columns,
-            visits: 0,
+            begin: None,
+            rows: rows as u8,
+            columns: columns as u8,
         };
-        self.numbers
-            .resize(node.begin + 2 * (rows + columns) + 2 * rows * columns, 0.0);
         self.nodes.push(node);
         self.slots[slot] = (class, self.nodes.len() as u32);
         if 2 * self.nodes.len() > self.slots.len() {
             self.grow();
         }
         None
+    }
+
+    /// Gives a node its numbers. Its first regrets make strong moves probable: of even choices most would be switches.
+    fn begin(&mut self, node: usize, battle: &Battle, ones: OfferedMask, twos: OfferedMask) {
+        let begin = self.numbers.len();
+        let (rows, columns) = self.nodes[node].sizes();
+        self.numbers
+            .resize(begin + rows + columns + 2 * rows * columns, 0.0);
+        self.nodes[node].begin = NonZeroUsize::new(begin);
+        let (first, second) = self.numbers[begin..][..rows + columns].split_at_mut(rows);
+        let [one, two] = expected::shares(battle);
+        expect(first, ones, &one);
+        expect(second, twos, &two);
     }
 
     fn grow(&mut self) {
@@ -214,24 +235,25 @@ impl<'a> Tree<'a> {
 
     /// A choice of each side, by its regrets, or sometimes any. At the root the regrets of the side that thinks are those of all guesses.
     fn chosen(&mut self, node: usize, is_root: bool) -> (usize, usize) {
-        let Node { begin, rows, .. } = self.nodes[node];
-        let columns = self.nodes[node].columns;
         if is_root {
             let own = self.own_regrets(node);
             self.numbers[own].copy_from_slice(&self.root.regrets);
         }
-        let (one, two) = self.numbers[begin..][..rows + columns].split_at(rows);
+        let (rows, columns) = self.nodes[node].sizes();
+        let regrets = &self.numbers[self.numbers_of(node)..][..rows + columns];
+        let (one, two) = regrets.split_at(rows);
         (picked(one, &mut self.dice), picked(two, &mut self.dice))
+    }
+
+    /// Where the numbers of a node begin.
+    fn numbers_of(&self, node: usize) -> usize {
+        self.nodes[node].begin.map_or(0, NonZeroUsize::get)
     }
 
     /// Where the regrets of the side that thinks are in the numbers.
     fn own_regrets(&self, node: usize) -> Range<usize> {
-        let Node {
-            begin,
-            rows,
-            columns,
-            ..
-        } = self.nodes[node];
+        let (rows, columns) = self.nodes[node].sizes();
+        let begin = self.numbers_of(node);
         match self.side {
             Side::One => begin..begin + rows,
             Side::Two => begin + rows..begin + rows + columns,
@@ -240,18 +262,14 @@ impl<'a> Tree<'a> {
 
     /// Notes what side 1 got by a pass through a node, and what each side missed.
     fn learn(&mut self, step: Step, value: f32, is_root: bool) {
-        self.nodes[step.node].visits += 1;
         let own = self.own_regrets(step.node);
         if is_root {
             self.root.add_strategy(&self.numbers[own.clone()]);
         }
-        let node = self.nodes[step.node];
-        let (rows, columns) = (node.rows, node.columns);
-        let (regrets, rest) = self.numbers[node.begin..].split_at_mut(rows + columns);
-        let (weights, cells) = rest.split_at_mut(rows + columns);
+        let (rows, columns) = self.nodes[step.node].sizes();
+        let begin = self.numbers_of(step.node);
+        let (regrets, cells) = self.numbers[begin..].split_at_mut(rows + columns);
         let (ones, twos) = regrets.split_at_mut(rows);
-        average(ones, &mut weights[..rows], node.visits as f32);
-        average(twos, &mut weights[rows..], node.visits as f32);
         let cell = |one: usize, two: usize| 2 * (one * columns + two);
         let at = cell(step.one, step.two);
         cells[at] += 1.0;
@@ -273,8 +291,8 @@ impl<'a> Tree<'a> {
         }
     }
 
-    /// The average strategies of both sides in a battle that was reached by a way; `None` if it has no node with passes.
-    pub fn strategies(&self, battle: &Battle, way: u64) -> Option<(usize, [Vec<f32>; 2])> {
+    /// The node of a battle that was reached by a way, and how often each side made each of its choices there; `None` without passes.
+    pub fn made(&self, battle: &Battle, way: u64) -> Option<(usize, [Vec<f32>; 2])> {
         let [ones, twos] = Side::BOTH.map(|side| battle.offered_mask(side));
         let class = class(battle, way, ones, twos);
         let mask = self.slots.len() - 1;
@@ -286,13 +304,18 @@ impl<'a> Tree<'a> {
             slot = (slot + 1) & mask;
         }
         let at = self.slots[slot].1 as usize - 1;
-        let node = &self.nodes[at];
-        if (node.rows, node.columns) != (ones.len(), twos.len()) || node.visits == 0 {
+        let (rows, columns) = self.nodes[at].sizes();
+        let begin = self.nodes[at].begin?.get();
+        if (rows, columns) != (ones.len(), twos.len()) {
             return None;
         }
-        let sums =
-            &self.numbers[node.begin + node.rows + node.columns..][..node.rows + node.columns];
-        Some((at, [sums[..node.rows].to_vec(), sums[node.rows..].to_vec()]))
+        let cells = &self.numbers[begin + rows + columns..][..2 * rows * columns];
+        let mut made = [alloc::vec![0.0; rows], alloc::vec![0.0; columns]];
+        for (pair, cell) in cells.chunks_exact(2).enumerate() {
+            made[0][pair / columns] += cell[0];
+            made[1][pair % columns] += cell[0];
+        }
+        Some((at, made))
     }
 }
 
@@ -310,12 +333,25 @@ fn strategy(regrets: &[f32], shares: &mut [f32; 16]) {
     }
 }
 
-/// Adds the strategy of regrets to the weights of an average.
-fn average(regrets: &[f32], weights: &mut [f32], times: f32) {
-    let mut shares = [0.0; 16];
-    strategy(regrets, &mut shares);
-    let both = weights.iter_mut().zip(shares);
-    both.for_each(|(weight, share)| *weight += times * share);
+/// Sets the first regrets of a side: greater for a move by the share of the foe's HP that it takes, and small for a switch.
+fn expect(regrets: &mut [f32], offered: OfferedMask, shares: &[Option<f32>; 4]) {
+    if regrets.len() < 2 {
+        return;
+    }
+    let weight = |offered: Offered| match offered.choice() {
+        Choice::Move(slot) => {
+            let at = usize::from(slot.number()).checked_sub(1);
+            let share = at.and_then(|at| shares[at]);
+            share.map_or(0.4, |share| 0.2 + share)
+        }
+        _ => 0.1,
+    };
+    let mut sum = 0.0;
+    for (regret, offered) in regrets.iter_mut().zip(offered.iter()) {
+        *regret = weight(offered);
+        sum += *regret;
+    }
+    regrets.iter_mut().for_each(|it| *it *= EXPECTED / sum);
 }
 
 /// A choice by the strategy of regrets, or with the probability [`EXPLORED`] any.
