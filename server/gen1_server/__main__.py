@@ -60,15 +60,12 @@ async def _serve(config: Config) -> None:
 
 
 def _check(config: Config) -> str:
-    version = keeping.within(config, schema.version_of) if _has_database(config) else ""
+    exists = not config.url.startswith("sqlite") or Path(config.database).exists()
+    version = keeping.within(config, schema.version_of) if exists else ""
     if version not in ("", schema.VERSION):
         raise keeping.Failed(f"the database has version {version}; run migrate")
     page = page_of(config) or "none; web/build --online builds one"
     return f"the options are right; database: {config.database}, version {version or 'none yet'}; page: {page}"
-
-
-def _has_database(config: Config) -> bool:
-    return not config.url.startswith("sqlite") or Path(config.database).exists()
 
 
 def _run(command: str, config: Config, file: Path | None) -> str:
@@ -104,12 +101,9 @@ def main() -> int:
     asked = parser.parse_args()
     try:
         said = _run("check" if asked.check else asked.command, configured(asked.config), asked.file)
-    except BadConfig as fault:
+    except (BadConfig, keeping.Failed, InUse, RuntimeError, OSError) as fault:
         print(f"gen1_server: {fault}", file=sys.stderr)
-        return 2
-    except (keeping.Failed, InUse, RuntimeError, OSError) as fault:
-        print(f"gen1_server: {fault}", file=sys.stderr)
-        return 1
+        return 2 if isinstance(fault, BadConfig) else 1
     if said:
         print(said)
     return 0

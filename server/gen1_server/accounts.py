@@ -79,15 +79,12 @@ class Accounts:
             raise Refused("login", "log in with a password")
         self._check_name(name)
         found = await self._store.run(partial(people.account_named, folded(name)))
-        if found is None:
-            made = await self._add(name, b"")
-        elif found[2]:
+        if found and found[2]:
             raise Refused("login", "this name has a password")
-        else:
-            made = Account(found[0], found[1])
-            elsewhere = self._addresses.get(made.id, address) != address
-            if elsewhere and (self._rooms.online.get(made.id) or self._rooms.rooms_of(made.id)):
-                raise Refused("taken", "a guest of another address uses this name")
+        made = Account(found[0], found[1]) if found else await self._add(name, b"")
+        is_elsewhere = self._addresses.get(made.id, address) != address
+        if is_elsewhere and (self._rooms.online.get(made.id) or self._rooms.rooms_of(made.id)):
+            raise Refused("taken", "a guest of another address uses this name")
         self._addresses[made.id] = address
         return made
 
@@ -126,11 +123,9 @@ class Accounts:
 
     async def asserted(self, name: str, challenge: str, assertion: str) -> Account:
         """The account of a name, by its assertion. Raises `Refused`."""
-        if not hmac.compare_digest(assertion.encode(), self.assertion(name, challenge).encode()):
-            raise Refused("login", "the assertion is wrong")
         found = await self.named(name)
-        if found is None:
-            raise Refused("login", "there is no such name")
+        if found is None or not hmac.compare_digest(assertion.encode(), self.assertion(name, challenge).encode()):
+            raise Refused("login", "the assertion is wrong")
         return found
 
     def _check_name(self, name: str) -> None:

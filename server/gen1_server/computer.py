@@ -4,14 +4,15 @@ import asyncio
 import json
 import logging
 import secrets
+from contextlib import suppress
 from functools import partial
 
-from gen1 import Choice, Error, Message, Player, Row, Team
+from gen1 import Error, Message, Player, Row, Team
 from gen1.search import think
 from gen1_server.accounts import Account
-from gen1_server.core import View
+from gen1_server.core import Refused, View, Watcher
 from gen1_server.formats import FORMATS, LIMIT
-from gen1_server.rooms import Rooms, Watcher, ignored
+from gen1_server.rooms import Rooms, ignored
 
 LOG = logging.getLogger("gen1_server")
 # How many searches run at once.
@@ -60,15 +61,13 @@ class Computer(Watcher):
     async def _choose(self, room: int, format: str, number: int, player: Player) -> None:
         try:
             async with self._turn:
-                choice = await asyncio.to_thread(best, player, self._level, FORMATS[format].rules)
+                work = partial(think, player, level=self._level, rules=FORMATS[format].rules, limit=LIMIT)
+                found = (await asyncio.to_thread(work, seed=secrets.randbits(63))).choices
+            # As often as the search says, since a side that always makes its best choice can be foreseen.
+            choice = secrets.SystemRandom().choices(found, [it.probability for it in found])[0].choice
         except Error:
             LOG.exception("room %d: the computer's search failed", room)
             choice = player.choices[0]
-        self._rooms.ask(room, self._account.id, partial(Row.submit, number=number, choice=choice), ignored)
-
-
-def best(player: Player, level: int, rules: int) -> Choice:
-    """A choice by a search."""
-    found = think(player, level=level, rules=rules, limit=LIMIT, seed=secrets.randbits(63)).choices
-    # As often as the search says, since a side that always makes its best choice can be foreseen.
-    return secrets.SystemRandom().choices(found, [it.probability for it in found])[0].choice
+        # The room may be over by now.
+        with suppress(Refused):
+            self._rooms.ask(room, self._account.id, partial(Row.submit, number=number, choice=choice), ignored)

@@ -89,6 +89,9 @@ class Config:
 
 # The numbers that may be 0, and the lowest values that are not above 0.
 MAY_BE_ZERO = {"lapses", "audience_delay", "keep_days", "grace_seconds", "bot_seconds"}
+# How a text is read as a value of a type.
+TRUTHS = {"true": True, "false": False}
+READ: dict[type, Any] = {bool: TRUTHS.__getitem__, tuple: str.split, int: int, float: float, str: str}
 LEAST = {"lease_seconds": 1, "message_bytes": 1024, "waiting_bytes": 16384, "heartbeat_seconds": 1}
 
 
@@ -119,17 +122,11 @@ def configured(file: Path | None, environment: Mapping[str, str] | None = None) 
 def _value(name: str, kind: type, given: Any) -> Any:
     """A value of the file or of the environment as one of an option's type."""
     try:
-        if kind is bool:
-            return given if isinstance(given, bool) else {"true": True, "false": False}[given]
-        if kind is tuple:
-            listed = given.split() if isinstance(given, str) else given
-            if all(isinstance(it, str) for it in listed):
-                return tuple(listed)
-        elif kind is str and isinstance(given, str):
-            return given
-        elif kind in (int, float) and not isinstance(given, bool):
-            if kind is float or isinstance(given, (int, str)):
-                return kind(given)
+        made = READ[kind](given) if isinstance(given, str) else given
+        if kind is float and type(made) is int or kind is tuple and all(isinstance(it, str) for it in made):
+            made = kind(made)
+        if type(made) is kind:
+            return made
     except (KeyError, TypeError, ValueError):
         pass
     raise BadConfig(f"{name} must be a {'list of texts' if kind is tuple else kind.__name__}, not {given!r}")
@@ -146,6 +143,8 @@ def _check(config: Config) -> None:
     for name, most in (("port", 65535), ("bot_level", 5)):
         if getattr(config, name) > most:
             raise BadConfig(f"{name} must be 1 to {most}, not {getattr(config, name)}")
+    if not config.url.startswith(("sqlite:", "postgresql+")):
+        raise BadConfig("database must be a file, or a URL that begins with postgresql://")
     if not config.name or not config.season:
         raise BadConfig("name and season must not be empty")
     for name in ("page", "formats"):

@@ -15,16 +15,16 @@ from struct import Struct
 from typing import Any, ClassVar
 
 from aiohttp import WSCloseCode, WSMessage, WSMsgType, web
-from aiohttp.http import WebSocketError, WebSocketReader
+from aiohttp.http import WS_KEY, WebSocketError, WebSocketReader
 from gen1 import Row, Side
 from gen1_server import metrics
 from gen1_server.accounts import Account, Accounts
 from gen1_server.config import Config
-from gen1_server.core import Refused
+from gen1_server.core import Refused, Watcher
 from gen1_server.formats import format_named, team_for, text_of
 from gen1_server.limits import Bucket, Limits
 from gen1_server.lobby import Lobby, Seeker
-from gen1_server.rooms import Reply, Rooms, Watcher
+from gen1_server.rooms import Rooms
 from gen1_server.store import Store
 
 LOG = logging.getLogger("gen1_server")
@@ -39,7 +39,6 @@ _MIDDLE, _LONG, _CODE = Struct(">BBH").pack, Struct(">BBQ").pack, Struct(">H").p
 ENDS = {WSMsgType.CLOSE: WSCloseCode.OK, WSMsgType.BINARY: WSCloseCode.UNSUPPORTED_DATA}
 # The first byte of a whole frame (RFC 6455): text, the end, a ping, and the answer to one.
 TEXT, CLOSE, PING, PONG = 0x81, 0x88, 0x89, 0x8A
-_KEY = "258EAFA5-E914-47DA-95CA-C5AB0DC85B11"
 _SWITCHED = (
     "HTTP/1.1 101 Switching Protocols\r\nUpgrade: websocket\r\nConnection: Upgrade\r\nSec-WebSocket-Accept: {}\r\n\r\n"
 )
@@ -60,7 +59,7 @@ def handshake(request: web.Request) -> bytes:
     asks = headers.get("Upgrade", "").lower() == "websocket" and "upgrade" in headers.get("Connection", "").lower()
     if not asks or not key or headers.get("Sec-WebSocket-Version") != "13":
         raise web.HTTPBadRequest(text="a websocket of version 13 is expected\n")
-    return _SWITCHED.format(b64encode(sha1((key + _KEY).encode()).digest()).decode()).encode()
+    return _SWITCHED.format(b64encode(sha1(key.encode() + WS_KEY).digest()).decode()).encode()
 
 
 @dataclass(frozen=True, slots=True)
@@ -163,9 +162,18 @@ class Connection(Watcher, asyncio.Protocol):
         text = text_of(team_for(format_named(format), team))
         return Seeker(self.known.id, self.known.name, format, text, self)
 
-    def ask(self, room: int, row: Callable[[Side], Row], reply: Reply) -> None:
-        """Asks for a row of the account's side in a room."""
-        self.services.rooms.ask(room, self.known.id, row, reply)
+    def ask(self, room: int, row: Callable[[Side], Row], committed: Callable[[], Any] = bool, where: str = "") -> None:
+        """Asks for a row of the account's side in a room. `committed` is called
+        when it is stored. Raises `Refused` for what can't be asked.
+        """
+
+        def replied(fault: Refused | None) -> None:
+            if fault is None:
+                committed()
+            else:
+                self.failed(fault, where)
+
+        self.services.rooms.ask(room, self.known.id, row, replied)
 
     async def watch(self, room: int) -> None:
         """Has a room shown, without an account as one of the audience. Raises
@@ -276,16 +284,5 @@ class Connection(Watcher, asyncio.Protocol):
             self.services.limits.failed(self.address)
         self.refused(fault)
 
-    def failed(self, fault: Refused) -> None:
+    def failed(self, fault: Refused, where: str = "") -> None:
         self.turn_down(fault)
-
-    def reply(self, committed: Callable[[], None]) -> Reply:
-        """A reply for `Rooms`: `committed` is called, or the refusal is sent."""
-
-        def replied(fault: Refused | None) -> None:
-            if fault is None:
-                committed()
-            else:
-                self.turn_down(fault)
-
-        return replied

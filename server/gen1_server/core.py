@@ -7,8 +7,9 @@ know, is decided by `gen1.Host`.
 """
 
 import json
+from collections.abc import Iterable
 from dataclasses import dataclass
-from typing import NamedTuple
+from typing import ClassVar, NamedTuple
 
 from gen1 import Battle, Host, Message, Notice, Row, RowKind, Side
 from gen1_server.clock import Clock
@@ -105,25 +106,54 @@ class View:
     ending: Ending | None
 
 
+class Watcher:
+    """A connection, or the computer, as rooms see it. What a subclass does not
+    define does nothing.
+    """
+
+    # Whether its client goes on at another process where it is told to.
+    follows: ClassVar[bool] = False
+
+    def joined(self, view: View) -> None:
+        """Shows a whole room."""
+
+    def updated(self, view: View) -> None:
+        """Shows the pair that has just ended."""
+
+    def draw_offered(self, room: int, side: Side) -> None:
+        """Says that a side offers a draw."""
+
+    def challenged(self, name: str, format: str, code: str) -> None:
+        """Says that somebody challenges the account."""
+
+    def failed(self, fault: Refused) -> None:
+        """Says that a challenge that was made, or its acceptance, came to nothing."""
+
+    def searches(self, formats: list[str]) -> None:
+        """Says in which formats the account waits for a foe, after a change."""
+
+    def moved(self, room: int, address: str) -> None:
+        """Says that another process has the room."""
+
+
 class Match:
     """A room's host, the logs that were told, and the clock."""
 
-    __slots__ = "start host clock count lapses ending audience_moved _untold _sizes _logs _notices".split()
+    __slots__ = "start host clock count lapses ending audience_moved _sizes _logs _notices".split()
 
-    def __init__(self, start: Start, is_told: bool = True) -> None:
+    def __init__(self, start: Start) -> None:
         options = start.options
         self.start, self.count, self.lapses = start, 0, [0, 0]
-        self.host = self._first()
+        self.host = Host(Battle.load(start.battle), exact_hp=options.exact_hp, may_cancel=options.may_cancel)
         self.clock = Clock(start.created, options.choice, options.total)
-        # The rows of a match that is read back, until the logs of its viewers are computed; then None.
-        self._untold: list[Row] | None = None if is_told else []
+        # How the battle ended, as it was committed.
         self.ending: Ending | None = None
         self._sizes = len(json.loads(start.teams[0])), len(json.loads(start.teams[1]))
         self._logs: tuple[list[bytes], list[bytes], list[bytes]] = ([], [], [])
         # The notices from the one that the audience is shown, which is late if the options say so.
         self._notices: list[Notice] = []
         self.audience_moved = True
-        self._tell(self.host)
+        self._tell()
 
     def reason_after(self, entry: Entry) -> tuple[int, str] | None:
         """The outcome and its reason if an entry would end the battle, else None.
@@ -150,15 +180,11 @@ class Match:
             self.lapses[row.side - 1] += row.kind is RowKind.EXPIRE
         if ended:
             self.clock.ended(entry.at)
-        if self._untold is not None:
-            self._untold.append(row)
-        elif ended:
-            self._tell(self.host)
+            self._tell()
         return ended
 
     def view(self, side: Side | None) -> View:
         """What a side, or the audience, may know now."""
-        self._recall()
         start, host = self.start, self.host
         logs = self._logs[side or 0]
         sent: Message | Notice = host.message(side) if side else self._notices[0]
@@ -170,38 +196,20 @@ class Match:
         ending = self.ending if side or len(self._notices) == 1 else None
         return View(*fixed, team, sent.number, logs, sent, is_awaited, due, ending)
 
-    def end(self, ending: Ending) -> None:
-        """Sets how the battle ended, as it was committed."""
-        self.ending = ending
-
     def catch_up(self) -> bool:
         """Lets the audience of a battle that is over see one more pair. Returns
         whether there was one.
         """
-        self._recall()
         if len(self._notices) < 2:
             return False
         del self._notices[0]
         return True
 
-    def _first(self) -> Host:
-        """The host as it begins."""
-        options = self.start.options
-        return Host(Battle.load(self.start.battle), exact_hp=options.exact_hp, may_cancel=options.may_cancel)
-
-    def _recall(self) -> None:
-        """Computes the logs that viewers received for rows that were read back."""
-        rows, self._untold = self._untold, None
-        host = self._first() if rows else self.host
-        for row in rows or ():
-            if host.apply(row):
-                self._tell(host)
-
-    def _tell(self, host: Host) -> None:
+    def _tell(self) -> None:
         audience, one, two = self._logs
-        one.append(host.message(Side.ONE).log)
-        two.append(host.message(Side.TWO).log)
-        notice = host.notice()
+        one.append(self.host.message(Side.ONE).log)
+        two.append(self.host.message(Side.TWO).log)
+        notice = self.host.notice()
         audience.append(notice.log)
         self._notices.append(notice)
         self.audience_moved = len(self._notices) > self.start.options.audience_delay + 1
@@ -209,11 +217,9 @@ class Match:
             del self._notices[0]
 
 
-def replayed(start: Start, entries: list[Entry]) -> Match:
-    """The match that these entries make. A start reads a thousand of them,
-    so the logs that each viewer received are computed when they are needed.
-    """
-    match = Match(start, False)
+def replayed(start: Start, entries: Iterable[Entry]) -> Match:
+    """The match that these entries make."""
+    match = Match(start)
     for entry in entries:
         match.take(entry)
     return match

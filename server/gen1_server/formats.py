@@ -17,19 +17,12 @@ MOST_TEAM_CHARACTERS = 8192
 
 @dataclass(frozen=True, slots=True)
 class Format:
-    """`brings_teams` says whether players bring their teams, which `checker`
-    then allows; otherwise each gets a random one.
-    """
+    """`checker` says which teams players may bring. Without it each gets a random one."""
 
     id: str
     title: str
     rules: int
     checker: Formats | None
-
-    @property
-    def brings_teams(self) -> bool:
-        """Whether players bring their teams."""
-        return self.checker is not None
 
 
 FORMATS: dict[str, Format] = {}

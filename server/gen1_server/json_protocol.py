@@ -15,6 +15,7 @@ from gen1_server.rooms import now
 
 PROTOCOL = 1
 MOST = 1 << 53
+ENCODE = json.JSONEncoder(separators=(",", ":")).encode
 
 
 class JsonConnection(Connection):
@@ -23,7 +24,9 @@ class JsonConnection(Connection):
     protocol, follows = "json", True
 
     def greet(self) -> None:
-        formats = {it.id: {"title": it.title, "team": it.brings_teams, "rules": it.rules} for it in FORMATS.values()}
+        formats = {
+            it.id: {"title": it.title, "team": it.checker is not None, "rules": it.rules} for it in FORMATS.values()
+        }
         computer = self.services.lobby.computer
         more = {"limit": LIMIT, "computer": computer.name if computer else "", "now": now()}
         self._say("hello", protocol=PROTOCOL, build=gen1.library_build, formats=formats, **more)
@@ -135,19 +138,19 @@ class JsonConnection(Connection):
 
     async def on_choose(self, given: dict[str, Any]) -> None:
         room, number, choice = (_field(given, it, int) for it in ("room", "number", "choice"))
-        committed = self.reply(partial(self._say, "taken", room=room, number=number))
-        self.ask(room, partial(Row.submit, number=number, choice=choice), committed)
+        taken = partial(self._say, "taken", room=room, number=number)
+        self.ask(room, partial(Row.submit, number=number, choice=choice), taken)
 
     async def on_cancel_choice(self, given: dict[str, Any]) -> None:
         room, number = (_field(given, it, int) for it in ("room", "number"))
-        committed = self.reply(partial(self._say, "cancelled", room=room, number=number))
-        self.ask(room, partial(Row.cancel, number=number), committed)
+        cancelled = partial(self._say, "cancelled", room=room, number=number)
+        self.ask(room, partial(Row.cancel, number=number), cancelled)
 
     async def on_offer_draw(self, given: dict[str, Any]) -> None:
-        self.ask(_field(given, "room", int), Row.offer_draw, self.reply(_nothing))
+        self.ask(_field(given, "room", int), Row.offer_draw)
 
     async def on_forfeit(self, given: dict[str, Any]) -> None:
-        self.ask(_field(given, "room", int), Row.forfeit, self.reply(_nothing))
+        self.ask(_field(given, "room", int), Row.forfeit)
 
     async def _enter(self, account: Account) -> None:
         self._welcome(account, await self.services.accounts.new_token(account))
@@ -158,11 +161,7 @@ class JsonConnection(Connection):
         self.services.rooms.arrive(account.id, self)
 
     def _say(self, kind: str, **fields: Any) -> None:
-        self.send(json.dumps({"type": kind} | fields, separators=(",", ":")))
-
-
-def _nothing() -> None:
-    """Nothing is said: what was asked for is seen by what follows."""
+        self.send(ENCODE({"type": kind} | fields))
 
 
 LOGINS = ("token", "login", "register", "guest")

@@ -1,7 +1,5 @@
 """What an operator does to a database: migrate, back up, restore, prune, verify."""
 
-import os
-import sqlite3
 import subprocess
 from contextlib import closing
 from functools import partial
@@ -13,9 +11,12 @@ from typing import Any
 from gen1_server import records, schema
 from gen1_server.config import Config
 from gen1_server.core import replayed
-from gen1_server.store import engine_of, lock_of
+from gen1_server.store import engine_of, first_line, lock_of
+from sqlalchemy.exc import DBAPIError
 
 DAY = 24 * 3600 * 1000
+# Of files with rows, which have both teams, seeds and the secrets of accounts.
+PRIVATE = 0o600
 
 
 class Failed(Exception):
@@ -28,6 +29,8 @@ def within(config: Config, statements: Any) -> Any:
     try:
         with engine.begin() as connection:
             return statements(connection)
+    except DBAPIError as fault:
+        raise Failed(f"the database: {first_line(fault)}") from None
     finally:
         engine.dispose()
 
@@ -59,9 +62,8 @@ def backup(config: Config, path: Path) -> str:
     """Writes a copy of the database to a new file, while servers use it."""
     if path.exists():
         raise Failed(f"{path} exists")
-    # Rows have both teams, seeds and the secrets of accounts.
-    os.close(os.open(path, os.O_CREAT | os.O_EXCL | os.O_WRONLY, 0o600))
     if not config.url.startswith("sqlite"):
+        path.touch(PRIVATE)
         _run("pg_dump", "--format=custom", f"--file={path}", _libpq(config))
         return f"{path} is an archive for pg_restore"
     _copy(Path(config.database), path)
@@ -82,7 +84,6 @@ def restore(config: Config, path: Path) -> str:
         raise Failed(f"{into} exists; move it away first")
     part = into.with_name(f"{into.name}.part")
     _copy(path, part)
-    os.chmod(part, 0o600)
     part.rename(into)
     return f"restored {into}"
 
@@ -98,22 +99,28 @@ def prune(config: Config) -> str:
 def verify(config: Config) -> str:
     """Plays each finished battle again from its rows, and compares its end."""
     last, count = 0, 0
-    while numbers := within(config, partial(records.finished, last, 200)):
-        for room in within(config, partial(records.stored, numbers)):
+    while rooms := within(config, partial(records.finished, last, 200)):
+        for room in rooms:
             outcome = int(replayed(room.start, room.entries).host.result.outcome)
             if room.ending is None or outcome != room.ending.outcome:
                 raise Failed(f"room {room.start.id} ends with outcome {outcome}, not as it was stored")
-            count += 1
-        last = numbers[-1]
+        last, count = rooms[-1].start.id, count + len(rooms)
     return f"{count} finished battles end as they were stored"
 
 
 def _copy(path: Path, to: Path) -> None:
     """Copies a SQLite file that may be used."""
-    with closing(sqlite3.connect(f"file:{path}?mode=ro", uri=True)) as source, closing(sqlite3.connect(to)) as made:
-        source.backup(made)
-        if made.execute("PRAGMA integrity_check").fetchone()[0] != "ok":
-            raise Failed(f"{to} is damaged")
+    import sqlite3
+
+    to.touch(PRIVATE)
+    try:
+        with closing(sqlite3.connect(f"file:{path}?mode=ro", uri=True)) as source, closing(sqlite3.connect(to)) as made:
+            source.backup(made)
+            if made.execute("PRAGMA integrity_check").fetchone()[0] != "ok":
+                raise Failed(f"{to} is damaged")
+    except sqlite3.Error as fault:
+        to.unlink()
+        raise Failed(f"{path}: {fault}") from None
 
 
 def _libpq(config: Config) -> str:

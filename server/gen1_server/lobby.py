@@ -9,10 +9,10 @@ from gen1 import Battle, Team
 from gen1_server import metrics, records
 from gen1_server.accounts import Account, Accounts, folded
 from gen1_server.config import Config
-from gen1_server.core import Options, Refused, Start
+from gen1_server.core import Options, Refused, Start, Watcher
 from gen1_server.formats import LIMIT, computers_team, format_named, text_of
 from gen1_server.records import Waiting
-from gen1_server.rooms import Rooms, Watcher, now
+from gen1_server.rooms import Rooms, now
 from gen1_server.store import Store
 
 # The milliseconds in which other processes can tell an account of a challenge, and take an acceptance.
@@ -203,17 +203,13 @@ class Lobby:
         seconds = self._config.bot_seconds if self.computer and not one.code else 0.0
         if two is None and (not seconds or now() - one.since < 1000 * seconds):
             return None
-        foe = Seeker(*two[1:5]) if two else self._computer_for(one.format)
-        return self._start(Seeker(*one[1:5]), foe, not one.code)
-
-    def _start(self, one: Seeker, two: Seeker, rated: bool = False) -> Start:
-        """The start of a battle. Chance decides who is side 1."""
-        if secrets.randbelow(2):
-            one, two = two, one
+        sides: tuple[Waiting | Seeker, Waiting | Seeker] = (one, two or self._computer_for(one.format))
+        # Chance decides who is side 1.
+        first, second = sides[:: secrets.choice((1, -1))]
         config, rules = self._config, format_named(one.format).rules
-        first, second = (Team.from_dicts(json.loads(it.team)) for it in (one, two))
-        battle = Battle(first, second, secrets.token_bytes(10), rules, LIMIT)
+        one_team, two_team = (Team.from_dicts(json.loads(it.team)) for it in (first, second))
+        battle = Battle(one_team, two_team, secrets.token_bytes(10), rules, LIMIT)
         choice, total = (int(it * 1000) for it in (config.choice_seconds, config.total_seconds))
         options = Options(config.exact_hp, config.may_cancel, choice, total, config.lapses, config.audience_delay)
-        accounts, names, teams = (one.account, two.account), (one.name, two.name), (one.team, two.team)
-        return Start(0, one.format, rated, accounts, names, teams, battle.bytes, options, config.season, now())
+        who = (first.account, second.account), (first.name, second.name), (first.team, second.team)
+        return Start(0, one.format, not one.code, *who, battle.bytes, options, config.season, now())

@@ -19,9 +19,3 @@ FAILED = Counter("gen1_database_failures_total", "Transactions that failed")
 LATENCY = Histogram("gen1_pair_seconds", "From the last choice of a pair to its messages", buckets=SECONDS)
 COMMITS = Histogram("gen1_commit_seconds", "The time of a transaction", buckets=SECONDS)
 BATCH = Histogram("gen1_commit_works", "Works in a transaction", buckets=(1, 2, 4, 8, 16, 32, 64, 128, 256, 512, 1024))
-
-
-def committed(works: int, took: float) -> None:
-    """Counts a transaction."""
-    COMMITS.observe(took)
-    BATCH.observe(works)

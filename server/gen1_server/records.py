@@ -10,8 +10,8 @@ from gen1 import Row, library_build
 from gen1_server import schema
 from gen1_server.core import Ending, Entry, Options, Start
 from gen1_server.ratings import Rating, rated
-from gen1_server.schema import process, rating, rating_change, room, room_row, search
-from sqlalchemy import and_, delete, func, insert, or_, select, update
+from gen1_server.schema import account, process, rating, rating_change, room, room_row, search
+from sqlalchemy import and_, delete, func, insert, or_, select, tuple_, update
 
 OPEN = room.c.outcome == 0
 # The columns of a start, besides its number.
@@ -55,17 +55,24 @@ WAITING = [search.c[it] for it in Waiting._fields]
 
 
 class StoredRoom(NamedTuple):
-    """A room as the database has it."""
+    """A room as the database has it. Its rows are number, bytes, time and cause."""
 
     start: Start
-    entries: list[Entry]
+    rows: list[tuple[Any, ...]]
     process: int
     ending: Ending | None
+
+    @property
+    def entries(self) -> list[Entry]:
+        """The rows as a match takes them."""
+        return [Entry(Row.from_bytes(row), at, cause) for _, row, at, cause in self.rows]
 
 
 def add_room(start: Start, owner: int, connection: Any) -> Start:
     """Adds an open room of a process; returns the start with its number."""
-    values = dict(zip(BEGUN, _columns(start)), build=library_build, process=owner)
+    sides, options = (*start.accounts, *start.names, *start.teams), json.dumps(asdict(start.options))
+    begun = start.format, int(start.rated), *sides, start.battle, options, start.season, start.created
+    values = dict(zip(BEGUN, begun), build=library_build, process=owner)
     return replace(start, id=schema.added(connection, room, values))
 
 
@@ -83,29 +90,28 @@ def add_search(new: Waiting, connection: Any) -> bool:
     return True
 
 
-def challenges(code: str, account: int, now: int, connection: Any) -> list[Waiting]:
+def challenges(code: str, player: int, now: int, connection: Any) -> list[Waiting]:
     """The open challenges to an account, and the one with a code."""
     of = select(*WAITING).join_from(search, process, process.c.id == search.c.process)
-    of = of.where(process.c.until >= now, search.c.room == 0, search.c.account != account)
-    of = of.where(search.c.to.in_((0, account)), or_(search.c.code == code, search.c.to == account))
+    of = of.where(process.c.until >= now, search.c.room == 0, search.c.account != player)
+    of = of.where(search.c.to.in_((0, player)), or_(search.c.code == code, search.c.to == player))
     return [Waiting(*it) for it in connection.execute(of)]
 
 
-def withdraw(code: str, account: int, owner: int, connection: Any) -> None:
+def withdraw(code: str, player: int, owner: int, connection: Any) -> None:
     """Removes a challenge that an account made or was sent; an empty code: all
     that it made at a process.
     """
-    own = and_(search.c.account == account, search.c.to.is_not(None))
-    with_code = and_(search.c.code == code, or_(own, search.c.to == account))
+    own = and_(search.c.account == player, search.c.to.is_not(None))
+    with_code = and_(search.c.code == code, or_(own, search.c.to == player))
     of = with_code if code else and_(own, search.c.process == owner)
     connection.execute(delete(search).where(of, search.c.room == 0))
 
 
 def forget(keys: list[Key], owner: int, connection: Any) -> None:
     """Removes searches and acceptances of a process."""
-    for key in keys:
-        of = [search.c[name] == it for name, it in zip(("account", "format", "code"), key)]
-        connection.execute(delete(search).where(search.c.process == owner, *of))
+    of = tuple_(search.c.account, search.c.format, search.c.code).in_(keys)
+    connection.execute(delete(search).where(search.c.process == owner, of))
 
 
 Begin = Callable[[Waiting, Waiting | None], Start | None]
@@ -131,7 +137,7 @@ def pair(
         if until < now or is_own and (it.room or 0 < it.ends < now):
             connection.execute(delete(search).where(_is(it)))
             if is_own:
-                led.append((it, (address_of(it.room, connection) or ("",))[0] if it.room else None))
+                led.append((it, address_of(it.room, connection) if it.room else None))
         elif not it.room:
             if it.ends and it.to in online:
                 told.append(it)
@@ -186,31 +192,26 @@ def end_room(start: Start, outcome: int, reason: str, owner: int, now: int, conn
     if not start.rated:
         return ()
     score = {1: 1.0, 2: 0.0}.get(outcome, 0.5)
-    _lock_ratings(start, connection)
+    # Keeps other processes from rating these accounts before the commit; SQLite has one writer anyway.
+    players = select(account.c.id).where(account.c.id.in_(start.accounts)).order_by(account.c.id)
+    connection.execute(players.with_for_update())
     before = [rating_of(it, start.format, start.season, connection) for it in start.accounts]
     after = rated(before[0], [(before[1], score)]), rated(before[1], [(before[0], 1 - score)])
-    for owner_, was, new, points in zip(start.accounts, before, after, (score, 1 - score)):
-        _rate(start, owner_, was, new, points, now, connection)
+    for player, was, new, points in zip(start.accounts, before, after, (score, 1 - score)):
+        _rate(start, player, was, new, points, now, connection)
     return before[0].rating, after[0].rating, before[1].rating, after[1].rating
 
 
-def _lock_ratings(start: Start, connection: Any) -> None:
-    """Keeps other processes from rating these accounts before the commit."""
-    if connection.dialect.name != "sqlite":
-        of = select(schema.account.c.id).where(schema.account.c.id.in_(start.accounts)).order_by(schema.account.c.id)
-        connection.execute(of.with_for_update())
-
-
-def rating_of(account: int, format: str, season: str, connection: Any) -> Rating:
+def rating_of(player: int, format: str, season: str, connection: Any) -> Rating:
     """The rating of an account; that of a new player if it has none."""
     columns = rating.c.rating, rating.c.deviation, rating.c.volatility
-    of = select(*columns).where(rating.c.account == account, rating.c.format == format, rating.c.season == season)
+    of = select(*columns).where(rating.c.account == player, rating.c.format == format, rating.c.season == season)
     found = connection.execute(of).first()
     return Rating(*found) if found else Rating()
 
 
-def _rate(start: Start, account: int, was: Rating, new: Rating, score: float, now: int, connection: Any) -> None:
-    key = {"account": account, "format": start.format, "season": start.season}
+def _rate(start: Start, player: int, was: Rating, new: Rating, score: float, now: int, connection: Any) -> None:
+    key = {"account": player, "format": start.format, "season": start.season}
     where = [rating.c[name] == value for name, value in key.items()]
     counted = {1.0: "wins", 0.0: "losses"}.get(score, "ties")
     values = {"rating": new.rating, "deviation": new.deviation, "volatility": new.volatility}
@@ -249,11 +250,10 @@ def release(owner: int, connection: Any) -> None:
     connection.execute(update(process).where(process.c.id == owner).values(until=0))
 
 
-def address_of(number: int, connection: Any) -> tuple[str, int] | None:
-    """The address of the process that has a room, and the room's outcome."""
-    of = select(process.c.address, room.c.outcome).join_from(room, process, process.c.id == room.c.process)
-    found = connection.execute(of.where(room.c.id == number)).first()
-    return (str(found[0]), int(found[1])) if found else None
+def address_of(number: int, connection: Any) -> str:
+    """The address of the process that has a room; empty if there is none."""
+    of = select(process.c.address).join_from(room, process, process.c.id == room.c.process)
+    return str(connection.execute(of.where(room.c.id == number)).scalar() or "")
 
 
 def stored(numbers: list[int], connection: Any) -> list[StoredRoom]:
@@ -261,35 +261,27 @@ def stored(numbers: list[int], connection: Any) -> list[StoredRoom]:
     columns = [room.c[it] for it in ("id", *BEGUN, "process", "outcome", "reason")]
     found = connection.execute(select(*columns).where(room.c.id.in_(numbers)).order_by(room.c.id)).fetchall()
     of = select(room_row.c.room, room_row.c.bytes, room_row.c.at, room_row.c.cause)
-    rows: dict[int, list[Entry]] = defaultdict(list)
+    rows: dict[int, list[tuple[Any, ...]]] = defaultdict(list)
     ordered = of.where(room_row.c.room.in_(numbers)).order_by(room_row.c.room, room_row.c.sequence)
     # The driver's rows: SQLAlchemy's would take as long as all the rest.
-    for number, row, at, cause in connection.execute(ordered).cursor:
-        rows[number].append(Entry(Row.from_bytes(row), at, cause))
+    for row in connection.execute(ordered).cursor:
+        rows[row[0]].append(row)
     changes = _changes([it[0] for it in found if it.outcome], connection)
     return [_stored(it, rows[it[0]], changes.get(it[0], ())) for it in found]
 
 
-def _columns(start: Start) -> tuple[Any, ...]:
-    """The values of `BEGUN`."""
-    options = json.dumps(asdict(start.options))
-    sides = *start.accounts, *start.names, *start.teams
-    return start.format, int(start.rated), *sides, start.battle, options, start.season, start.created
-
-
-def _stored(found: Any, entries: list[Entry], ratings: tuple[float, ...]) -> StoredRoom:
+def _stored(found: Any, rows: list[tuple[Any, ...]], ratings: tuple[float, ...]) -> StoredRoom:
     number, format, is_rated, *sides, battle, options, season, created, owner, outcome, reason = found
     accounts, names, teams = zip(sides[::2], sides[1::2])
     known = Options(**json.loads(options))
     start = Start(number, format, bool(is_rated), accounts, names, teams, bytes(battle), known, season, created)
-    return StoredRoom(start, entries, owner, Ending(outcome, reason, ratings) if outcome else None)
+    return StoredRoom(start, rows, owner, Ending(outcome, reason, ratings) if outcome else None)
 
 
 def _changes(numbers: list[int], connection: Any) -> dict[int, tuple[float, ...]]:
     """The ratings before and after of both sides, for rated rooms that are over."""
-    of = select(room.c.id, rating_change.c.before, rating_change.c.after).join_from(
-        room, rating_change, rating_change.c.room == room.c.id
-    )
+    columns = room.c.id, rating_change.c.before, rating_change.c.after
+    of = select(*columns).join_from(room, rating_change, rating_change.c.room == room.c.id)
     of = of.where(room.c.id.in_(numbers)).order_by(room.c.id, rating_change.c.account != room.c.account_one)
     found: dict[int, tuple[float, ...]] = defaultdict(tuple)
     for number, before, after in connection.execute(of) if numbers else ():
@@ -297,10 +289,10 @@ def _changes(numbers: list[int], connection: Any) -> dict[int, tuple[float, ...]
     return found
 
 
-def finished(after: int, count: int, connection: Any) -> list[int]:
-    """The numbers of finished rooms above `after`, in order, at most `count`."""
+def finished(after: int, count: int, connection: Any) -> list[StoredRoom]:
+    """The finished rooms with numbers above `after`, in order, at most `count`."""
     of = select(room.c.id).where(room.c.id > after, room.c.outcome != 0).order_by(room.c.id).limit(count)
-    return [int(it[0]) for it in connection.execute(of)]
+    return stored([it[0] for it in connection.execute(of)], connection)
 
 
 def prune(before: int, connection: Any) -> int:

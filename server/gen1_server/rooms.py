@@ -5,15 +5,16 @@ import logging
 from collections import defaultdict
 from collections.abc import Callable
 from dataclasses import dataclass, field
-from functools import partial
+from functools import cache, partial
 from time import perf_counter, time
-from typing import Any, ClassVar, TypeAlias
+from typing import Any, TypeAlias
 
 import gen1
 from gen1 import HostRefused, Row, Side
 from gen1_server import metrics, records
 from gen1_server.config import Config
-from gen1_server.core import CLOCK, PLAYER, Ending, Entry, Match, Refused, Start, View, replayed
+from gen1_server.core import CLOCK, PLAYER, Ending, Entry, Match, Refused, Start, View, Watcher, replayed
+from gen1_server.records import StoredRoom
 from gen1_server.store import Store, StoredRow, Work
 
 LOG = logging.getLogger("gen1_server")
@@ -24,36 +25,6 @@ Reply = Callable[[Refused | None], None]
 # The outcome of the battle that a row ends and its reason, and the ratings before and after.
 End: TypeAlias = tuple[int, str] | None
 Ratings: TypeAlias = tuple[float, ...] | None
-
-
-class Watcher:
-    """A connection, or the computer, as rooms see it. What a subclass does not
-    define does nothing.
-    """
-
-    # Whether its client goes on at another process where it is told to.
-    follows: ClassVar[bool] = False
-
-    def joined(self, view: View) -> None:
-        """Shows a whole room."""
-
-    def updated(self, view: View) -> None:
-        """Shows the pair that has just ended."""
-
-    def draw_offered(self, room: int, side: Side) -> None:
-        """Says that a side offers a draw."""
-
-    def challenged(self, name: str, format: str, code: str) -> None:
-        """Says that somebody challenges the account."""
-
-    def failed(self, fault: Refused) -> None:
-        """Says that a challenge that was made, or its acceptance, came to nothing."""
-
-    def searches(self, formats: list[str]) -> None:
-        """Says in which formats the account waits for a foe, after a change."""
-
-    def moved(self, room: int, address: str) -> None:
-        """Says that another process has the room."""
 
 
 def now() -> int:
@@ -67,9 +38,9 @@ def ignored(fault: Refused | None) -> None:
 
 @dataclass(slots=True)
 class Request:
-    """A row that somebody asks for, as a function of the match it is for."""
+    """A row that somebody asks for."""
 
-    row: Callable[[Match], Row]
+    row: Row
     cause: str
     reply: Reply
     since: float = field(default_factory=perf_counter)
@@ -78,16 +49,36 @@ class Request:
 class OpenRoom:
     """A match, who sees it, and what waits. One row at a time is committed."""
 
-    __slots__ = ("match", "watchers", "waiting", "is_busy")
+    __slots__ = ("id", "start", "watchers", "waiting", "is_busy", "_match", "_stored", "_grace")
 
-    def __init__(self, match: Match) -> None:
-        self.match, self.watchers = match, dict[Watcher, Side | None]()
+    def __init__(self, stored: StoredRoom, grace: int = 0) -> None:
+        self.start, self.watchers = stored.start, dict[Watcher, Side | None]()
+        self.id = stored.start.id
         self.waiting: list[Request] = []
         self.is_busy = False
+        self.read(stored, grace)
+
+    def read(self, stored: StoredRoom, grace: int) -> None:
+        """Sets what the match is made of once somebody needs it: a start opens a
+        thousand rooms, and each takes a millisecond. No time runs out before
+        `grace`.
+        """
+        self._match: Match | None = None
+        self._stored, self._grace = stored, grace
 
     @property
-    def id(self) -> int:
-        return self.match.start.id
+    def match(self) -> Match:
+        """The battle as it stands."""
+        if self._match is None:
+            self._match = replayed(self.start, self._stored.entries)
+            self._match.clock.not_before(self._grace)
+            self._stored.rows.clear()
+        return self._match
+
+    @property
+    def due(self) -> int:
+        """A time before which no side's time runs out."""
+        return self._match.clock.first if self._match else self._grace
 
 
 class Rooms:
@@ -96,6 +87,7 @@ class Rooms:
     def __init__(self, config: Config, store: Store) -> None:
         self._config, self._store = config, store
         self.open: dict[int, OpenRoom] = {}
+        metrics.ROOMS.set_function(lambda: len(self.open))
         self.online: dict[int, set[Watcher]] = defaultdict(set)
         # This process in the database, from `own` on; and the account whose rooms are not counted.
         self.process, self.computer = 0, 0
@@ -134,22 +126,19 @@ class Rooms:
         for at in range(0, len(numbers), 100):
             for found in await self._store.run(partial(records.stored, numbers[at : at + 100])):
                 if found.start.id not in self.open and not found.ending and found.process == self.process:
-                    match = replayed(found.start, found.entries)
-                    match.clock.not_before(now() + int(self._config.grace_seconds * 1000))
-                    room = self._seat(match)
-                    self._show_whole(room)
+                    self._seat(OpenRoom(found, self._grace()))
             # Requests of clients go on in between.
             await asyncio.sleep(0)
 
+    def _grace(self) -> int:
+        """Until when no time runs out in a room that was not open for a while."""
+        return now() + int(self._config.grace_seconds * 1000)
+
     async def stop(self) -> None:
-        """Takes no more requests, and waits until those that are being committed
-        are done.
+        """Takes no more requests. What is being committed is done before the lease
+        is released, since the store keeps the order.
         """
         self.stops = True
-        for _ in range(200):
-            if not any(it.is_busy for it in self.open.values()):
-                break
-            await asyncio.sleep(0.01)
         try:
             await self._store.run(partial(records.release, self.process))
         except Exception as fault:
@@ -170,23 +159,20 @@ class Rooms:
     def seat(self, start: Start) -> None:
         """Opens a room that this process has begun, and shows it."""
         if start.id not in self.open:
-            self._show_whole(self._seat(Match(start)))
+            self._seat(OpenRoom(StoredRoom(start, [], self.process, None)))
 
-    def _seat(self, match: Match) -> OpenRoom:
-        """Opens a match, with the connections of its players."""
-        room = self.open[match.start.id] = OpenRoom(match)
-        metrics.ROOMS.set(len(self.open))
-        for account in match.start.accounts:
+    def _seat(self, room: OpenRoom) -> None:
+        """Opens a room, and shows it to the connections of its players."""
+        self.open[room.id] = room
+        for account in room.start.accounts:
             self._rooms_of[account].add(room.id)
-            for watcher in self.online.get(account, ()):
-                self._watch(room, watcher, room.match.start.side_of(account))
-        return room
+            for watcher in list(self.online.get(account, ())):
+                self._join(room, account, watcher)
 
     def _close(self, room: OpenRoom) -> None:
         """Forgets a room that is over, or that another process has."""
         self.open.pop(room.id, None)
-        metrics.ROOMS.set(len(self.open))
-        for account in room.match.start.accounts:
+        for account in room.start.accounts:
             self._rooms_of[account].discard(room.id)
             if not self._rooms_of[account]:
                 del self._rooms_of[account]
@@ -203,53 +189,67 @@ class Rooms:
         self._close(room)
         found = await self._store.run(partial(records.address_of, room.id))
         for watcher in room.watchers:
-            watcher.moved(room.id, found[0] if found else "")
+            watcher.moved(room.id, found)
 
     # ---- requests ----
 
     def ask(self, number: int, account: int, row: Callable[[Side], Row], reply: Reply) -> None:
-        """Asks for a row of the side that an account plays in a room."""
+        """Asks for a row of the side that an account plays in a room. Raises
+        `Refused` for what can't be asked; the host may refuse the rest.
+        """
         room = self.open.get(number)
         if room is None:
-            reply(Refused("no room", "there is no such open room here; join it to learn where it is"))
-            return
-        side = room.match.start.side_of(account)
+            raise Refused("no room", "there is no such open room here; join it to learn where it is")
+        side = room.start.side_of(account)
         if side is None:
-            reply(Refused("not yours", "you do not play in this room"))
-        elif self.stops or len(room.waiting) >= WAITING:
-            reply(Refused("busy", "the room takes no further request now"))
-        else:
-            asked = partial(row, side)
-            self._put(room, Request(lambda _: asked(), PLAYER, reply))
+            raise Refused("not yours", "you do not play in this room")
+        if self.stops or len(room.waiting) >= WAITING:
+            raise Refused("busy", "the room takes no further request now")
+        try:
+            made = row(side)
+        except (gen1.BadArgument, gen1.BadType) as fault:
+            raise Refused("field", str(fault)) from None
+        room.waiting.append(Request(made, PLAYER, reply))
+        self._next(room)
 
-    def expire(self) -> None:
+    async def expire(self) -> None:
         """Makes the rows of sides whose time has run out: their first choices, or
         after too many of these a forfeit.
         """
         moment = now()
-        for room in [it for it in self.open.values() if it.match.clock.first <= moment]:
-            for side in Side:
-                if room.match.clock.due(side) <= moment and not room.is_busy and room.match.host.awaits(side):
-                    self._put(room, Request(partial(_overdue, side, room.match.host.number), CLOCK, ignored))
+        for room in [it for it in self.open.values() if it.due <= moment]:
+            if self.open.get(room.id) is room:
+                self._expire(room, moment)
+            await asyncio.sleep(0)
 
-    def _put(self, room: OpenRoom, request: Request) -> None:
-        room.waiting.append(request)
-        self._next(room)
+    def _expire(self, room: OpenRoom, moment: int) -> None:
+        try:
+            match = room.match
+        except gen1.Error:
+            LOG.exception("room %d cannot be played again", room.id)
+            self._close(room)
+            return
+        for side in Side:
+            if match.clock.due(side) <= moment and not room.is_busy and match.host.awaits(side):
+                forfeits = match.lapses[side - 1] >= room.start.options.lapses
+                row = Row.forfeit(side) if forfeits else Row.expire(side, match.host.number)
+                room.waiting.append(Request(row, CLOCK, ignored))
+                self._next(room)
 
     def _next(self, room: OpenRoom) -> None:
         """Has the next row of a room committed."""
         while room.waiting and not room.is_busy:
             request, match = room.waiting.pop(0), room.match
+            entry = Entry(request.row, now(), request.cause)
             try:
-                entry = Entry(request.row(match), now(), request.cause)
                 end = match.reason_after(entry)
-            except (HostRefused, gen1.BadArgument, gen1.BadType, Refused) as fault:
-                request.reply(_refusal(fault))
+            except HostRefused as fault:
+                request.reply(Refused(fault.code.name.lower().replace("_", " "), str(fault)))
                 continue
             room.is_busy = True
             row = StoredRow(room.id, match.count, bytes(entry.row), entry.at, entry.cause, self.process)
-            ends = partial(records.end_room, match.start, *end, self.process, entry.at) if end else None
-            self._store.add(Work((row,), ends, partial(self._committed, room, request, entry, end)))
+            ends = partial(records.end_room, room.start, *end, self.process, entry.at) if end else None
+            self._store.add(Work(row, ends, partial(self._committed, room, request, entry, end)))
 
     def _committed(
         self, room: OpenRoom, request: Request, entry: Entry, end: End, ratings: Ratings, fault: Exception | None
@@ -267,7 +267,7 @@ class Rooms:
         ended = room.match.take(entry)
         request.reply(None)
         if end:
-            room.match.end(Ending(*end, ratings or ()))
+            room.match.ending = Ending(*end, ratings or ())
             metrics.ENDED.labels(end[1]).inc()
             self._close(room)
         if ended:
@@ -293,13 +293,13 @@ class Rooms:
         if found.process != self.process:
             await self._lose(room)
             return
-        room.match = replayed(found.start, found.entries)
-        room.match.clock.not_before(now() + int(self._config.grace_seconds * 1000))
+        room.read(found, self._grace())
         room.is_busy = False
         if found.ending:
-            room.match.end(found.ending)
+            room.match.ending = found.ending
             self._close(room)
-        self._show_whole(room)
+        for watcher, side in list(room.watchers.items()):
+            watcher.joined(room.match.view(side))
         self._next(room)
 
     def later(self, work: Any) -> None:
@@ -319,8 +319,7 @@ class Rooms:
         if rooms:
             metrics.RECONNECTS.inc()
         for room in rooms:
-            self._watch(room, watcher, room.match.start.side_of(account))
-            watcher.joined(room.match.view(room.match.start.side_of(account)))
+            self._join(room, account, watcher)
 
     def depart(self, account: int, watcher: Watcher) -> None:
         """Forgets a connection that is gone."""
@@ -340,12 +339,11 @@ class Rooms:
         """Shows a room to a connection: as its player, or else as one of the
         audience. One that is over is read back. Raises `Refused`.
         """
-        room = self.open.get(number)
-        match = room.match if room else await self._recalled(number)
-        side = match.start.side_of(account)
-        if room:
-            self._watch(room, watcher, side)
-        watcher.joined(match.view(side))
+        if number in self.open:
+            self._join(self.open[number], account, watcher)
+        else:
+            match = await self._recalled(number)
+            watcher.joined(match.view(match.start.side_of(account)))
 
     def watches(self, watcher: Watcher) -> bool:
         """Whether a connection is shown a room."""
@@ -382,10 +380,9 @@ class Rooms:
         if not found:
             raise Refused("no room", "there is no such room")
         if not found[0].ending:
-            where = await self._store.run(partial(records.address_of, number))
-            raise Refused("elsewhere", where[0] if where else "")
+            raise Refused("elsewhere", await self._store.run(partial(records.address_of, number)))
         match = replayed(found[0].start, found[0].entries)
-        match.end(found[0].ending)
+        match.ending = found[0].ending
         while match.catch_up():
             pass
         if len(self._kept) >= KEPT:
@@ -393,37 +390,19 @@ class Rooms:
         self._kept[number] = match
         return match
 
-    def _watch(self, room: OpenRoom, watcher: Watcher, side: Side | None) -> None:
-        room.watchers[watcher] = side
+    def _join(self, room: OpenRoom, account: int, watcher: Watcher) -> None:
+        """Shows a connection a room, and from now on what happens in it."""
+        side = room.watchers[watcher] = room.start.side_of(account)
         self._watched[watcher].add(room.id)
+        watcher.joined(room.match.view(side))
 
     def _show(self, room: OpenRoom) -> None:
         """Shows everybody the pair that has just ended."""
-        views: dict[Side | None, View] = {}
+        view = cache(room.match.view)
         for watcher, side in list(room.watchers.items()):
-            if side is None and not room.match.audience_moved:
-                continue
-            if side not in views:
-                views[side] = room.match.view(side)
-            watcher.updated(views[side])
+            if side is not None or room.match.audience_moved:
+                watcher.updated(view(side))
         audience = [watcher for watcher, side in room.watchers.items() if side is None]
         while room.match.ending and room.match.catch_up():
             for watcher in audience:
                 watcher.updated(room.match.view(None))
-
-    def _show_whole(self, room: OpenRoom) -> None:
-        for watcher, side in list(room.watchers.items()):
-            watcher.joined(room.match.view(side))
-
-
-def _refusal(fault: Exception) -> Refused:
-    if isinstance(fault, HostRefused):
-        return Refused(fault.code.name.lower().replace("_", " "), str(fault))
-    return fault if isinstance(fault, Refused) else Refused("field", str(fault))
-
-
-def _overdue(side: Side, number: int, match: Match) -> Row:
-    """The row of a side whose time for a pair has run out."""
-    if match.host.number != number or not match.host.awaits(side):
-        raise Refused("stale", "the choice has come")
-    return Row.forfeit(side) if match.lapses[side - 1] >= match.start.options.lapses else Row.expire(side, number)

@@ -9,6 +9,7 @@ lines of its turn, which is the order that clients expect.
 import json
 import secrets
 from collections.abc import Awaitable, Callable, Mapping
+from contextlib import suppress
 from dataclasses import dataclass
 from functools import partial
 from time import time
@@ -20,7 +21,6 @@ from gen1_server.accounts import LONGEST_NAME, Account, folded
 from gen1_server.connections import Connection, Services
 from gen1_server.core import Refused, View
 from gen1_server.formats import FORMATS, format_named
-from gen1_server.rooms import Reply
 
 # The clauses of a format without a checker: those of the engine.
 CLAUSES = Formats().clauses("gen1ou")[:2]
@@ -64,17 +64,16 @@ class ShowdownConnection(Connection):
     def greet(self) -> None:
         self._say("", f"|updateuser| Guest {secrets.randbelow(10**7)}|0|1|{{}}")
         # With a team (e), or a random one (f).
-        formats = (f"|{it.title},{'e' if it.brings_teams else 'f'}" for it in FORMATS.values())
+        formats = (f"|{it.title},{'e' if it.checker else 'f'}" for it in FORMATS.values())
         self._say("", f"|formats|,1|First generation{''.join(formats)}")
         self._say("", f"|challstr|{self._challenge}")
 
     async def asked(self, text: str) -> None:
         where, bar, said = text.partition("|")
-        self._where = ""
+        # A refusal is said there.
+        self._where = where if bar and _number(where) is not None else ""
         if not bar:
             raise Refused("message", "a message is ROOM|TEXT")
-        # A refusal is said there.
-        self._where = where if _number(where) is not None else ""
         for line in said.split("\n")[:MOST_LINES]:
             await self._command(line.strip())
 
@@ -121,15 +120,11 @@ class ShowdownConnection(Connection):
         self._take(room, view, is_new)
 
     def updated(self, view: View) -> None:
-        room = self._rooms.get(view.room)
-        try:
-            if room is None:
-                self.joined(view)
-            else:
-                self._take(room, view, True)
-        except Error:
-            # A pair is missing: the room is shown again.
-            self.joined(view)
+        if view.room in self._rooms:
+            with suppress(Error):
+                return self._take(self._rooms[view.room], view, True)
+        # It is not shown yet, or a pair is missing.
+        self.joined(view)
 
     def draw_offered(self, room: int, side: Side) -> None:
         shown = self._rooms.get(room)
@@ -201,15 +196,6 @@ class ShowdownConnection(Connection):
             raise Refused("no room", "You are in no battle of this name")
         return found
 
-    def _reply(self, room: Shown) -> Reply:
-        """What is said in a room about a request that is answered later."""
-
-        def replied(fault: Refused | None) -> None:
-            if fault is not None:
-                self.failed(fault, room.id)
-
-        return replied
-
     # ---- the lobby ----
 
     def failed(self, fault: Refused, where: str = "") -> None:
@@ -232,11 +218,10 @@ class ShowdownConnection(Connection):
         name, _, more = rest.partition(",")
         name, assertion = name.strip(), more.partition(",")[2].strip()
         self.may_login()
+        of = self.services.accounts
+        entered = of.asserted(name, self._challenge, assertion) if assertion else of.guest(name, self.address)
         try:
-            if assertion:
-                account = await self.services.accounts.asserted(name, self._challenge, assertion)
-            else:
-                account = await self.services.accounts.guest(name, self.address)
+            account = await entered
         except Refused as fault:
             self._say("", f"|nametaken|{_line(name)}|{_line(str(fault))}")
             return
@@ -326,7 +311,7 @@ class ShowdownConnection(Connection):
 
     def _ask(self, row: Callable[[Side], Row]) -> None:
         room = self._here()
-        self.ask(room.number, row, self._reply(room))
+        self.ask(room.number, row, where=room.id)
 
     def _say(self, room: str, *lines: str) -> None:
         self.send("\n".join((f">{room}", *lines) if room else lines))

@@ -7,7 +7,6 @@ does nothing but statements.
 
 import fcntl
 import logging
-import sqlite3
 from asyncio import AbstractEventLoop, Future
 from collections.abc import Callable, Sequence
 from dataclasses import dataclass
@@ -15,16 +14,17 @@ from pathlib import Path
 from queue import SimpleQueue
 from threading import Thread
 from time import perf_counter
-from typing import IO, Any, TypeVar
+from typing import IO, Any, NamedTuple, TypeVar
 
+from gen1_server import metrics
 from gen1_server.config import Config
 from sqlalchemy import create_engine, event
 from sqlalchemy.exc import DBAPIError, IntegrityError
 
 T = TypeVar("T")
 Statements = Callable[[Any], T]
-# How many works a transaction has at most.
-MOST = 500
+# How many works a transaction has at most; and for how many seconds works are gathered for it, unless there are enough.
+MOST, GATHER, ENOUGH = 500, 0.008, 16
 LOG = logging.getLogger("gen1_server")
 
 
@@ -36,8 +36,7 @@ class InUse(Exception):
     """Another process has this SQLite file."""
 
 
-@dataclass(frozen=True, slots=True)
-class StoredRow:
+class StoredRow(NamedTuple):
     """A row of a room as the table `room_row` has it, and the process that is
     to have the room.
     """
@@ -52,11 +51,11 @@ class StoredRow:
 
 @dataclass(frozen=True, slots=True)
 class Work:
-    """Rows, then statements, which are committed together. `done` gets the
+    """A row, then statements, which are committed together. `done` gets the
     result of the statements and None, or None and the error.
     """
 
-    rows: Sequence[StoredRow]
+    row: StoredRow | None
     statements: Statements[Any] | None
     done: Callable[[Any, Exception | None], None]
 
@@ -104,7 +103,7 @@ def lock_of(url: str) -> IO[str] | None:
 # A row is added only while its process has the room, in one statement: a process that slept through its lease would otherwise write
 # a row that the new owner doesn't know. PostgreSQL holds the room until the end of the transaction; SQLite has one writer anyway.
 _INTO = "INSERT INTO room_row (room, sequence, bytes, at, cause) SELECT"
-_SQLITE = f"{_INTO} id, ?, ?, ?, ? FROM room WHERE id = ? AND process = ? AND outcome = 0"
+_SQLITE = f"{_INTO} id, ?2, ?3, ?4, ?5 FROM room WHERE id = ?1 AND process = ?6 AND outcome = 0"
 _POSTGRES = (
     f"{_INTO} v.room, v.sequence, v.bytes, v.at, v.cause FROM (VALUES %s) AS v (room, sequence, bytes, at, cause, process)"
     " JOIN room ON room.id = v.room AND room.process = v.process AND room.outcome = 0 FOR SHARE OF room RETURNING 1"
@@ -115,16 +114,14 @@ def add_rows(raw: Any, rows: Sequence[StoredRow]) -> None:
     """Adds rows of different rooms by a connection of the driver, which takes a
     tenth of the time of SQLAlchemy's. Raises `Conflict` if one is not added.
     """
-    if isinstance(raw, sqlite3.Connection):
-        values = [(it.sequence, it.bytes, it.at, it.cause, it.room, it.process) for it in rows]
-        added = raw.executemany(_SQLITE, values).rowcount
+    if _is_sqlite(raw):
+        added = raw.executemany(_SQLITE, rows).rowcount
     else:
         from psycopg2.extras import execute_values
 
-        listed = [(it.room, it.sequence, it.bytes, it.at, it.cause, it.process) for it in rows]
         form = "(%s::bigint, %s, %s::bytea, %s::bigint, %s, %s::bigint)"
         with raw.cursor() as cursor:
-            added = len(execute_values(cursor, _POSTGRES, listed, template=form, page_size=MOST, fetch=True))
+            added = len(execute_values(cursor, _POSTGRES, rows, template=form, page_size=MOST, fetch=True))
     if added != len(rows):
         raise Conflict("another process has the room")
 
@@ -132,11 +129,9 @@ def add_rows(raw: Any, rows: Sequence[StoredRow]) -> None:
 class Store:
     """The thread with the connection, for an event loop."""
 
-    def __init__(self, config: Config, loop: AbstractEventLoop, observed: Callable[[int, float], None]) -> None:
-        """Connects. `observed` is told of each transaction: how many works it had,
-        and its seconds. Raises `InUse`.
-        """
-        self._lock, self._loop, self._observed = lock_of(config.url), loop, observed
+    def __init__(self, config: Config, loop: AbstractEventLoop) -> None:
+        """Connects. Raises `InUse`."""
+        self._lock, self._loop = lock_of(config.url), loop
         self.engine = engine_of(config.url, config.durable)
         self._connection: Any = self.engine.connect()
         self._next: list[Work] = []
@@ -147,9 +142,11 @@ class Store:
     def add(self, work: Work) -> None:
         """Has work done; `Work.done` is called in the event loop."""
         if not self._next:
-            # What comes in the same turn of the loop goes to the thread together.
-            self._loop.call_soon(self._hand_over)
+            # A transaction and the turns of both threads cost more than most works do.
+            self._loop.call_later(GATHER, self._hand_over)
         self._next.append(work)
+        if len(self._next) == ENOUGH:
+            self._hand_over()
 
     def run(self, statements: Statements[T]) -> "Future[T]":
         """Runs statements in a transaction. The result is there once it is
@@ -165,7 +162,7 @@ class Store:
             else:
                 answer.set_exception(fault)
 
-        self.add(Work((), statements, done))
+        self.add(Work(None, statements, done))
         return answer
 
     def close(self) -> None:
@@ -208,23 +205,23 @@ class Store:
             return self._committed(raw, works)
         except Exception as fault:
             if raw is None or getattr(raw, "closed", False) or getattr(fault, "connection_invalidated", False):
-                LOG.error("the database is gone: %s", _first_line(fault))
+                LOG.error("the database is gone: %s", first_line(fault))
                 self._disconnect()
                 return [fault for _ in works]
             if len(works) == 1:
-                return [Conflict(_first_line(fault)) if isinstance(fault, IntegrityError) else fault]
+                return [Conflict(first_line(fault)) if isinstance(fault, IntegrityError) else fault]
         return [answer for work in works for answer in self._done([work])]
 
     def _committed(self, raw: Any, works: list[Work]) -> list[Any]:
         """The result of each work, after one transaction of them all."""
-        rows = [row for work in works for row in work.rows]
+        rows = [work.row for work in works if work.row]
         if any(it.statements for it in works):
             with self._connection.begin():
                 if rows:
                     add_rows(raw, rows)
                 return [it.statements(self._connection) if it.statements else None for it in works]
         try:
-            if isinstance(raw, sqlite3.Connection):
+            if _is_sqlite(raw):
                 raw.execute("BEGIN IMMEDIATE")
             add_rows(raw, rows)
             raw.commit()
@@ -244,7 +241,8 @@ class Store:
             pass
 
     def _deliver(self, works: list[Work], found: list[Any], took: float) -> None:
-        self._observed(len(works), took)
+        metrics.COMMITS.observe(took)
+        metrics.BATCH.observe(len(works))
         for work, it in zip(works, found):
             try:
                 if isinstance(it, Exception):
@@ -255,7 +253,12 @@ class Store:
                 LOG.exception("what follows a commit failed")
 
 
-def _first_line(fault: Exception) -> str:
+def _is_sqlite(raw: Any) -> bool:
+    """Whether a connection is one of SQLite's driver, which a process on PostgreSQL does not load."""
+    return type(raw).__module__ == "sqlite3"
+
+
+def first_line(fault: Exception) -> str:
     """An error without its statement and values, which may be secret."""
     of = getattr(fault, "orig", fault)
     return (str(of).splitlines() or [type(of).__name__])[0]

@@ -29,11 +29,7 @@ from prometheus_client import generate_latest
 LOG = logging.getLogger("gen1_server")
 # How many rows a table has.
 MOST_ROWS = 100
-HEADERS = {
-    "X-Content-Type-Options": "nosniff",
-    "Referrer-Policy": "no-referrer",
-    "X-Frame-Options": "DENY",
-}
+HEADERS = {"X-Content-Type-Options": "nosniff", "Referrer-Policy": "no-referrer", "X-Frame-Options": "DENY"}
 
 
 class Server:
@@ -70,7 +66,7 @@ class Server:
     async def _start(self, _: web.Application) -> None:
         config = self.config
         load(config.formats)
-        store = Store(config, asyncio.get_running_loop(), metrics.committed)
+        store = Store(config, asyncio.get_running_loop())
         await store.run(schema.expect_newest)
         rooms = Rooms(config, store)
         accounts = Accounts(store, rooms, config.secret, config.guests, config.bot)
@@ -78,12 +74,13 @@ class Server:
         lobby = Lobby(config, store, rooms, accounts)
         self.services = Services(config, store, limits, rooms, accounts, lobby)
         if config.bot:
-            await self._seat_computer(rooms, accounts, lobby)
-        LOG.info("open rooms: %d", await rooms.own())
+            lobby.computer = computer = await accounts.known(config.bot)
+            rooms.computer = computer.id
+            rooms.online[computer.id].add(Computer(rooms, computer, config.bot_level))
         # A full collection of the garbage over a thousand rooms would stop everything for a tenth of a second.
-        gc.collect()
-        gc.freeze()
         gc.set_threshold(10_000, 20, 1000)
+        LOG.info("open rooms: %d", await rooms.own())
+        gc.freeze()
         beat, lease = config.heartbeat_seconds / 2, config.lease_seconds / 3
         # Memory that is free goes back to the system, where the C library can do that.
         trim: Callable[[], int] = partial(getattr(CDLL(None), "malloc_trim", int), 0)
@@ -91,11 +88,6 @@ class Server:
         acts = (0.5, rooms.expire), (beat, trim), (1.0, lobby.pair_all), (beat, self._check_alive), (lease, rooms.renew)
         self._tasks = [asyncio.create_task(self._every(*it)) for it in acts]
         self._ready = True
-
-    async def _seat_computer(self, rooms: Rooms, accounts: Accounts, lobby: Lobby) -> None:
-        lobby.computer = account = await accounts.known(self.config.bot)
-        rooms.computer = account.id
-        rooms.online[account.id].add(Computer(rooms, account, self.config.bot_level))
 
     async def _stop(self, _: web.Application) -> None:
         """Tells the clients, and waits for what is being committed."""
@@ -166,12 +158,7 @@ class Server:
             raise web.HTTPTooManyRequests
         transport = request.transport
         assert transport is not None
-
-        def ended(connection: Connection) -> None:
-            self._connections.discard(connection)
-            limits.disconnect(address)
-
-        connection = kind(self.services, transport, address, ended)
+        connection = kind(self.services, transport, address, self._ended)
         self._connections.add(connection)
         transport.write(answer)
         transport.set_protocol(connection)
@@ -179,6 +166,10 @@ class Server:
         request.protocol.connection_lost(None)
         connection.begin()
         raise asyncio.CancelledError
+
+    def _ended(self, connection: Connection) -> None:
+        self._connections.discard(connection)
+        self.services.limits.disconnect(connection.address)
 
     async def _login(self, request: web.Request) -> web.Response:
         """The login of Showdown's protocol."""
@@ -206,7 +197,7 @@ class Server:
 
     async def _rooms(self, _: web.Request) -> web.Response:
         """The open rooms of this process, the newest first."""
-        starts = [it.match.start for it in list(self.services.rooms.open.values())[-MOST_ROWS:]]
+        starts = [it.start for it in list(self.services.rooms.open.values())[-MOST_ROWS:]]
         found = [{"room": it.id, "format": it.format, "rated": it.rated, "names": it.names} for it in starts]
         return web.json_response({"rooms": found[::-1]})
 

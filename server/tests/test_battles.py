@@ -282,7 +282,8 @@ async def play_pairs(one, two, first, second, pairs):
 
 
 def test_a_side_whose_time_has_run_out(server):
-    it = server(choice_seconds=1, lapses=1, grace_seconds=1)
+    # Side 2 has to choose in time on a busy machine too.
+    it = server(choice_seconds=3, lapses=1, grace_seconds=1)
 
     async def test(session):
         one, two = await guest(session, it, "One"), await guest(session, it, "Two")

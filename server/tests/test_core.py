@@ -66,6 +66,7 @@ def test_clock():
         ("bot_level = 6", "bot_level must be 1 to 5"),
         ("port = ", "Invalid value"),
         ('page = "/no/such/page"', "page: there is no file"),
+        ('database = "mysql://a/b"', "database must be a file, or a URL"),
     ],
 )
 def test_bad_options(tmp_path, text, said):

@@ -1,21 +1,8 @@
-"""A table of those who wait for a foe, so that the processes on a database find each other's.
-
-search          its process, the account with its team and rating, and the room that another process has begun, or 0
-"""
-
-import sqlalchemy as sa
-from alembic import op
+"""A table of those who wait for a foe, which 0003 makes anew. Nothing in it outlives the servers."""
 
 revision = "0002"
 down_revision = "0001"
 
 
 def upgrade() -> None:
-    columns = {
-        sa.BigInteger: ("process", "account", "since", "room"),
-        sa.Text: ("format", "season", "name", "team"),
-        sa.Float(53): ("rating",),
-        sa.Integer: ("follows",),
-    }
-    made = [sa.Column(name, kind, nullable=False) for kind, names in columns.items() for name in names]
-    op.create_table("search", *made, sa.PrimaryKeyConstraint("process", "account", "format"))
+    """Makes no table: 0003 does."""
