@@ -282,6 +282,8 @@ def stages_status_and_screens_count(browser):
     for side in (1, 2):
         type_member(browser, side, member_of("Tauros", "Body Slam"))
     shown = lambda: browser.words("#calc-member-1 .stat-row")[0]
+    directions = browser.run("return [...document.querySelectorAll('.directions button')].map((it) => it.textContent)")
+    assert directions == ["Side 1 → Side 2", "Side 2 → Side 1"], directions
     assert damage_of(browser, "Body Slam") == ["26.9–31.7%", "95–112 HP"]
     press(browser, 1, "Burned")
     assert "298" in shown() and "→ 149" in shown()

@@ -209,11 +209,12 @@ def choose_first(browser, side=1):
 
 
 def told_to(side, lines):
-    """Lines as they are reported to a side: the foe's HP in 48ths (docs/MECHANICS.md, "What a side is told")."""
+    """Lines as they are reported to a side: the foe's HP as the bar (docs/MECHANICS.md, "What a side is told")."""
 
     def pixels(found):
         hp, most = int(found[2]), int(found[3])
-        return f"{found[1]}{max(48 * hp // most, int(hp > 0))}/48"
+        part = 12 * hp // (most // 4) if most > 255 else 48 * hp // most
+        return f"{found[1]}{max(part, int(hp > 0))}/48"
 
     return [
         re.sub(r"^(\|(?:switch|-damage|-heal)\|p%da: .*?\|)(\d+)/(\d+)" % (3 - side), pixels, line) for line in lines

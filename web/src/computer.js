@@ -153,11 +153,11 @@ export function think(engine, search, {sight, player, seed, rules, limit}) {
 }
 
 /**
- * One of the choices of a search, by their chances. Those with less than half of the highest are mostly its noise.
+ * One of the choices of a search, by their chances. Those with less than nine tenths of the highest are mostly its noise.
  * @param {Thought} thought @param {Random} random
  */
 function drawn({choices}, random) {
-  const likely = choices.filter(({probability}) => 2 * probability >= choices[0].probability);
+  const likely = choices.filter(({probability}) => probability >= 0.9 * choices[0].probability);
   let left = random.draw() / (1 << 24) * likely.reduce((sum, {probability}) => sum + probability, 0);
   return likely.find(({probability}) => (left -= probability) < 0) ?? likely[0];
 }

@@ -183,9 +183,11 @@ export class Results {
 
   /**
    * Buttons for the direction, which narrow screens show one at a time.
-   * @param {string[]} names
+   * @param {string[]} species
    */
-  directions(names) {
+  directions(species) {
+    // Two members of one species are told apart by their sides.
+    const names = species[0] === species[1] ? ["Side 1", "Side 2"] : species;
     return make("div", {class: "directions", role: "group", "aria-label": "Who attacks"},
         ...[0, 1].map((at) => make("button", {
           type: "button",
