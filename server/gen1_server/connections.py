@@ -8,11 +8,11 @@ import asyncio
 import logging
 from base64 import b64encode
 from collections import deque
-from collections.abc import Callable
+from collections.abc import Callable, Coroutine
 from hashlib import sha1
 from dataclasses import dataclass
 from struct import Struct
-from typing import Any, ClassVar
+from typing import Any, ClassVar, TypeAlias
 
 from aiohttp import WSCloseCode, WSMessage, WSMsgType, web
 from aiohttp.http import WS_KEY, WebSocketError, WebSocketReader
@@ -28,6 +28,8 @@ from gen1_server.rooms import Rooms
 from gen1_server.store import Store
 
 LOG = logging.getLogger("gen1_server")
+# The rest of an answer that has to wait.
+Rest: TypeAlias = Coroutine[Any, Any, None] | None
 # A client that has been slowed down for so many seconds without a pause is closed.
 PATIENCE = 10.0
 # What a message costs that has a finished battle played again.
@@ -96,12 +98,15 @@ class Connection(Watcher, asyncio.Protocol):
         self._waiting: deque[WSMessage] | None = None
         self._task: asyncio.Task[None] | None = None
         self._late, self._is_lost = 0.0, False
+        self._count = metrics.MESSAGES.labels(self.protocol)
 
     def greet(self) -> None:
         """Says what comes first."""
 
-    async def asked(self, text: str) -> None:
-        """Answers a message. Raises `Refused`."""
+    def asked(self, text: str) -> Rest:
+        """Answers a message. Returns the rest of the answer if it has to wait.
+        Raises `Refused`.
+        """
 
     def refused(self, fault: Refused) -> None:
         """Says that a request is refused."""
@@ -226,56 +231,77 @@ class Connection(Watcher, asyncio.Protocol):
         self.feed_data(WSMessage(WSMsgType.ERROR, code, None))
 
     def feed_data(self, message: WSMessage, _: int = 0) -> None:
-        """Takes a message in, and has it answered after those before it."""
+        """Answers a message, after those before it."""
         self._heard, self._pinged = True, False
         if self._closed or message.type is WSMsgType.PONG:
             return
-        if self._waiting is None:
-            self._waiting = deque()
-        self._waiting.append(message)
-        if len(self._waiting) == MOST_WAITING:
-            self._transport.pause_reading()
-        if self._task is None:
-            self._task = asyncio.get_running_loop().create_task(self._receive(self._waiting))
-
-    async def _receive(self, waiting: deque[WSMessage]) -> None:
-        """Answers messages until none waits."""
-        count = metrics.MESSAGES.labels(self.protocol)
-        while waiting and not self._closed:
-            count.inc()
-            wait = self._bucket.take()
-            self._late = self._late + wait if wait else 0.0
-            if self._late > PATIENCE:
-                self.drop("flood")
-                break
-            if wait:
-                # What is not read fills the client's buffers, and so slows it down.
+        if self._waiting is not None:
+            self._waiting.append(message)
+            if len(self._waiting) == MOST_WAITING:
                 self._transport.pause_reading()
-                await asyncio.sleep(wait)
-            message = waiting.popleft()
-            if message.type is WSMsgType.TEXT:
-                await self._answer(message.data)
-            elif message.type is WSMsgType.PING:
-                self._transport.write(frame(PONG, message.data))
-            elif not self._closed:
-                self._closed = True
-                code = ENDS.get(message.type, message.data)
-                self._transport.write(frame(CLOSE, _CODE(code)))
-                self._transport.close()
+        elif rest := self._accept(message):
+            # Few answers need a task.
+            self._waiting = deque()
+            self._task = asyncio.get_running_loop().create_task(self._finish(rest, self._waiting))
+
+    def _accept(self, message: WSMessage) -> Rest:
+        """Counts a message, and answers it unless the client is too fast. Returns
+        the rest of the answer.
+        """
+        self._count.inc()
+        wait = self._bucket.take()
+        self._late = self._late + wait if wait else 0.0
+        if self._late > PATIENCE:
+            self.drop("flood")
+            return None
+        return self._answer_later(wait, message) if wait else self._answer(message)
+
+    async def _answer_later(self, wait: float, message: WSMessage) -> None:
+        """Answers a message of a client that is too fast."""
+        # What is not read fills the client's buffers, and so slows it down.
+        self._transport.pause_reading()
+        await asyncio.sleep(wait)
+        if rest := self._answer(message):
+            await rest
+
+    def _answer(self, message: WSMessage) -> Rest:
+        """Answers a message. Returns the rest of the answer."""
+        if message.type is WSMsgType.TEXT:
+            try:
+                return self.asked(message.data)
+            except Exception as fault:
+                self._report(fault)
+        elif message.type is WSMsgType.PING:
+            self._transport.write(frame(PONG, message.data))
+        elif not self._closed:
+            self._closed = True
+            code = ENDS.get(message.type, message.data)
+            self._transport.write(frame(CLOSE, _CODE(code)))
+            self._transport.close()
+        return None
+
+    async def _finish(self, rest: Rest, waiting: deque[WSMessage]) -> None:
+        """Finishes an answer, then answers the messages that have come meanwhile."""
+        while rest or waiting and not self._closed:
+            try:
+                rest = rest or self._accept(waiting.popleft())
+                if rest:
+                    await rest
+            except Exception as fault:
+                self._report(fault)
+            rest = None
         self._task = self._waiting = None
         if self._is_lost:
             self._end()
         elif not self._transport.is_closing():
             self._transport.resume_reading()
 
-    async def _answer(self, text: str) -> None:
-        try:
-            await self.asked(text)
-        except Refused as fault:
-            self.turn_down(fault)
-        except Exception:
-            LOG.exception("a message failed")
-            self.turn_down(Refused("internal", "the server failed"))
+    def _report(self, fault: Exception) -> None:
+        """Says that a request is refused, or that the server failed."""
+        if not isinstance(fault, Refused):
+            LOG.error("a message failed", exc_info=fault)
+            fault = Refused("internal", "the server failed")
+        self.turn_down(fault)
 
     def turn_down(self, fault: Refused) -> None:
         """Counts a refusal, and sends it."""

@@ -106,6 +106,16 @@ class View:
     ending: Ending | None
 
 
+class After(NamedTuple):
+    """The host after an entry, whether that ends the pair, and the outcome and
+    its reason if it ends the battle.
+    """
+
+    host: Host
+    ended: bool
+    end: tuple[int, str] | None
+
+
 class Watcher:
     """A connection, or the computer, as rooms see it. What a subclass does not
     define does nothing.
@@ -155,23 +165,30 @@ class Match:
         self.audience_moved = True
         self._tell()
 
-    def reason_after(self, entry: Entry) -> tuple[int, str] | None:
-        """The outcome and its reason if an entry would end the battle, else None.
-        Raises `HostRefused` if the host would refuse it.
+    def after(self, entry: Entry) -> After:
+        """What an entry would make of the host. Raises `HostRefused` if the host
+        would refuse it.
         """
-        tried = self.host.copy()
-        if not tried.apply(entry.row) or not tried.is_closed:
-            return None
+        host = self.host.copy()
+        ended = host.apply(entry.row)
+        if not ended or not host.is_closed:
+            return After(host, ended, None)
         if entry.row.kind is RowKind.FORFEIT:
-            return tried.result.outcome, "time" if entry.cause == CLOCK else "forfeit"
-        return tried.result.outcome, "draw" if entry.row.kind is RowKind.OFFER_DRAW else "battle"
+            reason = "time" if entry.cause == CLOCK else "forfeit"
+        else:
+            reason = "draw" if entry.row.kind is RowKind.OFFER_DRAW else "battle"
+        return After(host, ended, (host.result.outcome, reason))
 
-    def take(self, entry: Entry) -> bool:
-        """Applies an entry that is committed. Returns whether it ended the pair.
-        Raises `HostRefused` for one that the host refuses; nothing has changed.
+    def take(self, entry: Entry, after: After | None = None) -> bool:
+        """Applies an entry that is committed; `after` is what the match has said
+        of it. Returns whether it ended the pair. Raises `HostRefused` for one
+        that the host refuses; nothing has changed.
         """
         row = entry.row
-        ended = self.host.apply(row)
+        if after is None:
+            ended = self.host.apply(row)
+        else:
+            self.host, ended = after.host, after.ended
         self.count += 1
         if row.kind is RowKind.CANCEL:
             self.clock.cancelled(row.side)

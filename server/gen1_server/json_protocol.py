@@ -8,7 +8,7 @@ from typing import Any
 import gen1
 from gen1 import Row, Side
 from gen1_server.accounts import Account
-from gen1_server.connections import REPLAY, Connection
+from gen1_server.connections import REPLAY, Connection, Rest
 from gen1_server.core import Refused, View
 from gen1_server.formats import FORMATS, LIMIT
 from gen1_server.rooms import now
@@ -31,7 +31,7 @@ class JsonConnection(Connection):
         more = {"limit": LIMIT, "computer": computer.name if computer else "", "now": now()}
         self._say("hello", protocol=PROTOCOL, build=gen1.library_build, formats=formats, **more)
 
-    async def asked(self, text: str) -> None:
+    def asked(self, text: str) -> Rest:
         try:
             given = json.loads(text)
         except (ValueError, RecursionError):
@@ -45,7 +45,8 @@ class JsonConnection(Connection):
             raise Refused("account", "log in first")
         if self.account is None or kind in LOGINS:
             self.may_login()
-        await getattr(self, f"on_{kind}")(given)
+        rest: Rest = getattr(self, f"on_{kind}")(given)
+        return rest
 
     def refused(self, fault: Refused) -> None:
         self._say("refused", code=fault.code, said=str(fault))
@@ -106,7 +107,7 @@ class JsonConnection(Connection):
     async def on_search(self, given: dict[str, Any]) -> None:
         await self.services.lobby.search(self.seeker(_field(given, "format", str), given.get("team")))
 
-    async def on_cancel_search(self, given: dict[str, Any]) -> None:
+    def on_cancel_search(self, given: dict[str, Any]) -> None:
         self.services.lobby.cancel(self.known)
 
     async def on_challenge(self, given: dict[str, Any]) -> None:
@@ -133,23 +134,23 @@ class JsonConnection(Connection):
     async def on_join(self, given: dict[str, Any]) -> None:
         await self.watch(_field(given, "room", int))
 
-    async def on_leave(self, given: dict[str, Any]) -> None:
+    def on_leave(self, given: dict[str, Any]) -> None:
         self.services.rooms.leave(_field(given, "room", int), self)
 
-    async def on_choose(self, given: dict[str, Any]) -> None:
+    def on_choose(self, given: dict[str, Any]) -> None:
         room, number, choice = (_field(given, it, int) for it in ("room", "number", "choice"))
         taken = partial(self._say, "taken", room=room, number=number)
         self.ask(room, partial(Row.submit, number=number, choice=choice), taken)
 
-    async def on_cancel_choice(self, given: dict[str, Any]) -> None:
+    def on_cancel_choice(self, given: dict[str, Any]) -> None:
         room, number = (_field(given, it, int) for it in ("room", "number"))
         cancelled = partial(self._say, "cancelled", room=room, number=number)
         self.ask(room, partial(Row.cancel, number=number), cancelled)
 
-    async def on_offer_draw(self, given: dict[str, Any]) -> None:
+    def on_offer_draw(self, given: dict[str, Any]) -> None:
         self.ask(_field(given, "room", int), Row.offer_draw)
 
-    async def on_forfeit(self, given: dict[str, Any]) -> None:
+    def on_forfeit(self, given: dict[str, Any]) -> None:
         self.ask(_field(given, "room", int), Row.forfeit)
 
     async def _enter(self, account: Account) -> None:

@@ -13,7 +13,7 @@ import gen1
 from gen1 import HostRefused, Row, Side
 from gen1_server import metrics, records
 from gen1_server.config import Config
-from gen1_server.core import CLOCK, PLAYER, Ending, Entry, Match, Refused, Start, View, Watcher, replayed
+from gen1_server.core import CLOCK, PLAYER, After, Ending, Entry, Match, Refused, Start, View, Watcher, replayed
 from gen1_server.records import StoredRoom
 from gen1_server.store import Store, StoredRow, Work
 
@@ -22,8 +22,7 @@ LOG = logging.getLogger("gen1_server")
 WAITING, KEPT = 8, 200
 # Called once with None when a request is committed, before anything is sent; or with what was refused.
 Reply = Callable[[Refused | None], None]
-# The outcome of the battle that a row ends and its reason, and the ratings before and after.
-End: TypeAlias = tuple[int, str] | None
+# The ratings before and after a battle that ends.
 Ratings: TypeAlias = tuple[float, ...] | None
 
 
@@ -242,17 +241,18 @@ class Rooms:
             request, match = room.waiting.pop(0), room.match
             entry = Entry(request.row, now(), request.cause)
             try:
-                end = match.reason_after(entry)
+                after = match.after(entry)
             except HostRefused as fault:
                 request.reply(Refused(fault.code.name.lower().replace("_", " "), str(fault)))
                 continue
             room.is_busy = True
             row = StoredRow(room.id, match.count, bytes(entry.row), entry.at, entry.cause, self.process)
+            end = after.end
             ends = partial(records.end_room, room.start, *end, self.process, entry.at) if end else None
-            self._store.add(Work(row, ends, partial(self._committed, room, request, entry, end)))
+            self._store.add(Work(row, ends, partial(self._committed, room, request, entry, after)))
 
     def _committed(
-        self, room: OpenRoom, request: Request, entry: Entry, end: End, ratings: Ratings, fault: Exception | None
+        self, room: OpenRoom, request: Request, entry: Entry, after: After, ratings: Ratings, fault: Exception | None
     ) -> None:
         """Applies a row that is committed, and sends what it changed."""
         if fault is not None:
@@ -263,14 +263,14 @@ class Rooms:
             self.later(self._reread(room))
             return
         room.is_busy = False
-        metrics.ROWS.labels(entry.row.kind.name.lower()).inc()
-        ended = room.match.take(entry)
+        metrics.ROWS_OF[entry.row.kind].inc()
+        room.match.take(entry, after)
         request.reply(None)
-        if end:
-            room.match.ending = Ending(*end, ratings or ())
-            metrics.ENDED.labels(end[1]).inc()
+        if after.end:
+            room.match.ending = Ending(*after.end, ratings or ())
+            metrics.ENDED.labels(after.end[1]).inc()
             self._close(room)
-        if ended:
+        if after.ended:
             self._show(room)
             metrics.PAIRS.inc()
             metrics.LATENCY.observe(perf_counter() - request.since)

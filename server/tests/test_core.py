@@ -179,8 +179,9 @@ async def leak_game(seed, variant, monkeypatch):
     services.rooms.seat(start)
     room = services.rooms.open[1]
     await services.rooms.watch(room.id, 99, audience)
-    pairs, host = 0, room.match.host
+    pairs = 0
     while room.id in services.rooms.open and pairs < 40:
+        host = room.match.host
         asked = [side for side in Side if host.awaits(side)]
         if chance.random() < 0.5:
             asked.reverse()

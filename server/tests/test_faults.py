@@ -9,7 +9,6 @@ import signal
 import socket
 import subprocess
 import time
-from collections import deque
 from functools import partial
 from types import SimpleNamespace
 
@@ -193,11 +192,15 @@ def test_a_client_that_is_slowed_down_for_long_is_dropped(monkeypatch):
         transport = SimpleNamespace(
             abort=lambda: dropped.append(1), pause_reading=nothing, resume_reading=nothing, is_closing=lambda: True
         )
-        made = connections.Connection(services, transport, "", nothing)
-        made.protocol = "json"
+
+        class Client(connections.Connection):
+            protocol = "json"
+
+        made = Client(services, transport, "", nothing)
         made._bucket = SimpleNamespace(take=lambda: 4.0)
-        made.turn_down = lambda fault: None
-        await made._receive(deque(SimpleNamespace(type=connections.WSMsgType.TEXT, data="") for _ in range(5)))
+        for _ in range(5):
+            made.feed_data(SimpleNamespace(type=connections.WSMsgType.TEXT, data=""))
+        await made._task
         assert slept == [4.0, 4.0] and dropped == [1]
 
     asyncio.run(test())
