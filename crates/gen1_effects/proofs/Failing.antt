@@ -1,6 +1,6 @@
 -- A move that fails by a test, or passes it, and an action that ends with its effect.
 use Rattle.std.proofs.Common.{◌≡◌}
-use Rattle.gen1_layout.proofs.Words.{Bool, Frame, Parts, Phase, Progress, Shows, ShowsDrawn, Side, Telling, ap, choose, choose-false, choose-true, drawn_goes, drawn_if_so, drawn_stops, false, goes, halted, if_so, past, refl, stay, still, stop, stops, then-goes, true, ◌∙◌, ◌▸◌}
+use Rattle.gen1_layout.proofs.Words.{Bool, Frame, Parts, Phase, Progress, Shows, ShowsDrawn, Side, Telling, ap, choose, choose-false, choose-true, drawn_goes, drawn_if_so, drawn_stops, false, goes, halted, if_so, past, stay, still, stop, stops, then-goes, true, ◌∙◌, ◌▸◌}
 use Rattle.gen1_rolls.specs.Draws.{Drawing, Source}
 use Rattle.gen1_machine.specs.Progress.{fail, fails_if}
 use Rattle.gen1_layout.specs.Operations.{Does, between}
@@ -41,7 +41,7 @@ module _ {A : Type 0} {d : Drawing A} {source : Source A} where
   pub drawn_ended : {g : Frame} {parts : Parts} {events : Telling} {now : A} {b : Bool} {p : Progress} (f : Phase)
       → ShowsDrawn d source g parts events now b (f p) → ShowsDrawn d source g parts events now true ((f ▸ stop) p)
   drawn_ended {b = true} f a = drawn_stops f stop a
-  drawn_ended {b = false} f a = drawn_goes f stop a (still a (halted a.shows) refl)
+  drawn_ended {b = false} f a = drawn_goes f stop a (still a (halted a.shows))
 
   pub drawn_fails : (k : Known) (g : Frame) {parts : Parts} {events events' : Telling} {now : A} {p : Progress} (s : Side) (test : Progress → Bool) (rest : Phase)
       → test p ≡ true → Does (between parts events parts events') true (fail s) → ShowsKnown d source k g parts events now false p

@@ -12,8 +12,7 @@ use gen1_rolls::{Look, Rolls};
 
 /// Damage times a drawn factor, in 255ths (docs/MECHANICS.md, "Factors").
 ///
-/// Damage of 0 and 1 stays as it is, without a draw. Otherwise it draws until a byte is a factor, at most `R::SPAN`
-/// times.
+/// Damage of 0 and 1 stays as it is, without a draw. Otherwise it draws until a byte is a factor.
 pub fn factor<R: Rolls>(damage: u16, random: &mut R) -> u16
     ensures varies { Varies R.drawing random damage result }
     ensures most { result ≤ damage }

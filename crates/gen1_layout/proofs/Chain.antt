@@ -1,9 +1,9 @@
 -- How shown facts pass through phases. Each lemma takes a shown fact and gives a shown fact. Phases are explicit
 -- arguments, and `_` is mostly enough for them.
 use Rattle.std.proofs.Common.{Bool, List, [], ap, false, refl, subst, sym, true, ℕ, ◌++◌, ◌+◌, ◌≡◌, ◌∙◌, ◌∷◌}
-use Rattle.gen1_rolls.specs.Draws.{Drawing, Source}
+use Rattle.gen1_rolls.specs.Draws.{Drawing, IsNext, Source, StandsIn}
 use Rattle.gen1_rolls.specs.Streams.{Stream, byte_at}
-use Rattle.gen1_rolls.proofs.Standing.{byte_drawn, stands_after_draw, stands_there}
+use Rattle.gen1_rolls.proofs.Standing.{stands_there}
 use Rattle.gen1_stats.specs.Members.{Member}
 use Rattle.gen1_machine.specs.declared.side.Side.{Side}
 use Rattle.gen1_machine.specs.declared.event.Event.{Event}
@@ -135,11 +135,11 @@ module _ {g : Frame} {parts : Parts} {events : Telling} {b : Bool} {p : Progress
 module _ {A : Type 0} {d : Drawing A} {source : Source A} where
   -- What code without draws showed, for a generator that hasn't moved.
   pub still : {g g' : Frame} {parts parts' : Parts} {events events' : Telling} {now : A} {b b' : Bool} {p q : Progress}
-      → ShowsDrawn d source g parts events now b p → Shows (record g' { stream = source.stream; drawn = p.drawn }) parts' events' b' q → g'.stream ≡ g.stream
+      → ShowsDrawn d source g parts events now b p → Shows (record g' { stream = source.stream; drawn = p.drawn }) parts' events' b' q
       → ShowsDrawn d source g' parts' events' now b' q
-  still a h same = record {
+  still a h = record {
     shows = record { within = h.within; written = h.written; ends = h.ends; stream = h.stream; drawn = refl; skips = h.skips; action = h.action };
-    stands = stands_there a.stands (sym h.drawn);
+    stands = stands_there d source _ a.stands (sym h.drawn);
   }
 
   pub drawn_as_list : {g : Frame} {parts : Parts} {events : Telling} {now : A} {b : Bool} {p : Progress}
@@ -157,20 +157,27 @@ module _ {A : Type 0} {d : Drawing A} {source : Source A} where
       → ShowsDrawn d source g' parts' events new b' q
   drawn_quietly h f = drawn_from_list h (f (drawn_as_list h))
 
-  -- A draw: the byte is the stream's, and the next place is one further.
-  pub drawing : {g g' : Frame} {parts parts' : Parts} {events events' : Telling} {old new now : A} {b b' : Bool} {p : Progress} (f : ℕ → Phase) {drawn : ℕ}
-      → ShowsDrawn d source g parts events old b p → drawn ≡ d.byte old → new ≡ d.next old
-      → (ShowsDrawn d source g parts events new b (record p { drawn = p.drawn + 1 })
-      → ShowsDrawn d source g' parts' events' now b' (f drawn (record p { drawn = p.drawn + 1 })))
+  -- A draw: what it says of the stream's next byte, and what is shown one place further.
+  pub drawn_next : {g : Frame} {parts : Parts} {events : Telling} {old new : A} {b : Bool} {p : Progress} {Is : ℕ → Type 0}
+      → ShowsDrawn d source g parts events old b p → ((n : ℕ) → StandsIn d source n old → IsNext d source n Is new)
+      → Is (byte_at p.stream p.drawn) × ShowsDrawn d source g parts events new b (record p { drawn = p.drawn + 1 })
+  drawn_next {p = p} {Is = Is} a draws =
+      let next = draws p.drawn a.stands in
+      let h = a.shows in (
+        subst (λ (s : Stream). Is (byte_at s p.drawn)) (sym h.stream) next.is,
+        record {
+          shows = record { within = h.within; written = h.written; ends = h.ends; stream = h.stream; drawn = refl; skips = h.skips; action = h.action };
+          stands = next.stands;
+        },
+      )
+
+  pub drawing : {g g' : Frame} {parts parts' : Parts} {events events' : Telling} {old new now : A} {b b' : Bool} {p : Progress} {Is : ℕ → Type 0} (f : ℕ → Phase)
+      → ShowsDrawn d source g parts events old b p → ((n : ℕ) → StandsIn d source n old → IsNext d source n Is new)
+      → ((byte : ℕ) → Is byte → ShowsDrawn d source g parts events new b (record p { drawn = p.drawn + 1 })
+      → ShowsDrawn d source g' parts' events' now b' (f byte (record p { drawn = p.drawn + 1 })))
       → ShowsDrawn d source g' parts' events' now b' (draw f p)
   unfolding draw
-  drawing {g = g} {p = p} f a e left then =
-      let at = byte_drawn a.stands e ∙ ap (λ (s : Stream). byte_at s p.drawn) (sym a.shows.stream) in
-      let h = a.shows in
-      rw (← at) (then (record {
-        shows = record { within = h.within; written = h.written; ends = h.ends; stream = h.stream; drawn = refl; skips = h.skips; action = h.action };
-        stands = stands_after_draw a.stands left;
-      }))
+  drawing {p = p} f a draws then = let next = drawn_next a draws in then (byte_at p.stream p.drawn) next.0 next.1
 
   pub drawn_goes : {g g' : Frame} {parts parts' : Parts} {events events' : Telling} {now now' : A} {b : Bool} {p : Progress} (f k : Phase)
       → ShowsDrawn d source g parts events now false (f p) → ShowsDrawn d source g' parts' events' now' b (k (f p))
@@ -205,4 +212,4 @@ module _ {A : Type 0} {d : Drawing A} {source : Source A} where
 
   pub drawn_acted : {g : Frame} {parts : Parts} {events : Telling} {now : A} {b : Bool} {p : Progress} (f : Action → Action)
       → ShowsDrawn d source g parts events now b p → ShowsDrawn d source (record g { action = f g.action }) parts events now b (on_action f p)
-  drawn_acted {g = g} f h = still {g' = record g { action = f g.action }} h (acted f h.shows) refl
+  drawn_acted {g = g} f h = still {g' = record g { action = f g.action }} h (acted f h.shows)

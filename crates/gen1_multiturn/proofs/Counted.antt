@@ -1,26 +1,8 @@
 -- A drawn count, by its one or two draws.
 use Rattle.std.proofs.Common.{◌%◌, ◌+◌, ◌≡◌}
 use Rattle.gen1_layout.proofs.Words.{Bool, Frame, Parts, Phase, Progress, ShowsDrawn, Telling, ap, choose, choose-false, choose-true, draw, false, nat_le, refl, sym, true, ℕ, ◌∙◌}
-use Rattle.gen1_rolls.specs.Draws.{Drawing, Source}
 use Rattle.gen1_rolls.specs.Streams.{byte_at, Stream}
-use Rattle.gen1_rolls.proofs.Standing.{byte_drawn, stands_after_draw}
 use Rattle.gen1_machine.specs.GoingOn.{count_again, count_by_draw, draw_count}
-
-module _ {A : Type 0} {d : Drawing A} {source : Source A} {g : Frame} {parts : Parts} {events : Telling} {old : A} {b : Bool} {p : Progress} where
-  -- The lowest bits of the drawn byte are those of the stream's.
-  pub drawn_bits : (byte : ℕ) → ShowsDrawn d source g parts events old b p → byte % 4 ≡ d.byte old % 4 → byte % 4 ≡ byte_at p.stream p.drawn % 4
-  drawn_bits byte a e =
-      e ∙ ap (λ (n : ℕ). n % 4) (byte_drawn {b = d.byte old} a.stands refl ∙ ap (λ (s : Stream). byte_at s p.drawn) (sym a.shows.stream))
-
-  -- The next place of the generator is one further.
-  pub drawn_next : {new : A} → ShowsDrawn d source g parts events old b p → new ≡ d.next old
-      → ShowsDrawn d source g parts events new b (record p { drawn = p.drawn + 1 })
-  drawn_next a left =
-      let h = a.shows in
-      record {
-        shows = record { within = h.within; written = h.written; ends = h.ends; stream = h.stream; drawn = refl; skips = h.skips; action = h.action };
-        stands = stands_after_draw a.stands left;
-      }
 
 pub counted_once : (f : ℕ → Phase) (p : Progress) (d : ℕ) → d % 4 ≡ byte_at p.stream p.drawn % 4 → nat_le (d % 4) 1 ≡ true → draw_count f p ≡ f (d % 4) (record p { drawn = p.drawn + 1 })
 unfolding draw_count draw count_by_draw

@@ -1,7 +1,7 @@
 -- The draws of a script are a stream.
 use Rattle.std.proofs.Common.{◌≡◌, ℕ, zero, suc, ◌⊎◌, inl, inr, ◌+◌, ◌-◌, ◌%◌, ◌<◌, ◌≤◌, Bool, true, false, refl, ap, ◌∙◌, arith, slice_index, nat_lt}
 use Rattle.std.proofs.lemmas.Bool.Decides.{nat_tests}
-use Rattle.gen1_rolls.specs.Draws.{draws_of, stream_of}
+use Rattle.gen1_rolls.specs.Steady.{draws_of, stream_of}
 use Rattle.gen1_rolls.specs.Streams.{iterate, IsStream, HoldsEveryByte}
 use Rattle.gen1_rolls.specs.Sweep.{one_up}
 use Rattle.gen1_rolls.proofs.Period.{iterate-add}

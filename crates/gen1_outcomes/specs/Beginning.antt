@@ -1,7 +1,7 @@
 -- Turns of two actions, and where a turn is after the first of them (docs/MECHANICS.md, "Order of a turn").
 use Rattle.std.specs.Prelude.{Bool, [], false, true, ℕ, ◌&&◌, ◌∷◌, ◌≡◌}
 use Rattle.gen1_rolls.specs.Draws.{Drawing, Ref, Since, Source, StandsIn}
-use Rattle.gen1_rolls.specs.Streams.{IsStream, Stream}
+use Rattle.gen1_rolls.specs.Streams.{IsStream}
 use Rattle.gen1_machine.specs.declared.choice.Choice.{Choice}
 use Rattle.gen1_machine.specs.declared.choice.Choice.TheVariants as choices
 use Rattle.gen1_machine.specs.declared.picks.Pick.{Pick}

@@ -1,7 +1,7 @@
 -- A list of the battles that can follow from a pair of choices, with their weights.
 use Rattle.std.specs.Prelude.{List, take, slice_index, slice_index_or, ℕ, ◌*◌, ◌+◌, ◌<◌, ◌≡◌, ◌≤◌, ◌⊎◌}
 use Rattle.std.specs.List.{sum_by}
-use Rattle.gen1_rolls.specs.Draws.{stream_of}
+use Rattle.gen1_rolls.specs.Steady.{stream_of}
 use Rattle.gen1_machine.specs.declared.choice.Choice.{Choice}
 use Rattle.gen1_machine.specs.State.{State}
 use Rattle.gen1_layout.specs.Parts.{Parts}

@@ -1,6 +1,6 @@
 -- Positions between the two actions of a turn, when they agree, and what a way to one is played with (docs/MECHANICS.md, "Order of a turn", "Link numbers").
 use Rattle.std.specs.Prelude.{List, slice_index, slice_index_or, ℕ, ◌+◌, ◌<◌, ◌≡◌, ◌≢◌, ◌⊎◌}
-use Rattle.gen1_rolls.specs.Draws.{stream_of}
+use Rattle.gen1_rolls.specs.Steady.{steady, stream_of}
 use Rattle.gen1_machine.specs.declared.choice.Choice.TheVariants as choices
 use Rattle.gen1_machine.specs.declared.side.Side.TheVariants.{One, Two}
 use Rattle.gen1_machine.specs.declared.terms.Request.TheVariants.{Move}
@@ -89,5 +89,5 @@ pub record Reaches (w : Walk) (nodes : Nodes) (middle : Middle) : Type 0 where
   pub left : Script
   pub begins : (s : State) → (j k : ℕ) → Stands w.start s → Plays s Move w.one w.two → w.one ≡ choices.Move j → w.two ≡ choices.Move k
       → let p = drawing_on (stream_of scripted (script_of path)) 0 s in
-      Begins scripted (source_of path) (setting_of s) parts left middle.rest (pick_in j One (unflinched p).field) (pick_in k Two (unflinched p).field) p
+      Begins (steady scripted) (source_of path) (setting_of s) parts left middle.rest (pick_in j One (unflinched p).field) (pick_in k Two (unflinched p).field) p
       (turn (ruling_of s.terms) w.one w.two p)

@@ -1,6 +1,7 @@
 -- A generator whose first bytes are given (docs/MECHANICS.md, "Link numbers").
 use Rattle.std.specs.Prelude.{List, ℕ, ◌+◌, nat_lt, slice_index, if◌then◌else◌}
-use Rattle.gen1_rolls.specs.Draws.{Drawing, Source, own_source, steady}
+use Rattle.gen1_rolls.specs.Draws.{Source}
+use Rattle.gen1_rolls.specs.Steady.{Generator, own_source}
 use Rattle.gen1_rolls.specs.Sweep.{one_up}
 use Rattle.gen1_outcomes.specs.declared.script.Script.{Script}
 
@@ -17,8 +18,8 @@ abbrev pub after_draw : Script → Script
 after_draw s = if nat_lt s.at 24 then record s { at = s.at + 1 } else record s { number = one_up s.number }
 
 -- How it draws: any 280 draws in a row hold every byte, since after 24 it counts up.
-abbrev pub scripted : Drawing Script
-scripted = steady next_byte after_draw 280
+abbrev pub scripted : Generator Script
+scripted = record { byte = next_byte; next = after_draw; width = 280 }
 
 -- The draws of a path's generator from its first on.
 abbrev pub source_of : List ℕ → Source Script

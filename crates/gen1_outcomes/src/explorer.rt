@@ -1,10 +1,10 @@
 //! A generator that takes an update through all its ways, one after the other (docs/MECHANICS.md, "Link numbers").
-ghost use Rattle.std.specs.Prelude.{Bool, IfNone, IfSome, IsFalse, IsTrue, ℕ, ◌≡◌, ◌≢◌, ◌⊎◌};
-ghost use Rattle.gen1_outcomes.specs.Script.{after_draw, next_byte, scripted};
+ghost use Rattle.std.specs.Prelude.{Bool, IfNone, IfSome, IsFalse, IsTrue, ℕ, ◌<◌, ◌≡◌, ◌≢◌, ◌⊎◌};
+ghost use Rattle.gen1_outcomes.specs.Script.{scripted};
 ghost use Rattle.gen1_outcomes.specs.Bytes.{ArePassing, IsAll, IsNone};
 ghost use Rattle.gen1_outcomes.specs.declared.byte_set.ByteSet.{ByteSet};
-ghost use Rattle.gen1_rolls.specs.Draws.{FindsAlike, FindsNoDraw, Settles, Steps, stream_of};
-ghost use Rattle.gen1_rolls.specs.Looks.{sees};
+ghost use Rattle.gen1_rolls.specs.Draws.{DrawsAs, FindsAs, FindsNone, NextByte, Settles, Steps};
+ghost use Rattle.gen1_rolls.specs.Steady.{steady, stream_of};
 ghost use Rattle.gen1_rolls.specs.Streams.{IsStream};
 
 use crate::byte_set::ByteSet;
@@ -114,11 +114,7 @@ impl<N: Notes> Explorer<N> {
 }
 
 impl<N: Notes> Rolls for Explorer<N> {
-    const SPAN: usize = 280;
-
-    ghost SPAN = { 280 };
-
-    ghost drawing = { scripted };
+    ghost drawing = { steady scripted };
 
     // A draw of which all is looked at.
     fn draw(&mut self) -> u8 {
@@ -132,21 +128,14 @@ impl<N: Notes> Rolls for Explorer<N> {
     fn until_as<F: Fn(u8) -> bool>(&mut self, test: F, look: Look) -> Option<u8> {
         search_noted(&mut self.script, &mut self.notes, test, look)
     }
-
-    ghost use Rattle.std.proofs.Common.{lit<, refl};
-
-    ghost positive = { lit< tt };
-
-    ghost spans = { refl };
 }
 
 // Draws a byte, and notes it with its look. Like `Rolls`, it promises of the byte only what the look sees, so a caller is proved only
 // if it passes the look that it was given.
 fn draw_noted<N: Notes>(script: &mut Script, notes: &mut N, look: Look) -> u8
-    ensures drawn { sees look result ≡ sees look (next_byte script.old) }
-    ensures left { script.new ≡ after_draw script.old }
-    ensures stream { IsStream (stream_of scripted script.old) }
-    ensures steps { Steps scripted script }
+    ensures drawn { DrawsAs (steady scripted) look script result }
+    ensures fits { NextByte (steady scripted) script (λ byte. byte < 256) }
+    ensures steps { Steps (steady scripted) script }
     ensures noted { (all : ByteSet) × IsAll all × N.noted result look all notes.old notes.new }
 {
     let byte = script.draw();
@@ -163,10 +152,10 @@ fn search_noted<N: Notes, F: Fn(u8) -> bool>(
 ) -> Option<u8>
     requires callable { F.IsAlwaysCallable test }
     ensures found { (p : ℕ → Bool) → Settles (F.post test) p
-        → IfSome result (FindsAlike scripted p look script) }
+        → IfSome result (FindsAs (steady scripted) p look script) }
     ensures none { (p : ℕ → Bool) → Settles (F.post test) p
-        → IfNone result (FindsNoDraw scripted p script) }
-    ensures steps { Steps scripted script }
+        → IfNone result (FindsNone (steady scripted) p script) }
+    ensures steps { Steps (steady scripted) script }
     ensures noted { (p : ℕ → Bool) → Settles (F.post test) p → IfSome result (λ byte. (may : ByteSet)
         × (ArePassing p may ⊎ (N.settled notes.old × IsNone may))
         × N.noted byte look may notes.old notes.new) }

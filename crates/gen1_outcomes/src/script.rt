@@ -1,10 +1,10 @@
 //! A generator whose first bytes are given (docs/MECHANICS.md, "Link numbers").
 ghost use Rattle.std.specs.Prelude.{length, slice_index, ◌<◌, ◌≡◌};
-ghost use Rattle.gen1_rolls.specs.Draws.{stream_of};
+ghost use Rattle.gen1_rolls.specs.Steady.{steady, stream_of};
 ghost use Rattle.gen1_rolls.specs.Streams.{IsStream};
 ghost use Rattle.gen1_outcomes.specs.Script.{scripted};
 
-use gen1_rolls::Rolls;
+use gen1_rolls::{Look, Rolls, Steady, draw_from, search_from};
 
 /// How many bytes are given. No update takes more than 17 draws and searches, as far as is known.
 pub const DEPTH: usize = 24;
@@ -40,14 +40,14 @@ impl Script {
     }
 }
 
-impl Rolls for Script {
+impl Steady for Script {
     const SPAN: usize = 280;
 
     ghost SPAN = { 280 };
 
-    ghost drawing = { scripted };
+    ghost generator = { scripted };
 
-    fn draw(&mut self) -> u8 {
+    fn next_byte(&mut self) -> u8 {
         self.draws_a_stream();
         if self.at < DEPTH {
             let byte = self.path[self.at];
@@ -65,6 +65,18 @@ impl Rolls for Script {
     ghost positive = { lit< tt };
 
     ghost spans = { refl };
+}
+
+impl Rolls for Script {
+    ghost drawing = { steady scripted };
+
+    fn draw(&mut self) -> u8 {
+        draw_from(self)
+    }
+
+    fn until_as<F: Fn(u8) -> bool>(&mut self, test: F, look: Look) -> Option<u8> {
+        search_from(self, test, look)
+    }
 }
 
 // The draws of a script with these parts are a stream. Returns its first given byte.

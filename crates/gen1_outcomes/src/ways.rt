@@ -5,7 +5,7 @@ ghost use Rattle.gen1_layout.specs.Within.{Stands};
 ghost use Rattle.gen1_layout.specs.Words.{AddsAtMost, HasRoom, Reads};
 ghost use Rattle.gen1_engine.specs.Update.{AreOffered, Tests};
 ghost use Rattle.gen1_outcomes.specs.Beginning.{have_two_actions};
-ghost use Rattle.gen1_rolls.specs.Draws.{stream_of};
+ghost use Rattle.gen1_rolls.specs.Steady.{stream_of};
 ghost use Rattle.gen1_outcomes.specs.declared.fault.OutcomesFault.TheVariants.{Size};
 ghost use Rattle.gen1_outcomes.specs.Following.{CanFollow, Follows, IsBegun, PlaysNext};
 ghost use Rattle.gen1_outcomes.specs.Listing.{FollowsBy};

@@ -7,7 +7,7 @@ use Rattle.std.proofs.lemmas.List.Edits.{map_over_more}
 use Rattle.std.proofs.lemmas.List.Elements.{All-from_get_or}
 use Rattle.std.proofs.lemmas.Bool.{le-leb, lt-leb}
 use Rattle.std.proofs.lemmas.Grind.{common_steps}
-use Rattle.gen1_rolls.specs.Draws.{stream_of, StandsAt}
+use Rattle.gen1_rolls.specs.Steady.{stream_of, StandsAt}
 use Rattle.gen1_rolls.specs.Link.{link, Ring, turned, byte_of, after_draw, ring_of, ring_at}
 use Rattle.gen1_rolls.specs.Streams.{iterate, renewed, times_renewed, byte_at, IsStream, Link}
 use Rattle.gen1_rolls.proofs.Standing.{own_is_stream}

@@ -2,7 +2,7 @@
 use Rattle.std.proofs.Common.{◌≡◌, ℕ, ◌+◌, ◌-◌, ◌*◌, ◌/◌, ◌%◌, ◌<◌, ◌≤◌, List, Bool, IsFalse, length, sym, ap, ◌∙◌, arith, inl, inr, ◌⊎◌, subst}
 use Rattle.std.proofs.lemmas.Bool.{cases_eq}
 use Rattle.std.specs.Prelude.{slice_index}
-use Rattle.gen1_rolls.specs.Draws.{FindsDraw, FindsNone}
+use Rattle.gen1_rolls.specs.Steady.{FindsDraw, FindsNoDraw}
 use Rattle.gen1_rolls.specs.Link.{FailsFrom, link, Ring, turned, byte_of, after_draw, ring_at}
 use Rattle.gen1_rolls.specs.Streams.{iterate, byte_at, IsFirstOf, IsStream, Link}
 use Rattle.gen1_rolls.proofs.Period.{byte-small, byte_at-rounds, full_period}
@@ -81,7 +81,7 @@ finds_in_round s p i r from place b new long lt round small late before found dr
 
 -- After 256 rounds without a byte that passes there is none. The last number of a round alone is every byte.
 pub finds_none : (s : List ℕ) (p : ℕ → Bool) (i r from : ℕ) (new : Ring) → IsStream (Link s) → i < 9 → r ≡ 256
-    → Fails s p i (9 * r + from) → new ≡ record { index = i; numbers = turned r s } → FindsNone link p (record { index = i; numbers = s }) new
+    → Fails s p i (9 * r + from) → new ≡ record { index = i; numbers = turned r s } → FindsNoDraw link p (record { index = i; numbers = s }) new
 finds_none s p i r from new is lt all failed left =
     let long : 9 ≤ length s = omega (arith, is.0) in
     let none : (b : ℕ) → b < 256 → IsFalse (p b) =

@@ -1,6 +1,6 @@
 -- The draws of a sweep.
 use Rattle.std.proofs.Common.{◌≡◌, ℕ, zero, suc, ◌+◌, ◌%◌, ◌<◌, refl, ap, ◌∙◌, arith}
-use Rattle.gen1_rolls.specs.Draws.{stream_of, StandsAt}
+use Rattle.gen1_rolls.specs.Steady.{stream_of, StandsAt}
 use Rattle.gen1_rolls.specs.Streams.{iterate, byte_at, IsStream, Sweep}
 use Rattle.gen1_rolls.specs.Sweep.{one_up, sweep}
 use Rattle.gen1_rolls.proofs.Standing.{own_is_stream}

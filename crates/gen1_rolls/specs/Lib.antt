@@ -2,5 +2,6 @@
 pub mod Draws
 pub mod Link
 pub mod Looks
+pub mod Steady
 pub mod Streams
 pub mod Sweep

@@ -1,6 +1,6 @@
 -- The ring of numbers of a link battle's generator (docs/MECHANICS.md, "Link numbers").
 use Rattle.std.specs.Prelude.{ℕ, ◌+◌, ◌/◌, ◌%◌, ◌<◌, ◌≤◌, Bool, IsFalse, List, ◌++◌, map, take, drop, slice_index, nat_lt, if◌then◌else◌}
-use Rattle.gen1_rolls.specs.Draws.{Drawing, steady}
+use Rattle.gen1_rolls.specs.Steady.{Generator}
 use Rattle.gen1_rolls.specs.Streams.{times_renewed}
 
 -- Nine numbers that are drawn in turn, a tenth that is only kept, and the index of the next number.
@@ -24,8 +24,8 @@ after_draw ring =
     else record { index = 0; numbers = turned 1 ring.numbers }
 
 -- How it draws: any 2304 draws in a row hold every byte.
-abbrev pub link : Drawing Ring
-link = steady byte_of after_draw 2304
+abbrev pub link : Generator Ring
+link = record { byte = byte_of; next = after_draw; width = 2304 }
 
 -- The ring at the beginning of a battle.
 abbrev pub ring_of : List ℕ → Ring

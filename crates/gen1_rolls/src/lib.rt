@@ -6,7 +6,8 @@
 //! - `link`: the generator of a link battle
 //! - `sweep`: a generator that counts up
 //! - `search`: the first draw that passes a test
-//! - `laws`: what holds for every generator
+//! - `steady`: generators that note nothing
+//! - `laws`: what holds for every generator that notes nothing
 #![tactic(auto)]
 
 mod laws;
@@ -14,6 +15,7 @@ mod link;
 mod look;
 mod rolls;
 mod search;
+mod steady;
 mod sweep;
 
 pub use laws::{draws_a_stream, every_generator_stands};
@@ -21,4 +23,5 @@ pub use link::{LinkRandom, renew};
 pub use look::Look;
 pub use rolls::Rolls;
 pub use search::until;
+pub use steady::{Steady, draw_from, search_from};
 pub use sweep::Sweep;

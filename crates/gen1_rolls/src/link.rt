@@ -1,11 +1,13 @@
 //! The generator of a link battle (docs/MECHANICS.md, "Link numbers").
 ghost use Rattle.std.specs.Prelude.{◌≡◌, ◌<◌, ℕ, Bool, nat_lt, if◌then◌else◌, slice_index, length, IfSome, IfNone};
-ghost use Rattle.gen1_rolls.specs.Draws.{stream_of, Finds, FindsNoDraw, Settles, StandsAt};
+ghost use Rattle.gen1_rolls.specs.Draws.{Settles};
+ghost use Rattle.gen1_rolls.specs.Steady.{steady, stream_of, FindsDraw, FindsNoDraw, StandsAt};
 ghost use Rattle.gen1_rolls.specs.Link.{FailsFrom, Ring, link, ring_of, turned};
 ghost use Rattle.gen1_rolls.specs.Streams.{IsFirstOf, IsStream, renewed, Link};
 
 use crate::look::Look;
 use crate::rolls::Rolls;
+use crate::steady::{Steady, draw_from};
 use std::marker::Model;
 
 /// The generator of a link battle (docs/MECHANICS.md, "Link numbers").
@@ -80,10 +82,10 @@ impl LinkRandom {
         requires callable { F.IsAlwaysCallable test }
         requires stream { IsStream (Link self.old.numbers) }
         ensures found { (p : ℕ → Bool) → Settles (F.post test) p → FailsFrom self.old.index self.old.numbers p
-            → IfSome result (λ b. Finds link p self b) }
+            → IfSome result (λ b. FindsDraw link p self.old b self.new) }
         ensures fits { IfSome result (λ b. b < 256) }
         ensures none { (p : ℕ → Bool) → Settles (F.post test) p → FailsFrom self.old.index self.old.numbers p
-            → IfNone result (FindsNoDraw link p self) }
+            → IfNone result (FindsNoDraw link p self.old self.new) }
     {
         let start = self.index;
         'rounds: for _ in 0..255_u16 {
@@ -92,7 +94,7 @@ impl LinkRandom {
             match place_from(&self.numbers, 0, &test) {
                 Some(place) => {
                     self.index = place;
-                    return Some(self.draw());
+                    return Some(self.next_byte());
                 }
                 None => {}
             }
@@ -103,14 +105,14 @@ impl LinkRandom {
     }
 }
 
-impl Rolls for LinkRandom {
+impl Steady for LinkRandom {
     const SPAN: usize = 2304;
 
     ghost SPAN = { 2304 };
 
-    ghost drawing = { link };
+    ghost generator = { link };
 
-    fn draw(&mut self) -> u8 {
+    fn next_byte(&mut self) -> u8 {
         let drawn = number_at(&self.numbers, self.index);
         if self.index < 8 {
             self.index += 1;
@@ -121,6 +123,20 @@ impl Rolls for LinkRandom {
         drawn
     }
 
+    ghost use Rattle.std.proofs.Common.{lit<, refl};
+
+    ghost positive = { lit< tt };
+
+    ghost spans = { refl };
+}
+
+impl Rolls for LinkRandom {
+    ghost drawing = { steady link };
+
+    fn draw(&mut self) -> u8 {
+        draw_from(self)
+    }
+
     // The numbers of this round are looked at where they are, and only the one that passes is drawn (docs/SPEED.md,
     // "A search by draws").
     #[inline] // docs/SPEED.md, "Hints on inlining"
@@ -128,17 +144,11 @@ impl Rolls for LinkRandom {
         match place_from(&self.numbers, self.index, &test) {
             Some(place) => {
                 self.index = place;
-                Some(self.draw())
+                Some(self.next_byte())
             }
             None => self.until_later(test),
         }
     }
-
-    ghost use Rattle.std.proofs.Common.{lit<, refl};
-
-    ghost positive = { lit< tt };
-
-    ghost spans = { refl };
 }
 
 /// Renews one of the nine numbers: five times the number, plus one, modulo 256 (docs/MECHANICS.md, "Link numbers").

@@ -1,10 +1,12 @@
 //! A generator that counts up (docs/MECHANICS.md, "Link numbers").
 ghost use Rattle.std.specs.Prelude.{◌≡◌, ℕ};
-ghost use Rattle.gen1_rolls.specs.Draws.{stream_of, StandsAt};
+ghost use Rattle.gen1_rolls.specs.Steady.{steady, stream_of, StandsAt};
 ghost use Rattle.gen1_rolls.specs.Streams.{IsStream, Sweep as SweepFrom};
 ghost use Rattle.gen1_rolls.specs.Sweep.{one_up, sweep};
 
+use crate::look::Look;
 use crate::rolls::Rolls;
+use crate::steady::{Steady, draw_from, search_from};
 use std::marker::Model;
 
 /// A generator for tests (docs/MECHANICS.md, "Link numbers").
@@ -34,14 +36,14 @@ impl Sweep {
     }
 }
 
-impl Rolls for Sweep {
+impl Steady for Sweep {
     const SPAN: usize = 256;
 
     ghost SPAN = { 256 };
 
-    ghost drawing = { sweep };
+    ghost generator = { sweep };
 
-    fn draw(&mut self) -> u8 {
+    fn next_byte(&mut self) -> u8 {
         let drawn = self.number;
         self.number = step(drawn);
         drawn
@@ -52,6 +54,18 @@ impl Rolls for Sweep {
     ghost positive = { lit< tt };
 
     ghost spans = { refl };
+}
+
+impl Rolls for Sweep {
+    ghost drawing = { steady sweep };
+
+    fn draw(&mut self) -> u8 {
+        draw_from(self)
+    }
+
+    fn until_as<F: Fn(u8) -> bool>(&mut self, test: F, look: Look) -> Option<u8> {
+        search_from(self, test, look)
+    }
 }
 
 /// The number after a number. Its contract also says that the draws from the first on are a stream.

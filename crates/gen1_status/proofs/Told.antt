@@ -1,9 +1,8 @@
 -- How results of the gate pass through phases. Only the hit on itself can change the outcome.
 use Rattle.std.proofs.Common.{◌+◌, ◌≡◌}
-use Rattle.gen1_layout.proofs.Words.{Action, ActiveConditions, Bool, Field, Frame, Parts, Phase, Progress, Shows, ShowsDrawn, Side, Some, Telling, ap, changed_active, changed_conditions, changed_member, choose, choose-false, choose-true, draw, false, given, refl, still, subst, sym, then-goes, then-stops, true, with_last_damage, ℕ, ◌∙◌, ◌▸◌}
-use Rattle.gen1_rolls.specs.Draws.{Drawing, Source}
+use Rattle.gen1_layout.proofs.Words.{drawn_next, Action, ActiveConditions, Bool, Field, Frame, Parts, Phase, Progress, Shows, ShowsDrawn, Side, Some, Telling, ap, changed_active, changed_conditions, changed_member, choose, choose-false, choose-true, draw, false, given, refl, still, subst, sym, then-goes, then-stops, true, with_last_damage, ℕ, ◌∙◌, ◌▸◌}
+use Rattle.gen1_rolls.specs.Draws.{Drawing, IsNext, Source, StandsIn}
 use Rattle.gen1_rolls.specs.Streams.{Stream, byte_at}
-use Rattle.gen1_rolls.proofs.Standing.{byte_drawn, stands_after_draw}
 use Rattle.gen1_machine.specs.declared.terms.Outcome.{Outcome}
 use Rattle.gen1_machine.specs.HitOnItself.{hurt_itself_by}
 use Rattle.gen1_machine.proofs.Keeps.{choose-keeps, given-keeps, set_last_damage-keeps, then-keeps, Keeps, Spares}
@@ -104,7 +103,7 @@ module _ {A : Type 0} {d : Drawing A} {source : Source A} {g : Frame} {parts : P
   -- What code without draws reported, for a generator that hasn't moved.
   pub still_tells : {parts' : Parts} {events' : Telling} {answer : Gate} {b : Bool} {q : Progress} → ShowsDrawn d source g parts events now b p
       → Tells (record g { stream = source.stream; drawn = p.drawn }) parts' events' answer p q → TellsDrawn d source g parts' events' now answer p q
-  still_tells {answer = answer} {q = q} h a = record { shows = still {g' = frame_after answer q g} h a.shows refl; outcome = a.outcome }
+  still_tells {answer = answer} {q = q} h a = record { shows = still {g' = frame_after answer q g} h a.shows; outcome = a.outcome }
 
   -- A phase that is shown and keeps the outcome.
   pub drawn_tells : (answer : Gate) (f : Phase) → outcome_after answer p.field.outcome ≡ p.field.outcome → Keeps (StaysAs p.field.outcome) f
@@ -134,21 +133,17 @@ module _ {A : Type 0} {d : Drawing A} {source : Source A} {g : Frame} {parts : P
   unfolding given
   tells_seeing read f e h = rw (← e) h
 
-  -- A draw of a byte with which the phase does the same as with the drawn one.
-  pub tells_drawing : {g' : Frame} {parts' : Parts} {events' : Telling} {old now' : A} {b : Bool} {answer : Gate} (f : ℕ → Phase) (drawn : ℕ)
-      → ShowsDrawn d source g parts events old b p → f drawn ≡ f (d.byte old) → now ≡ d.next old
+  -- A draw of a byte with which the phase does the same as with the stream's.
+  pub tells_drawing : {g' : Frame} {parts' : Parts} {events' : Telling} {old now' : A} {b : Bool} {answer : Gate} {Is : ℕ → Type 0} (f : ℕ → Phase) (byte : ℕ)
+      → ShowsDrawn d source g parts events old b p → ((n : ℕ) → StandsIn d source n old → IsNext d source n Is now) → ((x : ℕ) → Is x → f byte ≡ f x)
       → (ShowsDrawn d source g parts events now b (record p { drawn = p.drawn + 1 })
-      → TellsDrawn d source g' parts' events' now' answer (record p { drawn = p.drawn + 1 }) (f drawn (record p { drawn = p.drawn + 1 })))
+      → TellsDrawn d source g' parts' events' now' answer (record p { drawn = p.drawn + 1 }) (f byte (record p { drawn = p.drawn + 1 })))
       → TellsDrawn d source g' parts' events' now' answer p (draw f p)
   unfolding draw
-  tells_drawing {old = old} f drawn a same left then =
-      let at = byte_drawn {b = d.byte old} a.stands refl ∙ ap (λ (s : Stream). byte_at s p.drawn) (sym a.shows.stream) in
-      let h = a.shows in
-      let told = then (record {
-        shows = record { within = h.within; written = h.written; ends = h.ends; stream = h.stream; drawn = refl; skips = h.skips; action = h.action };
-        stands = stands_after_draw a.stands left;
-      }) in
-      rw (← at, ← same) (record { shows = told.shows; outcome = told.outcome })
+  tells_drawing f byte a draws same then =
+      let next = drawn_next a draws in
+      let told = then next.1 in
+      rw (← same (byte_at p.stream p.drawn) next.0) (record { shows = told.shows; outcome = told.outcome })
 
   -- A result that doesn't stop is Go.
   pub went : {answer : Gate} {q : Progress} → stopped_by answer ≡ false

@@ -4,7 +4,6 @@ use Rattle.std.proofs.lemmas.Bool.{false≢true}
 use Rattle.gen1_layout.proofs.Words.{Bool, Frame, Parts, Phase, Progress, Shows, ShowsDrawn, Side, Telling, active_in, ap, choose-false, choose-true, draw, drawn_goes, false, given, goes, if_not, if_so, length, member_in, nat_lt, on_active, on_conditions, on_field, refl, stay, stays, still, subst, sym, then-goes, true, ℕ, ◌∙◌, ◌▸◌}
 use Rattle.gen1_rolls.specs.Draws.{Drawing, Source}
 use Rattle.gen1_rolls.specs.Streams.{byte_at, Stream}
-use Rattle.gen1_rolls.proofs.Standing.{byte_drawn, stands_after_draw}
 use Rattle.gen1_machine.specs.declared.choice.Choice.{Choice}
 use Rattle.gen1_machine.specs.declared.choice.Choice.TheVariants as choices
 use Rattle.gen1_machine.specs.declared.picks.Pick.{Pick}
@@ -62,9 +61,9 @@ module _ {A : Type 0} {d : Drawing A} {source : Source A} where
       → LeavesRest (Shows (record (knowing (with_broke a.0 k) g) { stream = source.stream; drawn = (f p).drawn }) parts' events') falls (suffering s) (residual s) (f p)
       → PartLeaves (λ b q. ShowsOver d source k g parts' events' now b q) falls f s p
   acted_left k g parts' events' now true f s p a left =
-      λ rest. let x = left rest in (x.0, (a.0, drawn_goes f _ a.1 (still {g' = knowing (with_broke a.0 k) g} a.1 x.1 refl)))
+      λ rest. let x = left rest in (x.0, (a.0, drawn_goes f _ a.1 (still {g' = knowing (with_broke a.0 k) g} a.1 x.1)))
   acted_left k g parts' events' now false f s p a left = (
-    (a.0, still {g' = knowing (with_broke a.0 k) g} a.1 left.0 refl),
+    (a.0, still {g' = knowing (with_broke a.0 k) g} a.1 left.0),
     left.1,
     λ rest. then-goes f _ p a.1.shows.ends ∙ left.2 rest,
   )
@@ -73,7 +72,7 @@ module _ {A : Type 0} {d : Drawing A} {source : Source A} where
   pub over_still : (k k' : Known) (g : Frame) {broke : Bool} {parts parts' : Parts} {events events' : Telling} {now : A} {b : Bool} {p q : Progress}
       → ShowsDrawn d source (knowing (with_broke broke k) g) parts events now false p → Shows (knowing k' (record g { stream = source.stream; drawn = p.drawn })) parts' events' b q
       → ShowsOver d source k' g parts' events' now b q
-  over_still k k' g a h = (k'.broke, still {g' = knowing k' g} a h refl)
+  over_still k k' g a h = (k'.broke, still {g' = knowing k' g} a h)
 
   pub ends_still : (k k' : Known) (g : Frame) {broke : Bool} {parts parts' : Parts} {events events' : Telling} {now : A} {p q : Progress}
       → ShowsDrawn d source (knowing (with_broke broke k) g) parts events now false p
@@ -92,24 +91,7 @@ module _ {A : Type 0} {d : Drawing A} {source : Source A} where
 
   pub ended : (k : Known) (g : Frame) {parts parts' : Parts} {events events' : Telling} {now : A} {p : Progress} (f : Phase)
       → Does (between parts events parts' events') false f → ShowsOver d source k g parts events now false p → Ends d source k g parts' events' now (f p)
-  ended k g f does (broke, a) = (false, (broke, still {g' = knowing (with_broke broke k) g} a (does _ _ a.shows) refl))
-
-  -- A draw
-
-  -- The drawn byte passes a test as the stream's does.
-  pub drawn_side : {g : Frame} {parts : Parts} {events : Telling} {old : A} {b : Bool} {p : Progress} (byte : ℕ)
-      → ShowsDrawn d source g parts events old b p → nat_lt byte 128 ≡ nat_lt (d.byte old) 128 → nat_lt byte 128 ≡ nat_lt (byte_at p.stream p.drawn) 128
-  drawn_side {old = old} {p = p} byte a e =
-      e ∙ ap (λ (n : ℕ). nat_lt n 128) (byte_drawn {b = d.byte old} a.stands refl ∙ ap (λ (s : Stream). byte_at s p.drawn) (sym a.shows.stream))
-
-  pub drawn_next : {g : Frame} {parts : Parts} {events : Telling} {old new : A} {b : Bool} {p : Progress}
-      → ShowsDrawn d source g parts events old b p → new ≡ d.next old → ShowsDrawn d source g parts events new b (record p { drawn = p.drawn + 1 })
-  drawn_next {p = p} a left =
-      let h = a.shows in
-      record {
-        shows = record { within = h.within; written = h.written; ends = h.ends; stream = h.stream; drawn = refl; skips = h.skips; action = h.action };
-        stands = stands_after_draw a.stands left;
-      }
+  ended k g f does (broke, a) = (false, (broke, still {g' = knowing (with_broke broke k) g} a (does _ _ a.shows)))
 
 -- The same end without a generator.
 pub stops_as : {g : Frame} {parts : Parts} {events : Telling} (q q' : Progress) → q ≡ q' → (stopped : Bool) × Shows g parts events stopped q'

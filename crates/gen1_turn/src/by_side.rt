@@ -20,10 +20,6 @@ impl<R> Model for BySide<R> {
 }
 
 impl<R: Rolls> Rolls for BySide<R> {
-    const SPAN: usize = R::SPAN;
-
-    ghost SPAN = { R.SPAN };
-
     ghost drawing = { R.drawing };
 
     fn draw(&mut self) -> u8 {
@@ -37,8 +33,4 @@ impl<R: Rolls> Rolls for BySide<R> {
     fn until_as<F: Fn(u8) -> bool>(&mut self, test: F, look: Look) -> Option<u8> {
         self.0.until_as(test, look)
     }
-
-    ghost positive = { R.positive };
-
-    ghost spans = { R.spans };
 }

@@ -1,7 +1,7 @@
 //! Worked draws (docs/MECHANICS.md, "Link numbers").
 ghost use Rattle.std.specs.Prelude.{◌≡◌, ℕ, ◌+◌, ◌%◌, Some, MatchOption, nat_lt};
-ghost use Rattle.gen1_rolls.specs.Draws.{StandsAt};
-ghost use Rattle.gen1_rolls.specs.Streams.{Stream, byte_at, span, first, low_bits, Link as LinkStream};
+ghost use Rattle.gen1_rolls.specs.Draws.{Since, StandsIn};
+ghost use Rattle.gen1_rolls.specs.Streams.{byte_at, span, first, low_bits, Link as LinkStream};
 
 use crate::comparing::assert_same;
 use gen1_rolls::{LinkRandom, Rolls, Sweep, renew, until};
@@ -62,11 +62,11 @@ fn the_first_draw_that_meets_a_test(rt: HostRuntime) {
 /// Draws a count from 1 to 7: the lowest three bits of the first draw in which they aren't 0. Like the engine, it
 /// works for any generator.
 fn count<R: Rolls>(r: &mut R) -> u8
-    ensures { (origin : R) (s : Stream) (n : ℕ) → StandsAt R.drawing origin s n r.old
-        → MatchOption (first s n (λ b. nat_lt 0 (low_bits 3 b)))
-        ((result ≡ 0) × StandsAt R.drawing origin s (n + span s) r.new)
-        (λ m. (result ≡ low_bits 3 (byte_at s m))
-        × StandsAt R.drawing origin s (m + 1) r.new) }
+    ensures { (since : Since R.drawing r.new) (n : ℕ) → StandsIn R.drawing since.source n r.old
+        → MatchOption (first since.source.stream n (λ b. nat_lt 0 (low_bits 3 b)))
+        ((result ≡ 0) × StandsIn R.drawing since.source (n + span since.source.stream) r.new)
+        (λ m. (result ≡ low_bits 3 (byte_at since.source.stream m))
+        × StandsIn R.drawing since.source (m + 1) r.new) }
 {
     match until(r, |b| b % 8 != 0) {
         Some(b) => b % 8,

@@ -1,7 +1,8 @@
 -- The draws of a countdown.
-use Rattle.std.proofs.Common.{◌≡◌, ℕ, zero, suc, ◌+◌, ◌-◌, ◌*◌, ◌%◌, ◌<◌, ap, ◌∙◌, arith}
-use Rattle.gen1_rolls.specs.Draws.{draws_of, stream_of}
-use Rattle.gen1_rolls.specs.Streams.{iterate, HoldsEveryByte, IsStream}
+use Rattle.std.proofs.Common.{◌≡◌, ℕ, zero, suc, ◌+◌, ◌-◌, ◌*◌, ◌%◌, ◌<◌, refl, ap, ◌∙◌, arith}
+use Rattle.gen1_rolls.specs.Draws.{Since}
+use Rattle.gen1_rolls.specs.Steady.{draws_of, own_source, steady, stream_of}
+use Rattle.gen1_rolls.specs.Streams.{byte_at, iterate, HoldsEveryByte, IsStream}
 use Rattle.gen1_rolls.proofs.Standing.{stream_of-is}
 use Rattle.test_operations.specs.Countdown.{countdown, one_down}
 
@@ -21,3 +22,11 @@ full n lt b below =
 
 pub countdown_is_stream : (n : ℕ) → n < 256 → IsStream (stream_of countdown n)
 countdown_is_stream n lt = stream_of-is countdown n (λ k. stays_byte k n lt) (λ k. full (iterate k one_down n) (stays_byte k n lt))
+
+-- A countdown's own source, whose first byte is the number.
+abbrev pub own : (n : ℕ) {now : ℕ} → Since (steady countdown) now
+own n = record { source = own_source countdown n; agrees = tt }
+
+pub first_byte : (n : ℕ) → byte_at (stream_of countdown n) 0 ≡ n
+unfolding byte_at
+first_byte n = refl

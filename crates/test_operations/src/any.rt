@@ -2,8 +2,8 @@
 ghost use Rattle.std.specs.Prelude.{◌+◌, ◌<◌, ◌≡◌, ◌≤◌};
 ghost use Rattle.gen1_events.specs.Sink.{events_room};
 ghost use Rattle.gen1_layout.specs.Words.{Field, HasRoom, None, Setting, Some, Within, move_at, nat_lt, status_in, ℕ};
-ghost use Rattle.gen1_rolls.specs.Draws.{KeepsOwn, draws_of, stream_of};
-ghost use Rattle.gen1_rolls.specs.Streams.{first, iterate};
+ghost use Rattle.gen1_rolls.specs.Draws.{NextByte, Since, StandsIn};
+ghost use Rattle.gen1_rolls.specs.Streams.{byte_at, first};
 ghost use Rattle.gen1_stats.specs.declared.status.Status.TheVariants.{Healthy, Paralysed};
 ghost use Rattle.gen1_machine.specs.CriticalHits.{critical_bound_in, rotated_left_3};
 ghost use Rattle.gen1_machine.specs.Damage.{is_factor, rotated_right_1, times_factor};
@@ -21,9 +21,9 @@ use gen1_tables::MoveId;
 /// The critical draw: it takes the generator's next byte. The hit is critical if that byte, rotated, is below the
 /// machine's bound.
 pub fn critical_by<R: Rolls>(battle: &Packed, side: Side, id: MoveId, random: &mut R) -> bool
-    ensures { KeepsOwn R.drawing random → (g : Setting) (f : Field) → Within g battle.now f
-        → (result ≡ nat_lt (rotated_left_3 (R.drawing.byte random.old))
-        (critical_bound_in side (move_at id) f)) × (random.new ≡ R.drawing.next random.old) }
+    ensures { (g : Setting) (f : Field) → Within g battle.now f
+        → NextByte R.drawing random (λ byte. result ≡ nat_lt (rotated_left_3 byte)
+        (critical_bound_in side (move_at id) f)) }
 {
     critical(battle, side, id, random)
 }
@@ -31,11 +31,14 @@ pub fn critical_by<R: Rolls>(battle: &Packed, side: Side, id: MoveId, random: &m
 /// The factor of damage: 0 and 1 stay as they are without a draw. Other damage is multiplied by the first byte that
 /// is a factor, rotated.
 pub fn factor_by<R: Rolls>(damage: u16, random: &mut R) -> u16
-    ensures kept { KeepsOwn R.drawing random → damage ≤ 1 → (result ≡ damage) × (random.new ≡ random.old) }
-    ensures drawn { KeepsOwn R.drawing random → (m : ℕ) → 1 < damage
-        → first (stream_of R.drawing random.old) 0 is_factor ≡ Some m
-        → (result ≡ times_factor (rotated_right_1 (draws_of R.drawing random.old m)) damage)
-        × (random.new ≡ iterate (m + 1) R.drawing.next random.old) }
+    ensures kept { damage ≤ 1 → (since : Since R.drawing random.new) (n : ℕ)
+        → StandsIn R.drawing since.source n random.old
+        → (result ≡ damage) × StandsIn R.drawing since.source n random.new }
+    ensures drawn { 1 < damage → (since : Since R.drawing random.new) (n m : ℕ)
+        → StandsIn R.drawing since.source n random.old
+        → first since.source.stream n is_factor ≡ Some m
+        → (result ≡ times_factor (rotated_right_1 (byte_at since.source.stream m)) damage)
+        × StandsIn R.drawing since.source (m + 1) random.new }
 {
     factor(damage, random)
 }
@@ -49,10 +52,9 @@ pub fn hit_test_by<R: Rolls>(
     base: u8,
     random: &mut R,
 ) -> Hit
-    ensures { KeepsOwn R.drawing random → (g : Setting) (f : Field) → Within g battle.old f
+    ensures { (g : Setting) (f : Field) → Within g battle.old f
         → settled_hit_in side (move_at id) f ≡ None
-        → (result.hit ≡ nat_lt (R.drawing.byte random.old) (scaled_in side base f))
-        × (random.new ≡ R.drawing.next random.old) }
+        → NextByte R.drawing random (λ byte. result.hit ≡ nat_lt byte (scaled_in side base f)) }
 {
     hit_test(battle, side, id, base, random)
 }
@@ -67,12 +69,13 @@ pub fn gate_by<R: Rolls>(
     events: &mut EventList,
 ) -> Gate
     requires room { HasRoom events_room 3 events.old }
-    ensures healthy { KeepsOwn R.drawing random → (g : Setting) (f : Field) → Within g battle.old f → IsFree side f
-        → status_in side f ≡ Healthy
-        → (result ≡ Gate.Go) × (random.new ≡ random.old) }
-    ensures paralysed { KeepsOwn R.drawing random → (g : Setting) (f : Field) → Within g battle.old f → IsFree side f
+    ensures healthy { (g : Setting) (f : Field) → Within g battle.old f → IsFree side f
+        → status_in side f ≡ Healthy → (since : Since R.drawing random.new) (n : ℕ)
+        → StandsIn R.drawing since.source n random.old
+        → (result ≡ Gate.Go) × StandsIn R.drawing since.source n random.new }
+    ensures paralysed { (g : Setting) (f : Field) → Within g battle.old f → IsFree side f
         → status_in side f ≡ Paralysed
-        → (stopped_by result ≡ nat_lt (R.drawing.byte random.old) 63) × (random.new ≡ R.drawing.next random.old) }
+        → NextByte R.drawing random (λ byte. stopped_by result ≡ nat_lt byte 63) }
 {
     gate(battle, side, Pick::Use(used), random, events)
 }

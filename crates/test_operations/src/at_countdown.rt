@@ -2,7 +2,7 @@
 ghost use Rattle.std.specs.Prelude.{◌<◌, ◌≡◌, ◌≤◌};
 ghost use Rattle.gen1_events.specs.Sink.{events_room};
 ghost use Rattle.gen1_layout.specs.Words.{Field, HasRoom, None, Reads, Setting, Within, move_at, nat_lt, status_in, true};
-ghost use Rattle.gen1_rolls.specs.Draws.{stream_of};
+ghost use Rattle.gen1_rolls.specs.Steady.{stream_of};
 ghost use Rattle.gen1_rolls.specs.Streams.{IsStream};
 ghost use Rattle.gen1_stats.specs.declared.status.Status.TheVariants.{Paralysed};
 ghost use Rattle.gen1_machine.specs.CriticalHits.{critical_bound_in, rotated_left_3};

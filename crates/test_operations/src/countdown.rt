@@ -1,14 +1,14 @@
 //! A generator that counts down.
 ghost use Rattle.std.specs.Prelude.{◌≡◌, ℕ};
-ghost use Rattle.gen1_rolls.specs.Draws.{stream_of};
+ghost use Rattle.gen1_rolls.specs.Steady.{steady, stream_of};
 ghost use Rattle.gen1_rolls.specs.Streams.{IsStream};
 ghost use Rattle.test_operations.specs.Countdown.{countdown, one_down};
 
-use gen1_rolls::Rolls;
+use gen1_rolls::{Look, Rolls, Steady, draw_from, search_from};
 use std::marker::Model;
 
 /// A generator that counts down by 1, with 255 after 0. Any 256 draws in a row hold every byte, and so do any 1,000,
-/// which is its `SPAN`. No other generator has that span.
+/// which is its `SPAN`.
 #[derive(Clone, Copy, PartialEq, Eq, Debug, Drop)]
 pub struct Countdown {
     number: u8,
@@ -31,14 +31,14 @@ impl Countdown {
     }
 }
 
-impl Rolls for Countdown {
+impl Steady for Countdown {
     const SPAN: usize = 1000;
 
     ghost SPAN = { 1000 };
 
-    ghost drawing = { countdown };
+    ghost generator = { countdown };
 
-    fn draw(&mut self) -> u8 {
+    fn next_byte(&mut self) -> u8 {
         let drawn = self.number;
         self.number = step(drawn);
         drawn
@@ -49,6 +49,18 @@ impl Rolls for Countdown {
     ghost positive = { lit< tt };
 
     ghost spans = { refl };
+}
+
+impl Rolls for Countdown {
+    ghost drawing = { steady countdown };
+
+    fn draw(&mut self) -> u8 {
+        draw_from(self)
+    }
+
+    fn until_as<F: Fn(u8) -> bool>(&mut self, test: F, look: Look) -> Option<u8> {
+        search_from(self, test, look)
+    }
 }
 
 /// The number before a number. Its contract also says that the draws from the first on are a stream.

@@ -77,8 +77,6 @@ impl<'a> Script<'a> {
 }
 
 impl Rolls for Script<'_> {
-    const SPAN: usize = 256;
-
     fn draw(&mut self) -> u8 {
         unreachable!("a draw without a look")
     }

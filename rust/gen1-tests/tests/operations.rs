@@ -167,10 +167,10 @@ mod comparing {
 mod countdown {
     //! A generator that counts down.
 
-    use gen1::generated::rolls::Rolls;
+    use gen1::generated::rolls::{Look, Rolls, Steady, draw_from, search_from};
 
     /// A generator that counts down by 1, with 255 after 0. Any 256 draws in a row hold every byte, and so do any 1,000,
-    /// which is its `SPAN`. No other generator has that span.
+    /// which is its `SPAN`.
     #[derive(Clone, Copy, PartialEq, Eq, Debug)]
     pub struct Countdown {
         number: u8,
@@ -183,13 +183,23 @@ mod countdown {
         }
     }
 
-    impl Rolls for Countdown {
+    impl Steady for Countdown {
         const SPAN: usize = 1000;
 
-        fn draw(&mut self) -> u8 {
+        fn next_byte(&mut self) -> u8 {
             let drawn = self.number;
             self.number = step(drawn);
             drawn
+        }
+    }
+
+    impl Rolls for Countdown {
+        fn draw(&mut self) -> u8 {
+            draw_from(self)
+        }
+
+        fn until_as<F: Fn(u8) -> bool>(&mut self, test: F, look: Look) -> Option<u8> {
+            search_from(self, test, look)
         }
     }
 

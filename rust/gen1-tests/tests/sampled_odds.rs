@@ -15,7 +15,7 @@ use gen1::generated::odds::{
     Between, HpChange, Odds, Reason, ThreeChances, Wide, drained, knock_out, knock_out_in_three,
     odds_of, recoil,
 };
-use gen1::generated::rolls::Rolls;
+use gen1::generated::rolls::{Look, Rolls};
 use gen1::generated::stats::{MemberSpec, Status, Team};
 use gen1::generated::tables::{Effect, Element, MoveId, STRUGGLE, Species, Stat};
 use gen1::generated::turn::act;
@@ -48,11 +48,13 @@ impl Bytes {
 }
 
 impl Rolls for Bytes {
-    // So many that no search for a byte ends before.
-    const SPAN: usize = 1_000_000;
-
     fn draw(&mut self) -> u8 {
         (self.next() >> 56) as u8
+    }
+
+    // So many that no search for a byte ends before.
+    fn until_as<F: Fn(u8) -> bool>(&mut self, test: F, _look: Look) -> Option<u8> {
+        (0..1_000_000).map(|_| self.draw()).find(|&byte| test(byte))
     }
 }
 

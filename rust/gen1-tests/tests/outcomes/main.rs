@@ -11,7 +11,7 @@ use gen1::generated::machine::{Choice, Side};
 use gen1::generated::outcomes::{
     OutcomeOptions, Outcomes, OutcomesFault, Successor, Ways, list_outcomes,
 };
-use gen1::generated::rolls::Rolls;
+use gen1::generated::rolls::{Look, Rolls};
 use std::collections::HashMap;
 
 pub const ONE: Side = Side::One;
@@ -67,9 +67,6 @@ impl Bytes {
 }
 
 impl Rolls for Bytes {
-    // No number of draws holds every byte for certain. No search of so many fails in practice.
-    const SPAN: usize = 1 << 20;
-
     fn draw(&mut self) -> u8 {
         if self.left == 0 {
             self.word = self.next();
@@ -79,6 +76,11 @@ impl Rolls for Bytes {
         self.word >>= 8;
         self.left -= 1;
         byte
+    }
+
+    // No number of draws holds every byte for certain. No search of so many fails in practice.
+    fn until_as<F: Fn(u8) -> bool>(&mut self, test: F, _look: Look) -> Option<u8> {
+        (0..1 << 20).map(|_| self.draw()).find(|&byte| test(byte))
     }
 }
 

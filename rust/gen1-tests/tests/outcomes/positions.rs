@@ -92,8 +92,6 @@ struct These {
 }
 
 impl Rolls for These {
-    const SPAN: usize = 256;
-
     fn draw(&mut self) -> u8 {
         self.at += 1;
         self.bytes.get(self.at - 1).copied().unwrap_or(0)

@@ -337,8 +337,7 @@ mod factors {
 
     /// Damage times a drawn factor, in 255ths ([docs/MECHANICS.md, "Factors"](https://hibsuloy.example/gen1/blob/main/docs/MECHANICS.md#factors)).
     ///
-    /// Damage of 0 and 1 stays as it is, without a draw. Otherwise it draws until a byte is a factor, at most `R::SPAN`
-    /// times.
+    /// Damage of 0 and 1 stays as it is, without a draw. Otherwise it draws until a byte is a factor.
     pub fn factor<R: Rolls>(damage: u16, random: &mut R) -> u16 {
         factor_up_to(damage, u16::MAX, false, random)
     }

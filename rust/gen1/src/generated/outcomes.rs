@@ -472,8 +472,6 @@ mod explorer {
     }
 
     impl<N: Notes> Rolls for Explorer<N> {
-        const SPAN: usize = 280;
-
         // A draw of which all is looked at.
         fn draw(&mut self) -> u8 {
             draw_noted(&mut self.script, &mut self.notes, Look::Remainder(256))
@@ -1823,7 +1821,7 @@ mod playing {
 mod script {
     //! A generator whose first bytes are given ([docs/MECHANICS.md, "Link numbers"](https://hibsuloy.example/gen1/blob/main/docs/MECHANICS.md#link-numbers)).
 
-    use crate::generated::rolls::Rolls;
+    use crate::generated::rolls::{Look, Rolls, Steady, draw_from, search_from};
 
     /// How many bytes are given. No update takes more than 17 draws and searches, as far as is known.
     pub const DEPTH: usize = 24;
@@ -1855,10 +1853,10 @@ mod script {
         }
     }
 
-    impl Rolls for Script {
+    impl Steady for Script {
         const SPAN: usize = 280;
 
-        fn draw(&mut self) -> u8 {
+        fn next_byte(&mut self) -> u8 {
             self.draws_a_stream();
             if self.at < DEPTH {
                 let byte = self.path[self.at];
@@ -1869,6 +1867,16 @@ mod script {
                 self.number = byte.wrapping_add(1);
                 byte
             }
+        }
+    }
+
+    impl Rolls for Script {
+        fn draw(&mut self) -> u8 {
+            draw_from(self)
+        }
+
+        fn until_as<F: Fn(u8) -> bool>(&mut self, test: F, look: Look) -> Option<u8> {
+            search_from(self, test, look)
         }
     }
 

@@ -7,20 +7,21 @@
 //! - `link`: the generator of a link battle
 //! - `sweep`: a generator that counts up
 //! - `search`: the first draw that passes a test
-//! - `laws`: what holds for every generator
+//! - `steady`: generators that note nothing
+//! - `laws`: what holds for every generator that notes nothing
 
 mod laws {
-    //! What holds for every generator ([docs/MECHANICS.md, "Link numbers"](https://hibsuloy.example/gen1/blob/main/docs/MECHANICS.md#link-numbers)). Each function has an empty body. Its contract
-    //! is the law.
+    //! What holds for every generator that notes nothing ([docs/MECHANICS.md, "Link numbers"](https://hibsuloy.example/gen1/blob/main/docs/MECHANICS.md#link-numbers)). Each function has an empty
+    //! body. Its contract is the law.
 
-    use crate::generated::rolls::rolls::Rolls;
+    use crate::generated::rolls::steady::Steady;
 
     /// A generator's own stream keeps to the law of streams: it is bytes, of which any `SPAN` in a row hold every number.
     ///
     /// The law follows from a draw, so one draw is taken from a copy. `random` itself doesn't change.
-    pub fn draws_a_stream<R: Rolls + Copy>(random: &R) {
+    pub fn draws_a_stream<R: Steady + Copy>(random: &R) {
         let mut copy = *random;
-        copy.draw();
+        copy.next_byte();
     }
 }
 
@@ -29,6 +30,7 @@ mod link {
 
     use crate::generated::rolls::look::Look;
     use crate::generated::rolls::rolls::Rolls;
+    use crate::generated::rolls::steady::{Steady, draw_from};
 
     /// The generator of a link battle ([docs/MECHANICS.md, "Link numbers"](https://hibsuloy.example/gen1/blob/main/docs/MECHANICS.md#link-numbers)).
     ///
@@ -79,7 +81,7 @@ mod link {
                 match place_from(&self.numbers, 0, &test) {
                     Some(place) => {
                         self.index = place;
-                        return Some(self.draw());
+                        return Some(self.next_byte());
                     }
                     None => {}
                 }
@@ -90,10 +92,10 @@ mod link {
         }
     }
 
-    impl Rolls for LinkRandom {
+    impl Steady for LinkRandom {
         const SPAN: usize = 2304;
 
-        fn draw(&mut self) -> u8 {
+        fn next_byte(&mut self) -> u8 {
             let drawn = number_at(&self.numbers, self.index);
             if self.index < 8 {
                 self.index += 1;
@@ -103,6 +105,12 @@ mod link {
             }
             drawn
         }
+    }
+
+    impl Rolls for LinkRandom {
+        fn draw(&mut self) -> u8 {
+            draw_from(self)
+        }
 
         // The numbers of this round are looked at where they are, and only the one that passes is drawn (docs/SPEED.md,
         // "A search by draws").
@@ -111,7 +119,7 @@ mod link {
             match place_from(&self.numbers, self.index, &test) {
                 Some(place) => {
                     self.index = place;
-                    Some(self.draw())
+                    Some(self.next_byte())
                 }
                 None => self.until_later(test),
             }
@@ -213,17 +221,10 @@ mod rolls {
 
     /// A generator of bytes ([docs/MECHANICS.md, "Link numbers"](https://hibsuloy.example/gen1/blob/main/docs/MECHANICS.md#link-numbers)).
     ///
-    /// Its value alone determines what it draws next, and what it is after a draw.
+    /// Its contracts speak of each stream that agrees with the draws that it has noted, and of any place in it.
     pub trait Rolls {
-        /// Any this many draws in a row hold every number from 0 to 255. So a loop that draws until a test passes needs
-        /// at most this many.
-        const SPAN: usize;
-
-        // The byte that is drawn next, the generator after a draw, how many draws in a row hold every byte, and which streams
-        // agree with the noted draws.
+        // When a generator is at a place of a stream, and which streams agree with the draws that it has noted.
         /// Draws the next byte.
-        ///
-        /// The draws from this one on are a stream: bytes, of which any `SPAN` in a row hold every number from 0 to 255.
         fn draw(&mut self) -> u8;
 
         /// Draws the next byte, of which no more is looked at than the look sees.
@@ -238,18 +239,8 @@ mod rolls {
         ///
         /// As with `draw_as`, the contract allows any byte that passes and of which the look sees the same.
         ///
-        /// Returns `None` after `SPAN` draws, if no byte from 0 to 255 passes. The result of the test must depend on the
-        /// byte alone.
-        #[inline] // docs/SPEED.md, "Hints on inlining"
-        fn until_as<F: Fn(u8) -> bool>(&mut self, test: F, _look: Look) -> Option<u8> {
-            for _ in 0..Self::SPAN {
-                let byte = self.draw();
-                if test(byte) {
-                    return Some(byte);
-                }
-            }
-            None
-        }
+        /// Returns `None` if no byte from 0 to 255 passes. The result of the test must depend on the byte alone.
+        fn until_as<F: Fn(u8) -> bool>(&mut self, test: F, _look: Look) -> Option<u8>;
     }
 }
 
@@ -261,17 +252,59 @@ mod search {
 
     /// Draws until a byte passes the test, and returns that byte.
     ///
-    /// Returns `None` after `SPAN` draws, if no byte from 0 to 255 passes. The result of the test must depend on the byte
-    /// alone.
+    /// Returns `None` if no byte from 0 to 255 passes. The result of the test must depend on the byte alone.
     pub fn until<R: Rolls, F: Fn(u8) -> bool>(r: &mut R, test: F) -> Option<u8> {
         r.until_as(test, Look::Remainder(256))
+    }
+}
+
+mod steady {
+    //! Generators that note none of their draws ([docs/MECHANICS.md, "Link numbers"](https://hibsuloy.example/gen1/blob/main/docs/MECHANICS.md#link-numbers)).
+
+    use crate::generated::rolls::look::Look;
+
+    /// A generator that notes none of its draws: its value alone determines what it draws next, and what it is after a draw.
+    ///
+    /// It implements `Rolls` by [`draw_from`] and [`search_from`].
+    pub trait Steady {
+        /// Any this many draws in a row hold every number from 0 to 255. So a loop that draws until a test passes needs
+        /// at most this many.
+        const SPAN: usize;
+
+        // The byte that is drawn next, the generator after a draw, and how many draws in a row hold every byte.
+        /// Draws the next byte.
+        ///
+        /// The draws from this one on are a stream: bytes, of which any `SPAN` in a row hold every number from 0 to 255.
+        fn next_byte(&mut self) -> u8;
+    }
+
+    /// Draws the next byte.
+    pub fn draw_from<R: Steady>(random: &mut R) -> u8 {
+        random.next_byte()
+    }
+
+    /// Draws until a byte passes the test, and returns that byte. The look does not matter.
+    ///
+    /// Returns `None` after `SPAN` draws, if no byte from 0 to 255 passes. The result of the test must depend on the byte
+    /// alone.
+    #[inline] // docs/SPEED.md, "Hints on inlining"
+    pub fn search_from<R: Steady, F: Fn(u8) -> bool>(random: &mut R, test: F, _look: Look) -> Option<u8> {
+        for _ in 0..R::SPAN {
+            let byte = random.next_byte();
+            if test(byte) {
+                return Some(byte);
+            }
+        }
+        None
     }
 }
 
 mod sweep {
     //! A generator that counts up ([docs/MECHANICS.md, "Link numbers"](https://hibsuloy.example/gen1/blob/main/docs/MECHANICS.md#link-numbers)).
 
+    use crate::generated::rolls::look::Look;
     use crate::generated::rolls::rolls::Rolls;
+    use crate::generated::rolls::steady::{Steady, draw_from, search_from};
 
     /// A generator for tests ([docs/MECHANICS.md, "Link numbers"](https://hibsuloy.example/gen1/blob/main/docs/MECHANICS.md#link-numbers)).
     ///
@@ -289,13 +322,23 @@ mod sweep {
         }
     }
 
-    impl Rolls for Sweep {
+    impl Steady for Sweep {
         const SPAN: usize = 256;
 
-        fn draw(&mut self) -> u8 {
+        fn next_byte(&mut self) -> u8 {
             let drawn = self.number;
             self.number = step(drawn);
             drawn
+        }
+    }
+
+    impl Rolls for Sweep {
+        fn draw(&mut self) -> u8 {
+            draw_from(self)
+        }
+
+        fn until_as<F: Fn(u8) -> bool>(&mut self, test: F, look: Look) -> Option<u8> {
+            search_from(self, test, look)
         }
     }
 
@@ -311,4 +354,5 @@ pub use link::{LinkRandom, renew};
 pub use look::Look;
 pub use rolls::Rolls;
 pub use search::until;
+pub use steady::{Steady, draw_from, search_from};
 pub use sweep::Sweep;

@@ -320,8 +320,6 @@ mod by_side {
     pub(crate) struct BySide<R>(pub(crate) R);
 
     impl<R: Rolls> Rolls for BySide<R> {
-        const SPAN: usize = R::SPAN;
-
         fn draw(&mut self) -> u8 {
             self.0.draw()
         }

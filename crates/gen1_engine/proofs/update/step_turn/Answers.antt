@@ -1,5 +1,5 @@
 use Rattle.std.proofs.Common.{arith, length, subst, sym, ◌≡◌, ◌≤◌}
-use Rattle.gen1_rolls.specs.Draws.{StandsAt}
+use Rattle.gen1_rolls.specs.Steady.{StandsAt}
 use Rattle.gen1_rolls.specs.Link.{Ring, link, ring_at, ring_of}
 use Rattle.gen1_rolls.specs.Streams.{Link}
 use Rattle.gen1_rolls.proofs.Rings.{ring-stands, ring_at-stands}

@@ -14,4 +14,4 @@ unfolding must_hit
 returns-clause-shown t c since g p h =
     let a = drawn_quietly h (c.hit_or_miss.ensures.shown _ since g p) in
     let b = plain_still c.hit_or_miss.new.known g _ c.note_miss.ensures.shown a in
-    drawn_goes _ _ a (drawn_if_so _ _ _ (ap (λ (x : Action). x.missed) a.shows.action ∙ c.if-not-known.false) (drawn_goes _ _ b (still b (halted b.shows) refl)))
+    drawn_goes _ _ a (drawn_if_so _ _ _ (ap (λ (x : Action). x.missed) a.shows.action ∙ c.if-not-known.false) (drawn_goes _ _ b (still b (halted b.shows))))

@@ -11,9 +11,8 @@ returns-clause-shown t c told since g p h =
     let w = h.shows.within in
     let bound : c.critical_bound-bound.result ≡ critical_bound_in c.args.side (move_at c.args.id) p.field =
     rw (c.species.ensures.stands _ _ w, c.is_on-focused.ensures.stands 8 refl _ _ w) at c.critical_bound-bound.ensures in
-    let byte = t.R.Rolls.drawing.byte c.args.random.now in
-    let same = alike_below (rotated_left_3 c.draw_as.result) (rotated_left_3 byte) c.critical_bound-bound.result c.draw_as.ensures.drawn in
+    drawing (critical_by c.args.side (move_at c.args.id)) h (c.draw_as.ensures.drawn since) (λ byte is a.
+    let same = alike_below (rotated_left_3 c.draw_as.result) (rotated_left_3 byte) c.critical_bound-bound.result is in
     rw (c.rotated_left_3.ensures, same)
-    (drawing (critical_by c.args.side (move_at c.args.id)) {drawn = byte} h refl c.draw_as.ensures.left (λ a.
-    drawn_seeing _ (λ (b : ℕ). set_critical (nat_lt (rotated_left_3 byte) b)) bound
-    (still a (acted (λ (x : Action). record x { critical = nat_lt (rotated_left_3 byte) c.critical_bound-bound.result }) a.shows) refl)))
+    (drawn_seeing _ (λ (b : ℕ). set_critical (nat_lt (rotated_left_3 byte) b)) bound
+    (still a (acted (λ (x : Action). record x { critical = nat_lt (rotated_left_3 byte) c.critical_bound-bound.result }) a.shows))))

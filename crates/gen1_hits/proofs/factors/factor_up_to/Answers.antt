@@ -1,6 +1,6 @@
 use Rattle.std.proofs.Common.{◌+◌, ◌≡◌}
 use Rattle.gen1_layout.proofs.Words.{arith, false, lit<, nat_le, nat_tests, refl, rules, sym, true, ◌∙◌}
-use Rattle.gen1_rolls.proofs.Standing.{found_then}
+use Rattle.gen1_rolls.specs.Streams.{byte_at}
 use Rattle.gen1_machine.specs.Damage.{is_factor, rotated_right_1, times_factor}
 use Rattle.gen1_hits.proofs.Varying.{varied-most, vary-draws, vary-keeps}
 use Rattle.gen1_hits.proofs.factors.factor_up_to.Goals as goal
@@ -18,12 +18,13 @@ unreachable-requires g c =
 pub returns-clause-varies : goal.returns-clause-varies
 returns-clause-varies g c since n a =
     let large : nat_le c.args.damage 1 ≡ false = grind (arith, nat_tests) in
-    let like = c.in-Some.ensures.found is_factor (λ x answer lt post. search rules) in
-    found_then a like.finds (λ m found byte stands. record {
-      drawn = m + 1;
-      stands = stands;
-      dealt = times_factor (rotated_right_1 like.byte) c.args.damage;
-      sets = λ p same at. vary-draws c.args.damage n m since.source.stream p large same at found ∙ rw byte refl;
-      alike = rw (c.times_factor.ensures.is, c.rotated.ensures) (sym like.alike);
-      most = varied-most c.args.damage like.byte like.fits;
-    })
+    let x = (c.in-Some.ensures.found is_factor (λ x answer lt post. search rules)).on since n a in
+    let byte = byte_at since.source.stream x.place in
+    record {
+      drawn = x.place + 1;
+      stands = x.stands;
+      dealt = times_factor (rotated_right_1 byte) c.args.damage;
+      sets = λ p same at. vary-draws c.args.damage n x.place since.source.stream p large same at x.found;
+      alike = rw (c.times_factor.ensures.is, c.rotated.ensures) (sym x.is);
+      most = varied-most c.args.damage byte x.fits;
+    }

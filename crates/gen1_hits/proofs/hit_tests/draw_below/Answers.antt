@@ -9,14 +9,14 @@ pub returns-then-draw_as-byte-clause-shown : goal.returns-then-draw_as-byte-clau
 unfolding hits_below
 returns-then-draw_as-byte-clause-shown t c told since g p h =
     let below : nat_lt c.draw_as.result c.args.byte ≡ true = grind (arith, nat_tests) in
-    drawing_like (hits_below c.args.side c.args.byte) c.draw_as.result h
-    (ap (λ (b : Bool). choose (λ _. b) stay (miss c.args.side)) (alike_below _ _ c.args.byte c.draw_as.ensures.drawn)) c.draw_as.ensures.left
-    (λ a. still a (if_so _ _ _ below (stays a.shows)) refl)
+    drawing_like (hits_below c.args.side c.args.byte) c.draw_as.result h (c.draw_as.ensures.drawn since)
+    (λ x is. ap (λ (b : Bool). choose (λ _. b) stay (miss c.args.side)) (alike_below _ _ c.args.byte is))
+    (λ a. still a (if_so _ _ _ below (stays a.shows)))
 
 pub returns-clause-shown : goal.returns-clause-shown
 unfolding hits_below
 returns-clause-shown t c told since g p h =
     let above : nat_lt c.draw_as.result c.args.byte ≡ false = grind (arith, nat_tests) in
-    drawing_like (hits_below c.args.side c.args.byte) c.draw_as.result h
-    (ap (λ (b : Bool). choose (λ _. b) stay (miss c.args.side)) (alike_below _ _ c.args.byte c.draw_as.ensures.drawn)) c.draw_as.ensures.left
-    (λ a. still a (if_not _ _ _ above (c.miss.ensures.shown _ _ _ a.shows)) refl)
+    drawing_like (hits_below c.args.side c.args.byte) c.draw_as.result h (c.draw_as.ensures.drawn since)
+    (λ x is. ap (λ (b : Bool). choose (λ _. b) stay (miss c.args.side)) (alike_below _ _ c.args.byte is))
+    (λ a. still a (if_not _ _ _ above (c.miss.ensures.shown _ _ _ a.shows)))

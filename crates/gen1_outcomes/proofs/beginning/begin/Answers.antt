@@ -91,19 +91,19 @@ returns-clause-begins v c s j k stands plays ej ek since drawn w at =
       stands = at;
     }
     in
-    let a = still {g' = knowing (with_broke false nothing_yet) g} h (quietly h.shows (c.end_flinch.ensures.shown _ _ _)) refl in
-    let b = still {g' = knowing (with_broke false nothing_yet) g} a (quietly a.shows (c.end_flinch-2.ensures.shown _ _ _)) refl in
+    let a = still {g' = knowing (with_broke false nothing_yet) g} h (quietly h.shows (c.end_flinch.ensures.shown _ _ _)) in
+    let b = still {g' = knowing (with_broke false nothing_yet) g} a (quietly a.shows (c.end_flinch-2.ensures.shown _ _ _)) in
     let plans = both-plan_of one two s.field in
     let vb = (flinch-planned terms (both_plan one two s.field) Two).kept _ ((flinch-planned terms (both_plan one two s.field) One).kept p (planned s one two stream drawn begun plays w)) in
     let is_one = c.pick-mine.ensures.stands j ej _ _ b.shows.within in
     let is_two = c.pick-others.ensures.stands k ek _ _ b.shows.within in
     let ps = picked-both (both_plan one two s.field) one two j k mine others (unflinched p) ej ek is_one is_two plans.0 plans.1 vb in
     let e = still {g' = knowing (with_broke false nothing_yet) g} b
-    (quietly b.shows (c.set_picked.ensures.shown _ _ _ (picked-fits terms ps.next One mine (unflinched p) ps.fits.0 ps.planned))) refl
+    (quietly b.shows (c.set_picked.ensures.shown _ _ _ (picked-fits terms ps.next One mine (unflinched p) ps.fits.0 ps.planned)))
     in
     let ve = (set_picked-keeps terms ps.next One mine ps.fits.0).kept (unflinched p) ps.planned in
     let f = still {g' = knowing (with_broke false nothing_yet) g} e
-    (quietly e.shows (c.set_picked-2.ensures.shown _ _ _ (picked-fits terms ps.next Two others (set_picked One mine (unflinched p)) ps.fits.1 ve))) refl
+    (quietly e.shows (c.set_picked-2.ensures.shown _ _ _ (picked-fits terms ps.next Two others (set_picked One mine (unflinched p)) ps.fits.1 ve)))
     in
     let vf = (set_picked-keeps terms ps.next Two others ps.fits.1).kept _ ve in
     let order = c.first_side-first.ensures.shown (by_then c.act_and_suffer_as-is_cut.ensures.steps since) _ _ _ (drawn_as_list f) in

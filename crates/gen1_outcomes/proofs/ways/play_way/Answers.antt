@@ -1,4 +1,4 @@
-use Rattle.gen1_rolls.specs.Draws.{draws_of, own_source}
+use Rattle.gen1_rolls.specs.Steady.{draws_of, own_source}
 use Rattle.gen1_rolls.proofs.Standing.{stands_at_itself}
 use Rattle.gen1_outcomes.specs.Script.{scripted}
 use Rattle.gen1_outcomes.proofs.ways.play_way.Goals as goal

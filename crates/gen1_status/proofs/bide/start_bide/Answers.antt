@@ -1,5 +1,5 @@
 use Rattle.std.proofs.Common.{◌+◌}
-use Rattle.gen1_layout.proofs.Words.{ap, refl, still, ℕ}
+use Rattle.gen1_layout.proofs.Words.{ap, still, ℕ}
 use Rattle.gen1_machine.specs.declared.event.Volatile.TheVariants as volatiles
 use Rattle.gen1_machine.specs.Conditions.{with_bide}
 use Rattle.gen1_machine.specs.LateEffects.{bide_for, start_bide}
@@ -10,5 +10,5 @@ use Rattle.gen1_status.proofs.bide.start_bide.Goals as goal
 pub returns-clause-shown : goal.returns-clause-shown
 unfolding start_bide bide_for
 returns-clause-shown t c since g p untied h =
-    let same = ap (λ (n : ℕ). starts c.args.side volatiles.Bide (with_bide (n + 2))) c.draw_as-byte.ensures.drawn in
-    drawing_like (bide_for c.args.side) c.draw_as-byte.result h same c.draw_as-byte.ensures.left (λ d. still d (c.bide_for.ensures.shown _ _ untied d.shows) refl)
+    drawing_like (bide_for c.args.side) c.draw_as-byte.result h (c.draw_as-byte.ensures.drawn since)
+    (λ x is. ap (λ (n : ℕ). starts c.args.side volatiles.Bide (with_bide (n + 2))) is) (λ d. still d (c.bide_for.ensures.shown _ _ untied d.shows))

@@ -13,4 +13,4 @@ returns-clause-shown t c since g p plan begins v h =
     let quiet = (begin-quiet g.setting.terms plan c.args.side).led p v in
     let b = c.action_parts.ensures.shown since g _ plan begins quiet.0 quiet.1 a in
     let kept = quietly b.1.shows (c.keep_accuracy.ensures.shown _ _ _ _ refl) in
-    (b.0, resumed (c.is_over.ensures ∙ ap is_over (c.outcome.ensures.stands _ _ kept.within)) (still b.1 kept refl))
+    (b.0, resumed (c.is_over.ensures ∙ ap is_over (c.outcome.ensures.stands _ _ kept.within)) (still b.1 kept))

@@ -20,7 +20,7 @@ returns-then-power-eq0-clause-shown t c events since g p h =
     let move = move_at c.args.id in
     let none : nat_lt 0 move.power ≡ false = ap (nat_lt 0) (sym c.power.ensures ∙ c.if-power-eq0.true) in (
       choose (λ _. nat_lt 0 move.power) (usual_damage s move) (set_last_damage 0) p,
-      drawn_if_not _ _ _ none (still h (put_damage h.shows 0 (c.put_last_damage.ensures.stands _ _ h.shows.within)) refl),
+      drawn_if_not _ _ _ none (still h (put_damage h.shows 0 (c.put_last_damage.ensures.stands _ _ h.shows.within))),
       (inl refl, λ late. refl),
     )
 
@@ -30,7 +30,7 @@ returns-then-roll_damage-clause-shown t c events since g p h =
     let s = c.args.side in
     let move = move_at c.args.id in
     let some : nat_lt 0 move.power ≡ true = ap (nat_lt 0) (sym c.power.ensures) ∙ below 0 c.power.result (omega (arith, c.if-power-eq0.false)) in
-    let a = still h (put_damage h.shows 0 (c.put_last_damage.ensures.stands _ _ h.shows.within)) refl in
+    let a = still h (put_damage h.shows 0 (c.put_last_damage.ensures.stands _ _ h.shows.within)) in
     let b = c.critical-known.ensures.shown events (by_then c.roll_damage.ensures.steps since) (knowing c.args.known.now g) _ a in
     let x = roll_critical s move (set_last_damage 0 p) in
     let d = c.roll_damage.ensures.shown events since g x b in
@@ -49,7 +49,7 @@ returns-clause-shown t c events since g p h =
     let s = c.args.side in
     let move = move_at c.args.id in
     let some : nat_lt 0 move.power ≡ true = ap (nat_lt 0) (sym c.power.ensures) ∙ below 0 c.power.result (omega (arith, c.if-power-eq0.false)) in
-    let a = still h (put_damage h.shows 0 (c.put_last_damage.ensures.stands _ _ h.shows.within)) refl in
+    let a = still h (put_damage h.shows 0 (c.put_last_damage.ensures.stands _ _ h.shows.within)) in
     let b = c.critical-known.ensures.shown events (by_then c.roll_damage.ensures.steps (by_then c.hit_or_miss.ensures.steps since)) (knowing c.args.known.now g) _ a in
     let x = roll_critical s move (set_last_damage 0 p) in
     let d = c.roll_damage.ensures.shown events (by_then c.hit_or_miss.ensures.steps since) g x b in

@@ -19,7 +19,7 @@ returns-in_default-clause-shown t c events since g p h =
     let none : before_types c.numbers-numbers.result ≡ None = sym c.damage.ensures.is ∙ c.in_default.is in
     let a = put h.shows (with_outcome (outcomes.Fault 1)) (c.put_outcome.ensures.stands _ p.field h.shows.within (lit≤ tt, lit≤ tt)) in (
       roll_damage c.args.side (move_at c.args.id) p,
-      drawn_seeing _ (λ (n : DamageNumbers). damage_from n (before_types n)) n (rw none (still h (goes _ _ a (halted a)) refl)),
+      drawn_seeing _ (λ (n : DamageNumbers). damage_from n (before_types n)) n (rw none (still h (goes _ _ a (halted a)))),
       inl refl,
     )
 

@@ -1,4 +1,4 @@
-use Rattle.gen1_layout.proofs.Words.{as_list, drawn_as_list, drawn_from_list, quietly, refl, still, then-goes, ◌∙◌}
+use Rattle.gen1_layout.proofs.Words.{as_list, drawn_as_list, drawn_from_list, quietly, still, then-goes, ◌∙◌}
 use Rattle.gen1_machine.specs.declared.side.Side.TheVariants.{One, Two}
 use Rattle.gen1_machine.specs.Ruling.{ruling_of}
 use Rattle.gen1_machine.specs.Turn.{both_act, both_pick, do_parts, set_picked}
@@ -13,10 +13,10 @@ unfolding both_pick
 returns-in-One-clause-shown t c since g p plan (one, two) v h =
     let terms = g.setting.terms in
     let fits_one = picked-fits terms plan One c.args.one p one v in
-    let a = still {g' = knowing (with_broke h.0 c.args.known.now) g} h.1 (quietly h.1.shows (c.settle_pick-first.ensures.shown _ _ _ fits_one)) refl in
+    let a = still {g' = knowing (with_broke h.0 c.args.known.now) g} h.1 (quietly h.1.shows (c.settle_pick-first.ensures.shown _ _ _ fits_one)) in
     let va = (set_picked-keeps terms plan One c.args.one one).kept p v in
     let fits_two = picked-fits terms plan Two c.args.two (set_picked One c.args.one p) two va in
-    let b = still {g' = knowing (with_broke h.0 c.args.known.now) g} a (quietly a.shows (c.settle_pick-second.ensures.shown _ _ _ fits_two)) refl in
+    let b = still {g' = knowing (with_broke h.0 c.args.known.now) g} a (quietly a.shows (c.settle_pick-second.ensures.shown _ _ _ fits_two)) in
     let vb = (set_picked-keeps terms plan Two c.args.two two).kept _ va in
     let first = c.settle_pick-first.ensures.ranks _ _ p fits_one (as_list h.1.shows) in
     let second = c.settle_pick-second.ensures.ranks _ _ (set_picked One c.args.one p) fits_two (as_list a.shows) in
@@ -32,10 +32,10 @@ unfolding both_pick
 returns-in-Two-clause-shown t c since g p plan (one, two) v h =
     let terms = g.setting.terms in
     let fits_one = picked-fits terms plan One c.args.one p one v in
-    let a = still {g' = knowing (with_broke h.0 c.args.known.now) g} h.1 (quietly h.1.shows (c.settle_pick-first.ensures.shown _ _ _ fits_one)) refl in
+    let a = still {g' = knowing (with_broke h.0 c.args.known.now) g} h.1 (quietly h.1.shows (c.settle_pick-first.ensures.shown _ _ _ fits_one)) in
     let va = (set_picked-keeps terms plan One c.args.one one).kept p v in
     let fits_two = picked-fits terms plan Two c.args.two (set_picked One c.args.one p) two va in
-    let b = still {g' = knowing (with_broke h.0 c.args.known.now) g} a (quietly a.shows (c.settle_pick-second.ensures.shown _ _ _ fits_two)) refl in
+    let b = still {g' = knowing (with_broke h.0 c.args.known.now) g} a (quietly a.shows (c.settle_pick-second.ensures.shown _ _ _ fits_two)) in
     let vb = (set_picked-keeps terms plan Two c.args.two two).kept _ va in
     let first = c.settle_pick-first.ensures.ranks _ _ p fits_one (as_list h.1.shows) in
     let second = c.settle_pick-second.ensures.ranks _ _ (set_picked One c.args.one p) fits_two (as_list a.shows) in

@@ -1,5 +1,5 @@
 use Rattle.std.proofs.Common.{◌∷◌}
-use Rattle.gen1_layout.proofs.Words.{[], Phase, Progress, quietly, refl, still, subst, sym, then-goes, ◌∙◌}
+use Rattle.gen1_layout.proofs.Words.{[], Phase, Progress, quietly, still, subst, sym, then-goes, ◌∙◌}
 use Rattle.gen1_machine.specs.ResidualDamage.{residual}
 use Rattle.gen1_machine.specs.Ruling.{ruling_of}
 use Rattle.gen1_machine.specs.Sides.{other}
@@ -19,7 +19,7 @@ returns-then-sends_and_suffers-clause-shown t c since g p plan (fits, any, may, 
     let s = c.args.side in
     let k = c.sends_and_suffers.new.known in
     let rest : Phase = do_parts (ruling_of terms) (Acts s c.args.pick ∷ Suffers s ∷ []) in
-    let a = still {g' = knowing (with_broke h.0 c.args.known.now) g} h.1 (quietly h.1.shows (c.set_picked.ensures.shown _ _ _ (picked-fits terms plan s c.args.pick p fits v))) refl in
+    let a = still {g' = knowing (with_broke h.0 c.args.known.now) g} h.1 (quietly h.1.shows (c.set_picked.ensures.shown _ _ _ (picked-fits terms plan s c.args.pick p fits v))) in
     let first = rw c.other.ensures at c.sends_and_suffers.ensures.shown in
     let x = rw c.if-sends_and_suffers.true at (first (record g { stream = since.source.stream; drawn = (set_picked s c.args.pick p).drawn }) _ h.0 (ruling_of terms) (picked-may s (other s) c.args.pick c.args.place p may) (picked-whole s c.args.pick p whole) a.shows) in
     (ends_as k g _ _ (then-goes (set_picked s c.args.pick) _ p a.shows.ends) (ends_still c.args.known.now k g a (x rest)), λ e. cut_short e)
@@ -31,7 +31,7 @@ returns-then-act_and_suffer-clause-shown t c since g p plan (fits, any, may, who
     let s = c.args.side in
     let k = c.sends_and_suffers.new.known in
     let rest : Phase = do_parts (ruling_of terms) (Acts s c.args.pick ∷ Suffers s ∷ []) in
-    let a = still {g' = knowing (with_broke h.0 c.args.known.now) g} h.1 (quietly h.1.shows (c.set_picked.ensures.shown _ _ _ (picked-fits terms plan s c.args.pick p fits v))) refl in
+    let a = still {g' = knowing (with_broke h.0 c.args.known.now) g} h.1 (quietly h.1.shows (c.set_picked.ensures.shown _ _ _ (picked-fits terms plan s c.args.pick p fits v))) in
     let va = (set_picked-keeps terms plan s c.args.pick fits).kept p v in
     let sends = picked-may s (other s) c.args.pick c.args.place p may in
     let first = rw c.other.ensures at c.sends_and_suffers.ensures.shown in
@@ -47,7 +47,7 @@ returns-clause-shown t c since g p plan (fits, any, may, whole) v h =
     let s = c.args.side in
     let k = c.sends_and_suffers.new.known in
     let rest : Phase = do_parts (ruling_of terms) (Acts s c.args.pick ∷ Suffers s ∷ []) in
-    let a = still {g' = knowing (with_broke h.0 c.args.known.now) g} h.1 (quietly h.1.shows (c.set_picked.ensures.shown _ _ _ (picked-fits terms plan s c.args.pick p fits v))) refl in
+    let a = still {g' = knowing (with_broke h.0 c.args.known.now) g} h.1 (quietly h.1.shows (c.set_picked.ensures.shown _ _ _ (picked-fits terms plan s c.args.pick p fits v))) in
     let va = (set_picked-keeps terms plan s c.args.pick fits).kept p v in
     let sends = picked-may s (other s) c.args.pick c.args.place p may in
     let first = rw c.other.ensures at c.sends_and_suffers.ensures.shown in

@@ -1,5 +1,4 @@
-use Rattle.std.proofs.Common.{◌≡◌}
-use Rattle.gen1_layout.proofs.Words.{choose-false, choose-true, false, nat_lt, true, ◌∙◌}
+use Rattle.gen1_layout.proofs.Words.{choose-false, choose-true, ◌∙◌}
 use Rattle.gen1_machine.specs.TurnOrder.{in_order_of_rank}
 use Rattle.gen1_status.proofs.Comparing.{below, not_below}
 use Rattle.gen1_turn.proofs.turn_order.side_by_ranks.Goals as goal

@@ -40,4 +40,4 @@ returns-clause-updated t c s stands plays since drawn w at =
     ) in
     let q : Progress = turn (ruling_of s.terms) one two p in
     let d = c.close_turn.ensures.shown (record (knowing (with_broke a.0.1.0 c.take_turn-cut.new.known) g) { drawn = q.drawn }) (record q { stopped = false }) refl a.1 (reopened a.0.1.1.shows) in
-    record { within = d.1.within; written = d.1.written; stands = rw c.by_side.view_is (stands_there a.0.1.1.stands (sym d.1.drawn)) }
+    record { within = d.1.within; written = d.1.written; stands = rw c.by_side.view_is (stands_there t.R.Rolls.drawing since.source _ a.0.1.1.stands (sym d.1.drawn)) }

@@ -33,4 +33,4 @@ returns-clause-shown t c since g p h =
     let b = told_so a.shows (changed_conditions foe with_seed) (λ (f : Field). events.Start (who_in foe f) volatiles.LeechSeed) w c.push.ensures.told
     (ap (λ (who : Who). events.Start who volatiles.LeechSeed) (c.who.ensures.stands _ _ w)) in
     rw (← c.other-foe.ensures) (drawn_ended _ (drawn_goes _ _ a (drawn_past c.args.side (unseeded foe) _
-    (sym (c.takes_no_seed.ensures.stands _ _ a.shows.within) ∙ c.if-takes_no_seed.false) a (still a b refl))))
+    (sym (c.takes_no_seed.ensures.stands _ _ a.shows.within) ∙ c.if-takes_no_seed.false) a (still a b))))

@@ -5,7 +5,8 @@ use Rattle.gen1_rolls.specs.Looks.{sees}
 use Rattle.gen1_machine.specs.Progress.{draw_until, member}
 use Rattle.gen1_machine.specs.Sides.{other}
 use Rattle.gen1_machine.specs.SideEffects.{disable_slot, names_slot}
-use Rattle.gen1_effects.proofs.Chances.{finding, finding_none}
+use Rattle.gen1_rolls.specs.Draws.{by_then}
+use Rattle.gen1_hits.proofs.Searching.{drawn_for_none, drawn_until}
 use Rattle.gen1_effects.proofs.DisabledSlots.{slot_alike}
 use Rattle.gen1_effects.proofs.side_effects.disable.draw_slot.Goals as goal
 
@@ -16,10 +17,11 @@ returns-in-Some-clause-shown t c since g p h =
     let within = h.shows.within in
     let any = c.has_pp-any_pp.ensures.stands _ _ within in
     let like = c.in-Some.ensures.found (names_slot moves) (λ x answer lt post. search rules) in
-    let same = slot_alike s moves c.has_pp-any_pp.result _ _ any (subst (λ (look : Look). sees look c.in-Some.byte ≡ sees look like.byte) c.slot_look.ensures like.alike) in
+    let named = like.meets in
     drawn_seeing (λ (q : Progress). (member (other s) q).moves) (λ ms. draw_until (names_slot ms) (disable_slot s ms)) (ap (λ (x : Side). (member x p).moves) c.other-foe.ensures)
-    (finding (names_slot moves) (disable_slot s moves) h like same
-    (λ m named d. rw c.other-foe.ensures (c.disable_slot.ensures.shown since g _ (rw c.other-foe.ensures at any) (rw c.other-foe.ensures at named) d)))
+    (drawn_until (names_slot moves) (disable_slot s moves) c.in-Some.byte h (like.on (by_then c.disable_slot.ensures.steps since))
+    (λ x alike. slot_alike s moves c.has_pp-any_pp.result _ _ any (subst (λ (l : Look). sees l c.in-Some.byte ≡ sees l x) c.slot_look.ensures alike))
+    (λ n d. rw c.other-foe.ensures (c.disable_slot.ensures.shown since g _ (rw c.other-foe.ensures at any) (rw c.other-foe.ensures at named) d)))
 
 pub returns-in-None-clause-shown : goal.returns-in-None-clause-shown
 returns-in-None-clause-shown t c since g p h =
@@ -28,4 +30,4 @@ returns-in-None-clause-shown t c since g p h =
     let within = h.shows.within in
     let any = c.has_pp-any_pp.ensures.stands _ _ within in
     drawn_seeing (λ (q : Progress). (member (other s) q).moves) (λ ms. draw_until (names_slot ms) (disable_slot s ms)) (ap (λ (x : Side). (member x p).moves) c.other-foe.ensures)
-    (finding_none (names_slot moves) (disable_slot s moves) h (c.in-None.ensures.none (names_slot moves) (λ x answer lt post. search rules)))
+    (drawn_for_none (names_slot moves) (disable_slot s moves) h ((c.in-None.ensures.none (names_slot moves) (λ x answer lt post. search rules)).on since))

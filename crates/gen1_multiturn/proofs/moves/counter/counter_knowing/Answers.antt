@@ -21,6 +21,6 @@ returns-clause-shown t c events since g p h =
     let k = record c.args.known.now { critical = c.critical-known.result } in
     let damage = c.in-Some.damage in
     let dealt = dealt-if _ _ damage (sym (c.counter.ensures.stands _ _ a.shows.within) ∙ c.in-Some.is) in
-    let b = still {g' = knowing k g} a (put_damage a.shows damage (c.put_last_damage.ensures.stands _ _ a.shows.within)) refl in
+    let b = still {g' = knowing k g} a (put_damage a.shows damage (c.put_last_damage.ensures.stands _ _ a.shows.within)) in
     drawn_goes _ _ a (drawn_if_so _ _ _ dealt.0 (drawn_seeing last_damage (counter_by c.args.side (move_at c.args.id)) refl
     (rw dealt.1 (drawn_goes _ _ b (c.hit_or_miss.ensures.shown events since g _ b)))))

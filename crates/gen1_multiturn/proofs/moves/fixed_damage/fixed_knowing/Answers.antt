@@ -19,7 +19,7 @@ returns-in-Some-clause-shown t c events since g p h =
     let a = c.hit_or_miss.ensures.shown events (by_then c.fixed.ensures.steps since) g p h in
     let now = knowing c.hit_or_miss.new.known g in
     let d = c.fixed.ensures.deals since now events _ a in
-    let b = still {g' = now} d.1 (put_damage d.1.shows c.in-Some.damage (c.put_last_damage.ensures.stands _ _ a.shows.within)) refl in
+    let b = still {g' = now} d.1 (put_damage d.1.shows c.in-Some.damage (c.put_last_damage.ensures.stands _ _ a.shows.within)) in
     drawn_goes _ _ a (drawn_if_not _ _ _ (ap (λ (x : Action). x.missed) a.shows.action ∙ c.if-known.false) (rw (d.2, c.in-Some.is) b))
 
 pub returns-in-None-clause-shown : goal.returns-in-None-clause-shown
@@ -30,4 +30,4 @@ returns-in-None-clause-shown t c events since g p h =
     let d = c.fixed.ensures.deals since now events _ a in
     let b = put d.1.shows (with_outcome (outcomes.Fault 2)) (c.put_outcome.ensures.stands _ _ a.shows.within (lit≤ tt, lit≤ tt)) in
     drawn_goes _ _ a (drawn_if_not _ _ _ (ap (λ (x : Action). x.missed) a.shows.action ∙ c.if-known.false)
-    (rw (d.2, c.in-None.is) (still {g' = now} d.1 (goes _ _ b (halted b)) refl)))
+    (rw (d.2, c.in-None.is) (still {g' = now} d.1 (goes _ _ b (halted b)))))

@@ -1,6 +1,6 @@
 use Rattle.std.proofs.Common.{◌≡◌}
-use Rattle.gen1_layout.proofs.Words.{ap, arith, false, lit<, nat_le, nat_tests, rules, true, ◌∙◌}
-use Rattle.gen1_rolls.proofs.Standing.{exact_byte}
+use Rattle.gen1_layout.proofs.Words.{ap, arith, false, lit<, nat_le, nat_tests, rules, true, ℕ, ◌∙◌}
+use Rattle.gen1_rolls.proofs.Standing.{exactly}
 use Rattle.gen1_machine.specs.FixedDamage.{is_psywave}
 use Rattle.gen1_machine.specs.Progress.{set_last_damage}
 use Rattle.gen1_hits.proofs.Searching.{found_by_drawing}
@@ -21,6 +21,6 @@ unreachable-requires t c =
 pub returns-clause-deals : goal.returns-clause-deals
 returns-clause-deals t c parts since g events p h =
     let large : nat_le c.args.level 1 ≡ false = grind (arith, nat_tests) in
-    let like = c.in-Some.ensures.found (is_psywave c.args.level) (λ x answer lt post. search rules) in
-    let found = found_by_drawing (is_psywave c.args.level) set_last_damage h like (ap set_last_damage (exact_byte like)) in
+    let exact = exactly (c.in-Some.ensures.found (is_psywave c.args.level) (λ x answer lt post. search rules)) in
+    let found = found_by_drawing (is_psywave c.args.level) set_last_damage c.in-Some.byte h (exact.on since) (λ x same q. ap (λ (n : ℕ). set_last_damage n q) same) in
     rw c.from.ensures (found.0, found.1, above_level_one c.args.level p large ∙ found.2)

@@ -13,5 +13,5 @@ unreachable-requires t c =
 pub returns-clause-shown : goal.returns-clause-shown
 unfolding deal_everything
 returns-clause-shown t c events since g p h =
-    drawn_until is_factor deal_everything h (c.in-Some.ensures.found is_factor (λ x answer lt post. search rules)) refl
-    (λ q a. still {g' = g} a (put_damage a.shows 65535 (c.put_last_damage.ensures.stands _ _ a.shows.within)) refl)
+    drawn_until is_factor deal_everything 0 h ((c.in-Some.ensures.found is_factor (λ x answer lt post. search rules)).on since) (λ x same q. refl)
+    (λ n a. still {g' = g} a (put_damage a.shows 65535 (c.put_last_damage.ensures.stands _ _ a.shows.within)))

@@ -12,10 +12,10 @@ unfolding thrash_for with_thrash with_kept_accuracy on_conditions on_field
 returns-clause-shown t c told move is since g p bide trapping h =
     let s = c.args.side in
     let byte = c.draw_as-byte.result in
-    let same = ap (λ (n : ℕ). on_conditions s (with_thrash (n + 2)) ▸ on_active s (with_kept_accuracy (accuracy_byte move))) c.draw_as-byte.ensures.drawn in
-    drawing_like (thrash_for s move) byte h same c.draw_as-byte.ensures.left (λ d.
+    drawing_like (thrash_for s move) byte h (c.draw_as-byte.ensures.drawn since)
+    (λ x same. ap (λ (n : ℕ). on_conditions s (with_thrash (n + 2)) ▸ on_active s (with_kept_accuracy (accuracy_byte move))) same) (λ d.
     let w = c.put_thrash.ensures.stands _ _ (with_thrash (byte % 2 + 2)) d.shows.within refl (omega arith) bide trapping in
-    let a = still {g' = g} d (put_on_conditions d.shows s (with_thrash (byte % 2 + 2)) w) refl in
+    let a = still {g' = g} d (put_on_conditions d.shows s (with_thrash (byte % 2 + 2)) w) in
     let v = c.put_kept_accuracy.ensures.stands _ _ (with_kept_accuracy (accuracy_byte move)) a.shows.within
     (ap (λ (n : ℕ). record (active_in s (on_conditions s (with_thrash (byte % 2 + 2)) p).field) { kept_accuracy = n }) is) in
-    drawn_goes _ _ a (still {g' = g} a (put_on_active a.shows s (with_kept_accuracy (accuracy_byte move)) v) refl))
+    drawn_goes _ _ a (still {g' = g} a (put_on_active a.shows s (with_kept_accuracy (accuracy_byte move)) v)))

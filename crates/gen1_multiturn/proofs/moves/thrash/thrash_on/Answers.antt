@@ -15,7 +15,7 @@ unfolding thrash_less without_thrash
 returns-then-turns-le1-clause-shown t c since g p is h =
     let s = c.args.side in
     let w = c.end_thrash.ensures.stands _ p.field without_thrash h.shows.within refl in
-    let a = still h (put_on_conditions h.shows s without_thrash w) refl in
+    let a = still h (put_on_conditions h.shows s without_thrash w) in
     rw c.in-Some.is (drawn_if_so _ _ _ (at_most _ 1 c.if-turns-le1.true) (drawn_goes _ _ a (c.confuse.ensures.shown since g _ a)))
 
 pub returns-clause-shown : goal.returns-clause-shown
@@ -31,4 +31,4 @@ returns-clause-shown t c since g p is h =
     ∙ ap (λ (n : ℕ). record now { underway = record now.underway { thrash = Some n } }) (sym c.saturating_sub.ensures) in
     let alone = beside-thrash now.underway turns ok so in
     let w = c.put_thrash.ensures.stands _ p.field with_thrash_one_less h.shows.within less (omega (arith, known.1, c.saturating_sub.ensures)) alone.0 alone.1 in
-    rw c.in-Some.is (drawn_if_not _ _ _ (not_at_most _ 1 c.if-turns-le1.false) (still h (put_on_conditions h.shows s with_thrash_one_less w) refl))
+    rw c.in-Some.is (drawn_if_not _ _ _ (not_at_most _ 1 c.if-turns-le1.false) (still h (put_on_conditions h.shows s with_thrash_one_less w)))

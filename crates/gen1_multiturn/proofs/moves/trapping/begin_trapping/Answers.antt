@@ -12,10 +12,10 @@ returns-clause-shown t c events since g p bide thrash h =
     let s = c.args.side in
     let foe = c.other.result in
     let w = c.put_flag.ensures.stands 10 refl (lit< tt) _ p.field without_recharge h.shows.within refl (recharge-same (conditions_in foe p.field)) in
-    let a = still h (put_on_conditions h.shows foe without_recharge w) refl in
+    let a = still h (put_on_conditions h.shows foe without_recharge w) in
     let same = foe-apart s foe without_recharge p.field c.other.ensures in
     let counted = c.draw_count-count.ensures.shown since g _ _ _ a in
     let b = counted.1 in
     let v = c.put_trapping.ensures.stands _ _ (with_trapping (c.draw_count-count.result + 1)) b.shows.within refl (omega (arith, c.draw_count-count.ensures.most))
     (ap (λ (u : Underway). u.bide) same ∙ bide) (ap (λ (u : Underway). u.thrash) same ∙ thrash) in
-    rw (← c.other.ensures) (drawn_goes _ _ a (rw (counted.2 (trap_for s)) (still b (put_on_conditions b.shows s (with_trapping (c.draw_count-count.result + 1)) v) refl)))
+    rw (← c.other.ensures) (drawn_goes _ _ a (rw (counted.2 (trap_for s)) (still b (put_on_conditions b.shows s (with_trapping (c.draw_count-count.result + 1)) v))))

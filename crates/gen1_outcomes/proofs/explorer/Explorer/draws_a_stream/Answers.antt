@@ -1,5 +1,5 @@
 use Rattle.std.proofs.Common.{subst}
-use Rattle.gen1_rolls.specs.Draws.{stream_of}
+use Rattle.gen1_rolls.specs.Steady.{stream_of}
 use Rattle.gen1_rolls.specs.Streams.{IsStream}
 use Rattle.gen1_outcomes.specs.declared.script.Script.{Script}
 use Rattle.gen1_outcomes.specs.Script.{scripted}

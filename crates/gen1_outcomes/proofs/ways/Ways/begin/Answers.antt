@@ -1,5 +1,5 @@
 use Rattle.std.proofs.Common.{◌≡◌, subst}
-use Rattle.gen1_rolls.specs.Draws.{stream_of}
+use Rattle.gen1_rolls.specs.Steady.{steady, stream_of}
 use Rattle.gen1_rolls.proofs.Standing.{stands_at_itself}
 use Rattle.gen1_machine.specs.declared.choice.Choice.TheVariants as choices
 use Rattle.gen1_machine.specs.declared.side.Side.TheVariants.{One, Two}
@@ -28,7 +28,7 @@ returns-in-Some-clause-reaches c =
           let is = rw c.new-explorer.ensures at c.draws_a_stream.ensures in
           let begun = rw (c.copy_of-battle.ensures, c.copied-one.ensures, c.copied-two.ensures, c.new-explorer.ensures) at c.begin-rest.ensures.begins in
           subst (λ (w : Walk). Stands w.start s → Plays s Move w.one w.two → w.one ≡ choices.Move j → w.two ≡ choices.Move k
-          → Begins scripted (source_of path) (setting_of s) c.begin-rest.new.battle c.begin-rest.new.random c.new.result.rest
+          → Begins (steady scripted) (source_of path) (setting_of s) c.begin-rest.new.battle c.begin-rest.new.random c.new.result.rest
           (pick_in j One (unflinched p).field) (pick_in k Two (unflinched p).field) p (turn (ruling_of s.terms) w.one w.two p)) c.self.view_is
           (λ at going first second. rw c.new.ensures.rest
           (begun s j k at going first second (record { source = source_of path; agrees = tt }) 0 is (stands_at_itself scripted (script_of path))))

@@ -1,5 +1,5 @@
 use Rattle.std.proofs.Common.{◌+◌, ◌-◌, ◌≡◌, ap, arith, slice_index, subst, sym, ◌∙◌}
-use Rattle.gen1_rolls.specs.Draws.{stream_of}
+use Rattle.gen1_rolls.specs.Steady.{stream_of}
 use Rattle.gen1_layout.specs.Parts.{Parts}
 use Rattle.gen1_layout.specs.Within.{Stands}
 use Rattle.gen1_engine.specs.Update.{AreOffered}

@@ -24,11 +24,11 @@ returns-in-Some-clause-found g c p settles fails =
     let before = ap (λ (ring : Ring). ring.numbers) c.self-in-rounds.view_is ∙ c.rounds.invariant.numbers in
     let numbers = c.turn.ensures ∙ ap (turned 1) before ∙ turned-more old.numbers r long in
     let here = same_ring place place c.turn.new.numbers (turned (r + 1) old.numbers) refl numbers in
-    finds_in_round old.numbers p old.index (r + 1) 0 place c.draw.result _ long in_ring
+    finds_in_round old.numbers p old.index (r + 1) 0 place c.next_byte.result _ long in_ring
     (omega (arith, c.rounds-test.true)) c.in-Some.ensures.below (omega (arith, in_ring))
     (λ m low high. c.rounds.invariant.failed p settles fails m low (omega (arith, high)))
     (subst (λ (xs : List ℕ). IsFirstOf (slice_index xs) 0 p place) numbers (c.in-Some.ensures.found p settles))
-    (c.draw.ensures.drawn ∙ ap byte_of here) (c.draw.ensures.left ∙ ap after_draw here)
+    (c.next_byte.ensures.drawn ∙ ap byte_of here) (c.next_byte.ensures.left ∙ ap after_draw here)
 
 pub rounds-preserved : goal.rounds-preserved
 rounds-preserved g c =

@@ -44,7 +44,7 @@ returns-then-is_idle-clause-shown t c since g p h =
     let d = drawn_tells Go (paralysis_test c.args.side) refl (paralysis_test-steady (outcome-steady _) c.args.side (outcome-breaks _ c.args.side))
     (drawn_settled c.if-paralysis_test.false (c.paralysis_test.ensures.shown since _ _ b.shows)) in
     tells_goes _ _ a (tells_goes _ _ b (tells_goes _ _ d
-    (tells_if_so _ _ _ (sym c.is_idle.ensures ∙ c.if-is_idle.true) (drawn_tells Stop stop refl stop-keeps (still d.shows (halted d.shows.shows) refl)))))
+    (tells_if_so _ _ _ (sym c.is_idle.ensures ∙ c.if-is_idle.true) (drawn_tells Stop stop refl stop-keeps (still d.shows (halted d.shows.shows))))))
 
 pub returns-clause-shown : goal.returns-clause-shown
 unfolding gate_of_move
@@ -56,4 +56,4 @@ returns-clause-shown t c since g p h =
     let d = drawn_tells Go (paralysis_test c.args.side) refl (paralysis_test-steady (outcome-steady _) c.args.side (outcome-breaks _ c.args.side))
     (drawn_settled c.if-paralysis_test.false (c.paralysis_test.ensures.shown since _ _ b.shows)) in
     tells_goes _ _ a (tells_goes _ _ b (tells_goes _ _ d
-    (tells_if_not _ _ _ (sym c.is_idle.ensures ∙ c.if-is_idle.false) (drawn_tells Go stay refl stay-keeps (still d.shows (stays d.shows.shows) refl)))))
+    (tells_if_not _ _ _ (sym c.is_idle.ensures ∙ c.if-is_idle.false) (drawn_tells Go stay refl stay-keeps (still d.shows (stays d.shows.shows))))))

@@ -24,9 +24,9 @@ returns-then-draw_as-lt-HITS_ITSELF_FROM-clause-shown t c since g p is h =
     let a = told_so h.shows {events' = t.S.EventSink.tells c.push.new.self} (changed_conditions c.args.side with_confusion_one_less) (λ (f : Field). events.Activate (who_in c.args.side f) volatiles.Confusion) w c.push.ensures.told
     (ap (λ (who : Who). events.Activate who volatiles.Confusion) (c.who.ensures.stands _ _ w)) in
     let b = still_tells h (tells Go (lasts c.args.side volatiles.Confusion with_confusion_one_less) refl (lasts-keeps c.args.side volatiles.Confusion with_confusion_one_less (conditions-spare _ c.args.side with_confusion_one_less)) a) in
-    let same = ap (λ (x : Bool). choose (λ _. x) (hurt_itself c.args.side) stay) (alike_at_least _ _ 128 c.draw_as.ensures.drawn) in
-    tells_goes _ _ b (tells_drawing (may_hurt_itself c.args.side) c.draw_as.result b.shows same c.draw_as.ensures.left
-    (λ d. tells_if_not _ _ _ (not_at_most 128 _ c.if-draw_as-lt-HITS_ITSELF_FROM.true) (drawn_tells Go stay refl stay-keeps (still d (stays d.shows) refl))))
+    tells_goes _ _ b (tells_drawing (may_hurt_itself c.args.side) c.draw_as.result b.shows (c.draw_as.ensures.drawn since)
+    (λ n same. ap (λ (x : Bool). choose (λ _. x) (hurt_itself c.args.side) stay) (alike_at_least _ _ 128 same))
+    (λ d. tells_if_not _ _ _ (not_at_most 128 _ c.if-draw_as-lt-HITS_ITSELF_FROM.true) (drawn_tells Go stay refl stay-keeps (still d (stays d.shows)))))
 
 pub returns-clause-shown : goal.returns-clause-shown
 unfolding lasts may_hurt_itself
@@ -38,6 +38,6 @@ returns-clause-shown t c since g p is h =
     let a = told_so h.shows {events' = t.S.EventSink.tells c.push.new.self} (changed_conditions c.args.side with_confusion_one_less) (λ (f : Field). events.Activate (who_in c.args.side f) volatiles.Confusion) w c.push.ensures.told
     (ap (λ (who : Who). events.Activate who volatiles.Confusion) (c.who.ensures.stands _ _ w)) in
     let b = still_tells h (tells Go (lasts c.args.side volatiles.Confusion with_confusion_one_less) refl (lasts-keeps c.args.side volatiles.Confusion with_confusion_one_less (conditions-spare _ c.args.side with_confusion_one_less)) a) in
-    let same = ap (λ (x : Bool). choose (λ _. x) (hurt_itself c.args.side) stay) (alike_at_least _ _ 128 c.draw_as.ensures.drawn) in
-    tells_goes _ _ b (tells_drawing (may_hurt_itself c.args.side) c.draw_as.result b.shows same c.draw_as.ensures.left
+    tells_goes _ _ b (tells_drawing (may_hurt_itself c.args.side) c.draw_as.result b.shows (c.draw_as.ensures.drawn since)
+    (λ n same. ap (λ (x : Bool). choose (λ _. x) (hurt_itself c.args.side) stay) (alike_at_least _ _ 128 same))
     (λ d. tells_if_so _ _ _ (at_most 128 _ c.if-draw_as-lt-HITS_ITSELF_FROM.false) (still_tells d (c.hurt_itself.ensures.shown _ _ d.shows))))

@@ -10,7 +10,7 @@ use Rattle.gen1_status.proofs.gate_tests.confusion.confusion_test.Goals as goal
 
 pub returns-in_default-clause-shown : goal.returns-in_default-clause-shown
 unfolding confusion_test
-returns-in_default-clause-shown t c since g p is h = rw c.in_default.is (drawn_tells Go stay refl stay-keeps (still h (stays h.shows) refl))
+returns-in_default-clause-shown t c since g p is h = rw c.in_default.is (drawn_tells Go stay refl stay-keeps (still h (stays h.shows)))
 
 pub returns-then-turns-le1-clause-shown : goal.returns-then-turns-le1-clause-shown
 unfolding confusion_test

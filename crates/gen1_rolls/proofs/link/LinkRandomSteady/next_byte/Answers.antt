@@ -1,8 +1,8 @@
 use Rattle.std.proofs.Common.{subst}
-use Rattle.gen1_rolls.specs.Draws.{stream_of}
+use Rattle.gen1_rolls.specs.Steady.{stream_of}
 use Rattle.gen1_rolls.specs.Link.{Ring, link}
 use Rattle.gen1_rolls.specs.Streams.{IsStream}
-use Rattle.gen1_rolls.proofs.link.LinkRandomRolls.draw.Goals as goal
+use Rattle.gen1_rolls.proofs.link.LinkRandomSteady.next_byte.Goals as goal
 
 pub returns-then-self-lt8-clause-stream : goal.returns-then-self-lt8-clause-stream
 returns-then-self-lt8-clause-stream c =

@@ -1,8 +1,8 @@
 use Rattle.std.proofs.Common.{ℕ, subst}
-use Rattle.gen1_rolls.specs.Draws.{stream_of}
+use Rattle.gen1_rolls.specs.Steady.{stream_of}
 use Rattle.gen1_rolls.specs.Sweep.{sweep}
 use Rattle.gen1_rolls.specs.Streams.{IsStream}
-use Rattle.gen1_rolls.proofs.sweep.SweepRolls.draw.Goals as goal
+use Rattle.gen1_rolls.proofs.sweep.SweepSteady.next_byte.Goals as goal
 
 pub returns-clause-stream : goal.returns-clause-stream
 returns-clause-stream c = subst (λ (n : ℕ). IsStream (stream_of sweep n)) c.self.view_is c.step-self-inside.ensures.stream
