@@ -1,7 +1,7 @@
 -- The slots that Disable may draw. The first four of a list are all there are, and a slot holds a move if it has a
 -- number. Two bytes that are alike under the look of a slot lead to the same.
 use Rattle.gen1_layout.proofs.Words.{Bool, IsBetween, List, Progress, Side, [], ap, arith, choose-true, draw, false, inl, inr, known_in, length, nat_lt, nat_tests, refl, stay, stop, suc, sym, then-stops, true, zero, ℕ, ◌∙◌, ◌▸◌}
-use Rattle.std.proofs.Common.{All, add-zero, get_or, if◌then◌else◌, not, ◌%◌, ◌&&◌, ◌+◌, ◌-◌, ◌<◌, ◌||◌, ◌∷◌, ◌≡◌, ◌≤◌, ◌⊎◌}
+use Rattle.std.proofs.Common.{All, slice_index_or, add-zero, get_or, if◌then◌else◌, not, ◌%◌, ◌&&◌, ◌+◌, ◌-◌, ◌<◌, ◌||◌, ◌∷◌, ◌≡◌, ◌≤◌, ◌⊎◌}
 use Rattle.gen1_stats.specs.declared.known_move.KnownMove.{KnownMove}
 use Rattle.gen1_stats.specs.Members.{nothing_known}
 use Rattle.gen1_rolls.specs.declared.look.Look.TheVariants.{Remainder}
@@ -65,6 +65,18 @@ named_holds moves b h = by (nat_lt (b % 4) (length moves)) _ h refl
     by : (x y : Bool) → (x && y) ≡ true → nat_lt (b % 4) (length moves) ≡ x → b % 4 < length moves
     by true y h e = grind (arith, nat_tests)
     by false y h e = cc
+
+-- The slots that bytes name, one for each of the four remainders.
+pub named_by : (moves : List KnownMove) {one two three four : Bool} → one ≡ names_slot moves 0 → two ≡ names_slot moves 1 → three ≡ names_slot moves 2 → four ≡ names_slot moves 3
+    → (b : ℕ) → slice_index_or (one ∷ two ∷ three ∷ four ∷ []) (b % 4) false ≡ names_slot moves b
+named_by moves {one = one} {two = two} {three = three} {four = four} first second third fourth b = by (b % 4) refl (omega arith)
+  where
+    by : (k : ℕ) → b % 4 ≡ k → k < 4 → slice_index_or (one ∷ two ∷ three ∷ four ∷ []) (b % 4) false ≡ names_slot moves b
+    by zero e lt = rw e first
+    by (suc zero) e lt = rw e second
+    by (suc (suc zero)) e lt = rw e third
+    by (suc (suc (suc zero))) e lt = rw e fourth
+    by (suc (suc (suc (suc k)))) e lt = absurd (omega arith)
 
 -- Bytes that are alike
 

@@ -8,15 +8,13 @@ pub mod BegunAlone
 pub mod Failing
 -- A condition that is set.
 pub mod Setting
--- A phase that depends on a part of what it reads.
+-- A phase that depends on a part of what it reads, and the side that is skipped.
 pub mod Partly
 -- Stages that go back to the middle.
 pub mod StageReset
--- The side that is skipped.
-pub mod Skipping
 -- An early effect by its way.
 pub mod EarlyEffects
--- Effects by chance, draws until a byte passes a test, and the end of an action.
+-- Effects by chance, and the end of an action.
 pub mod Chances
 -- What a move may do in addition to its damage.
 pub mod SideEffects

@@ -8,7 +8,10 @@ ghost use Rattle.gen1_hits.specs.Factors.{Varies, VariesUpTo, damages, varied};
 
 use crate::damage_formula::{Numbers, damage};
 use crate::types::type_steps;
-use gen1_rolls::{Look, Rolls};
+use gen1_rolls::{ByteTest, Look, Rolls};
+
+/// The least factor, in 255ths (docs/MECHANICS.md, "Factors").
+pub const LEAST_FACTOR: u8 = 217;
 
 /// Damage times a drawn factor, in 255ths (docs/MECHANICS.md, "Factors").
 ///
@@ -33,7 +36,10 @@ pub fn factor_up_to<R: Rolls>(damage: u16, edge: u16, cut: bool, random: &mut R)
     if damage <= 1 {
         return damage;
     }
-    match random.until_as(is_factor, Look::Factor { damage, edge, cut }) {
+    match random.until_as(
+        ByteTest::RotatedAtLeast(LEAST_FACTOR),
+        Look::Factor { damage, edge, cut },
+    ) {
         Some(byte) => times_factor(rotated(byte), damage),
         None => unreachable!(),
     }
@@ -79,7 +85,7 @@ fn times_factor(factor: u8, damage: u16) -> u16
 pub fn is_factor(byte: u8) -> bool
     ensures { result ≡ is_factor byte }
 {
-    rotated(byte) >= 217
+    rotated(byte) >= LEAST_FACTOR
 }
 
 fn rotated(byte: u8) -> u8

@@ -32,7 +32,7 @@ pub use action_hit_test::{hit_or_miss, must_hit, note_miss};
 pub use critical_hits::{critical, critical_bound};
 pub use damage_formula::{Numbers, damage};
 pub use damage_numbers::{numbers, own_numbers};
-pub use factors::{damage_list, factor, factor_up_to, is_factor};
+pub use factors::{LEAST_FACTOR, damage_list, factor, factor_up_to, is_factor};
 pub use hit_tests::{Hit, hit_test, scaled_accuracy, settled_hit};
 pub use hp::{gain_hp, lose_hp};
 pub use immunity::is_immune;

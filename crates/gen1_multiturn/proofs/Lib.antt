@@ -10,5 +10,3 @@ pub mod FixedDamage
 pub mod ManyHits
 -- How many type rows with a given factor apply to a hit.
 pub mod Rows
--- A drawn count.
-pub mod Counted

@@ -1,9 +1,10 @@
 //! Sets of bytes (docs/MECHANICS.md, "Link numbers").
 ghost use Rattle.std.specs.Prelude.{Bool, IfNone, IfSome, IsFalse, IsTrue, ℕ, min, nat_lt, ◌%◌, ◌*◌, ◌+◌, ◌-◌, ◌^◌, ◌<◌, ◌≡◌, ◌≤◌, ◌≢◌, if◌then◌else◌};
 ghost use Rattle.std.specs.Int.{bit_at};
-ghost use Rattle.gen1_rolls.specs.Draws.{Settles};
-ghost use Rattle.gen1_rolls.specs.Looks.{rotated_left_3};
+ghost use Rattle.gen1_rolls.specs.Looks.{passes, rotated_left_3};
 ghost use Rattle.gen1_outcomes.specs.Bytes.{bits_set, has, size};
+
+use gen1_rolls::ByteTest;
 
 /// A set of bytes: each has a bit of 256.
 #[derive(Clone, Copy, PartialEq, Eq, Debug, Drop)]
@@ -45,15 +46,13 @@ impl ByteSet {
     }
 
     /// The bytes that pass a test.
-    pub fn that_pass<F: Fn(u8) -> bool>(test: &F) -> Self
-        requires callable { F.IsAlwaysCallable test.now }
-        ensures { (p : ℕ → Bool) → Settles (F.post test.now) p → (b : ℕ) → b < 256
-            → has result b ≡ (if p b then 1 else 0) }
+    pub fn that_pass(test: ByteTest) -> Self
+        ensures { (b : ℕ) → b < 256 → has result b ≡ (if passes test b then 1 else 0) }
     {
         let mut set = ByteSet::none();
         'bytes: for number in 0..256u16 {
             let byte = number as u8;
-            set.insert_if(byte, test(byte));
+            set.insert_if(byte, test.passes(byte));
         }
         set
     }

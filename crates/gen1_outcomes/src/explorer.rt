@@ -3,14 +3,15 @@ ghost use Rattle.std.specs.Prelude.{Bool, IfNone, IfSome, IsFalse, IsTrue, ℕ, 
 ghost use Rattle.gen1_outcomes.specs.Script.{scripted};
 ghost use Rattle.gen1_outcomes.specs.Bytes.{ArePassing, IsAll, IsNone};
 ghost use Rattle.gen1_outcomes.specs.declared.byte_set.ByteSet.{ByteSet};
-ghost use Rattle.gen1_rolls.specs.Draws.{DrawsAs, FindsAs, FindsNone, NextByte, Settles, Steps};
+ghost use Rattle.gen1_rolls.specs.Draws.{DrawsAs, FindsAs, FindsNone, NextByte, Steps};
+ghost use Rattle.gen1_rolls.specs.Looks.{passes};
 ghost use Rattle.gen1_rolls.specs.Steady.{steady, stream_of};
 ghost use Rattle.gen1_rolls.specs.Streams.{IsStream};
 
 use crate::byte_set::ByteSet;
 use crate::nodes::Nodes;
 use crate::script::{DEPTH, Script};
-use gen1_rolls::{Look, Rolls};
+use gen1_rolls::{ByteTest, Look, Rolls};
 use std::marker::Model;
 
 /// What draws are noted in. Nothing but [`After`] is; a type parameter lets the explorer hold a reference.
@@ -125,7 +126,7 @@ impl<N: Notes> Rolls for Explorer<N> {
         draw_noted(&mut self.script, &mut self.notes, look)
     }
 
-    fn until_as<F: Fn(u8) -> bool>(&mut self, test: F, look: Look) -> Option<u8> {
+    fn until_as(&mut self, test: ByteTest, look: Look) -> Option<u8> {
         search_noted(&mut self.script, &mut self.notes, test, look)
     }
 }
@@ -144,23 +145,20 @@ fn draw_noted<N: Notes>(script: &mut Script, notes: &mut N, look: Look) -> u8
 }
 
 // Searches a byte, and notes it with its look and the bytes that pass the test.
-fn search_noted<N: Notes, F: Fn(u8) -> bool>(
+fn search_noted<N: Notes>(
     script: &mut Script,
     notes: &mut N,
-    test: F,
+    test: ByteTest,
     look: Look,
 ) -> Option<u8>
-    requires callable { F.IsAlwaysCallable test }
-    ensures found { (p : ℕ → Bool) → Settles (F.post test) p
-        → IfSome result (FindsAs (steady scripted) p look script) }
-    ensures none { (p : ℕ → Bool) → Settles (F.post test) p
-        → IfNone result (FindsNone (steady scripted) p script) }
+    ensures found { IfSome result (FindsAs (steady scripted) (passes test) look script) }
+    ensures none { IfNone result (FindsNone (steady scripted) (passes test) script) }
     ensures steps { Steps (steady scripted) script }
-    ensures noted { (p : ℕ → Bool) → Settles (F.post test) p → IfSome result (λ byte. (may : ByteSet)
-        × (ArePassing p may ⊎ (N.settled notes.old × IsNone may))
+    ensures noted { IfSome result (λ byte. (may : ByteSet)
+        × (ArePassing (passes test) may ⊎ (N.settled notes.old × IsNone may))
         × N.noted byte look may notes.old notes.new) }
 {
-    let bytes = may_have(&*notes, &test);
+    let bytes = may_have(&*notes, test);
     match script.until_as(test, look) {
         Some(byte) => {
             notes.note(byte, look, &bytes);
@@ -171,10 +169,8 @@ fn search_noted<N: Notes, F: Fn(u8) -> bool>(
 }
 
 // The bytes that a search may find, if they are to be noted.
-fn may_have<N: Notes, F: Fn(u8) -> bool>(notes: &N, test: &F) -> ByteSet
-    requires callable { F.IsAlwaysCallable test.now }
-    ensures { (p : ℕ → Bool) → Settles (F.post test.now) p
-        → ArePassing p result ⊎ (N.settled notes.now × IsNone result) }
+fn may_have<N: Notes>(notes: &N, test: ByteTest) -> ByteSet
+    ensures { ArePassing (passes test) result ⊎ (N.settled notes.now × IsNone result) }
 {
     if notes.is_new() {
         ByteSet::that_pass(test)

@@ -4,7 +4,7 @@ ghost use Rattle.gen1_rolls.specs.Steady.{steady, stream_of};
 ghost use Rattle.gen1_rolls.specs.Streams.{IsStream};
 ghost use Rattle.gen1_outcomes.specs.Script.{scripted};
 
-use gen1_rolls::{Look, Rolls, Steady, draw_from, search_from};
+use gen1_rolls::{ByteTest, Look, Rolls, Steady, draw_from, search_from};
 
 /// How many bytes are given. No update takes more than 17 draws and searches, as far as is known.
 pub const DEPTH: usize = 24;
@@ -74,7 +74,7 @@ impl Rolls for Script {
         draw_from(self)
     }
 
-    fn until_as<F: Fn(u8) -> bool>(&mut self, test: F, look: Look) -> Option<u8> {
+    fn until_as(&mut self, test: ByteTest, look: Look) -> Option<u8> {
         search_from(self, test, look)
     }
 }

@@ -100,3 +100,15 @@ first-exists s is n test b lt meets = by (first s n test) refl
     by : (o : Option ℕ) → first s n test ≡ o → (m : ℕ) × (first s n test ≡ Some m)
     by None e = let fails = first-fails_all s is n test e b lt in absurd (cc)
     by (Some m) e = (m, e)
+
+-- Two tests that return the same for each number find the same.
+first_within-same : (k : ℕ) (s : Stream) (n : ℕ) (p q : ℕ → Bool) → ((b : ℕ) → p b ≡ q b) → first_within k s n p ≡ first_within k s n q
+unfolding first_within
+first_within-same zero s n p q same = refl
+first_within-same (suc k) s n p q same =
+    found_or k s n p (q (byte_at s n)) (same (byte_at s n))
+    ∙ ap (λ (o : Option ℕ). elim (q (byte_at s n)) as (λ _. Option ℕ) [ true ↦ Some n | false ↦ o ]) (first_within-same k s (n + 1) p q same)
+
+pub first-same : (s : Stream) (n : ℕ) (p q : ℕ → Bool) → ((b : ℕ) → p b ≡ q b) → first s n p ≡ first s n q
+unfolding first
+first-same s n p q same = first_within-same (span s) s n p q same

@@ -3,11 +3,11 @@ use Rattle.std.proofs.Common.{◌≡◌, ℕ, suc, ◌⊎◌, inl, inr, subst, �
 use Rattle.std.proofs.lemmas.Bool.Decides.{nat_tests}
 use Rattle.gen1_rolls.specs.declared.look.Look.{Look}
 use Rattle.gen1_rolls.specs.declared.look.Look.TheVariants.{Remainder}
-use Rattle.gen1_rolls.specs.Draws.{Drawing, Source, StandsIn, Finds, Misses}
+use Rattle.gen1_rolls.specs.Draws.{Drawing, Source, StandsIn, Finds, IsFound, IsMissed, Misses}
 use Rattle.gen1_rolls.specs.Looks.{sees}
 use Rattle.gen1_rolls.specs.Steady.{Generator, draws_of, stream_of, steady, FindsDraw, FindsNoDraw, StandsAt}
 use Rattle.gen1_rolls.specs.Streams.{iterate, Stream, byte_at, span, first, IsStream, HoldsEveryByte}
-use Rattle.gen1_rolls.proofs.First.{first_within-is, first_within-none}
+use Rattle.gen1_rolls.proofs.First.{first-same, first_within-is, first_within-none}
 use Rattle.gen1_rolls.proofs.Period.{iterate-add, byte-small, every_byte}
 
 -- One more draw.
@@ -137,6 +137,16 @@ none_finds d test old new None f = finds_none f
 -- The same place, under another name for n.
 pub stands_there : {A : Type 0} (d : Drawing A) (source : Source A) (now : A) {m n : ℕ} → StandsIn d source m now → m ≡ n → StandsIn d source n now
 stands_there d source now a e = subst (λ k. StandsIn d source k now) e a
+
+-- Two tests that return the same for each number find the same.
+pub found_by : {A : Type 0} {d : Drawing A} {source : Source A} {n : ℕ} {p q : ℕ → Bool} {Is : ℕ → Type 0} {new : A} → ((b : ℕ) → p b ≡ q b)
+    → IsFound d source n p Is new → IsFound d source n q Is new
+found_by {source = source} {n = n} {p = p} {q = q} same x =
+    record { place = x.place; found = sym (first-same source.stream n p q same) ∙ x.found; fits = x.fits; is = x.is; stands = x.stands }
+
+pub missed_by : {A : Type 0} {d : Drawing A} {source : Source A} {n : ℕ} {p q : ℕ → Bool} {new : A} → ((b : ℕ) → p b ≡ q b)
+    → IsMissed d source n p new → IsMissed d source n q new
+missed_by {source = source} {n = n} {p = p} {q = q} same x = record { none = sym (first-same source.stream n p q same) ∙ x.none; stands = x.stands }
 
 -- A byte of which all was looked at is the one of the stream.
 pub exactly : {A : Type 0} {d : Drawing A} {test : ℕ → Bool} {old : A} {b : ℕ} {new : A}

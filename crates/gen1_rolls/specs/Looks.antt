@@ -1,5 +1,7 @@
--- What is looked at of a drawn byte (docs/MECHANICS.md, "Link numbers").
-use Rattle.std.specs.Prelude.{ℕ, ◌+◌, ◌*◌, ◌/◌, ◌%◌, Bool, ◌==◌, nat_lt, min, if◌then◌else◌}
+-- What is looked at of a drawn byte, and which bytes a search accepts (docs/MECHANICS.md, "Link numbers").
+use Rattle.std.specs.Prelude.{ℕ, ◌+◌, ◌*◌, ◌/◌, ◌%◌, Bool, false, ◌==◌, ◌&&◌, nat_le, nat_lt, min, slice_index_or, if◌then◌else◌}
+use Rattle.gen1_rolls.specs.declared.look.ByteTest.{ByteTest}
+use Rattle.gen1_rolls.specs.declared.look.ByteTest.TheVariants.{RotatedAtLeast, PositiveBelow, NotMultiple, PlaceOf}
 use Rattle.gen1_rolls.specs.declared.look.Look.{Look}
 use Rattle.gen1_rolls.specs.declared.look.Look.TheVariants.{Below, RotatedBelow, Remainder, Factor}
 
@@ -23,3 +25,10 @@ sees (Factor damage edge cut) b = min (damage * rotated_right_1 b / 255) (limit_
 -- Two bytes are alike under a look that sees the same of both.
 abbrev pub alike : Look → ℕ → ℕ → Bool
 alike look x y = sees look x == sees look y
+
+-- Which bytes a search accepts.
+abbrev pub passes : ByteTest → ℕ → Bool
+passes (RotatedAtLeast least) b = nat_le least (rotated_right_1 b)
+passes (PositiveBelow bound) b = nat_lt 0 b && nat_lt b bound
+passes (NotMultiple divisor) b = nat_lt 0 (b % divisor)
+passes (PlaceOf four) b = slice_index_or four (b % 4) false

@@ -2,7 +2,7 @@
 //! draw that passes a test.
 //!
 //! - `rolls`: what a generator is
-//! - `look`: what is looked at of a drawn byte
+//! - `look`: what is looked at of a drawn byte, and which bytes a search accepts
 //! - `link`: the generator of a link battle
 //! - `sweep`: a generator that counts up
 //! - `search`: the first draw that passes a test
@@ -18,9 +18,9 @@ mod search;
 mod steady;
 mod sweep;
 
-pub use laws::{draws_a_stream, every_generator_stands};
+pub use laws::draws_a_stream;
 pub use link::{LinkRandom, renew};
-pub use look::Look;
+pub use look::{ByteTest, Look};
 pub use rolls::Rolls;
 pub use search::until;
 pub use steady::{Steady, draw_from, search_from};

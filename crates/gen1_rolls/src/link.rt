@@ -1,11 +1,11 @@
 //! The generator of a link battle (docs/MECHANICS.md, "Link numbers").
 ghost use Rattle.std.specs.Prelude.{◌≡◌, ◌<◌, ℕ, Bool, nat_lt, if◌then◌else◌, slice_index, length, IfSome, IfNone};
-ghost use Rattle.gen1_rolls.specs.Draws.{Settles};
+ghost use Rattle.gen1_rolls.specs.Draws.{FindsAs, FindsNone, Settles, Steps};
 ghost use Rattle.gen1_rolls.specs.Steady.{steady, stream_of, FindsDraw, FindsNoDraw, StandsAt};
 ghost use Rattle.gen1_rolls.specs.Link.{FailsFrom, Ring, link, ring_of, turned};
 ghost use Rattle.gen1_rolls.specs.Streams.{IsFirstOf, IsStream, renewed, Link};
 
-use crate::look::Look;
+use crate::look::{ByteTest, Look};
 use crate::rolls::Rolls;
 use crate::steady::{Steady, draw_from};
 use std::marker::Model;
@@ -75,6 +75,26 @@ impl LinkRandom {
         self.numbers
     }
 
+    // The numbers of this round are looked at where they are, and only the one that passes is drawn (docs/SPEED.md,
+    // "A search by draws").
+    #[inline] // docs/SPEED.md, "Hints on inlining"
+    fn search<F: Fn(u8) -> bool>(&mut self, test: F, _look: Look) -> Option<u8>
+        requires callable { F.IsAlwaysCallable test }
+        ensures found { (p : ℕ → Bool) → Settles (F.post test) p
+            → IfSome result (FindsAs (steady link) p _look self) }
+        ensures none { (p : ℕ → Bool) → Settles (F.post test) p
+            → IfNone result (FindsNone (steady link) p self) }
+        ensures steps { Steps (steady link) self }
+    {
+        match place_from(&self.numbers, self.index, &test) {
+            Some(place) => {
+                self.index = place;
+                Some(self.next_byte())
+            }
+            None => self.until_later(test),
+        }
+    }
+
     // The rest of a search, where no number that is left in this round passes. Within 256 rounds the last number alone
     // is every byte.
     #[inline(never)] // docs/SPEED.md, "Hints on inlining"
@@ -112,6 +132,7 @@ impl Steady for LinkRandom {
 
     ghost generator = { link };
 
+    #[inline] // docs/SPEED.md, "Hints on inlining"
     fn next_byte(&mut self) -> u8 {
         let drawn = number_at(&self.numbers, self.index);
         if self.index < 8 {
@@ -133,20 +154,36 @@ impl Steady for LinkRandom {
 impl Rolls for LinkRandom {
     ghost drawing = { steady link };
 
+    #[inline] // docs/SPEED.md, "Hints on inlining"
     fn draw(&mut self) -> u8 {
         draw_from(self)
     }
 
-    // The numbers of this round are looked at where they are, and only the one that passes is drawn (docs/SPEED.md,
-    // "A search by draws").
-    #[inline] // docs/SPEED.md, "Hints on inlining"
-    fn until_as<F: Fn(u8) -> bool>(&mut self, test: F, _look: Look) -> Option<u8> {
-        match place_from(&self.numbers, self.index, &test) {
-            Some(place) => {
-                self.index = place;
-                Some(self.next_byte())
+    // Each kind of test has its own search, and a caller knows the kind, so that nothing asks for it.
+    #[inline(always)] // docs/SPEED.md, "Hints on inlining"
+    fn until_as(&mut self, test: ByteTest, look: Look) -> Option<u8> {
+        match test {
+            ByteTest::RotatedAtLeast(least) => {
+                self.search(
+                    move |byte| ByteTest::RotatedAtLeast(least).passes(byte),
+                    look,
+                )
             }
-            None => self.until_later(test),
+            ByteTest::PositiveBelow(bound) => {
+                self.search(
+                    move |byte| ByteTest::PositiveBelow(bound).passes(byte),
+                    look,
+                )
+            }
+            ByteTest::NotMultiple(divisor) => {
+                self.search(
+                    move |byte| ByteTest::NotMultiple(divisor).passes(byte),
+                    look,
+                )
+            }
+            ByteTest::PlaceOf(four) => {
+                self.search(move |byte| ByteTest::PlaceOf(four).passes(byte), look)
+            }
         }
     }
 }

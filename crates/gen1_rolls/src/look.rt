@@ -1,6 +1,6 @@
-//! What is looked at of a drawn byte (docs/MECHANICS.md, "Link numbers").
+//! What is looked at of a drawn byte, and which bytes a search accepts (docs/MECHANICS.md, "Link numbers").
 ghost use Rattle.std.specs.Prelude.{◌*◌, ◌/◌, ◌≡◌};
-ghost use Rattle.gen1_rolls.specs.Looks.{alike, rotated_left_3, rotated_right_1, sees};
+ghost use Rattle.gen1_rolls.specs.Looks.{alike, passes, rotated_left_3, rotated_right_1, sees};
 
 /// What is looked at of a drawn byte (docs/MECHANICS.md, "Link numbers").
 ///
@@ -44,6 +44,34 @@ impl Look {
         ensures { result ≡ alike self one other }
     {
         self.sees(one) == self.sees(other)
+    }
+}
+
+/// Which bytes a search accepts (docs/MECHANICS.md, "Link numbers"). It is data, so two searches can be compared.
+#[derive(Clone, Copy, PartialEq, Eq, Debug, Drop)]
+pub enum ByteTest {
+    /// Bytes that, rotated right by 1 bit, are at least the number.
+    RotatedAtLeast(u8),
+    /// Bytes above 0 and below the bound.
+    PositiveBelow(u16),
+    /// Bytes that are no multiple of the number. For 0, bytes above 0.
+    NotMultiple(u8),
+    /// Bytes whose lowest 2 bits are the place of `true`.
+    PlaceOf([bool; 4]),
+}
+
+impl ByteTest {
+    /// Whether a search accepts the byte.
+    pub fn passes(self, byte: u8) -> bool
+        ensures { result ≡ passes self byte }
+    {
+        match self {
+            ByteTest::RotatedAtLeast(least) => rotated_right_1(byte) >= least,
+            ByteTest::PositiveBelow(bound) => (0 < byte) & (u16::from(byte) < bound),
+            ByteTest::NotMultiple(0) => 0 < byte,
+            ByteTest::NotMultiple(divisor) => 0 < byte % divisor,
+            ByteTest::PlaceOf(four) => four[(byte % 4) as usize],
+        }
     }
 }
 

@@ -1,8 +1,9 @@
 //! A generator of bytes, which all draws of a battle come from (docs/MECHANICS.md, "Link numbers").
-ghost use Rattle.std.specs.Prelude.{ℕ, Bool, IfSome, IfNone};
-ghost use Rattle.gen1_rolls.specs.Draws.{Drawing, DrawsAs, DrawsByte, FindsAs, FindsNone, Settles, Steps};
+ghost use Rattle.std.specs.Prelude.{IfSome, IfNone};
+ghost use Rattle.gen1_rolls.specs.Draws.{Drawing, DrawsAs, DrawsByte, FindsAs, FindsNone, Steps};
+ghost use Rattle.gen1_rolls.specs.Looks.{passes};
 
-use crate::look::Look;
+use crate::look::{ByteTest, Look};
 
 /// A generator of bytes (docs/MECHANICS.md, "Link numbers").
 ///
@@ -31,12 +32,9 @@ pub trait Rolls {
     ///
     /// As with `draw_as`, the contract allows any byte that passes and of which the look sees the same.
     ///
-    /// Returns `None` if no byte from 0 to 255 passes. The result of the test must depend on the byte alone.
-    fn until_as<F: Fn(u8) -> bool>(&mut self, test: F, _look: Look) -> Option<u8>
-        requires callable { F.IsAlwaysCallable test }
-        ensures found { (p : ℕ → Bool) → Settles (F.post test) p
-            → IfSome result (FindsAs drawing p _look self) }
-        ensures none { (p : ℕ → Bool) → Settles (F.post test) p
-            → IfNone result (FindsNone drawing p self) }
+    /// Returns `None` if no byte from 0 to 255 passes.
+    fn until_as(&mut self, test: ByteTest, look: Look) -> Option<u8>
+        ensures found { IfSome result (FindsAs drawing (passes test) look self) }
+        ensures none { IfNone result (FindsNone drawing (passes test) self) }
         ensures steps { Steps drawing self };
 }

@@ -1,10 +1,11 @@
 //! Generators that note none of their draws (docs/MECHANICS.md, "Link numbers").
-ghost use Rattle.std.specs.Prelude.{◌≡◌, ℕ, ◌<◌, Bool, IfSome, IfNone};
-ghost use Rattle.gen1_rolls.specs.Draws.{DrawsByte, FindsAs, FindsNone, Settles, Steps};
+ghost use Rattle.std.specs.Prelude.{◌≡◌, ℕ, ◌<◌, IfSome, IfNone};
+ghost use Rattle.gen1_rolls.specs.Draws.{DrawsByte, FindsAs, FindsNone, Steps};
+ghost use Rattle.gen1_rolls.specs.Looks.{passes};
 ghost use Rattle.gen1_rolls.specs.Steady.{Generator, steady, stream_of};
 ghost use Rattle.gen1_rolls.specs.Streams.{IsStream};
 
-use crate::look::Look;
+use crate::look::{ByteTest, Look};
 
 /// A generator that notes none of its draws: its value alone determines what it draws next, and what it is after a draw.
 ///
@@ -33,6 +34,7 @@ pub trait Steady {
 }
 
 /// Draws the next byte.
+#[inline] // docs/SPEED.md, "Hints on inlining"
 pub fn draw_from<R: Steady>(random: &mut R) -> u8
     ensures drawn { DrawsByte (steady R.generator) random result }
     ensures steps { Steps (steady R.generator) random }
@@ -42,20 +44,16 @@ pub fn draw_from<R: Steady>(random: &mut R) -> u8
 
 /// Draws until a byte passes the test, and returns that byte. The look does not matter.
 ///
-/// Returns `None` after `SPAN` draws, if no byte from 0 to 255 passes. The result of the test must depend on the byte
-/// alone.
+/// Returns `None` after `SPAN` draws, if no byte from 0 to 255 passes.
 #[inline] // docs/SPEED.md, "Hints on inlining"
-pub fn search_from<R: Steady, F: Fn(u8) -> bool>(random: &mut R, test: F, _look: Look) -> Option<u8>
-    requires callable { F.IsAlwaysCallable test }
-    ensures found { (p : ℕ → Bool) → Settles (F.post test) p
-        → IfSome result (FindsAs (steady R.generator) p _look random) }
-    ensures none { (p : ℕ → Bool) → Settles (F.post test) p
-        → IfNone result (FindsNone (steady R.generator) p random) }
+pub fn search_from<R: Steady>(random: &mut R, test: ByteTest, _look: Look) -> Option<u8>
+    ensures found { IfSome result (FindsAs (steady R.generator) (passes test) _look random) }
+    ensures none { IfNone result (FindsNone (steady R.generator) (passes test) random) }
     ensures steps { Steps (steady R.generator) random }
 {
     'draws: for _ in 0..R::SPAN {
         let byte = random.next_byte();
-        if test(byte) {
+        if test.passes(byte) {
             return Some(byte);
         }
     }

@@ -4,7 +4,7 @@ ghost use Rattle.gen1_rolls.specs.Steady.{steady, stream_of, StandsAt};
 ghost use Rattle.gen1_rolls.specs.Streams.{IsStream, Sweep as SweepFrom};
 ghost use Rattle.gen1_rolls.specs.Sweep.{one_up, sweep};
 
-use crate::look::Look;
+use crate::look::{ByteTest, Look};
 use crate::rolls::Rolls;
 use crate::steady::{Steady, draw_from, search_from};
 use std::marker::Model;
@@ -63,7 +63,7 @@ impl Rolls for Sweep {
         draw_from(self)
     }
 
-    fn until_as<F: Fn(u8) -> bool>(&mut self, test: F, look: Look) -> Option<u8> {
+    fn until_as(&mut self, test: ByteTest, look: Look) -> Option<u8> {
         search_from(self, test, look)
     }
 }

@@ -1,6 +1,6 @@
 //! A generator as two types, one for the action of each side (docs/MECHANICS.md, "Order of a turn").
 
-use gen1_rolls::{Look, Rolls};
+use gen1_rolls::{ByteTest, Look, Rolls};
 use std::marker::Model;
 
 /// A generator as a second type that draws the same.
@@ -30,7 +30,8 @@ impl<R: Rolls> Rolls for BySide<R> {
         self.0.draw_as(look)
     }
 
-    fn until_as<F: Fn(u8) -> bool>(&mut self, test: F, look: Look) -> Option<u8> {
+    #[inline(always)] // docs/SPEED.md, "Hints on inlining"
+    fn until_as(&mut self, test: ByteTest, look: Look) -> Option<u8> {
         self.0.until_as(test, look)
     }
 }

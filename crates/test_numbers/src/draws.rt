@@ -4,8 +4,7 @@ ghost use Rattle.gen1_rolls.specs.Draws.{Since, StandsIn};
 ghost use Rattle.gen1_rolls.specs.Streams.{byte_at, span, first, low_bits, Link as LinkStream};
 
 use crate::comparing::assert_same;
-use gen1_rolls::{LinkRandom, Rolls, Sweep, renew, until};
-use std::cell::Cell;
+use gen1_rolls::{ByteTest, LinkRandom, Rolls, Sweep, renew, until};
 
 #[test]
 fn nine_numbers_are_drawn_and_then_renewed(rt: HostRuntime) {
@@ -25,37 +24,34 @@ fn nine_numbers_are_drawn_and_then_renewed(rt: HostRuntime) {
     assert_same(&rt, LinkRandom::from_parts(9, [0; 10]), None);
 }
 
-/// What `until` returns for a number, and how many bytes it tests. No byte is 256.
-fn found<R: Rolls>(r: &mut R, wanted: u16) -> (Option<u8>, u32) {
-    let tests = Cell::new(0_u32);
-    let byte = until(r, |x| {
-        tests.set(tests.get().wrapping_add(1));
-        u16::from(x) == wanted
-    });
-    (byte, tests.get())
-}
+/// What `until` returns for a byte that it accepts alone, 255, or if it accepts none.
+const LAST: ByteTest = ByteTest::RotatedAtLeast(255);
+
+const NONE: ByteTest = ByteTest::PositiveBelow(0);
 
 #[test]
 fn the_first_draw_that_meets_a_test(rt: HostRuntime) {
-    let mut sweep = Sweep::new(7);
-    assert_same(&rt, found(&mut sweep, 6), (Some(6), 256));
-    assert_same(&rt, sweep, Sweep::new(7));
-    assert_same(&rt, found(&mut sweep, 256), (None, 256));
-    let mut random = LinkRandom::new([0; 10]);
-    assert_same(&rt, found(&mut random, 51), (Some(51), 2296));
+    let mut sweep = Sweep::new(0);
+    assert_same(&rt, until(&mut sweep, LAST), Some(255));
+    assert_same(&rt, sweep, Sweep::new(0));
+    assert_same(&rt, until(&mut sweep, NONE), None);
+    assert_same(&rt, sweep, Sweep::new(0));
+    // 255 is the last number of its orbit.
+    let mut random = LinkRandom::new([252; 10]);
+    assert_same(&rt, until(&mut random, LAST), Some(255));
     assert_same(&rt, random.index(), 1);
     assert_same(
         &rt,
         random.numbers(),
-        [51, 51, 51, 51, 51, 51, 51, 51, 51, 0],
+        [255, 255, 255, 255, 255, 255, 255, 255, 255, 252],
     );
-    // It stands where 2,304 draws lead. The last of these is not tested, since 256 rounds are over.
-    assert_same(&rt, found(&mut random, 256), (None, 2303));
+    // It is where 2,304 draws lead.
+    assert_same(&rt, until(&mut random, NONE), None);
     assert_same(&rt, random.index(), 1);
     assert_same(
         &rt,
         random.numbers(),
-        [51, 51, 51, 51, 51, 51, 51, 51, 51, 0],
+        [255, 255, 255, 255, 255, 255, 255, 255, 255, 252],
     );
 }
 
@@ -68,7 +64,7 @@ fn count<R: Rolls>(r: &mut R) -> u8
         (λ m. (result ≡ low_bits 3 (byte_at since.source.stream m))
         × StandsIn R.drawing since.source (m + 1) r.new) }
 {
-    match until(r, |b| b % 8 != 0) {
+    match until(r, ByteTest::NotMultiple(8)) {
         Some(b) => b % 8,
         None => 0,
     }

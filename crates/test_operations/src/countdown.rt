@@ -4,7 +4,7 @@ ghost use Rattle.gen1_rolls.specs.Steady.{steady, stream_of};
 ghost use Rattle.gen1_rolls.specs.Streams.{IsStream};
 ghost use Rattle.test_operations.specs.Countdown.{countdown, one_down};
 
-use gen1_rolls::{Look, Rolls, Steady, draw_from, search_from};
+use gen1_rolls::{ByteTest, Look, Rolls, Steady, draw_from, search_from};
 use std::marker::Model;
 
 /// A generator that counts down by 1, with 255 after 0. Any 256 draws in a row hold every byte, and so do any 1,000,
@@ -58,7 +58,7 @@ impl Rolls for Countdown {
         draw_from(self)
     }
 
-    fn until_as<F: Fn(u8) -> bool>(&mut self, test: F, look: Look) -> Option<u8> {
+    fn until_as(&mut self, test: ByteTest, look: Look) -> Option<u8> {
         search_from(self, test, look)
     }
 }

@@ -8,7 +8,7 @@ use gen1::generated::hits::Known;
 use gen1::generated::layout::Packed;
 use gen1::generated::machine::{Choice, EventList, Rules, Side};
 use gen1::generated::offers::offered;
-use gen1::generated::rolls::{Look, Rolls};
+use gen1::generated::rolls::{ByteTest, Look, Rolls};
 use gen1::generated::stats::{MemberSpec, Team};
 use gen1::generated::status::pick;
 use gen1::generated::switching::close;
@@ -91,8 +91,8 @@ impl Rolls for Script<'_> {
     }
 
     #[track_caller]
-    fn until_as<F: Fn(u8) -> bool>(&mut self, test: F, look: Look) -> Option<u8> {
-        let accepted = std::array::from_fn(|byte| test(byte as u8));
+    fn until_as(&mut self, test: ByteTest, look: Look) -> Option<u8> {
+        let accepted = std::array::from_fn(|byte| test.passes(byte as u8));
         Some(self.next(Draw {
             site: Location::caller(),
             look,

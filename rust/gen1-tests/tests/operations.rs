@@ -167,7 +167,7 @@ mod comparing {
 mod countdown {
     //! A generator that counts down.
 
-    use gen1::generated::rolls::{Look, Rolls, Steady, draw_from, search_from};
+    use gen1::generated::rolls::{ByteTest, Look, Rolls, Steady, draw_from, search_from};
 
     /// A generator that counts down by 1, with 255 after 0. Any 256 draws in a row hold every byte, and so do any 1,000,
     /// which is its `SPAN`.
@@ -198,7 +198,7 @@ mod countdown {
             draw_from(self)
         }
 
-        fn until_as<F: Fn(u8) -> bool>(&mut self, test: F, look: Look) -> Option<u8> {
+        fn until_as(&mut self, test: ByteTest, look: Look) -> Option<u8> {
             search_from(self, test, look)
         }
     }

@@ -15,7 +15,7 @@ use gen1::generated::odds::{
     Between, HpChange, Odds, Reason, ThreeChances, Wide, drained, knock_out, knock_out_in_three,
     odds_of, recoil,
 };
-use gen1::generated::rolls::{Look, Rolls};
+use gen1::generated::rolls::{ByteTest, Look, Rolls};
 use gen1::generated::stats::{MemberSpec, Status, Team};
 use gen1::generated::tables::{Effect, Element, MoveId, STRUGGLE, Species, Stat};
 use gen1::generated::turn::act;
@@ -53,8 +53,10 @@ impl Rolls for Bytes {
     }
 
     // So many that no search for a byte ends before.
-    fn until_as<F: Fn(u8) -> bool>(&mut self, test: F, _look: Look) -> Option<u8> {
-        (0..1_000_000).map(|_| self.draw()).find(|&byte| test(byte))
+    fn until_as(&mut self, test: ByteTest, _look: Look) -> Option<u8> {
+        (0..1_000_000)
+            .map(|_| self.draw())
+            .find(|&byte| test.passes(byte))
     }
 }
 

@@ -11,7 +11,7 @@ use gen1_events::EventSink;
 use gen1_hits::{Known, must_hit};
 use gen1_layout::{Conditions, Packed};
 use gen1_machine::{Kind, Side};
-use gen1_rolls::{Look, Rolls};
+use gen1_rolls::{ByteTest, Look, Rolls};
 use gen1_stats::Status;
 use gen1_status::{fail, has_marked_sleeper, inflict_status};
 use gen1_tables::MoveId;
@@ -121,7 +121,7 @@ fn fall_asleep<R: Rolls, S: EventSink>(
     ensures room { AddsAtMost S.room 1 events.old events.new }
     ensures steps { Steps R.drawing random }
 {
-    let Some(byte) = random.until_as(|byte| byte % 8 != 0, Look::Remainder(8)) else {
+    let Some(byte) = random.until_as(ByteTest::NotMultiple(8), Look::Remainder(8)) else {
         // Each byte from 0 to 255 is drawn, and most of them give a count.
         unreachable!();
     };

@@ -1,5 +1,5 @@
 //! Disable, with its draws (docs/MECHANICS.md, "Side effects").
-ghost use Rattle.std.specs.Prelude.{if◌then◌else◌, ◌≡◌};
+ghost use Rattle.std.specs.Prelude.{if◌then◌else◌, slice_index_or, ℕ, ◌%◌, ◌≡◌};
 ghost use Rattle.gen1_rolls.specs.Draws.{Steps};
 ghost use Rattle.gen1_rolls.specs.declared.look.Look.TheVariants.{Remainder};
 ghost use Rattle.gen1_layout.specs.Operations.{DoesWhere, Draws, DrawsWhere, holding, scene};
@@ -13,7 +13,7 @@ use gen1_events::EventSink;
 use gen1_hits::{Known, must_hit};
 use gen1_layout::{Conditions, Packed};
 use gen1_machine::{DisabledSlot, Event, Side, Volatile};
-use gen1_rolls::{Look, Rolls};
+use gen1_rolls::{ByteTest, Look, Rolls};
 use gen1_status::fail;
 use gen1_tables::MoveId;
 
@@ -56,11 +56,8 @@ fn draw_slot<R: Rolls, S: EventSink>(
 {
     let foe = side.other();
     let any_pp = has_pp(battle, foe);
-    let found = {
-        let now: &Packed = battle;
-        random.until_as(|byte| names_slot(now, foe, any_pp, byte), slot_look(any_pp))
-    };
-    match found {
+    let test = ByteTest::PlaceOf(named_slots(battle, foe, any_pp));
+    match random.until_as(test, slot_look(any_pp)) {
         Some(byte) => disable_slot(battle, side, any_pp, byte, random, events),
         None => false,
     }
@@ -114,6 +111,20 @@ fn slot_look(any_pp: bool) -> Look
     } else {
         Look::Remainder(1)
     }
+}
+
+// Which of the four slots a byte may name.
+fn named_slots(battle: &Packed, foe: Side, any_pp: bool) -> [bool; 4]
+    ensures stands { (g : Setting) (f : Field) → Within g battle.now f
+        → any_pp ≡ has_pp (member_in foe f).moves → (byte : ℕ)
+        → slice_index_or result (byte % 4) false ≡ names_slot (member_in foe f).moves byte }
+{
+    [
+        names_slot(battle, foe, any_pp, 0),
+        names_slot(battle, foe, any_pp, 1),
+        names_slot(battle, foe, any_pp, 2),
+        names_slot(battle, foe, any_pp, 3),
+    ]
 }
 
 // A drawn slot has to hold a move. If any move has PP, that move must have PP.

@@ -1,17 +1,18 @@
 //! Moves of fixed damage, Super Fang and Psywave (docs/MECHANICS.md, "Fixed damage and one-hit moves").
-ghost use Rattle.std.specs.Prelude.{◌≡◌};
+ghost use Rattle.std.specs.Prelude.{◌*◌, ◌/◌, ◌≡◌};
+ghost use Rattle.gen1_rolls.specs.declared.look.ByteTest.TheVariants.{PositiveBelow};
 ghost use Rattle.gen1_rolls.specs.Draws.{Steps};
 ghost use Rattle.gen1_layout.specs.Operations.{Draws, quiet};
 ghost use Rattle.gen1_layout.specs.Words.{Event, List, Reads, false, member_in, move_at};
 ghost use Rattle.gen1_layout.specs.Parts.{Parts};
-ghost use Rattle.gen1_machine.specs.FixedDamage.{deal_fixed, fixed_damage, half_hp, is_psywave, psywave};
+ghost use Rattle.gen1_machine.specs.FixedDamage.{deal_fixed, fixed_damage, half_hp, psywave};
 ghost use Rattle.gen1_hits.specs.Knowing.{IsUncounted, aware};
 ghost use Rattle.gen1_multiturn.specs.FixedDamage.{DealsAs};
 
 use gen1_hits::{Known, hit_or_miss};
 use gen1_layout::Packed;
 use gen1_machine::{Outcome, Side};
-use gen1_rolls::{Look, Rolls};
+use gen1_rolls::{ByteTest, Look, Rolls};
 use gen1_tables::MoveId;
 
 const SONIC_BOOM: u8 = 49;
@@ -90,17 +91,16 @@ fn psywave<R: Rolls>(level: u8, random: &mut R) -> Option<u16>
     if level <= 1 {
         return None;
     }
-    match random.until_as(|byte| is_psywave(level, byte), Look::Remainder(256)) {
+    match random.until_as(psywave_bytes(level), Look::Remainder(256)) {
         Some(byte) => Some(u16::from(byte)),
         None => unreachable!(),
     }
 }
 
-fn is_psywave(level: u8, byte: u8) -> bool
-    ensures { result ≡ is_psywave level byte }
+fn psywave_bytes(level: u8) -> ByteTest
+    ensures { result ≡ PositiveBelow (level * 3 / 2) }
 {
-    let top = u16::from(level) * 3 / 2;
-    (0 < byte) & (u16::from(byte) < top)
+    ByteTest::PositiveBelow(u16::from(level) * 3 / 2)
 }
 
 fn half_hp(battle: &Packed, side: Side) -> u16

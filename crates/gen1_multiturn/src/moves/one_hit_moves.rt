@@ -8,10 +8,10 @@ ghost use Rattle.gen1_machine.specs.FixedDamage.{deal_everything, knock_out, kno
 ghost use Rattle.gen1_machine.specs.Progress.{draw_until};
 ghost use Rattle.gen1_hits.specs.Knowing.{IsUncounted, aware};
 
-use gen1_hits::{Known, critical, hit_or_miss, is_factor, is_immune};
+use gen1_hits::{Known, LEAST_FACTOR, critical, hit_or_miss, is_immune};
 use gen1_layout::Packed;
 use gen1_machine::Side;
-use gen1_rolls::{Look, Rolls};
+use gen1_rolls::{ByteTest, Look, Rolls};
 use gen1_tables::{MoveId, Stat};
 
 /// A one-hit move of `side`, in an action of which something is known (docs/MECHANICS.md, "Fixed damage and one-hit
@@ -76,7 +76,7 @@ fn deal_everything<R: Rolls>(battle: &mut Packed, random: &mut R)
         (draw_until is_factor deal_everything) }
     ensures steps { Steps R.drawing random }
 {
-    let Some(_) = random.until_as(|byte| is_factor(byte), Look::Remainder(1)) else {
+    let Some(_) = random.until_as(ByteTest::RotatedAtLeast(LEAST_FACTOR), Look::Remainder(1)) else {
         // Each byte from 0 to 255 is drawn, and some of them are factors.
         unreachable!();
     };

@@ -11,7 +11,7 @@ use gen1::generated::machine::{Choice, Side};
 use gen1::generated::outcomes::{
     OutcomeOptions, Outcomes, OutcomesFault, Successor, Ways, list_outcomes,
 };
-use gen1::generated::rolls::{Look, Rolls};
+use gen1::generated::rolls::{ByteTest, Look, Rolls};
 use std::collections::HashMap;
 
 pub const ONE: Side = Side::One;
@@ -79,8 +79,10 @@ impl Rolls for Bytes {
     }
 
     // No number of draws holds every byte for certain. No search of so many fails in practice.
-    fn until_as<F: Fn(u8) -> bool>(&mut self, test: F, _look: Look) -> Option<u8> {
-        (0..1 << 20).map(|_| self.draw()).find(|&byte| test(byte))
+    fn until_as(&mut self, test: ByteTest, _look: Look) -> Option<u8> {
+        (0..1 << 20)
+            .map(|_| self.draw())
+            .find(|&byte| test.passes(byte))
     }
 }
 

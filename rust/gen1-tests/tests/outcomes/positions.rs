@@ -5,7 +5,7 @@ use gen1::generated::layout::Packed;
 use gen1::generated::machine::{Choice, Request, Side};
 use gen1::generated::offers::offered;
 use gen1::generated::outcomes::{OutcomeOptions, Ways, plain, play};
-use gen1::generated::rolls::{Look, Rolls};
+use gen1::generated::rolls::{ByteTest, Look, Rolls};
 use gen1::generated::stats::{MemberSpec, Team};
 use gen1::generated::tables::{MoveId, Species};
 use std::collections::HashMap;
@@ -97,9 +97,9 @@ impl Rolls for These {
         self.bytes.get(self.at - 1).copied().unwrap_or(0)
     }
 
-    fn until_as<F: Fn(u8) -> bool>(&mut self, test: F, _look: Look) -> Option<u8> {
+    fn until_as(&mut self, test: ByteTest, _look: Look) -> Option<u8> {
         self.searched = true;
-        (0..=255).find(|&byte| test(byte))
+        (0..=255).find(|&byte| test.passes(byte))
     }
 }
 

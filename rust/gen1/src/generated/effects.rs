@@ -530,7 +530,7 @@ mod late_effects {
         use crate::generated::hits::{Known, must_hit};
         use crate::generated::layout::{Conditions, Packed};
         use crate::generated::machine::{Kind, Side};
-        use crate::generated::rolls::{Look, Rolls};
+        use crate::generated::rolls::{ByteTest, Look, Rolls};
         use crate::generated::stats::Status;
         use crate::generated::status::{fail, has_marked_sleeper, inflict_status};
         use crate::generated::tables::MoveId;
@@ -610,7 +610,7 @@ mod late_effects {
             random: &mut R,
             events: &mut S,
         ) {
-            let Some(byte) = random.until_as(|byte| byte % 8 != 0, Look::Remainder(8)) else {
+            let Some(byte) = random.until_as(ByteTest::NotMultiple(8), Look::Remainder(8)) else {
                 // Each byte from 0 to 255 is drawn, and most of them give a count.
                 unreachable!();
             };
@@ -801,7 +801,7 @@ mod side_effects {
         use crate::generated::hits::{Known, must_hit};
         use crate::generated::layout::{Conditions, Packed};
         use crate::generated::machine::{DisabledSlot, Event, Side, Volatile};
-        use crate::generated::rolls::{Look, Rolls};
+        use crate::generated::rolls::{ByteTest, Look, Rolls};
         use crate::generated::status::fail;
         use crate::generated::tables::MoveId;
 
@@ -832,11 +832,8 @@ mod side_effects {
         ) -> bool {
             let foe = side.other();
             let any_pp = has_pp(battle, foe);
-            let found = {
-                let now: &Packed = battle;
-                random.until_as(|byte| names_slot(now, foe, any_pp, byte), slot_look(any_pp))
-            };
-            match found {
+            let test = ByteTest::PlaceOf(named_slots(battle, foe, any_pp));
+            match random.until_as(test, slot_look(any_pp)) {
                 Some(byte) => disable_slot(battle, side, any_pp, byte, random, events),
                 None => false,
             }
@@ -875,6 +872,16 @@ mod side_effects {
             } else {
                 Look::Remainder(1)
             }
+        }
+
+        // Which of the four slots a byte may name.
+        fn named_slots(battle: &Packed, foe: Side, any_pp: bool) -> [bool; 4] {
+            [
+                names_slot(battle, foe, any_pp, 0),
+                names_slot(battle, foe, any_pp, 1),
+                names_slot(battle, foe, any_pp, 2),
+                names_slot(battle, foe, any_pp, 3),
+            ]
         }
 
         // A drawn slot has to hold a move. If any move has PP, that move must have PP.

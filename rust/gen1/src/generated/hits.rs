@@ -333,7 +333,10 @@ mod factors {
 
     use crate::generated::hits::damage_formula::{Numbers, damage};
     use crate::generated::hits::types::type_steps;
-    use crate::generated::rolls::{Look, Rolls};
+    use crate::generated::rolls::{ByteTest, Look, Rolls};
+
+    /// The least factor, in 255ths ([docs/MECHANICS.md, "Factors"](https://hibsuloy.example/gen1/blob/main/docs/MECHANICS.md#factors)).
+    pub const LEAST_FACTOR: u8 = 217;
 
     /// Damage times a drawn factor, in 255ths ([docs/MECHANICS.md, "Factors"](https://hibsuloy.example/gen1/blob/main/docs/MECHANICS.md#factors)).
     ///
@@ -350,7 +353,10 @@ mod factors {
         if damage <= 1 {
             return damage;
         }
-        match random.until_as(is_factor, Look::Factor { damage, edge, cut }) {
+        match random.until_as(
+            ByteTest::RotatedAtLeast(LEAST_FACTOR),
+            Look::Factor { damage, edge, cut },
+        ) {
             Some(byte) => times_factor(rotated(byte), damage),
             None => unreachable!(),
         }
@@ -385,7 +391,7 @@ mod factors {
 
     /// Whether a drawn byte is a factor: rotated right by 1 bit, it is at least 217 ([docs/MECHANICS.md, "Factors"](https://hibsuloy.example/gen1/blob/main/docs/MECHANICS.md#factors)).
     pub fn is_factor(byte: u8) -> bool {
-        rotated(byte) >= 217
+        rotated(byte) >= LEAST_FACTOR
     }
 
     fn rotated(byte: u8) -> u8 {
@@ -826,7 +832,7 @@ pub use action_hit_test::{hit_or_miss, must_hit, note_miss};
 pub use critical_hits::{critical, critical_bound};
 pub use damage_formula::{Numbers, damage};
 pub use damage_numbers::{numbers, own_numbers};
-pub use factors::{damage_list, factor, factor_up_to, is_factor};
+pub use factors::{LEAST_FACTOR, damage_list, factor, factor_up_to, is_factor};
 pub use hit_tests::{Hit, hit_test, scaled_accuracy, settled_hit};
 pub use hp::{gain_hp, lose_hp};
 pub use immunity::is_immune;

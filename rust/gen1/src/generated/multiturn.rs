@@ -701,7 +701,7 @@ mod moves {
         use crate::generated::hits::{Known, hit_or_miss};
         use crate::generated::layout::Packed;
         use crate::generated::machine::{Outcome, Side};
-        use crate::generated::rolls::{Look, Rolls};
+        use crate::generated::rolls::{ByteTest, Look, Rolls};
         use crate::generated::tables::MoveId;
 
         const SONIC_BOOM: u8 = 49;
@@ -768,15 +768,14 @@ mod moves {
             if level <= 1 {
                 return None;
             }
-            match random.until_as(|byte| is_psywave(level, byte), Look::Remainder(256)) {
+            match random.until_as(psywave_bytes(level), Look::Remainder(256)) {
                 Some(byte) => Some(u16::from(byte)),
                 None => unreachable!(),
             }
         }
 
-        fn is_psywave(level: u8, byte: u8) -> bool {
-            let top = u16::from(level) * 3 / 2;
-            (0 < byte) & (u16::from(byte) < top)
+        fn psywave_bytes(level: u8) -> ByteTest {
+            ByteTest::PositiveBelow(u16::from(level) * 3 / 2)
         }
 
         fn half_hp(battle: &Packed, side: Side) -> u16 {
@@ -804,10 +803,10 @@ mod moves {
     pub mod one_hit_moves {
         //! One-hit moves ([docs/MECHANICS.md, "Fixed damage and one-hit moves"](https://hibsuloy.example/gen1/blob/main/docs/MECHANICS.md#fixed-damage-and-one-hit-moves)).
 
-        use crate::generated::hits::{Known, critical, hit_or_miss, is_factor, is_immune};
+        use crate::generated::hits::{Known, LEAST_FACTOR, critical, hit_or_miss, is_immune};
         use crate::generated::layout::Packed;
         use crate::generated::machine::Side;
-        use crate::generated::rolls::{Look, Rolls};
+        use crate::generated::rolls::{ByteTest, Look, Rolls};
         use crate::generated::tables::{MoveId, Stat};
 
         /// A one-hit move of `side`, in an action of which something is known ([docs/MECHANICS.md](https://hibsuloy.example/gen1/blob/main/docs/MECHANICS.md), "Fixed damage and one-hit
@@ -855,7 +854,7 @@ mod moves {
 
         // The draws of a factor, which isn't used.
         fn deal_everything<R: Rolls>(battle: &mut Packed, random: &mut R) {
-            let Some(_) = random.until_as(|byte| is_factor(byte), Look::Remainder(1)) else {
+            let Some(_) = random.until_as(ByteTest::RotatedAtLeast(LEAST_FACTOR), Look::Remainder(1)) else {
                 // Each byte from 0 to 255 is drawn, and some of them are factors.
                 unreachable!();
             };

@@ -171,6 +171,8 @@ mod beginning {
 mod byte_set {
     //! Sets of bytes ([docs/MECHANICS.md, "Link numbers"](https://hibsuloy.example/gen1/blob/main/docs/MECHANICS.md#link-numbers)).
 
+    use crate::generated::rolls::ByteTest;
+
     /// A set of bytes: each has a bit of 256.
     #[derive(Clone, Copy, PartialEq, Eq, Debug)]
     pub struct ByteSet {
@@ -202,11 +204,11 @@ mod byte_set {
         }
 
         /// The bytes that pass a test.
-        pub fn that_pass<F: Fn(u8) -> bool>(test: &F) -> Self {
+        pub fn that_pass(test: ByteTest) -> Self {
             let mut set = ByteSet::none();
             for number in 0..256u16 {
                 let byte = number as u8;
-                set.insert_if(byte, test(byte));
+                set.insert_if(byte, test.passes(byte));
             }
             set
         }
@@ -406,7 +408,7 @@ mod explorer {
     use crate::generated::outcomes::byte_set::ByteSet;
     use crate::generated::outcomes::nodes::Nodes;
     use crate::generated::outcomes::script::{DEPTH, Script};
-    use crate::generated::rolls::{Look, Rolls};
+    use crate::generated::rolls::{ByteTest, Look, Rolls};
 
     /// What draws are noted in. Nothing but [`After`] is; a type parameter lets the explorer hold a reference.
     pub(crate) trait Notes {
@@ -481,7 +483,7 @@ mod explorer {
             draw_noted(&mut self.script, &mut self.notes, look)
         }
 
-        fn until_as<F: Fn(u8) -> bool>(&mut self, test: F, look: Look) -> Option<u8> {
+        fn until_as(&mut self, test: ByteTest, look: Look) -> Option<u8> {
             search_noted(&mut self.script, &mut self.notes, test, look)
         }
     }
@@ -495,13 +497,13 @@ mod explorer {
     }
 
     // Searches a byte, and notes it with its look and the bytes that pass the test.
-    fn search_noted<N: Notes, F: Fn(u8) -> bool>(
+    fn search_noted<N: Notes>(
         script: &mut Script,
         notes: &mut N,
-        test: F,
+        test: ByteTest,
         look: Look,
     ) -> Option<u8> {
-        let bytes = may_have(&*notes, &test);
+        let bytes = may_have(&*notes, test);
         match script.until_as(test, look) {
             Some(byte) => {
                 notes.note(byte, look, &bytes);
@@ -512,7 +514,7 @@ mod explorer {
     }
 
     // The bytes that a search may find, if they are to be noted.
-    fn may_have<N: Notes, F: Fn(u8) -> bool>(notes: &N, test: &F) -> ByteSet {
+    fn may_have<N: Notes>(notes: &N, test: ByteTest) -> ByteSet {
         if notes.is_new() {
             ByteSet::that_pass(test)
         } else {
@@ -1821,7 +1823,7 @@ mod playing {
 mod script {
     //! A generator whose first bytes are given ([docs/MECHANICS.md, "Link numbers"](https://hibsuloy.example/gen1/blob/main/docs/MECHANICS.md#link-numbers)).
 
-    use crate::generated::rolls::{Look, Rolls, Steady, draw_from, search_from};
+    use crate::generated::rolls::{ByteTest, Look, Rolls, Steady, draw_from, search_from};
 
     /// How many bytes are given. No update takes more than 17 draws and searches, as far as is known.
     pub const DEPTH: usize = 24;
@@ -1875,7 +1877,7 @@ mod script {
             draw_from(self)
         }
 
-        fn until_as<F: Fn(u8) -> bool>(&mut self, test: F, look: Look) -> Option<u8> {
+        fn until_as(&mut self, test: ByteTest, look: Look) -> Option<u8> {
             search_from(self, test, look)
         }
     }

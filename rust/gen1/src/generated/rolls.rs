@@ -3,7 +3,7 @@
 //! draw that passes a test.
 //!
 //! - `rolls`: what a generator is
-//! - `look`: what is looked at of a drawn byte
+//! - `look`: what is looked at of a drawn byte, and which bytes a search accepts
 //! - `link`: the generator of a link battle
 //! - `sweep`: a generator that counts up
 //! - `search`: the first draw that passes a test
@@ -11,12 +11,12 @@
 //! - `laws`: what holds for every generator that notes nothing
 
 mod laws {
-    //! What holds for every generator that notes nothing ([docs/MECHANICS.md, "Link numbers"](https://hibsuloy.example/gen1/blob/main/docs/MECHANICS.md#link-numbers)). Each function has an empty
-    //! body. Its contract is the law.
+    //! What holds for every generator that notes nothing ([docs/MECHANICS.md, "Link numbers"](https://hibsuloy.example/gen1/blob/main/docs/MECHANICS.md#link-numbers)).
 
     use crate::generated::rolls::steady::Steady;
 
-    /// A generator's own stream keeps to the law of streams: it is bytes, of which any `SPAN` in a row hold every number.
+    /// A generator is at the beginning of its own stream, which keeps to the law of streams: it is bytes, of which any `SPAN`
+    /// in a row hold every number. A clause about each stream is also about this one.
     ///
     /// The law follows from a draw, so one draw is taken from a copy. `random` itself doesn't change.
     pub fn draws_a_stream<R: Steady + Copy>(random: &R) {
@@ -28,7 +28,7 @@ mod laws {
 mod link {
     //! The generator of a link battle ([docs/MECHANICS.md, "Link numbers"](https://hibsuloy.example/gen1/blob/main/docs/MECHANICS.md#link-numbers)).
 
-    use crate::generated::rolls::look::Look;
+    use crate::generated::rolls::look::{ByteTest, Look};
     use crate::generated::rolls::rolls::Rolls;
     use crate::generated::rolls::steady::{Steady, draw_from};
 
@@ -70,6 +70,19 @@ mod link {
             self.numbers
         }
 
+        // The numbers of this round are looked at where they are, and only the one that passes is drawn (docs/SPEED.md,
+        // "A search by draws").
+        #[inline] // docs/SPEED.md, "Hints on inlining"
+        fn search<F: Fn(u8) -> bool>(&mut self, test: F, _look: Look) -> Option<u8> {
+            match place_from(&self.numbers, self.index, &test) {
+                Some(place) => {
+                    self.index = place;
+                    Some(self.next_byte())
+                }
+                None => self.until_later(test),
+            }
+        }
+
         // The rest of a search, where no number that is left in this round passes. Within 256 rounds the last number alone
         // is every byte.
         #[inline(never)] // docs/SPEED.md, "Hints on inlining"
@@ -95,6 +108,7 @@ mod link {
     impl Steady for LinkRandom {
         const SPAN: usize = 2304;
 
+        #[inline] // docs/SPEED.md, "Hints on inlining"
         fn next_byte(&mut self) -> u8 {
             let drawn = number_at(&self.numbers, self.index);
             if self.index < 8 {
@@ -108,20 +122,36 @@ mod link {
     }
 
     impl Rolls for LinkRandom {
+        #[inline] // docs/SPEED.md, "Hints on inlining"
         fn draw(&mut self) -> u8 {
             draw_from(self)
         }
 
-        // The numbers of this round are looked at where they are, and only the one that passes is drawn (docs/SPEED.md,
-        // "A search by draws").
-        #[inline] // docs/SPEED.md, "Hints on inlining"
-        fn until_as<F: Fn(u8) -> bool>(&mut self, test: F, _look: Look) -> Option<u8> {
-            match place_from(&self.numbers, self.index, &test) {
-                Some(place) => {
-                    self.index = place;
-                    Some(self.next_byte())
+        // Each kind of test has its own search, and a caller knows the kind, so that nothing asks for it.
+        #[inline(always)] // docs/SPEED.md, "Hints on inlining"
+        fn until_as(&mut self, test: ByteTest, look: Look) -> Option<u8> {
+            match test {
+                ByteTest::RotatedAtLeast(least) => {
+                    self.search(
+                        move |byte| ByteTest::RotatedAtLeast(least).passes(byte),
+                        look,
+                    )
                 }
-                None => self.until_later(test),
+                ByteTest::PositiveBelow(bound) => {
+                    self.search(
+                        move |byte| ByteTest::PositiveBelow(bound).passes(byte),
+                        look,
+                    )
+                }
+                ByteTest::NotMultiple(divisor) => {
+                    self.search(
+                        move |byte| ByteTest::NotMultiple(divisor).passes(byte),
+                        look,
+                    )
+                }
+                ByteTest::PlaceOf(four) => {
+                    self.search(move |byte| ByteTest::PlaceOf(four).passes(byte), look)
+                }
             }
         }
     }
@@ -158,7 +188,7 @@ mod link {
 }
 
 mod look {
-    //! What is looked at of a drawn byte ([docs/MECHANICS.md, "Link numbers"](https://hibsuloy.example/gen1/blob/main/docs/MECHANICS.md#link-numbers)).
+    //! What is looked at of a drawn byte, and which bytes a search accepts ([docs/MECHANICS.md, "Link numbers"](https://hibsuloy.example/gen1/blob/main/docs/MECHANICS.md#link-numbers)).
 
     /// What is looked at of a drawn byte ([docs/MECHANICS.md, "Link numbers"](https://hibsuloy.example/gen1/blob/main/docs/MECHANICS.md#link-numbers)).
     ///
@@ -201,6 +231,32 @@ mod look {
         }
     }
 
+    /// Which bytes a search accepts ([docs/MECHANICS.md, "Link numbers"](https://hibsuloy.example/gen1/blob/main/docs/MECHANICS.md#link-numbers)). It is data, so two searches can be compared.
+    #[derive(Clone, Copy, PartialEq, Eq, Debug)]
+    pub enum ByteTest {
+        /// Bytes that, rotated right by 1 bit, are at least the number.
+        RotatedAtLeast(u8),
+        /// Bytes above 0 and below the bound.
+        PositiveBelow(u16),
+        /// Bytes that are no multiple of the number. For 0, bytes above 0.
+        NotMultiple(u8),
+        /// Bytes whose lowest 2 bits are the place of `true`.
+        PlaceOf([bool; 4]),
+    }
+
+    impl ByteTest {
+        /// Whether a search accepts the byte.
+        pub fn passes(self, byte: u8) -> bool {
+            match self {
+                ByteTest::RotatedAtLeast(least) => rotated_right_1(byte) >= least,
+                ByteTest::PositiveBelow(bound) => (0 < byte) & (u16::from(byte) < bound),
+                ByteTest::NotMultiple(0) => 0 < byte,
+                ByteTest::NotMultiple(divisor) => 0 < byte % divisor,
+                ByteTest::PlaceOf(four) => four[(byte % 4) as usize],
+            }
+        }
+    }
+
     fn scaled(damage: u16, factor: u8) -> u16 {
         (u32::from(damage) * u32::from(factor) / 255) as u16
     }
@@ -217,7 +273,7 @@ mod look {
 mod rolls {
     //! A generator of bytes, which all draws of a battle come from ([docs/MECHANICS.md, "Link numbers"](https://hibsuloy.example/gen1/blob/main/docs/MECHANICS.md#link-numbers)).
 
-    use crate::generated::rolls::look::Look;
+    use crate::generated::rolls::look::{ByteTest, Look};
 
     /// A generator of bytes ([docs/MECHANICS.md, "Link numbers"](https://hibsuloy.example/gen1/blob/main/docs/MECHANICS.md#link-numbers)).
     ///
@@ -239,21 +295,21 @@ mod rolls {
         ///
         /// As with `draw_as`, the contract allows any byte that passes and of which the look sees the same.
         ///
-        /// Returns `None` if no byte from 0 to 255 passes. The result of the test must depend on the byte alone.
-        fn until_as<F: Fn(u8) -> bool>(&mut self, test: F, _look: Look) -> Option<u8>;
+        /// Returns `None` if no byte from 0 to 255 passes.
+        fn until_as(&mut self, test: ByteTest, look: Look) -> Option<u8>;
     }
 }
 
 mod search {
     //! The first draw that passes a test ([docs/MECHANICS.md, "Link numbers"](https://hibsuloy.example/gen1/blob/main/docs/MECHANICS.md#link-numbers)).
 
-    use crate::generated::rolls::look::Look;
+    use crate::generated::rolls::look::{ByteTest, Look};
     use crate::generated::rolls::rolls::Rolls;
 
     /// Draws until a byte passes the test, and returns that byte.
     ///
-    /// Returns `None` if no byte from 0 to 255 passes. The result of the test must depend on the byte alone.
-    pub fn until<R: Rolls, F: Fn(u8) -> bool>(r: &mut R, test: F) -> Option<u8> {
+    /// Returns `None` if no byte from 0 to 255 passes.
+    pub fn until<R: Rolls>(r: &mut R, test: ByteTest) -> Option<u8> {
         r.until_as(test, Look::Remainder(256))
     }
 }
@@ -261,7 +317,7 @@ mod search {
 mod steady {
     //! Generators that note none of their draws ([docs/MECHANICS.md, "Link numbers"](https://hibsuloy.example/gen1/blob/main/docs/MECHANICS.md#link-numbers)).
 
-    use crate::generated::rolls::look::Look;
+    use crate::generated::rolls::look::{ByteTest, Look};
 
     /// A generator that notes none of its draws: its value alone determines what it draws next, and what it is after a draw.
     ///
@@ -279,19 +335,19 @@ mod steady {
     }
 
     /// Draws the next byte.
+    #[inline] // docs/SPEED.md, "Hints on inlining"
     pub fn draw_from<R: Steady>(random: &mut R) -> u8 {
         random.next_byte()
     }
 
     /// Draws until a byte passes the test, and returns that byte. The look does not matter.
     ///
-    /// Returns `None` after `SPAN` draws, if no byte from 0 to 255 passes. The result of the test must depend on the byte
-    /// alone.
+    /// Returns `None` after `SPAN` draws, if no byte from 0 to 255 passes.
     #[inline] // docs/SPEED.md, "Hints on inlining"
-    pub fn search_from<R: Steady, F: Fn(u8) -> bool>(random: &mut R, test: F, _look: Look) -> Option<u8> {
+    pub fn search_from<R: Steady>(random: &mut R, test: ByteTest, _look: Look) -> Option<u8> {
         for _ in 0..R::SPAN {
             let byte = random.next_byte();
-            if test(byte) {
+            if test.passes(byte) {
                 return Some(byte);
             }
         }
@@ -302,7 +358,7 @@ mod steady {
 mod sweep {
     //! A generator that counts up ([docs/MECHANICS.md, "Link numbers"](https://hibsuloy.example/gen1/blob/main/docs/MECHANICS.md#link-numbers)).
 
-    use crate::generated::rolls::look::Look;
+    use crate::generated::rolls::look::{ByteTest, Look};
     use crate::generated::rolls::rolls::Rolls;
     use crate::generated::rolls::steady::{Steady, draw_from, search_from};
 
@@ -337,7 +393,7 @@ mod sweep {
             draw_from(self)
         }
 
-        fn until_as<F: Fn(u8) -> bool>(&mut self, test: F, look: Look) -> Option<u8> {
+        fn until_as(&mut self, test: ByteTest, look: Look) -> Option<u8> {
             search_from(self, test, look)
         }
     }
@@ -351,7 +407,7 @@ mod sweep {
 
 pub use laws::draws_a_stream;
 pub use link::{LinkRandom, renew};
-pub use look::Look;
+pub use look::{ByteTest, Look};
 pub use rolls::Rolls;
 pub use search::until;
 pub use steady::{Steady, draw_from, search_from};

@@ -310,7 +310,7 @@ mod action_steps {
 mod by_side {
     //! A generator as two types, one for the action of each side ([docs/MECHANICS.md, "Order of a turn"](https://hibsuloy.example/gen1/blob/main/docs/MECHANICS.md#order-of-a-turn)).
 
-    use crate::generated::rolls::{Look, Rolls};
+    use crate::generated::rolls::{ByteTest, Look, Rolls};
 
     /// A generator as a second type that draws the same.
     ///
@@ -328,7 +328,8 @@ mod by_side {
             self.0.draw_as(look)
         }
 
-        fn until_as<F: Fn(u8) -> bool>(&mut self, test: F, look: Look) -> Option<u8> {
+        #[inline(always)] // docs/SPEED.md, "Hints on inlining"
+        fn until_as(&mut self, test: ByteTest, look: Look) -> Option<u8> {
             self.0.until_as(test, look)
         }
     }

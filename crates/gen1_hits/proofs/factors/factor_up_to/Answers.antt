@@ -1,7 +1,7 @@
 use Rattle.std.proofs.Common.{◌+◌, ◌≡◌}
-use Rattle.gen1_layout.proofs.Words.{arith, false, lit<, nat_le, nat_tests, refl, rules, sym, true, ◌∙◌}
+use Rattle.gen1_layout.proofs.Words.{arith, false, lit<, nat_le, nat_tests, refl, sym, true}
 use Rattle.gen1_rolls.specs.Streams.{byte_at}
-use Rattle.gen1_machine.specs.Damage.{is_factor, rotated_right_1, times_factor}
+use Rattle.gen1_machine.specs.Damage.{rotated_right_1, times_factor}
 use Rattle.gen1_hits.proofs.Varying.{varied-most, vary-draws, vary-keeps}
 use Rattle.gen1_hits.proofs.factors.factor_up_to.Goals as goal
 
@@ -13,12 +13,12 @@ returns-then-damage-le1-clause-varies g c since n a =
 -- 255 is a factor's byte, and each byte is drawn.
 pub unreachable-requires : goal.unreachable-requires
 unreachable-requires g c =
-    let none : true ≡ false = (c.in-None.ensures.none is_factor (λ x answer lt post. search rules)).none_meets 255 (lit< tt) in cc
+    let none : true ≡ false = c.in-None.ensures.none.none_meets 255 (lit< tt) in cc
 
 pub returns-clause-varies : goal.returns-clause-varies
 returns-clause-varies g c since n a =
     let large : nat_le c.args.damage 1 ≡ false = grind (arith, nat_tests) in
-    let x = (c.in-Some.ensures.found is_factor (λ x answer lt post. search rules)).on since n a in
+    let x = c.in-Some.ensures.found.on since n a in
     let byte = byte_at since.source.stream x.place in
     record {
       drawn = x.place + 1;

@@ -3,4 +3,4 @@ use Rattle.gen1_rolls.proofs.Standing.{exactly}
 use Rattle.gen1_rolls.proofs.search.until.Goals as goal
 
 pub returns-clause-found : goal.returns-clause-found
-returns-clause-found g c p settles = IfSome_then c.until_as.result (c.until_as.ensures.found p settles) (λ x f. exactly f)
+returns-clause-found g c = IfSome_then c.until_as.result c.until_as.ensures.found (λ x f. exactly f)

@@ -1,5 +1,5 @@
-use Rattle.std.proofs.Common.{◌≡◌, ℕ, Bool, IsFalse, ◌<◌}
-use Rattle.gen1_rolls.specs.Draws.{Settles}
+use Rattle.std.proofs.Common.{◌≡◌, ℕ, IsFalse, ◌<◌}
+use Rattle.gen1_rolls.specs.Looks.{passes}
 use Rattle.gen1_rolls.specs.Steady.{draws_of}
 use Rattle.gen1_rolls.specs.Streams.{iterate, HoldsEveryByte}
 use Rattle.gen1_rolls.proofs.steady.search_from.Given as goal
@@ -8,6 +8,6 @@ abbrev pub invariant-draws : goal.invariant-draws
 invariant-draws g l =
     record {
       drawn : l.random ≡ iterate l.counter g.R.Steady.generator.next l.fn.random;
-      failed : (p : ℕ → Bool) → Settles (goal.F-post g l.test) p → (k : ℕ) → k < l.counter → IsFalse (p (draws_of g.R.Steady.generator l.fn.random k));
+      failed : (k : ℕ) → k < l.counter → IsFalse (passes l.test (draws_of g.R.Steady.generator l.fn.random k));
       full : 0 < l.counter → HoldsEveryByte (draws_of g.R.Steady.generator l.fn.random) g.R.Steady.generator.width;
     }

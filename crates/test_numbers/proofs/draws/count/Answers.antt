@@ -5,10 +5,10 @@ use Rattle.test_numbers.proofs.draws.count.Goals as goal
 
 pub returns-in-Some : goal.returns-in-Some
 returns-in-Some g c since n a =
-    let x = (c.in-Some.ensures.found (λ b. nat_lt 0 (low_bits 3 b)) (λ x answer lt post. grind (post, arith, nat_tests))).on since n a in
+    let x = c.in-Some.ensures.found.on since n a in
     rw x.found ((ap (low_bits 3) x.is, x.stands))
 
 pub returns-in-None : goal.returns-in-None
 returns-in-None g c since n a =
-    let x = (c.in-None.ensures.none (λ b. nat_lt 0 (low_bits 3 b)) (λ x answer lt post. grind (post, arith, nat_tests))).on since n a in
+    let x = c.in-None.ensures.none.on since n a in
     rw x.none ((refl, x.stands))

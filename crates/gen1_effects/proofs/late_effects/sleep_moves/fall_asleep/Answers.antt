@@ -1,5 +1,5 @@
 use Rattle.std.proofs.Common.{◌≡◌}
-use Rattle.gen1_layout.proofs.Words.{ap, arith, false, lit<, nat_tests, still, true, ℕ}
+use Rattle.gen1_layout.proofs.Words.{ap, false, lit<, still, true, ℕ}
 use Rattle.gen1_stats.specs.declared.status.Status.TheVariants.{Asleep}
 use Rattle.gen1_machine.specs.declared.health.Kind.TheVariants as kinds
 use Rattle.gen1_machine.specs.Progress.{inflict}
@@ -10,12 +10,12 @@ use Rattle.gen1_effects.proofs.late_effects.sleep_moves.fall_asleep.Goals as goa
 -- 1 gives a count, and each byte is drawn.
 pub unreachable-requires : goal.unreachable-requires
 unreachable-requires t c =
-    let none : true ≡ false = (c.in_default.ensures.none is_sleep_count (λ x answer lt post. grind (post, arith, nat_tests))).none_meets 1 (lit< tt) in cc
+    let none : true ≡ false = c.in_default.ensures.none.none_meets 1 (lit< tt) in cc
 
 pub returns-clause-shown : goal.returns-clause-shown
 unfolding fall_asleep sleep_for
 returns-clause-shown t c since g p clause h =
-    let like = c.in-Some.ensures.found is_sleep_count (λ x answer lt post. grind (post, arith, nat_tests)) in
+    let like = c.in-Some.ensures.found in
     drawn_until is_sleep_count (sleep_for c.args.marked c.args.side) c.in-Some.byte h (like.on since)
     (λ x same q. ap (λ (n : ℕ). inflict c.args.side (Asleep n c.args.marked) kinds.Sleep q) same)
     (λ n a. still {g' = g} a (c.sleep_for.ensures.shown like.meets _ _ clause a.shows))

@@ -1,4 +1,4 @@
-use Rattle.gen1_layout.proofs.Words.{Action, ap, drawn_goes, drawn_if_not, drawn_if_so, drawn_stays, goes, halted, lit≤, on_field, put, put_damage, refl, still, ◌∙◌}
+use Rattle.gen1_layout.proofs.Words.{Action, ap, drawn_goes, drawn_if_not, drawn_if_so, drawn_stays, goes, halted, lit≤, on_field, put, put_damage, still, ◌∙◌}
 use Rattle.gen1_machine.specs.declared.terms.Outcome.TheVariants as outcomes
 use Rattle.gen1_machine.specs.FixedDamage.{fixed_damage}
 use Rattle.gen1_machine.specs.Progress.{fault}

@@ -1,4 +1,4 @@
-use Rattle.gen1_layout.proofs.Words.{Action, drawn_acted, drawn_goes, drawn_if_not, drawn_if_so, put_damage, refl, still, sym, true, ◌∙◌}
+use Rattle.gen1_layout.proofs.Words.{Action, drawn_acted, drawn_goes, drawn_if_not, drawn_if_so, put_damage, still, sym, true, ◌∙◌}
 use Rattle.gen1_machine.specs.FixedDamage.{knock_out}
 use Rattle.gen1_machine.specs.Progress.{set_missed}
 use Rattle.gen1_hits.specs.Knowing.{knowing}

@@ -5,7 +5,7 @@ use Rattle.gen1_rolls.specs.Streams.{IsFirstOf}
 use Rattle.gen1_rolls.proofs.Rings.{same_ring, turned-none}
 use Rattle.gen1_rolls.proofs.Rounds.{finds_in_round}
 use Rattle.gen1_rolls.proofs.Standing.{finds_as, none_finds, some_finds}
-use Rattle.gen1_rolls.proofs.link.LinkRandomRolls.until_as.Goals as goal
+use Rattle.gen1_rolls.proofs.link.LinkRandom.search.Goals as goal
 
 pub returns-in-Some-clause-found : goal.returns-in-Some-clause-found
 returns-in-Some-clause-found g c p settles =
