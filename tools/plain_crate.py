@@ -291,8 +291,9 @@ INLINED = {
     "gen1_events": {"write_damage", "write_heal", "write_move", "write_switch"},
     "gen1_hits": {"current_stats", "damage", "hit_or_miss", "land", "must_hit", "own_stats", "type_steps", "types"},
     "gen1_multiturn": {"bide_knowing", "hit_effect", "land_hit", "note_effectiveness", "note_first_hit"},
+    "gen1_rolls": {"until_as"},
     "gen1_switching": {"coming_out", "faint_and_settle", "put_out", "tell_coming_out"},
-    "gen1_turn": {"carry_out", "damage_unless_landing", "faster_side", "move_taken", "one_has_fallen"},
+    "gen1_turn": {"carry_out", "damage_unless_landing", "faster_side", "move_taken", "one_has_fallen", "until_as"},
 }
 COLD = {"gen1_switching": {"put_out_with_penalty"}}
 HINTED = re.compile(r"( *)((?:pub(?:\([a-z]+\))? )?(?:const )?fn (\w+)\b.*)")
@@ -305,7 +306,7 @@ def hinted(name, text):
     for line in text.split("\n"):
         started = OPENED.match(line)
         module = started[1] if started else module
-        function = HINTED.fullmatch(line)
+        function = not line.endswith(";") and HINTED.fullmatch(line)
         hint = function and hint_of(name, module, function[3])
         if hint:
             while lines[-1].strip().startswith("#[inline"):

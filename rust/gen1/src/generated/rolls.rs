@@ -128,8 +128,7 @@ mod link {
         }
 
         // Each kind of test has its own search, and a caller knows the kind, so that nothing asks for it.
-        #[inline(always)] // docs/SPEED.md, "Hints on inlining"
-        fn until_as(&mut self, test: ByteTest, look: Look) -> Option<u8> {
+        #[cfg_attr(not(target_family = "wasm"), inline(always))] fn until_as(&mut self, test: ByteTest, look: Look) -> Option<u8> {
             match test {
                 ByteTest::RotatedAtLeast(least) => {
                     self.search(
@@ -393,7 +392,7 @@ mod sweep {
             draw_from(self)
         }
 
-        fn until_as(&mut self, test: ByteTest, look: Look) -> Option<u8> {
+        #[cfg_attr(not(target_family = "wasm"), inline(always))] fn until_as(&mut self, test: ByteTest, look: Look) -> Option<u8> {
             search_from(self, test, look)
         }
     }

@@ -328,8 +328,7 @@ mod by_side {
             self.0.draw_as(look)
         }
 
-        #[inline(always)] // docs/SPEED.md, "Hints on inlining"
-        fn until_as(&mut self, test: ByteTest, look: Look) -> Option<u8> {
+        #[cfg_attr(not(target_family = "wasm"), inline(always))] fn until_as(&mut self, test: ByteTest, look: Look) -> Option<u8> {
             self.0.until_as(test, look)
         }
     }
