@@ -987,6 +987,25 @@ static inline double GEN1_WAY_PROBABILITY(const gen1_way *way)
     return ((double)way->high * high + (double)way->low) / ((double)way->whole_high * high + (double)way->whole_low);
 }
 
+/* ---- random teams ---- */
+
+/* How many sample teams there are: those of examples/teams, in the order of their names. */
+#define GEN1_SAMPLE_TEAMS 12
+
+/*
+ * Overwrites `*team` with a random team of `count` members of different species (docs/MECHANICS.md, "Random teams"): members of the
+ * sample teams if `from_all` is 0, else any species with any moves. gen1_new accepts it. The same arguments give the same team.
+ *
+ * Returns 0; or GEN1_ERROR_TEAM_EMPTY or GEN1_ERROR_TEAM_TOO_LONG if `count` is not 1 to 6. Then nothing has changed.
+ */
+uint8_t gen1_random_team(uint64_t seed, uint8_t count, uint8_t from_all, gen1_team *team);
+
+/*
+ * Overwrites `*team` with a sample team by its number, 1 to GEN1_SAMPLE_TEAMS. Returns 0, or GEN1_ERROR_UNKNOWN for another number.
+ * Then nothing has changed.
+ */
+uint8_t gen1_sample_team(uint8_t number, gen1_team *team);
+
 /* ---- teams as text ---- */
 
 /* The place of an error in the text of a team, and the form that was expected there. */

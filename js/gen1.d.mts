@@ -1006,6 +1006,14 @@ export class Gen1 {
   spectatorOfBytes(bytes: Uint8Array | ArrayBuffer): Spectator;
   /** Creates a teller of a side, before the first event. It reports the HP of the foe's members in `hpForm`; without it as the bar of 48 pixels, or as it is if `pixels` is false. */
   teller(terms: { side: Side; pixels?: boolean; hpForm?: HpForm }): Teller;
+  /**
+   * The members of a random team (docs/MECHANICS.md, "Random teams"): `count` of them, 1 to 6, by default 6, at level 100. They are from the sample
+   * teams, or if `legal` is false any species with any moves. The same `seed`, a number as of Seed, gives the same team in every language; without one
+   * it is drawn by `crypto.getRandomValues`. Throws ArgumentError.
+   */
+  randomTeam(options?: { seed?: number | bigint; legal?: boolean; count?: number }): WholeMember[];
+  /** The members of a sample team by its number, 1 to 12: those of examples/teams, in the order of their names. Throws ArgumentError. */
+  sampleTeam(number: number): WholeMember[];
   /** The members in a team builder's text (docs/TEAM_TEXT.md). Throws TextError. */
   teamFromText(text: string): WholeMember[];
   /** The members in a packed line (docs/TEAM_TEXT.md). Throws TextError. */

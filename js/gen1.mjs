@@ -23,7 +23,7 @@ import {Row, ROW_KINDS} from "./row.mjs";
 import {Narrator, narratorOf, Spectator, spectatorOf} from "./spectator.mjs";
 import {blockOfState} from "./states.mjs";
 import {MOVES, SPECIES, TYPES} from "./tables.mjs";
-import {baseOf, effectivenessOf, memberBytes, membersFrom, moveDataOf, moveOf, sharedOf, statsOf, Team, teamError, textOf} from "./teams.mjs";
+import {baseOf, effectivenessOf, memberBytes, membersFrom, moveDataOf, moveOf, randomMembers, sampleMembers, sharedOf, statsOf, Team, teamError, textOf} from "./teams.mjs";
 import {Update} from "./update.mjs";
 import {CONDITIONS, oddsOf, OUTCOMES, REASONS, REQUESTS, STATS, STATUSES} from "./views.mjs";
 import {logBytesOf} from "./writing.mjs";
@@ -179,6 +179,16 @@ export class Gen1 {
   /** Creates a teller of a side, before the first event. It reports the foe's HP in `hpForm`. */
   teller(terms) {
     return new Teller(this.#library, tellerOf(this.#library, terms));
+  }
+
+  /** The members of a random team, as `battle` takes them. */
+  randomTeam(options = {}) {
+    return randomMembers(this.#library, options);
+  }
+
+  /** The members of the sample team with this number, from 1. */
+  sampleTeam(number) {
+    return sampleMembers(this.#library, number);
   }
 
   /** The members in a team builder's text (docs/TEAM_TEXT.md), as `battle` takes them. */

@@ -1,5 +1,5 @@
 // Teams in the library's form, from objects and from a team builder's text, and the errors for them.
-import {byteOr255, inspected, list, nearest, numbers, record, shown, text, within, wrongType} from "./arguments.mjs";
+import {byteOr255, freshNumbers, inspected, list, nearest, numbers, playoutSeed, record, shown, text, truth, within, wrongType} from "./arguments.mjs";
 import {ArgumentError, TeamError, TextError} from "./errors.mjs";
 import {CODES, TEXT_FAULTS} from "./header.mjs";
 import {layoutOf, writeStruct} from "./structs.mjs";
@@ -9,6 +9,7 @@ import {made} from "./update.mjs";
 const MOST_MEMBERS = 6;
 const MOST_MOVES = 4;
 const MOST_DAMAGE = 65535;
+const RANDOM_KEYS = ["seed", "legal", "count"];
 const MEMBER_KEYS = ["species", "level", "dvs", "exp", "moves"];
 const FULL_DVS = Object.freeze([15, 15, 15, 15]);
 const FULL_EXP = Object.freeze([65535, 65535, 65535, 65535, 65535]);
@@ -282,8 +283,33 @@ export function membersFrom(library, call, given) {
   const [words, team, fault] = [library.put(bytes), library.roomOf("gen1_team"), library.roomOf("gen1_text_fault")];
   const code = library.calls[call](words, library.size(bytes.length), team, fault);
   if (code) throw textError(library, library.readStruct("gen1_text_fault", fault), given);
+  return membersAt(library, team);
+}
+
+// The members of a team that the library has written.
+function membersAt(library, team) {
   const {members, count} = library.readStruct("gen1_team", team);
   return members.slice(0, count).map(memberFrom);
+}
+
+/** The members of a random team. */
+export function randomMembers(library, options) {
+  const {seed, legal = true, count = MOST_MEMBERS} = record(options, "options", "an object with options", RANDOM_KEYS);
+  const number = seed === undefined ? new DataView(freshNumbers("seed").buffer).getBigUint64(0) : playoutSeed(seed);
+  const [size, fromAll] = [within(count, "count", 1, MOST_MEMBERS), truth(legal, "legal") ? 0 : 1];
+  library.begin();
+  const team = library.roomOf("gen1_team");
+  library.calls.gen1_random_team(number, size, fromAll, team);
+  return membersAt(library, team);
+}
+
+/** The members of a sample team. */
+export function sampleMembers(library, number) {
+  const known = within(number, "number", 1, CODES.SAMPLE_TEAMS);
+  library.begin();
+  const team = library.roomOf("gen1_team");
+  library.calls.gen1_sample_team(known, team);
+  return membersAt(library, team);
 }
 
 /** A team as text. `call` writes at most `room` bytes: gen1_team_to_text or gen1_team_to_packed. */

@@ -33,6 +33,7 @@ LAYERS = (
             "gen1_host",
             "gen1_player",
             "gen1_room",
+            "gen1_random",
             "gen1_playouts",
             "gen1_outcomes",
             "gen1_engine",

@@ -1,9 +1,9 @@
-"""The enums of python/gen1 from docs/TABLES.md, docs/LAYOUT.md, docs/MECHANICS.md and include/gen1.h, and its sample teams; and the types
-of JavaScript's names.
+"""The enums of python/gen1 from docs/TABLES.md, docs/LAYOUT.md, docs/MECHANICS.md and include/gen1.h, and the names of the sample
+teams; the types of JavaScript's names; and the members of the sample teams in crates/gen1_random.
 
 Species, moves and types are the rows of TABLES; the conditions are the bits of LAYOUT; the kinds of statuses, stats, reasons, sources and
 volatiles are the numbers of MECHANICS, "Events". All codes are enums of the header, with the comment after each as its text. The sample
-teams are the texts of examples/teams, which rust/gen1-search has too.
+teams are those of examples/teams.
 """
 
 import json
@@ -16,9 +16,12 @@ from tables import element_names, move_rows, species_rows, table
 
 OUT = ROOT / "python" / "gen1" / "src" / "gen1"
 JAVASCRIPT = ROOT / "js" / "names.d.mts"
-SEARCH = ROOT / "rust" / "gen1-search" / "src" / "sample_texts.rs"
-SEARCH_TEXTS = "//! The texts of the sample teams. Made by tools/gen; change examples/teams, not this.\n\n"
-TEXTS = '"""The texts of the sample teams. Made by tools/gen; change examples/teams, not this."""\n\n'
+SAMPLES = ROOT / "crates" / "gen1_random" / "src" / "sample_rows.rt"
+SAMPLE_ROWS = """//! The members of the sample teams. Made by tools/gen; change examples/teams, not this.
+
+// The species and the moves of each member, by their numbers. A team has six rows.
+pub(crate) static SAMPLE_ROWS: [(u8, [u8; 4]); {count}] = [
+"""
 ROWS = '"""The rows of species and moves. Made by tools/gen; change docs/TABLES.md, not this."""\n'
 
 HEAD = '''"""Species, moves, types and codes by name. Made by tools/gen; change what it reads, not this."""
@@ -318,21 +321,22 @@ def sample_paths():
     return sorted((ROOT / "examples" / "teams").glob("*.txt"))
 
 
-def sample_texts():
-    """The text of each sample team by its name, in Python."""
-    return (
-        TEXTS
-        + "TEXTS = {\n"
-        + "".join(f'    "{it.stem}": """\\\n{it.read_text()}""",\n' for it in sample_paths())
-        + "}\n"
-    )
+def sample_names():
+    """The names of the sample teams, in Python."""
+    names = "".join(f'    "{it.stem}",\n' for it in sample_paths())
+    return f"# The names of the sample teams, by their numbers from 1.\nSAMPLE_TEAMS = (\n{names})\n"
 
 
-def search_texts():
-    """The text of each sample team, in Rust."""
-    texts = [it.read_text() for it in sample_paths()]
-    head = f"/// One text for each team.\npub const TEXTS: [&str; {len(texts)}] = [\n"
-    return SEARCH_TEXTS + head + "".join(f'    "\\\n{it}",\n' for it in texts) + "];\n"
+def sample_rows():
+    """The members of the sample teams by their numbers, in Rattle."""
+    text = (ROOT / "docs" / "TABLES.md").read_text()
+    species, moves = ([name for _, name, *_ in table(text, heading)] for heading in ("Species", "Moves"))
+    blocks = [block.split("\n- ") for path in sample_paths() for block in path.read_text().strip().split("\n\n")[1:]]
+    rows = [
+        f"    ({species.index(name) + 1}, {[moves.index(it) + 1 for it in known]}), // {name}: {', '.join(known)}\n"
+        for name, *known in blocks
+    ]
+    return SAMPLE_ROWS.format(count=len(rows)) + "".join(rows) + "];\n"
 
 
 def javascript():
@@ -353,5 +357,5 @@ def javascript():
 def generated():
     """The text of each file."""
     rows = "".join([ROWS, *row_lists((ROOT / "docs" / "TABLES.md").read_text())])
-    python = {OUT / "names.py": names(), OUT / "rows.py": rows, OUT / "sample_texts.py": sample_texts()}
-    return {**python, JAVASCRIPT: javascript(), SEARCH: search_texts()}
+    python = {OUT / "names.py": names(), OUT / "rows.py": rows + sample_names()}
+    return {**python, JAVASCRIPT: javascript(), SAMPLES: sample_rows()}

@@ -22,9 +22,14 @@ WITHOUT = {
         "worked example": "python/gen1/tests/test_guesses.py: test_what_is_known_and_what_is_guessed",
         "tests": "python/gen1/tests/test_guesses.py, js/test/worked.mjs, tests/c/hostile_players.c",
     },
+    Section("docs/MECHANICS.md", "Random teams"): {
+        "worked example": "js/test/worked.mjs: random teams, and the sample teams",
+        "tests": "tests/calls/test_teams.py: test_random_teams",
+    },
     Section("docs/PROGRAM.md", "The program battle_tool"): {
         "definition": "none: clap reads the words, and the contract of `tool` says which statuses there are"
     },
+    Section("include/gen1.h", "random teams"): {"tests": "tests/calls/test_teams.py, tests/c/hostile_texts.c"},
     Section("include/gen1.h", "searching"): {"definition": "crates/gen1_engine/specs/Reseed.antt: reseeded"},
     Section("include/gen1.h", "watching"): {
         "definition": "crates/gen1_spectator/specs/Plain.antt: view_of, reading_of"

@@ -266,6 +266,14 @@ function bytes(gen1, check) {
                 .argument,
           "events[0]");
   });
+  check("random teams", () => {
+    for (const count of [0, 7]) outside(() => gen1.randomTeam({count}), /^count is ., not 1 to 6$/);
+    for (const number of [0, 13]) outside(() => gen1.sampleTeam(number), /^number is .*, not 1 to 12$/);
+    outside(() => gen1.randomTeam({seed: -1}), /^seed is -1, not 0 to /);
+    outside(() => gen1.randomTeam({size: 6}), /^options has the unknown key "size"/);
+    for (const options of [{legal: 1}, {count: "6"}, {seed: "7"}, 5])
+      wrong(() => gen1.randomTeam(options), / is .*, not /);
+  });
   check("texts", () => {
     for (const it of [undefined, null, 5, ["Tauros"], Uint8Array.of(1)])
       for (const call of [gen1.teamFromText, gen1.teamFromPacked])

@@ -111,6 +111,8 @@ const OF_GEN1 = {
   spectator: true,
   player: true,
   teller: true,
+  randomTeam: true,
+  sampleTeam: true,
   teamFromText: true,
   teamFromPacked: true,
   teamToText: true,
@@ -623,6 +625,8 @@ function battles(gen1) {
   holds(
       outcomes instanceof Outcomes && outcomes.whole > 0n && outcomes.at(0).battle instanceof Battle, "other outcomes");
   hasKeys(gen1.teamFromText("Tauros\n- Strength\n")[0], OF_WHOLE_MEMBER);
+  hasKeys(gen1.randomTeam({seed: 7, legal: false, count: 1})[0], OF_WHOLE_MEMBER);
+  hasKeys(gen1.sampleTeam(1)[5], OF_WHOLE_MEMBER);
   holds(gen1.teamToText(gen1.teamFromText("Tauros\n- Strength\n")) === "Tauros\n- Strength\n", "a team as text");
   hasKeys(battle.updateSilent(battle.choices(1)[0], battle.choices(2)[0]), {outcome: true, requests: true});
   /** @type {Uint8Array} */

@@ -491,6 +491,17 @@ function texts(gen1, check) {
     equal(gen1.teamToPacked(gen1.team(team)),
         "Tauros||||bodyslam||||14,0,,,,||88|]Mr. Mime||||psychic,doubleedge||252,0,0,0,0,4|||||\n");
   });
+  check("random teams, and the sample teams", () => {
+    // docs/MECHANICS.md, "Random teams", by a program that is not the library's.
+    equal(gen1.teamToText(gen1.randomTeam({seed: 7, count: 2})),
+        "Zapdos\n- Thunderbolt\n- Drill Peck\n- Thunder Wave\n- Agility\n\n" +
+            "Kabutops\n- Swords Dance\n- Surf\n- Slash\n- Hyper Beam\n");
+    equal(gen1.teamToText(gen1.randomTeam({seed: 7n, legal: false, count: 2})),
+        "Sandslash\n- Peck\n- Fury Attack\n- Seismic Toss\n- Drill Peck\n\n" +
+            "Cloyster\n- Sonic Boom\n- Blizzard\n- Double Team\n- Thunder Shock\n");
+    equal([gen1.randomTeam().length, new Set(gen1.randomTeam().map(({species}) => species)).size], [6, 6]);
+    equal([gen1.sampleTeam(1)[0].species, gen1.sampleTeam(12).length], ["Alakazam", 6]);
+  });
   check("every name is the library's", () => {
     for (const name of library.SPECIES) equal(gen1.teamFromText(`${name}\n- Pound\n`)[0].species, name);
     for (const name of library.MOVES) {

@@ -1,4 +1,4 @@
-/* Calls that read teams from text and write them, with texts that are not a team and teams that have no text (hostile.c). */
+/* Random teams, and calls that read teams from text and write them, with texts that are not a team and teams that have no text (hostile.c). */
 #include "lawful.h"
 
 #include <string.h>
@@ -88,5 +88,40 @@ static void try_team_to_packed(void) {
     try_writing("gen1_team_to_packed", gen1_team_to_packed, gen1_team_from_packed, GEN1_TEAM_PACKED_ROOM);
 }
 
-try_call *const tries_of_texts[] = {try_team_from_text, try_team_from_packed, try_team_to_text, try_team_to_packed,
+/* A team that gen1_new accepts, of different species; the same arguments give the same team. */
+static void try_random_team(void) {
+    uint64_t seed = (uint64_t)draw(1u << 31) << 33 ^ draw(1u << 31);
+    uint8_t count = one_in(4) ? any_byte() : (uint8_t)draw(8), from_all = one_in(2) ? 0 : any_byte();
+    gen1_team *team = block(1, sizeof *team), again;
+    note();
+    uint8_t got = gen1_random_team(seed, count, from_all, team);
+    uint8_t want = count == 0 ? GEN1_ERROR_TEAM_EMPTY : count > 6 ? GEN1_ERROR_TEAM_TOO_LONG : 0;
+    bool is_right = got == 0 ? changed_only(1, sizeof *team) : unchanged();
+    if (got == 0 && is_right) {
+        is_right = team->count == count && fault_of_new(team, team, 0, 1) == 0;
+        for (int at = 0; at < count; at++)
+            for (int before = 0; before < at; before++)
+                is_right &= team->members[at].species != team->members[before].species;
+        gen1_random_team(seed, count, from_all, &again);
+        is_right &= memcmp(team, &again, sizeof again) == 0;
+    }
+    tell("gen1_random_team", got == want && is_right, got, want);
+}
+
+static void try_sample_team(void) {
+    uint8_t number = one_in(2) ? (uint8_t)draw(14) : any_byte();
+    gen1_team *team = block(1, sizeof *team);
+    note();
+    uint8_t got = gen1_sample_team(number, team);
+    uint8_t want = number >= 1 && number <= GEN1_SAMPLE_TEAMS ? 0 : GEN1_ERROR_UNKNOWN;
+    bool is_right = got == 0 ? changed_only(1, sizeof *team) && fault_of_new(team, team, 0, 1) == 0 : unchanged();
+    tell("gen1_sample_team", got == want && is_right, got, want);
+}
+
+try_call *const tries_of_texts[] = {try_team_from_text,
+                                    try_team_from_packed,
+                                    try_team_to_text,
+                                    try_team_to_packed,
+                                    try_random_team,
+                                    try_sample_team,
                                     NULL};

@@ -231,6 +231,8 @@ def declare(calls):
         ),
         ("gen1_walk_begin", c_uint8, [battle, c_uint8, c_uint8, c_uint8, ctypes.c_char_p]),
         ("gen1_walk_next", c_uint8, [ctypes.c_char_p, POINTER(Way)]),
+        ("gen1_random_team", c_uint8, [ctypes.c_uint64, c_uint8, c_uint8, POINTER(gen1.Team)]),
+        ("gen1_sample_team", c_uint8, [c_uint8, POINTER(gen1.Team)]),
         ("gen1_team_from_text", c_uint8, [ctypes.c_char_p, size, POINTER(gen1.Team), POINTER(TextFault)]),
         ("gen1_team_from_packed", c_uint8, [ctypes.c_char_p, size, POINTER(gen1.Team), POINTER(TextFault)]),
         ("gen1_team_to_text", c_uint32, [POINTER(gen1.Team), ctypes.c_char_p, size, POINTER(size)]),

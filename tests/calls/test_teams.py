@@ -189,3 +189,50 @@ def test_refused_teams(library, battles, checks):
         except gen1.TeamFault as fault:
             got = "error: team %d place %d refusal %d\n" % fault.args
         checks.same(f"errors, {case['name']}", got, want)
+
+
+def sample_members():
+    """The species and the moves of each member of examples/teams, in the order of the files."""
+    texts = [path.read_text() for path in sorted((ROOT / "examples" / "teams").glob("*.txt"))]
+    blocks = [block.split("\n- ") for text in texts for block in text.strip().split("\n\n")[1:]]
+    return [(species, moves) for species, *moves in blocks]
+
+
+def drawn(seed, count, from_all):
+    """The species and the moves of a random team, by docs/MECHANICS.md, "Random teams"."""
+
+    def take(items):
+        nonlocal seed
+        seed = (seed * 6364136223846793005 + 1442695040888963407) % 2**64
+        return items.pop((seed >> 32) % len(items))
+
+    tables = (ROOT / "docs" / "TABLES.md").read_text()
+    species, moves = ([name for name, *_ in numbered(table(tables, heading))] for heading in ("Species", "Moves"))
+    samples = sample_members()
+    left = [it for it in species if from_all or any(it == of for of, _ in samples)]
+    known = [it for it in moves if it not in ("Mimic", "Metronome", "Mirror Move", "Transform", "Struggle")]
+    for _ in range(count):
+        one, others = take(left), [*known]
+        yield one, [take(others) for _ in range(4)] if from_all else take([it for of, it in samples if of == one])
+
+
+def struct_due(members):
+    """The struct of members at level 100, with the experience that a text without EVs gives."""
+    rest = {"level": 100, "dvs": [15] * 4, "exp": [252 * 252] * 5}
+    return gen1.team([member({"species": of, "moves": [(name, 3) for name in moves], **rest}) for of, moves in members])
+
+
+def test_random_teams(library, checks):
+    """Compares random teams and the sample teams with the rule of docs/MECHANICS.md and with examples/teams."""
+    for seed in [0, 1, 7, 2**64 - 1, *(it * 0x9E3779B97F4A7C15 % 2**64 for it in range(2, 60))]:
+        count, from_all = seed % 6 + 1, seed // 6 % 2
+        team = gen1.Team(count=KEPT)
+        code = library.calls.gen1_random_team(seed, count, from_all, byref(team))
+        due = struct_due(drawn(seed, count, from_all))
+        checks.same(f"{count} members by {seed}", (code, bytes(team).hex()), (0, bytes(due).hex()))
+    members = sample_members()
+    for number in range(1, 13):
+        team = gen1.Team(count=KEPT)
+        code = library.calls.gen1_sample_team(number, byref(team))
+        due = struct_due(members[6 * number - 6 : 6 * number])
+        checks.same(f"sample team {number}", (code, bytes(team).hex()), (0, bytes(due).hex()))

@@ -1,5 +1,7 @@
 -- What a team consists of, and where it is wrong.
 pub mod Faults
+-- A struct that is made of members describes these members.
+pub mod WrittenTeams
 -- How a battle begins.
 pub mod Begun
 -- The expected damage numbers.

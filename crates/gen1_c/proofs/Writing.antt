@@ -1,7 +1,7 @@
 -- Texts that are expected, and so are written.
-use Rattle.std.proofs.Common.{Bool, Err, List, None, Ok, Option, Result, Some, ap, arith, codes, drop, false, if◌then◌else◌, length, nat_le, nat_lt, ok_or, option_map, refl, set, subst, sym, true, ℕ, ◌&&◌, ◌++◌, ◌+◌, ◌<◌, ◌≡◌, ◌∙◌, ◌∷◌}
+use Rattle.std.proofs.Common.{Bool, Err, List, None, Ok, Option, Result, Some, [], ap, append_assoc, arith, codes, drop, false, if◌then◌else◌, length, nat_le, nat_lt, ok_or, option_map, refl, set, subst, sym, take, true, ℕ, ◌&&◌, ◌++◌, ◌+◌, ◌<◌, ◌≡◌, ◌∙◌, ◌∷◌}
 use Rattle.std.proofs.lemmas.Bool.Decides.{nat_tests}
-use Rattle.std.proofs.lemmas.List.{drop_at}
+use Rattle.std.proofs.lemmas.List.{drop_at, take_at}
 use Rattle.std.specs.List.{slice_get}
 use Rattle.gen1_tables.specs.Names.{move_name, species_name}
 use Rattle.gen1_machine.specs.declared.side.Side.{Side}
@@ -27,6 +27,18 @@ written_fits text old new code h fits = by (nat_lt (length text) (length old.byt
     by : (b : Bool) → nat_lt (length text) (length old.bytes) ≡ b → WritesIf b text old new code → code ≡ 0
     by true e h = h.0
     by false e h = absurd (grind (arith, nat_tests, fits, e))
+
+-- what was written is the text
+pub written_back : (text : List ℕ) (old new : Room) (code : ℕ) → Writes (Ok text) old new code → code ≡ 0 → take new.count new.bytes ≡ text
+written_back text old new code h zero = by (nat_lt (length text) (length old.bytes)) h
+  where
+    by : (b : Bool) → WritesIf b text old new code → take new.count new.bytes ≡ text
+    by true h =
+        rw h.1 (
+        ap (take (length text)) (append_assoc text (0 ∷ []) (drop (length (ended text)) old.bytes))
+        ∙ take_at text ((0 ∷ []) ++ drop (length (ended text)) old.bytes) (length text) refl
+        )
+    by false h = absurd (omega (arith, h.0, zero))
 
 -- a text at the beginning, and a zero after it
 pub ended_writes : (text old now : List ℕ) (count n : ℕ) → count ≡ length text → count < length old → now ≡ over_front text old

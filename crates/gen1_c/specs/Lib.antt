@@ -30,6 +30,8 @@ pub mod Playouts
 pub mod RandomSteps
 -- Teams read from text.
 pub mod TeamText
+-- Random teams, and the sample teams.
+pub mod RandomTeams
 -- Names, and rows of the tables.
 pub mod Names
 -- The numbers of effects.

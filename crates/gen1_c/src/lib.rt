@@ -11,7 +11,8 @@
 //! - `walks`: each way of an update, one after the other
 //! - `playouts`: battles played by random choices
 //! - `random_steps`: random steps of many battles
-//! - `team_text`: teams read from text
+//! - `random_teams`: random teams, and the sample teams
+//! - `team_text`: teams read from text, and written
 //! - `events`: the events of a log
 //! - `event_bytes`: the bytes of an event
 //! - `lines`: the lines of a log's events
@@ -58,6 +59,7 @@ pub mod outcomes;
 pub mod players;
 pub mod playouts;
 pub mod random_steps;
+pub mod random_teams;
 pub mod reseed;
 pub mod rooms;
 pub mod sentences;

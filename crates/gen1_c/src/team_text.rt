@@ -1,7 +1,8 @@
 //! Teams as text: read into plain structs, and written (include/gen1.h, "teams as text"; docs/TEAM_TEXT.md).
-ghost use Rattle.std.specs.Prelude.{None, length, ◌≡◌, ◌≤◌};
-ghost use Rattle.gen1_text.specs.Packed.{members_packed};
-ghost use Rattle.gen1_text.specs.Texts.{members_told};
+ghost use Rattle.std.specs.Prelude.{None, Ok, length, take, ◌≡◌, ◌≤◌};
+ghost use Rattle.gen1_stats.specs.Teams.{team_of};
+ghost use Rattle.gen1_text.specs.Packed.{members_packed, team_packed};
+ghost use Rattle.gen1_text.specs.Texts.{members_told, team_told};
 ghost use Rattle.gen1_writer.specs.Export.{text_of};
 ghost use Rattle.gen1_writer.specs.PackedLine.{packed_of};
 ghost use Rattle.gen1_writer.specs.Written.{write_refusal};
@@ -79,6 +80,8 @@ pub extern "C" fn gen1_team_to_text(team: &TeamForm, text: &mut [u8], written: &
     // There is room for any team that has a text.
     ensures fits { 1408 ≤ length text.old → number_fault team.now ≡ 0
         → write_refusal (sheets_of team.now) ≡ None → result ≡ 0 }
+    // What it writes is read as the same team.
+    ensures back { result ≡ 0 → team_told (take written.new text.new) ≡ Ok (team_of (sheets_of team.now)) }
 {
     let fault = number_fault(team);
     if fault > 0 {
@@ -101,6 +104,8 @@ pub extern "C" fn gen1_team_to_packed(team: &TeamForm, text: &mut [u8], written:
     // There is room for any team that has a text.
     ensures fits { 832 ≤ length text.old → number_fault team.now ≡ 0
         → write_refusal (sheets_of team.now) ≡ None → result ≡ 0 }
+    // What it writes is read as the same team.
+    ensures back { result ≡ 0 → team_packed (take written.new text.new) ≡ Ok (team_of (sheets_of team.now)) }
 {
     let fault = number_fault(team);
     if fault > 0 {
@@ -183,7 +188,8 @@ fn of_team(refusal: TeamRefusal) -> TextFaultForm
 }
 
 fn of_write(fault: WriteFault) -> u32
-    ensures { result ≡ of_write fault }
+    ensures value { result ≡ of_write fault }
+    ensures some { 1 ≤ result }
 {
     match fault {
         WriteFault::Team(refusal) => fault_of(refusal),
@@ -225,7 +231,7 @@ fn number_of(fault: MemberFault) -> u8
 
 // The struct.
 
-fn form_of(specs: &[MemberSpec]) -> TeamForm
+pub(crate) fn form_of(specs: &[MemberSpec]) -> TeamForm
     requires few { length specs.now ≤ 6 }
     ensures value { result ≡ form_of specs.now }
 {

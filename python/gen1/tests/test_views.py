@@ -328,11 +328,24 @@ def test_random_teams():
         assert len({it.species for it in team}) == 6 and set(team) <= known
     assert met == known and gen1.random_team(random.Random(5)) == gen1.random_team(random.Random(5))
     assert [len(gen1.random_team(dice, count=it)) for it in range(1, 7)] == [1, 2, 3, 4, 5, 6]
+    assert gen1.random_team() != gen1.random_team()
     species, moves = set(), set()
     for _ in range(300):
         team = gen1.random_team(dice, legal=False)
         species.update(it.species for it in team), moves.update(move for it in team for move in it.moves)
     assert len(species) == 151 and len(moves) == 160
+
+
+def test_random_teams_of_a_number():
+    """The team that docs/MECHANICS.md, "Random teams", gives for 7, as in the other languages."""
+    assert gen1.random_team(7, count=2) == Team.from_text(
+        "Zapdos\n- Thunderbolt\n- Drill Peck\n- Thunder Wave\n- Agility\n\n"
+        "Kabutops\n- Swords Dance\n- Surf\n- Slash\n- Hyper Beam\n"
+    )
+    assert gen1.random_team(7, legal=False, count=2) == Team.from_text(
+        "Sandslash\n- Peck\n- Fury Attack\n- Seismic Toss\n- Drill Peck\n\n"
+        "Cloyster\n- Sonic Boom\n- Blizzard\n- Double Team\n- Thunder Shock\n"
+    )
 
 
 def test_random_teams_of_numpy():
@@ -351,8 +364,12 @@ def test_random_teams_of_wrong_arguments():
     for call in (lambda: gen1.random_team(dice, count=0), lambda: gen1.random_team(dice, count=7)):
         with pytest.raises(BadArgument, match="^count must be 1 to 6, not"):
             call()
+    for seed in (-1, 1 << 64):
+        with pytest.raises(BadArgument, match="^seed must be 0 to "):
+            gen1.random_team(seed)
     for call in (
-        lambda: gen1.random_team(5),
+        lambda: gen1.random_team("5"),
+        lambda: gen1.random_team(True),
         lambda: gen1.random_team(dice, "yes"),
         lambda: gen1.random_team(dice, count="6"),
     ):

@@ -53,8 +53,7 @@ pub fn play(game: &Game) -> Result<(), Fault> {
     let (battle, teams) = match game.file.as_deref() {
         Some(path) => battle_in(path)?,
         None => {
-            let members = usize::from(game.members);
-            let (one, two) = (random.team(members), random.team(members));
+            let (one, two) = (random.team(game.members), random.team(game.members));
             (Battle::new(&one, &two, random.seed()), [one, two])
         }
     };

@@ -1,5 +1,5 @@
 //! Random numbers for players and measurements. A battle has its own.
-use gen1::{MemberSpec, MoveId, Offered, OfferedMask, Species, Team};
+use gen1::{DrawnFrom, Offered, OfferedMask, Team, random_team};
 use std::hash::{BuildHasher, Hasher, RandomState};
 
 /// A random number generator (xorshift), whose output depends only on its seed.
@@ -45,32 +45,8 @@ impl Random {
         std::array::from_fn(|_| self.below(256) as u8)
     }
 
-    /// A team of `members` random members at level 100, each with four moves that a team may have.
-    pub fn team(&mut self, members: usize) -> Team {
-        loop {
-            let specs: Vec<_> = (0..members).map(|_| self.member()).collect();
-            // A member with a move that no team may have is refused, and another one is drawn.
-            if let Ok(team) = Team::new(&specs) {
-                return team;
-            }
-        }
-    }
-
-    fn member(&mut self) -> MemberSpec {
-        loop {
-            let mut spec = MemberSpec {
-                species: Species::new(self.below(151) as u8 + 1).unwrap_or_default(),
-                level: 100,
-                dvs: [15; 4],
-                exp: [65535; 5],
-                moves: Default::default(),
-            };
-            spec.moves = (0..4)
-                .filter_map(|_| Some((MoveId::new(self.below(164) as u8 + 1)?, 3)))
-                .collect();
-            if Team::new(std::slice::from_ref(&spec)).is_ok() {
-                return spec;
-            }
-        }
+    /// A random team of 1 to 6 members, of all species and moves.
+    pub fn team(&mut self, members: u8) -> Team {
+        random_team(self.bits(), members.clamp(1, 6), DrawnFrom::All).expect("one to six members")
     }
 }

@@ -22,8 +22,8 @@ use core::fmt;
 use core::str::FromStr;
 use core::time::Duration;
 use gen1::{
-    Battle, Choice, Guess, HpForm, MemberSpec, MoveId, Outcome, Player, PlayoutOptions, Side,
-    Species, Team, Teller,
+    Battle, Choice, DrawnFrom, Guess, HpForm, MoveId, Outcome, Player, PlayoutOptions, Side, Team,
+    Teller, random_team,
 };
 
 /// A player of a league. Its name is what `FromStr` reads: `random`, `greedy`, `monte:MS`, `think:MS`, `nodes:N` or `level:N`.
@@ -361,33 +361,9 @@ impl League {
     fn team(&self, dice: &mut Dice) -> Team {
         match self.teams {
             Teams::Samples => self.samples[dice.below(self.samples.len())].clone(),
-            Teams::Drawn => drawn_team(dice),
+            Teams::Drawn => random_team(dice.bits(), 6, DrawnFrom::All).expect("six members"),
         }
     }
-}
-
-/// A team of six species at level 100, each with four moves that a team may have.
-fn drawn_team(dice: &mut Dice) -> Team {
-    let mut specs: Vec<MemberSpec> = Vec::new();
-    while specs.len() < 6 {
-        let mut spec = MemberSpec {
-            species: Species::new(1 + dice.below(151) as u8).unwrap_or_default(),
-            level: 100,
-            dvs: [15; 4],
-            exp: [65535; 5],
-            moves: Default::default(),
-        };
-        for _ in 0..4 {
-            let id = MoveId::new(1 + dice.below(164) as u8).unwrap_or_default();
-            spec.moves.push((id, 3));
-        }
-        let is_new = specs.iter().all(|it| it.species != spec.species);
-        // A member that knows a move twice, or one that no team may have, is refused.
-        if is_new && Team::new(core::slice::from_ref(&spec)).is_ok() {
-            specs.push(spec);
-        }
-    }
-    Team::new(&specs).expect("each member is lawful")
 }
 
 /// A pair of bots by their numbers, and the scores of the first.

@@ -31,7 +31,6 @@ pub mod league;
 pub mod matrix;
 mod positions;
 mod prior;
-mod sample_texts;
 mod solve;
 mod think;
 mod tree;

@@ -1,9 +1,11 @@
 //! What the foe may have: teams with weights, and guesses from them that fit what was seen.
 use crate::Dice;
-use crate::sample_texts::TEXTS;
 use alloc::vec::Vec;
 use core::fmt;
-use gen1::{ArrayVec, MemberSpec, MoveId, Player, Seen, Species, Team, TeamRefusal, text};
+use gen1::{
+    ArrayVec, MemberSpec, MoveId, Player, SAMPLE_TEAMS, Seen, Species, Team, TeamRefusal,
+    sample_members,
+};
 
 /// How often a guess takes single members even if a whole team fits: one time in this many.
 const APART: usize = 8;
@@ -70,8 +72,7 @@ impl Prior {
     /// The sample teams of the repository (examples/teams), all as probable.
     #[must_use]
     pub fn samples() -> Self {
-        let read = |text: &&str| text::members_in_text(text.as_bytes()).ok();
-        let teams = TEXTS.iter().filter_map(read);
+        let teams = (1..=SAMPLE_TEAMS).filter_map(sample_members);
         Prior {
             teams: teams.map(|specs| (specs.to_vec(), 1.0)).collect(),
         }

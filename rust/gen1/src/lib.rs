@@ -28,7 +28,7 @@
 //!
 //! | For | Look at |
 //! |---|---|
-//! | teams | [`member`], [`MemberSpec`], [`Team`], [`Species`], [`MoveId`], [`text`] |
+//! | teams | [`member`], [`MemberSpec`], [`Team`], [`Species`], [`MoveId`], [`text`], [`random_team`], [`sample_team`] |
 //! | battles | [`Battle`], [`Choice`], [`Update`], [`Event`], [`Line`], [`Narrator`] |
 //! | the whole state of a battle | [`Battle::state`], [`State`], [`Battle::from_state`], [`Battle::with_hp`] |
 //! | damage and exact chances | [`Battle::damage`], [`Battle::odds`], [`Battle::knock_out`], [`Battle::knock_out_in_three`] |
@@ -140,6 +140,8 @@ pub use crate::generated::player::{
 #[doc(inline)]
 pub use crate::generated::playouts::{PlayoutOptions, Playouts};
 #[doc(inline)]
+pub use crate::generated::random::{DrawnFrom, SAMPLE_TEAMS, random_members, sample_members};
+#[doc(inline)]
 pub use crate::generated::room::{Reply, RoomRefusal, Submitted};
 #[doc(inline)]
 pub use crate::generated::stats::{KnownMove, Member, MemberSpec, Status, Team, TeamRefusal};
@@ -167,7 +169,7 @@ pub use room::Room;
 pub use sentences::{Narrator, Sentence};
 pub use spectator::Spectator;
 pub use state::{ActiveState, MemberState, SideState, State};
-pub use teams::{NameFault, member};
+pub use teams::{NameFault, member, random_team, sample_team};
 pub use update::{Chosen, EventSink, Offered, OfferedMask, Silent, Update};
 #[doc(inline)]
 pub use wire::WireFault;

@@ -1,5 +1,6 @@
-//! Members of teams from names.
-use crate::{MemberSpec, UnknownName};
+//! Members of teams from names, random teams, and the sample teams.
+use crate::generated::random::{self, DrawnFrom};
+use crate::{MemberSpec, Team, TeamRefusal, UnknownName};
 use arrayvec::ArrayVec;
 use core::fmt;
 
@@ -62,4 +63,30 @@ pub fn member(species: &str, moves: &[&str]) -> Result<MemberSpec, NameFault> {
         exp: [65535; 5],
         moves: chosen,
     })
+}
+
+/// A random team of `count` members of different species at level 100, each with four moves. The same arguments give the same team, which is
+/// also that of `gen1_random_team` in C.
+///
+/// ```
+/// use gen1::{DrawnFrom, random_team};
+///
+/// let of_samples = random_team(7, 2, DrawnFrom::Samples)?;
+/// let of_all = random_team(7, 2, DrawnFrom::All)?;
+/// let species = [of_samples, of_all].map(|team| [0, 1].map(|at| team.members()[at].species().name()));
+/// assert_eq!(species, [["Zapdos", "Kabutops"], ["Sandslash", "Cloyster"]]);
+/// # Ok::<(), gen1::TeamRefusal>(())
+/// ```
+///
+/// # Errors
+///
+/// `TeamRefusal::Empty` for 0 members, and `TeamRefusal::TooMany` for more than six.
+pub fn random_team(seed: u64, count: u8, from: DrawnFrom) -> Result<Team, TeamRefusal> {
+    Team::new(&random::random_members(seed, count, from)?)
+}
+
+/// A sample team by its number, 1 to [`SAMPLE_TEAMS`](crate::SAMPLE_TEAMS): those of examples/teams, in the order of their names.
+#[must_use]
+pub fn sample_team(number: u8) -> Option<Team> {
+    Team::new(&random::sample_members(number)?).ok()
 }

@@ -323,3 +323,18 @@ MOVE_ROWS = (
     (0, 0, 100, 10),
     (0, 50, 100, 10),
 )
+# The names of the sample teams, by their numbers from 1.
+SAMPLE_TEAMS = (
+    "alakazam_lead",
+    "defensive",
+    "explosions",
+    "gengar_lead",
+    "jynx_lead",
+    "legendary",
+    "less_used",
+    "physical",
+    "starmie_lead",
+    "starters",
+    "swords_dance",
+    "trapping",
+)

@@ -8,22 +8,23 @@ repository has no table of the moves that each species can learn.
 
 from __future__ import annotations
 
+import os
 import sys
+from ctypes import byref
 from functools import cache
 from random import Random
 from typing import TYPE_CHECKING
 
+from gen1 import _library
 from gen1._check import shown, truth, within
 from gen1.errors import BadType
-from gen1.names import Move, Species
-from gen1.sample_texts import TEXTS
+from gen1.names import Species
+from gen1.rows import SAMPLE_TEAMS
+from gen1.team_text import members_of
 from gen1.teams import Member, Team
 
 if TYPE_CHECKING:
     from numpy.random import Generator
-
-# Moves that a team may not have.
-_REFUSED = (Move.MIMIC, Move.METRONOME, Move.MIRROR_MOVE, Move.TRANSFORM, Move.STRUGGLE)
 
 
 def sample_teams() -> dict[str, Team]:
@@ -38,7 +39,12 @@ def sample_teams() -> dict[str, Team]:
 
 @cache
 def _teams() -> dict[str, Team]:
-    return {name: Team.from_text(text) for name, text in TEXTS.items()}
+    found = {}
+    for number, name in enumerate(SAMPLE_TEAMS, 1):
+        made = _library.TeamStruct()
+        _library.sample_team(number, byref(made))
+        found[name] = Team(members_of(made))
+    return found
 
 
 def sample_sets(species: Species | str | int | None = None) -> tuple[Member, ...]:
@@ -52,31 +58,34 @@ def sample_sets(species: Species | str | int | None = None) -> tuple[Member, ...
     return tuple(it for it in found if known in (None, it.species))
 
 
-def random_team(dice: Random | Generator, legal: bool = True, count: int = 6) -> Team:
+def random_team(seed: int | Random | Generator | None = None, legal: bool = True, count: int = 6) -> Team:
     """A random team of `count` members, 1 to 6, of different species at level
-    100. `dice` is a `random.Random`, or a generator of numpy, such as an
-    environment passes.
+    100. `seed` is a number from 0 to 2 ** 64 - 1, or a `random.Random` or a
+    generator of numpy, such as an environment passes, that draws one; None
+    takes one of the operating system.
 
     With `legal`, each member comes from the sample teams, `sample_sets()`.
     Without it, species and moves are any that the engine accepts, and a
     cartridge need not allow them.
 
-    Equal generators make equal teams. Raises `BadArgument`, `BadType`.
+    Equal seeds make equal teams, in every language; so do equal generators.
+    Raises `BadArgument`, `BadType`.
     """
-    draws, size = _draws(dice), within(count, "count", 1, 6)
-    if truth(legal, "legal"):
-        sets = sample_sets()
-        chosen = draws.sample(sorted({it.species for it in sets}), size)
-        return Team(draws.choice([it for it in sets if it.species == species]) for species in chosen)
-    moves = [it for it in Move if it not in _REFUSED]
-    return Team(Member(species, draws.sample(moves, 4)) for species in draws.sample(list(Species), size))
+    number, made = _number(seed), _library.TeamStruct()
+    size = within(count, "count", 1, 6)
+    _library.random_team(number, size, not truth(legal, "legal"), byref(made))
+    return Team(members_of(made))
 
 
-def _draws(dice: Random | Generator) -> Random:
-    """A `random.Random`, or one seeded from a numpy generator. The package also runs without numpy."""
-    if isinstance(dice, Random):
-        return dice
+def _number(seed: object) -> int:
+    """The number of a seed. The package also runs without numpy."""
+    if seed is None:
+        return int.from_bytes(os.urandom(8), "little")
+    if isinstance(seed, Random):
+        return seed.getrandbits(64)
     numpy = sys.modules.get("numpy")
-    if numpy is None or not isinstance(dice, numpy.random.Generator):
-        raise BadType(f"dice must be a random.Random or a numpy.random.Generator, not {shown(dice)}")
-    return Random(int(dice.integers(1 << 63)))
+    if numpy is not None and isinstance(seed, numpy.random.Generator):
+        return int(seed.integers(1 << 63))
+    if not hasattr(seed, "__index__") or isinstance(seed, bool):
+        raise BadType(f"seed must be an int, a random.Random or a numpy.random.Generator, not {shown(seed)}")
+    return within(seed, "seed", 0, (1 << 64) - 1)

@@ -65,7 +65,12 @@ def _members(call: Any, text: object) -> list[dict[str, Any]]:
     given, made, fault = with_genders(text).encode("utf-8", "surrogatepass"), _library.TeamStruct(), FaultStruct()
     if call(given, len(given), byref(made), byref(fault)):
         raise _fault(fault, text)
-    return [_member(made.members[at]) for at in range(made.count)]
+    return members_of(made)
+
+
+def members_of(team: _library.TeamStruct) -> list[dict[str, Any]]:
+    """The members of a struct that the library wrote, as dicts."""
+    return [_member(team.members[at]) for at in range(team.count)]
 
 
 def _member(of: _library.MemberStruct) -> dict[str, Any]:

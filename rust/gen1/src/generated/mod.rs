@@ -20,6 +20,7 @@ pub mod outcomes;
 pub mod player;
 pub mod playouts;
 pub mod printer;
+pub mod random;
 pub mod rolls;
 pub mod room;
 pub mod sentences;

@@ -1,0 +1,176 @@
+//! Random teams, and the sample teams (docs/MECHANICS.md, "Random teams").
+ghost use Rattle.std.specs.Prelude.{All, IfErr, IfOk, IfSome, None, OnOk, Some, length, map, nat_le, ◌&&◌, ◌+◌, ◌<◌, ◌≡◌, ◌≤◌};
+ghost use Rattle.std.specs.Option.{is_some};
+ghost use Rattle.gen1_random.specs.Pools.{numbers_in, sample};
+ghost use Rattle.gen1_random.specs.declared.pools.Pool.TheVariants as pool;
+ghost use Rattle.gen1_random.specs.declared.teams.DrawnFrom.TheVariants as from;
+ghost use Rattle.gen1_random.specs.Teams.{IsDrawnFrom, IsRandomMember, IsRandomTeam, draft, member_drawn, moves_drawn, sample_team, sheet_of, size_refusal, species_of};
+ghost use Rattle.gen1_stats.specs.Members.{IsBetween};
+ghost use Rattle.gen1_stats.specs.Teams.{team_refusal};
+
+use crate::pools::{Pool, take};
+use crate::sample_rows::SAMPLE_ROWS;
+use arrayvec::ArrayVec;
+use gen1_playouts::ChoiceGenerator;
+use gen1_stats::{MemberSpec, TeamRefusal};
+use gen1_tables::{MoveId, Species};
+
+/// How many sample teams there are.
+pub const SAMPLE_TEAMS: u8 = 12;
+
+/// From what the members of a random team are drawn.
+#[derive(Clone, Copy, PartialEq, Eq, Debug, Drop)]
+pub enum DrawnFrom {
+    /// The members of the sample teams.
+    Samples,
+    /// All species, each with four of all moves that a member may know. A cartridge need not allow them.
+    All,
+}
+
+/// The members of a random team: `count` members of different species at level 100, each with four moves (docs/MECHANICS.md, "Random
+/// teams"). They are a team. The same arguments give the same members.
+///
+/// For a `count` of 0 or above 6 it returns `Empty` or `TooMany`.
+pub fn random_members(
+    seed: u64,
+    count: u8,
+    from: DrawnFrom,
+) -> Result<ArrayVec<MemberSpec, 6>, TeamRefusal>
+    ensures drawn { IfOk result (λ team. team.items ≡ (draft from seed count).team) }
+    ensures team { IfOk result (λ team. IsRandomTeam count team.items) }
+    ensures allowed { OnOk result (size_refusal count ≡ None) }
+    ensures refused { IfErr result (λ refusal. size_refusal count ≡ Some refusal) }
+{
+    if count == 0 {
+        return Err(TeamRefusal::Empty);
+    }
+    if count > 6 {
+        return Err(TeamRefusal::TooMany);
+    }
+    let mut random = ChoiceGenerator::new(seed);
+    let mut species = species_of(from).numbers();
+    let mut members = ArrayVec::new();
+    'members: for _ in 0..count {
+        let one = take(&mut species, &mut random);
+        members.push(member_of(one, from, &mut random));
+    }
+    Ok(members)
+}
+
+/// The members of a sample team by its number, 1 to `SAMPLE_TEAMS`. They are a team. For another number it returns `None`.
+pub fn sample_members(number: u8) -> Option<ArrayVec<MemberSpec, 6>>
+    ensures value { IfSome result (λ team. team.items ≡ sample_team number) }
+    ensures lawful { IfSome result (λ team. team_refusal team.items ≡ None) }
+    ensures members { IfSome result (λ team. All IsRandomMember team.items) }
+    ensures some { is_some result ≡ (nat_le 1 number && nat_le number 12) }
+{
+    if number == 0 || number > SAMPLE_TEAMS {
+        return None;
+    }
+    let mut members = ArrayVec::new();
+    for place in 0..6 {
+        members.push(sample(6 * (usize::from(number) - 1) + place));
+    }
+    Some(members)
+}
+
+fn species_of(from: DrawnFrom) -> Pool
+    ensures { result ≡ species_of from }
+{
+    match from {
+        DrawnFrom::Samples => Pool::SampleSpecies,
+        DrawnFrom::All => Pool::Species,
+    }
+}
+
+// A member of a species that was drawn.
+fn member_of(species: u8, from: DrawnFrom, random: &mut ChoiceGenerator) -> MemberSpec
+    requires { IsDrawnFrom from species }
+    ensures sheet { result ≡ (member_drawn from species random.old.state).sheet }
+    ensures state { random.new.state ≡ (member_drawn from species random.old.state).random }
+{
+    match from {
+        DrawnFrom::Samples => sample_of(species, random),
+        DrawnFrom::All => member(species, &four_moves(random)),
+    }
+}
+
+// One of the members of the sample teams with a species.
+fn sample_of(species: u8, random: &mut ChoiceGenerator) -> MemberSpec
+    requires { 1 ≤ length (numbers_in (pool.Samples species)) }
+    ensures sheet { result ≡ (member_drawn from.Samples species random.old.state).sheet }
+    ensures state { random.new.state ≡ (member_drawn from.Samples species random.old.state).random }
+{
+    let mut rows = Pool::Samples(species).numbers();
+    let row = take(&mut rows, random);
+    sample(usize::from(row) - 1)
+}
+
+// The member of the sample teams in a row.
+fn sample(index: usize) -> MemberSpec
+    requires { index < 72 }
+    ensures { result ≡ sheet_of (sample (index + 1)) }
+{
+    let row = &SAMPLE_ROWS[index];
+    member(row.0, &row.1)
+}
+
+// Four different moves.
+fn four_moves(random: &mut ChoiceGenerator) -> [u8; 4]
+    ensures drawn { result ≡ (moves_drawn 4 random.old.state).drawn }
+    ensures state { random.new.state ≡ (moves_drawn 4 random.old.state).random }
+    ensures range { All (IsBetween 1 164) result }
+{
+    let mut moves = Pool::Moves.numbers();
+    let first = take(&mut moves, random);
+    let second = take(&mut moves, random);
+    let third = take(&mut moves, random);
+    let fourth = take(&mut moves, random);
+    [first, second, third, fourth]
+}
+
+// A member with a species and moves. The rest is as that of a text which has none of it (docs/TEAM_TEXT.md).
+fn member(species: u8, moves: &[u8; 4]) -> MemberSpec
+    requires species { IsBetween 1 151 species }
+    requires moves { All (IsBetween 1 164) moves.now }
+    ensures { result ≡ sheet_of (species, moves.now) }
+{
+    MemberSpec {
+        species: species_numbered(species),
+        level: 100,
+        dvs: [15; 4],
+        exp: [63504; 5],
+        moves: known(moves),
+    }
+}
+
+fn known(moves: &[u8; 4]) -> ArrayVec<(MoveId, u8), 4>
+    requires { All (IsBetween 1 164) moves.now }
+    ensures { result.items ≡ map (λ id. (id, 3)) moves.now }
+{
+    let mut known = ArrayVec::new();
+    for number in moves {
+        known.push((move_numbered(*number), 3));
+    }
+    known
+}
+
+fn species_numbered(number: u8) -> Species
+    requires { IsBetween 1 151 number }
+    ensures { result ≡ number }
+{
+    match Species::new(number) {
+        Some(species) => species,
+        None => Species::default(),
+    }
+}
+
+fn move_numbered(number: u8) -> MoveId
+    requires { IsBetween 1 164 number }
+    ensures { result ≡ number }
+{
+    match MoveId::new(number) {
+        Some(id) => id,
+        None => MoveId::default(),
+    }
+}
