@@ -65,7 +65,7 @@ export class Against {
     this.teams = [
       ...this.battle.map(({name, members}) => ({name: `In the battle: ${name}`, members})),
       ...savedTeams(this.engine).map(({name, members}) => ({name, members: fresh(members)})),
-      ...sampleTeams().map(({name, text}) => ({name, members: fresh(this.engine.team(text, `The team ${name}`, 0))}))
+      ...sampleTeams(this.engine).map(({name, members}) => ({name, members: fresh(members)}))
     ];
     this.which.replaceChildren(...this.teams.map(({name}, at) => make("option", {value: at}, name)));
     if (!this.teams[this.chosen]) this.chosen = 0;

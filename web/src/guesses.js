@@ -1,7 +1,6 @@
 // Guesses of what is hidden from a player: the foe's team, and battles with such a team. A search in them does not cheat.
 import {Battle} from "gen1";
 
-import {randomMoves, randomSpecies} from "./random.js";
 import {usualMoves} from "./sets.js";
 
 /**
@@ -29,11 +28,11 @@ const MAX = {
  * @param {Draw} draw
  * @returns {Member[]}
  */
-function guessedTeam({tables}, view, draw) {
-  const completed = (/** @type {string} */ species, /** @type {string[]} */ used) => {
-    const known = [...new Set([...used, ...usualMoves(species)])].slice(0, 4);
-    return [...known, ...randomMoves(tables, tables.species[species], draw, known)];
-  };
+function guessedTeam({gen1, tables}, view, draw) {
+  const random = gen1.randomTeam({seed: draw(2 ** 24), legal: false});
+  const others = random[0].moves.map(([name]) => String(name));
+  const completed = (/** @type {string} */ species,
+      /** @type {string[]} */ used) => [...new Set([...used, ...usualMoves(species), ...others])].slice(0, 4);
   const member = (/** @type {string} */ species, /** @type {number} */ level, /** @type {string[]} */ used) => ({
     ...MAX,
     species,
@@ -44,7 +43,7 @@ function guessedTeam({tables}, view, draw) {
       ({species, level, moves}) =>
           member(species, level, moves.map(({name}) => String(name)).filter((name) => tables.moves[name].isKnown)));
   const rest = Math.max(0, (view.foes ?? 6) - seen.length);
-  return [...seen, ...Array.from({length: rest}, () => member(randomSpecies(tables, draw), seen[0]?.level ?? 100, []))];
+  return [...seen, ...random.slice(0, rest).map(({species}) => member(String(species), seen[0]?.level ?? 100, []))];
 }
 
 /**

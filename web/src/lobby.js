@@ -117,7 +117,7 @@ export class Lobby {
         make("optgroup", {label}, ...teams.map(({name}, at) => make("option", {value: `${kind} ${at}`}, name)));
     const {saved} = this;
     select.replaceChildren(...(saved.length ? [group("Your teams", "saved", saved)] : []),
-        group("Sample teams", "sample", sampleTeams()), make("option", {value: "text"}, "A team as text"));
+        group("Sample teams", "sample", sampleTeams(this.engine)), make("option", {value: "text"}, "A team as text"));
     if ([...select.options].some((option) => option.value === value)) select.value = value;
     text.hidden = !isBrought || select.value !== "text";
   }
@@ -126,7 +126,7 @@ export class Lobby {
   team() {
     const [kind, at] = find("online-team", HTMLSelectElement).value.split(" ");
     if (kind === "saved") return textOf(this.saved[Number(at)].members);
-    if (kind === "sample") return sampleTeams()[Number(at)].text;
+    if (kind === "sample") return sampleTeams(this.engine)[Number(at)].text;
     const field = find("online-text", HTMLTextAreaElement);
     const members = inField(field, () => this.engine.team(field.value, "The team", 0));
     if (!members.length) throw new Problem("The team has no member.", {field});

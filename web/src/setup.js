@@ -1,7 +1,7 @@
 // The form that starts a battle: who plays, the teams, and the rules.
 import {find, inField, make, Problem} from "./dom.js";
 import {SIDES} from "./match.js";
-import {below, randomSeed, randomTeam} from "./random.js";
+import {randomSeed} from "./random.js";
 import {sampleTeams, savedTeams, textOf} from "./team_lists.js";
 import {token} from "./tokens.js";
 
@@ -56,11 +56,12 @@ function limitOf(field) {
 
 /**
  * Members of a random sample team.
+ * @param {import("./engine.js").Engine} engine
  * @param {number} count
  */
-function surprise(count) {
-  const teams = sampleTeams();
-  return teams[below(teams.length)].text.split(/\n\s*\n/).slice(0, count).join("\n\n");
+function surprise(engine, count) {
+  const teams = sampleTeams(engine);
+  return textOf(teams[randomSeed()[0] % teams.length].members.slice(0, count)).trim();
 }
 
 /** Reads the form. */
@@ -80,12 +81,13 @@ export class Setup {
     find("play-new-seed", HTMLButtonElement)
         .addEventListener("click", () => (find("play-seed", HTMLInputElement).value = randomSeed().join(" ")));
     // The team of the computer, on side 2, is drawn when the battle starts, so that the person does not know it.
-    this.field(1).value = surprise(6);
+    this.field(1).value = surprise(engine, 6);
     this.list();
   }
 
   randomTeam() {
-    return randomTeam(this.engine.tables, Number(find("play-members", HTMLSelectElement).value));
+    const count = Number(find("play-members", HTMLSelectElement).value);
+    return textOf(this.engine.gen1.randomTeam({count})).trim();
   }
 
   /** @param {number} side */
@@ -107,7 +109,7 @@ export class Setup {
   list() {
     const saved = savedTeams(this.engine).filter(({members}) => members.length).map(({name,
       members}) => ({name, text: textOf(members).trim()}));
-    const groups = Object.entries({"Your teams": saved, "Sample teams": sampleTeams()});
+    const groups = Object.entries({"Your teams": saved, "Sample teams": sampleTeams(this.engine)});
     const listed =
         groups.map(([label, teams]) => teams.map(({name, text}, at) => ({key: `${label} ${at}`, name, text})));
     this.texts = Object.fromEntries(listed.flat().map(({key, text}) => [key, text]));
@@ -184,7 +186,7 @@ export class Setup {
   team(side) {
     const field = this.field(side);
     const isDrawn = !field.value.trim() && this.who[side - 1] !== "person";
-    const text = isDrawn ? surprise(this.count(3 - side)) : field.value;
+    const text = isDrawn ? surprise(this.engine, this.count(3 - side)) : field.value;
     const members = inField(field, () => this.engine.team(text, `Side ${side}'s team`, side));
     if (!members.length) throw new Problem(`Side ${side}'s team has no member.`, {field});
     return members;

@@ -1,12 +1,12 @@
-// Teams to choose from: the sample teams that the page is built with (examples/teams), and those that a person has built, which the browser
+// Teams to choose from: the sample teams of the library (examples/teams), and those that a person has built, which the browser
 // keeps. Rule sets that check a team (rust/gen1-showdown/formats.json). Teams as export text, as `gen1 team` writes it (docs/TEAM_TEXT.md).
 import {find} from "./dom.js";
 import {usualMoves} from "./sets.js";
 
 /**
  * @typedef {import("./engine.js").Member} Member
- * @typedef {{ name: string, text: string }} NamedTeam
  * @typedef {{ name: string, members: import("./engine.js").Member[] }} Team
+ * @typedef {Team & { text: string }} NamedTeam
  * @typedef {{ id: string, line: string, moves?: string[], one_of_each?: boolean }} Clause
  * @typedef {{ id: string, name: string, members?: number[], levels?: number[], banned?: string[], clauses: string[] }} Format
  */
@@ -14,14 +14,17 @@ import {usualMoves} from "./sets.js";
 /** @type {NamedTeam[] | undefined} */
 let read;
 
-/** The sample teams in their order. */
-export function sampleTeams() {
-  read ??= /** @type {NamedTeam[]} */ (JSON.parse(find("teams", HTMLScriptElement).text));
+/**
+ * The sample teams in their order.
+ * @param {import("./engine.js").Engine} engine
+ */
+export function sampleTeams({gen1}) {
+  read ??= /** @type {string[]} */ (JSON.parse(find("teams", HTMLScriptElement).text)).map((name, at) => {
+    const members = gen1.sampleTeam(at + 1);
+    return {name, members, text: textOf(members).trim()};
+  });
   return read;
 }
-
-/** @type {import("./engine.js").Member[] | undefined} */
-let members;
 
 /**
  * The moves that a species has in the sample teams and in its usual set.
@@ -29,7 +32,7 @@ let members;
  * @param {string} species
  */
 export function knownMoves(engine, species) {
-  members ??= sampleTeams().flatMap(({name, text}) => engine.team(text, `The team ${name}`, 0));
+  const members = sampleTeams(engine).flatMap((team) => team.members);
   const found = members.filter((member) => member.species === species).flatMap(({moves}) => moves);
   return [...new Set([...found.map(([move]) => String(move)), ...usualMoves(species)])];
 }
@@ -41,8 +44,7 @@ export function knownMoves(engine, species) {
  * @returns {import("./engine.js").Member}
  */
 export function setOf(engine, species) {
-  const samples = sampleTeams().map(({name, text}) => engine.team(text, `The team ${name}`, 0));
-  const members = [...savedTeams(engine).map((team) => team.members), ...samples].flat();
+  const members = [...savedTeams(engine), ...sampleTeams(engine)].flatMap((team) => team.members);
   const usual = usualMoves(species).map((move) => /** @type {[string, number]} */ ([move, 3]));
   return members.find((member) => member.species === species && member.moves.length) ??
       {species, level: 100, dvs: [15, 15, 15, 15], exp: Array(5).fill(65535), moves: usual};

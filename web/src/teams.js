@@ -32,7 +32,7 @@ export class Teams {
     this.engine = engine;
     this.saved = savedTeams(engine);
     /** @type {Team[]} */
-    this.samples = sampleTeams().map(({name, text}) => ({name, members: engine.team(text, `The team ${name}`, 0)}));
+    this.samples = sampleTeams(engine).map(({name, members}) => ({name, members}));
     /** @type {Team} */
     this.team = this.saved[0] ?? this.samples[0] ?? {name: "My team", members: []};
     this.at = 0;
