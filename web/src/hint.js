@@ -1,6 +1,6 @@
 // A hint for a person: what a search finds in the knowledge of the person's side.
 import {find, guarded, make} from "./dom.js";
-import {randomSeed} from "./random.js";
+import {randomSeed} from "./match.js";
 
 /**
  * @typedef {import("./match.js").LocalMatch} LocalMatch

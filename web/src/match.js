@@ -21,6 +21,11 @@ import {sideOf} from "./words.js";
 /** @type {Side[]} */
 export const SIDES = [1, 2];
 
+/** The ten numbers of a random seed. */
+export function randomSeed() {
+  return [...crypto.getRandomValues(new Uint8Array(10))];
+}
+
 /**
  * What each side knows of a battle, update by update. This is all that the page shows of a battle in covered hands.
  * @template {Known} S

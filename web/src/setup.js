@@ -1,7 +1,6 @@
 // The form that starts a battle: who plays, the teams, and the rules.
 import {find, inField, make, Problem} from "./dom.js";
-import {SIDES} from "./match.js";
-import {randomSeed} from "./random.js";
+import {randomSeed, SIDES} from "./match.js";
 import {sampleTeams, savedTeams, textOf} from "./team_lists.js";
 import {token} from "./tokens.js";
 
