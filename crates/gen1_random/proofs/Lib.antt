@@ -1,8 +1,2 @@
--- Lists from which items are taken.
-pub mod Lists
--- What pools hold.
-pub mod Held
--- Moves that are drawn.
+-- Lists from which items are taken, what pools hold, and moves and members that are drawn.
 pub mod Drawing
--- Members that are drawn.
-pub mod Drafting

@@ -1,4 +1,2 @@
--- What members and moves are drawn from.
-pub mod Pools
 -- Random teams, and the sample teams.
 pub mod Teams

@@ -3,7 +3,7 @@ ghost use Rattle.std.specs.Prelude.{[], if◌then◌else◌, length, ◌+◌, �
 ghost use Rattle.std.specs.List.{list_any};
 ghost use Rattle.gen1_playouts.specs.Playouts.{next_state};
 ghost use Rattle.gen1_random.specs.declared.pools.Pool.TheVariants as pool;
-ghost use Rattle.gen1_random.specs.Pools.{has, last, numbers_in, others, taken};
+ghost use Rattle.gen1_random.specs.Teams.{has, last, numbers_in, others, taken};
 
 use crate::sample_rows::SAMPLE_ROWS;
 use arrayvec::ArrayVec;

@@ -1,10 +1,9 @@
 //! Random teams, and the sample teams (docs/MECHANICS.md, "Random teams").
 ghost use Rattle.std.specs.Prelude.{All, IfErr, IfOk, IfSome, None, OnOk, Some, length, map, nat_le, ◌&&◌, ◌+◌, ◌<◌, ◌≡◌, ◌≤◌};
 ghost use Rattle.std.specs.Option.{is_some};
-ghost use Rattle.gen1_random.specs.Pools.{numbers_in, sample};
+ghost use Rattle.gen1_random.specs.Teams.{IsDrawnFrom, IsRandomMember, IsRandomTeam, draft, member_drawn, moves_drawn, numbers_in, sample, sample_team, sheet_of, size_refusal, species_of};
 ghost use Rattle.gen1_random.specs.declared.pools.Pool.TheVariants as pool;
 ghost use Rattle.gen1_random.specs.declared.teams.DrawnFrom.TheVariants as from;
-ghost use Rattle.gen1_random.specs.Teams.{IsDrawnFrom, IsRandomMember, IsRandomTeam, draft, member_drawn, moves_drawn, sample_team, sheet_of, size_refusal, species_of};
 ghost use Rattle.gen1_stats.specs.Members.{IsBetween};
 ghost use Rattle.gen1_stats.specs.Teams.{team_refusal};
 

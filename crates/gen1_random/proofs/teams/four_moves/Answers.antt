@@ -1,7 +1,6 @@
 use Rattle.std.proofs.Common.{All, [], ap, arith, length, refl, subst, sym, ◌∙◌, ◌≡◌, ◌∷◌}
 use Rattle.std.proofs.lemmas.List.Elements.{All-weaker}
-use Rattle.gen1_random.proofs.Drawing.{drew-four}
-use Rattle.gen1_random.proofs.Held.{IsMove, moves-many}
+use Rattle.gen1_random.proofs.Drawing.{IsMove, drew-four, moves-many}
 use Rattle.gen1_random.specs.Teams.{moves_drawn, one_draw}
 use Rattle.gen1_stats.specs.Members.{IsBetween}
 use Rattle.gen1_random.proofs.teams.four_moves.Goals.{After-take-fourth}

@@ -1,9 +1,6 @@
 use Rattle.std.proofs.Common.{ap, arith, length, ℕ, ◌∙◌, ◌≡◌}
-use Rattle.gen1_random.proofs.Drafting.{is-draft-more, random-team, taken-fits}
-use Rattle.gen1_random.proofs.Held.{six-species, species-drawn}
-use Rattle.gen1_random.proofs.Lists.{All-remove}
-use Rattle.gen1_random.specs.Pools.{index_of, numbers_in}
-use Rattle.gen1_random.specs.Teams.{IsDrawnFrom, draft}
+use Rattle.gen1_random.proofs.Drawing.{All-remove, is-draft-more, random-team, six-species, species-drawn, taken-fits}
+use Rattle.gen1_random.specs.Teams.{IsDrawnFrom, draft, index_of, numbers_in}
 use Rattle.gen1_random.proofs.teams.random_members.Goals as goal
 
 pub members-init : goal.members-init

@@ -1,5 +1,5 @@
 use Rattle.std.proofs.Common.{All, length, ◌+◌, ◌≡◌, ◌≤◌}
-use Rattle.gen1_random.proofs.Drafting.{IsDraft}
+use Rattle.gen1_random.proofs.Drawing.{IsDraft}
 use Rattle.gen1_random.specs.Teams.{IsDrawnFrom}
 use Rattle.gen1_random.proofs.teams.random_members.Given as goal
 

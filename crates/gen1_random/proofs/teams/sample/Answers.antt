@@ -1,4 +1,4 @@
-use Rattle.gen1_random.proofs.Held.{row-is}
+use Rattle.gen1_random.proofs.Drawing.{row-is}
 use Rattle.gen1_random.proofs.teams.sample.Goals as goal
 
 pub member-requires-clause-species : goal.member-requires-clause-species

@@ -1,9 +1,7 @@
 use Rattle.std.proofs.Common.{ap, arith, map, sym, ℕ, [], ◌*◌, ◌+◌, ◌-◌, ◌∙◌, ◌≡◌, ◌∷◌}
 use Rattle.std.proofs.lemmas.List.{map-append}
-use Rattle.gen1_random.proofs.Drafting.{sample-lawful, sample-members}
-use Rattle.gen1_random.proofs.Lists.{numbers_to-more}
-use Rattle.gen1_random.specs.Pools.{numbers_to, sample}
-use Rattle.gen1_random.specs.Teams.{sample_team, sheet_of}
+use Rattle.gen1_random.proofs.Drawing.{numbers_to-more, sample-lawful, sample-members}
+use Rattle.gen1_random.specs.Teams.{numbers_to, sample, sample_team, sheet_of}
 use Rattle.gen1_random.proofs.teams.sample_members.Goals.{After-loop-place}
 use Rattle.gen1_random.proofs.teams.sample_members.Goals as goal
 

@@ -1,6 +1,5 @@
 use Rattle.std.proofs.Common.{length, map, ℕ, ◌*◌, ◌+◌, ◌-◌, ◌≡◌}
-use Rattle.gen1_random.specs.Pools.{numbers_to, sample}
-use Rattle.gen1_random.specs.Teams.{sheet_of}
+use Rattle.gen1_random.specs.Teams.{numbers_to, sample, sheet_of}
 use Rattle.gen1_random.proofs.teams.sample_members.Given as goal
 
 -- The members so far are those of the team.

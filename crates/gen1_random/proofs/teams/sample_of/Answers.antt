@@ -1,8 +1,7 @@
 use Rattle.std.proofs.Common.{ap, arith, ℕ, ◌+◌, ◌-◌, ◌∙◌, ◌≡◌}
-use Rattle.gen1_random.proofs.Drafting.{row-drawn}
+use Rattle.gen1_random.proofs.Drawing.{row-drawn}
 use Rattle.gen1_random.specs.declared.pools.Pool.TheVariants.{Samples}
-use Rattle.gen1_random.specs.Pools.{numbers_in, sample, taken}
-use Rattle.gen1_random.specs.Teams.{sheet_of}
+use Rattle.gen1_random.specs.Teams.{numbers_in, sample, sheet_of, taken}
 use Rattle.gen1_random.proofs.teams.sample_of.Goals as goal
 
 pub overflow_sub-from : goal.overflow_sub-from

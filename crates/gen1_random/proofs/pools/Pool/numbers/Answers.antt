@@ -1,6 +1,6 @@
 use Rattle.std.proofs.Common.{ap, arith, filter, sym, ◌∙◌, ◌≡◌}
-use Rattle.gen1_random.proofs.Lists.{filter-more}
-use Rattle.gen1_random.specs.Pools.{has, last, numbers_in, numbers_to}
+use Rattle.gen1_random.proofs.Drawing.{filter-more}
+use Rattle.gen1_random.specs.Teams.{has, last, numbers_in, numbers_to}
 use Rattle.gen1_random.proofs.pools.Pool.numbers.Goals as goal
 
 pub loop-before-preserved : goal.loop-before-preserved

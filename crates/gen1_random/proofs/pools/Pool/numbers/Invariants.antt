@@ -1,5 +1,5 @@
 use Rattle.std.proofs.Common.{filter, length, ◌≡◌, ◌≤◌}
-use Rattle.gen1_random.specs.Pools.{has, numbers_to}
+use Rattle.gen1_random.specs.Teams.{has, numbers_to}
 use Rattle.gen1_random.proofs.pools.Pool.numbers.Given as goal
 
 -- The numbers so far are those up to here that the pool has.
