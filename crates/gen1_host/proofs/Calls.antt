@@ -1,4 +1,4 @@
--- Each row at a table that goes on: its reply, and what it changes.
+-- Each row at an open table: its reply, and what it changes.
 use Rattle.std.proofs.Common.{Bool, Err, None, Ok, Option, Result, Some, ap, arith, false, refl, subst, sym, true, ℕ, ◌==◌, ◌≡◌, ◌≢◌, ◌∙◌}
 use Rattle.std.specs.Prelude.{if◌then◌else◌, is_some, not}
 use Rattle.std.proofs.lemmas.Bool.Decides.{nat_tests}

@@ -2,7 +2,7 @@
 pub mod Tables
 -- Submissions, and what tellers make of logs.
 pub mod Submissions
--- Each row at a table that goes on.
+-- Each row at an open table.
 pub mod Calls
 -- Choices that are taken back.
 pub mod Cancels

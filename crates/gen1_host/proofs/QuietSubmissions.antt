@@ -27,7 +27,7 @@ pub itself : (s : Side) → same_side s s ≡ true
 itself One = refl
 itself Two = refl
 
--- a table that goes on
+-- an open table
 
 abbrev pub seat : Course → Teller → Teller → Option Side → HouseRules → Table
 seat c a b w k = record { course = c; one = a; two = b; ending = None; draw = w; rules = k }

@@ -41,7 +41,7 @@ no_fault (Forfeited One) code h = cc
 no_fault (Forfeited Two) code h = cc
 no_fault Agreed code h = cc
 
--- a table that goes on
+-- an open table
 
 pub pair_yet : (t : Table) → t.ending ≡ None → current_pair t ≡ t.course.number
 pair_yet t h = rw h refl

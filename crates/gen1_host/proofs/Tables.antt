@@ -44,7 +44,7 @@ open_yet t h = by t.ending h
     by None k = refl
     by (Some e) k = absurd (let x : true ≡ false = k in cc)
 
--- a row at a table that is closed, and at one that goes on
+-- a row at a table that is closed, and at one that is open
 
 refused : (row : Row) (t : Table) → is_closed t ≡ true → reply_to_row row t ≡ Refused TableOver
 unfolding reply_to_row

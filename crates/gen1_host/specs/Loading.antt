@@ -56,7 +56,7 @@ IsLawfulAs false side byte f = (byte ≡ 255) ⊎ IsStated byte (offered side f)
 abbrev pub IsLawful : Side → ℕ → State → Type 0
 IsLawful side byte s = IsLawfulAs (is_pass (request_of side s.field)) side byte s.field
 
--- While the battle goes on, a choice is missing.
+-- Until the battle is over, a choice is missing.
 abbrev pub Waits : PlainRoom → State → Type 0
 Waits r s = is_over s.field.outcome ≡ false → (choice_at r.one ≡ None) ⊎ (choice_at r.two ≡ None)
 

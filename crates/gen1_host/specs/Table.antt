@@ -48,7 +48,7 @@ pub data HostRefusal : Type 0 where
   NotAllowed : HostRefusal
   NothingChosen : HostRefusal
 
--- What the sender of a row is told. After a pair has ended, each side is sent a message.
+-- What the sender of a row learns. After a pair has ended, each side is sent a message.
 pub data HostReply : Type 0 where
   Kept : HostReply
   Ended : HostReply

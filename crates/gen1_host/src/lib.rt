@@ -1,7 +1,7 @@
-//! Hosts: two players at a table, each of whom is told what it may know, and an audience (docs/MECHANICS.md, "Hosts").
+//! Hosts: two players at a table, each of whom learns what it may know, and an audience (docs/MECHANICS.md, "Hosts").
 //!
 //! - `host`: [`Host`], a table that its caller keeps
-//! - `reply`: what the sender of a row is told
+//! - `reply`: what the sender of a row learns
 //! - `submission`: choices: submitted, taken back, and made when time has run out
 //! - `ending`: forfeits and draws
 //! - `row`: [`Row`], what is written down of a table

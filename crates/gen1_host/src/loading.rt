@@ -29,7 +29,7 @@ pub enum HostFault {
     Log,
     /// A side's choice. It is not offered, or it is missing though nothing is asked of the side.
     Choice(Side),
-    /// Both choices. They are there, and the battle goes on.
+    /// Both choices. They are there, and the battle is not over.
     Choices,
     /// A side's teller. It is another side's, its places are not those of different members, or the tellers tell HP in two forms.
     Teller(Side),

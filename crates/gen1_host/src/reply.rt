@@ -1,4 +1,4 @@
-//! What the sender of a row is told (docs/MECHANICS.md, "Hosts").
+//! What the sender of a row learns (docs/MECHANICS.md, "Hosts").
 ghost use Rattle.std.specs.Prelude.{Some, ◌≡◌, ◌≤◌};
 ghost use Rattle.gen1_host.specs.Replies.{number_of, refusal_at, reply_to_submitted, words_of};
 
@@ -9,7 +9,7 @@ use std::fmt;
 /// What became of a row that was taken.
 #[derive(Clone, Copy, Debug, PartialEq, Eq, Drop)]
 pub enum Replied {
-    /// It is written down, and the current pair goes on.
+    /// It is written down, and the current pair continues.
     Kept,
     /// The pair has ended, or the whole battle. Each side is now sent a message.
     Ended,

@@ -39,7 +39,7 @@ pub fn submit(
     submit_now(host, side, number, byte, numbers)
 }
 
-// At a table that goes on.
+// At an open table.
 fn submit_now(
     host: &mut Host,
     side: Side,

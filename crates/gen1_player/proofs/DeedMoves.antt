@@ -132,7 +132,7 @@ primes-tale s move f es o m =
     (subst (Even f) (sym is) (primed s move f q o m.mine m.theirs))
     (subst (λ (p : Public). p.may_hit_itself ≡ 0) (sym is) (pending-out s (prepares move.number) q)) tt
 
--- Bide, of which only the start and the end are told
+-- Bide, of which events report only the start and the end
 
 record Pending (x : PublicSide) (t : Party) : Type 0 where
   plainly : Plainly x t

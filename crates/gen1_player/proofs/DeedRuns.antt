@@ -385,7 +385,7 @@ tied-of s h u = by u h.field
     by One (inr k) = valid-tied s.field.one k.field.one.active.conditions.underway
     by Two (inr k) = valid-tied s.field.two k.field.two.active.conditions.underway
 
--- A move that goes on is not counted
+-- A move that continues is not counted
 
 same-number : (a b : ℕ) → a ≡ b → (a == b) ≡ true
 same-number a b z = by (eqb_tells a b)

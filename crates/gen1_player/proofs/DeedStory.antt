@@ -310,7 +310,7 @@ dull-is f (events.Damage w h source) n = ap not n.1
 dull-is f (events.Heal w h) n = refl
 dull-is f _ n = n
 
--- The moves of the action are told of elsewhere.
+-- Other lemmas are about the moves of the action.
 unfoldable pub deeding : (U : Public → Type 0) → Lasts U → Story
 deeding U l = record {
   exact = Tale U;

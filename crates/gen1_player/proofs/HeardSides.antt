@@ -336,7 +336,7 @@ pub comes-heard : (species place level : ℕ) (h : Health) (x : PublicSide) → 
 comes-heard species place level h x low high = known-if (nat_le 1 place && nat_le place 6) (side_out species place level h x) x (come_out species place)
     (and-true (nat_le 1 place) (nat_le place 6) (le-leb 1 place low) (le-leb place 6 high)) refl
 
--- Sides of which recharging is told, or not any more
+-- Sides of which recharging is announced, or no longer
 
 abbrev pub Less : PublicSide → PublicSide → Type 0
 Less y x = y.announced.recharging ≢ 0 → x.announced.recharging ≢ 0

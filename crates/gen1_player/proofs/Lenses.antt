@@ -179,7 +179,7 @@ begins-eye l k x foe volatiles.Trapped s = announced-eye l x (set_volatile volat
 begins-eye l k x foe volatiles.Rage s = announced-eye l x (set_volatile volatiles.Rage 1) s
 begins-eye l k x foe volatiles.Splash s = announced-eye l x (set_volatile volatiles.Splash 1) s
 
--- Events that are told as they are to both sides
+-- Events that both sides learn as they are
 abbrev pub is_plain : Event → Bool
 is_plain (events.Switch w place level h) = false
 is_plain (events.Damage w h source) = false
@@ -225,7 +225,7 @@ overhears-eye l x s (events.Move w move target) =
     (seen-eye l x is_overtaken is_overtaken (s.out z) (s.status z (λ c. c) rests_no_more)) ∙ suffers-eye (ends_recharging (move_at move).effect) l (on_seen is_overtaken x))
 overhears-eye l x s _ = refl
 
--- Damage and healing, which are told with another HP
+-- Damage and healing, with HP in another form
 
 abbrev pub Rises : Lens → PublicSide → ℕ → ℕ → Type 0
 Rises l x hp it = x.place ≢ 0 → record (l.known x.place (seen_at x.place x)) { hp = it } ≡ l.known x.place (record (seen_at x.place x) { hp = hp })

@@ -4,11 +4,7 @@ pub mod Hearing
 pub mod Following
 -- What numbers of HP say.
 pub mod HpForms
--- What a side is told of an event, by its kind.
-pub mod Tellings
--- A player that was fed log bytes.
-pub mod Players
--- Log bytes that are told to one side.
+-- An event as a side learns it, and the log bytes of one side.
 pub mod Retellings
 -- What a side is shown of itself: its members by their places, and how many there are.
 pub mod OwnSides
@@ -31,7 +27,7 @@ pub mod HeardSides
 pub mod Conditions
 -- The slots of places that have appeared.
 pub mod Slots
--- What a side hears of what it is told is what is public, as the side knows it.
+-- What a side hears of its log is what is public, as the side knows it.
 pub mod Lenses
 pub mod ToldPublic
 -- What is public of members agrees with the battle.
@@ -51,5 +47,5 @@ pub mod Spending
 pub mod SpendingTurns
 -- Worked examples.
 pub mod WorkedPlayers
--- The player in two battles that give a side the same.
-pub mod FairPlayers
+-- A player that was fed log bytes, and the players of two battles that give a side the same.
+pub mod Players

@@ -224,7 +224,7 @@ sent-appears k Two place f p low high m =
           (with_sent_out place (member_at place f.two) f.two.active) (sent-place place (member_at place f.two) f.two.active) m.two;
     })
 
--- A health that is told is that of the member that shows, and a switch names one of six places
+-- An event has the health of the member that shows, and a switch names one of six places
 
 max-shown : (ts : List Traits) (x : PublicSide) (t : Party) → Appeared ts (faces x) t → x.place ≢ 0 → (member_at t.active.place t).max ≡ (seen_at x.place x).max
 max-shown ts x t m z =
@@ -305,7 +305,7 @@ module _ {k : Teams} where
   rest-less : (f : Field) (p q : Public) → ((u : Side) → Less (public_side u q) (public_side u p)) → Rest k f p → Rest k f q
   rest-less f p q h m = record { one = λ e. m.one (h One e); two = λ e. m.two (h Two e) }
 
--- A member that is told to recharge
+-- A member of which recharging is announced
 rest-raised : {k : Teams} (s : Side) (f : Field) (p : Public) → rests_by (ids_of (team_of s k) (party s f)) ≡ true → Rest k f p
     → Rest k f (on_out s (on_announced (λ a. record a { recharging = 1 })) p)
 unfolding on_out

@@ -208,7 +208,7 @@ module _ {ids : List ℕ} {j m pp u : ℕ} (slot : IsSlotOf ids j m) (i : ℕ) w
   spent-counts One n f es o e k = spent-party f.one f.one.active.current_move n (faces (public_side One (told_by es))) o.one e k
   spent-counts Two n f es o e k = spent-party f.two f.two.active.current_move n (faces (public_side Two (told_by es))) o.two e k
 
--- A new use, or one that goes on
+-- A new use, or a move that continues
 
 record New (σ : Side) (pick : Pick) (n : ℕ) (f : Field) (a : Action) (w : Stream) : Type 0 where
   new : a.going_on ≡ false
@@ -357,7 +357,7 @@ module _ (t : Terms) (z : Sizes) (pre : List Event) (σ : Side) (i : ℕ) (ids :
   unfolding use_move
   use-bides h = taken-kept ⊳ pays-new ⊳ if-sees (not (bides move.effect)) (λ e. absurd (true≢false (sym e ∙ ap not h))) (λ e. stay-tells)
 
-  -- A move that goes on
+  -- A move that continues
 
   taken-old : Leads (Goes σ pre move.number) (λ p. (p.action.going_on ≡ true) × (new_uses move.number (own_of σ (pre ++ p.events)) ≡ 0)) (λ p. Unit {0}) (make_current σ pick)
   unfolding make_current given on_active on_field
@@ -506,7 +506,7 @@ on-some σ f a w fits h = some-number (active_in σ f).current_move (member_in �
     (current-some (active_in σ f).current_move (member_in σ f).moves fits.0 (planned-holds σ f a w fits.1 h) fits.2)
     (party-valid σ f h.field).active.current_move (known-moves σ f h.field)
 
--- A move that goes on is neither Bide nor one that charges.
+-- A move that continues is neither Bide nor one that charges.
 
 thrash-plain : (e : Effect) → thrashes e ≡ true → (bides e ≡ false) × (charges e ≡ false)
 thrash-plain effects.Thrash h = (refl, refl)

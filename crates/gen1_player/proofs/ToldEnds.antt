@@ -119,7 +119,7 @@ module _ {v : Story} {n : Sizes} {pre : List Event} where
       ⊳ choose-tells _ (ends-wait outcomes.WinOne (events.Win One) refl) stay-tells
       ⊳ choose-tells _ (ends-wait outcomes.Tie events.Tie refl) stay-tells
 
-  -- The battle goes on
+  -- The battle continues
 
   asked-switches : (one two : Bool) (f : Field) (es : List Event) → May v n pre f es → Waits v n pre (with_requests (switch_if one) (switch_if two) f) es
   unfolding with_requests

@@ -1,7 +1,8 @@
--- What a side hears of what it is told is what the whole log makes public, as the side knows it.
+-- What a side hears of its log is what the whole log makes public, as the side knows it.
 use Rattle.std.proofs.Common.{[], Bool, List, None, Option, Some, ap, arith, false, get_or, get_or-set_same, if◌then◌else◌, inl, inr, length, length-set, map, nat_le, refl, replicate, slice_index_or, slice_set, subst, suc, sym, true, true≢false, zero, ℕ, ◌+◌, ◌-◌, ◌<◌, ◌==◌, ◌∙◌, ◌∷◌, ◌≡◌, ◌≢◌, ◌≤◌, ◌⊎◌}
 use Rattle.std.proofs.lemmas.Bool.Decides.{eqb_tells, leb_tells}
 use Rattle.std.proofs.lemmas.List.{get_or-map, get_or-set_other}
+use Rattle.std.proofs.Math.ListN.{get_or-map as get_or-map_default}
 use Rattle.gen1_stats.specs.Members.{Member}
 use Rattle.gen1_machine.specs.declared.side.Side.{Side}
 use Rattle.gen1_machine.specs.declared.side.Side.TheVariants.{One, Two}
@@ -36,14 +37,15 @@ use Rattle.gen1_player.proofs.Lenses.{not-zero, with_status_by, is-zero, is-some
 
 -- The foe
 
-record FoeKept (ps : List ℕ) (place : ℕ) (members : List Seen) : Type 0 where
-  six : length members ≡ 6
-  high : place ≤ 6
-  full : length ps ≡ 6
-  each : (i : ℕ) → get_or ps i 0 ≤ 6
-  kept : (i j : ℕ) → j < i → get_or ps i 0 ≢ 0 → (get_or ps j 0 ≢ 0) × (get_or ps j 0 ≢ get_or ps i 0)
-  out : place ≢ 0 → (i : ℕ) × (i < 6) × (get_or ps i 0 ≡ place)
-  hidden : (q : ℕ) → 1 ≤ q → ((i : ℕ) → i < 6 → get_or ps i 0 ≢ q) → get_or members (q - 1) not_seen ≡ not_seen
+pub record FoeKept (ps : List ℕ) (place : ℕ) (members : List Seen) : Type 0 where
+  pub six : length members ≡ 6
+  pub high : place ≤ 6
+  pub full : length ps ≡ 6
+  pub each : (i : ℕ) → get_or ps i 0 ≤ 6
+  pub kept : (i j : ℕ) → j < i → get_or ps i 0 ≢ 0 → (get_or ps j 0 ≢ 0) × (get_or ps j 0 ≢ get_or ps i 0)
+  pub out : place ≢ 0 → (i : ℕ) × (i < 6) × (get_or ps i 0 ≡ place)
+  pub hidden : (q : ℕ) → 1 ≤ q → ((i : ℕ) → i < 6 → get_or ps i 0 ≢ q) → get_or members (q - 1) not_seen ≡ not_seen
+  pub appeared : (i : ℕ) → get_or ps i 0 ≢ 0 → (get_or members (get_or ps i 0 - 1) not_seen).species ≢ 0
 
 abbrev foe_number : List ℕ → ℕ → ℕ
 foe_number ps place = if place == 0 then 0 else slot_of place ps + 1
@@ -157,6 +159,10 @@ foe-sees t place ms k = record {
       (uses_again more id) (uses_again more id) z refl;
 }
 
+species-kept : (r s : ℕ) (ms ns : List Seen) → Touches r s ms ns → (i : ℕ) → (get_or ns i not_seen).species ≡ (get_or ms i not_seen).species
+species-kept r s ms ns t i = sym (get_or-map_default (λ (m : Seen). m.species) ns i not_seen) ∙ ap (λ (l : List ℕ). get_or l i 0) t.species
+    ∙ get_or-map_default (λ (m : Seen). m.species) ms i not_seen
+
 foe-touched : (ps : List ℕ) (r s : ℕ) (ms ns : List Seen) → FoeKept ps r ms → Touches r s ms ns → FoeKept ps s ns
 foe-touched ps r s ms ns k t = record {
   six = t.size ∙ k.six;
@@ -166,6 +172,7 @@ foe-touched ps r s ms ns k t = record {
   kept = k.kept;
   out = λ z. let o = k.out (λ e. z (t.same ∙ e)) in (o.0, o.1, o.2 ∙ sym t.same);
   hidden = λ q low none. by q low none (eqb_tells r 0);
+  appeared = λ i z e. k.appeared i z (sym (species-kept r s ms ns t (get_or ps i 0 - 1)) ∙ e);
 }
   where
     by : (q : ℕ) → 1 ≤ q → ((i : ℕ) → i < 6 → get_or ps i 0 ≢ q) → (((r == 0) ≡ true) × (r ≡ 0)) ⊎ (((r == 0) ≡ false) × (r ≢ 0)) → get_or ns (q - 1) not_seen ≡ not_seen
@@ -202,11 +209,13 @@ opens p place ps ms low high k = by (find-slot p ps k.full)
         }
     by (inr none) = absurd (crowded p ps k.full low high k.each k.kept none)
 
-foe-opened : (p place n : ℕ) (ps : List ℕ) (ms : List Seen) (new : Seen) → 1 ≤ p → p ≤ 6 → FoeKept ps place ms → Slot p ps n
+foe-opened : (p place n : ℕ) (ps : List ℕ) (ms : List Seen) (new : Seen) → 1 ≤ p → p ≤ 6 → new.species ≢ 0 → FoeKept ps place ms → Slot p ps n
     → FoeKept (slice_set ps n p) p (slice_set ms (p - 1) new)
-foe-opened p place n ps ms new low high k s =
+foe-opened p place n ps ms new low high named k s =
     let full = k.full in
     let few = s.few in
+    let six = k.six in
+    let set : get_or (slice_set ms (p - 1) new) (p - 1) not_seen ≡ new = get_or-set_same ms (p - 1) new not_seen (omega (arith, six, low, high)) in
     record {
       six = length-set ms (p - 1) new ∙ k.six;
       high = high;
@@ -217,12 +226,26 @@ foe-opened p place n ps ms new low high k s =
       hidden = λ q one none.
           let apart = opened-none s k.full low k.kept q one none in
           get_or-set_other ms (p - 1) (q - 1) new not_seen (λ e. apart.0 (omega (arith, e, low, one))) ∙ k.hidden q one apart.1;
+      appeared = λ i z. named_at set i z (eqb_tells (get_or (slice_set ps n p) i 0) p) (eqb_tells i n);
     }
+  where
+    named_at : get_or (slice_set ms (p - 1) new) (p - 1) not_seen ≡ new → (i : ℕ) → get_or (slice_set ps n p) i 0 ≢ 0
+        → (((get_or (slice_set ps n p) i 0 == p) ≡ true) × (get_or (slice_set ps n p) i 0 ≡ p))
+        ⊎ (((get_or (slice_set ps n p) i 0 == p) ≡ false) × (get_or (slice_set ps n p) i 0 ≢ p))
+        → (((i == n) ≡ true) × (i ≡ n)) ⊎ (((i == n) ≡ false) × (i ≢ n))
+        → (get_or (slice_set ms (p - 1) new) (get_or (slice_set ps n p) i 0 - 1) not_seen).species ≢ 0
+    named_at set i z (inl a) b = λ e. named (sym (ap (λ (m : Seen). m.species) set) ∙ sym (ap (λ (q : ℕ). (get_or (slice_set ms (p - 1) new) (q - 1) not_seen).species) a.1) ∙ e)
+    named_at set i z (inr a) (inl b) = absurd (a.1 (ap (λ (j : ℕ). get_or (slice_set ps n p) j 0) b.1 ∙ opened-here s k.full low k.kept))
+    named_at set i z (inr a) (inr b) =
+        let same : get_or (slice_set ps n p) i 0 ≡ get_or ps i 0 = get_or-set_other ps n i p 0 b.1 in
+        let some : 1 ≤ get_or (slice_set ps n p) i 0 = not-zero _ z in
+        λ e. k.appeared i (λ q. z (same ∙ q)) (ap (λ (q : ℕ). (get_or ms (q - 1) not_seen).species) (sym same)
+        ∙ sym (ap (λ (m : Seen). m.species) (get_or-set_other ms (p - 1) (get_or (slice_set ps n p) i 0 - 1) new not_seen (λ q. a.1 (omega (arith, q, low, some))))) ∙ e)
 
-foe-comes : (t : Teller) (x : PublicSide) (species place level : ℕ) (h : Health) → FoeKept t.places x.place x.members → 1 ≤ place → place ≤ 6
+foe-comes : (t : Teller) (x : PublicSide) (species place level : ℕ) (h : Health) → FoeKept t.places x.place x.members → 1 ≤ place → place ≤ 6 → species ≢ 0
     → (comes_out species (slot_of place t.places + 1) level (health_told h t) (foe_as_told t x) ≡ foe_as_told (appears place t) (comes_out species place level h x))
     × FoeKept (appears place t).places (comes_out species place level h x).place (comes_out species place level h x).members
-foe-comes t x species place level h k low high =
+foe-comes t x species place level h k low high named =
     let ps : List ℕ = t.places in
     let n : ℕ = slot_of place ps in
     let o : Opens place ps x.members = opens place x.place ps x.members low high k in
@@ -234,7 +257,7 @@ foe-comes t x species place level h k low high =
     let full = k.full in
     let few = s.few in
     let z : place ≢ 0 = λ e. omega (arith, e, low) in
-    let after : FoeKept (slice_set ps n place) place ms = foe-opened place x.place n ps x.members new low high k s in
+    let after : FoeKept (slice_set ps n place) place ms = foe-opened place x.place n ps x.members new low high named k s in
     let number : foe_number (slice_set ps n place) place ≡ n + 1 = number-is (slice_set ps n place) place n z
     (kept-slot place (slice_set ps n place) n after.full after.kept few (opened-here s k.full low k.kept) z) in
     let before : ℕ → Seen = λ p. foe_known t p (seen_at p x) in
@@ -273,10 +296,10 @@ lens_of One Two team t = foe_lens t
 lens_of Two One team t = foe_lens t
 lens_of Two Two team t = own_lens team
 
-record Known (s : Side) (team : List Member) (t : Teller) (p : Public) : Type 0 where
-  side : t.side ≡ side_number s
-  own : OwnKept (public_side s p).place (public_side s p).members
-  foe : FoeKept t.places (public_side (other s) p).place (public_side (other s) p).members
+pub record Known (s : Side) (team : List Member) (t : Teller) (p : Public) : Type 0 where
+  pub side : t.side ≡ side_number s
+  pub own : OwnKept (public_side s p).place (public_side s p).members
+  pub foe : FoeKept t.places (public_side (other s) p).place (public_side (other s) p).members
 
 sees-of : (s u : Side) (team : List Member) (t : Teller) (p : Public) → Known s team t p → Sees (lens_of s u team t) (public_side u p).place (public_side u p).members
 sees-of One One team t p k = own-sees team p.one.place p.one.members k.own
@@ -317,7 +340,7 @@ known-touched s team t p q k h = record {
   foe = foe-touched t.places (public_side (other s) p).place (public_side (other s) q).place (public_side (other s) p).members (public_side (other s) q).members k.foe (h (other s));
 }
 
--- An event keeps the law by itself: what is taken in of it as it is told is what is public, as it is known.
+-- An event keeps the law by itself: what the side takes in of it is what is public, as the side knows it.
 record Agrees (s : Side) (team : List Member) (t : Teller) (p : Public) (e : Event) : Type 0 where
   same : takes_in (told e t) (as_known s team t p) ≡ as_known s team (meets e t) (takes_in e p)
   known : Known s team (meets e t) (takes_in e p)
@@ -364,7 +387,7 @@ plain : (s u : Side) (team : List Member) (t : Teller) (p : Public) (e : Event) 
 plain s u team t p e of q k = named s u team t p e e of of (plain-still e q) k (plain-told e t q) (plain-meets e t q)
     (hears-eye (lens_of s u team t) (lens_of s (other u) team t) (public_side u p) (public_side (other u) p) (sees-of s u team t p k) e q) (λ x. refl)
 
--- HP of the side that is told is told as it is, and HP of its foe as it is told.
+-- HP of the teller's side is as it is, and HP of its foe in the teller's form.
 
 is_own-is : (s u : Side) (team : List Member) (t : Teller) (p : Public) → Known s team t p → is_own u t ≡ (side_number u == side_number s)
 is_own-is s u team t p k = ap (λ (n : ℕ). side_number u == n) k.side
@@ -385,7 +408,7 @@ rises-told Two Two team t p h k e = λ z.
     subst (λ (b : Bool). record (own_known team p.two.place (seen_at p.two.place p.two)) { hp = (if b then h else health_told h t).hp } ≡ own_known team p.two.place (record (seen_at p.two.place p.two) { hp = h.hp }))
     (sym (is_own-is Two Two team t p k)) (own-same team p.two.place (seen_at p.two.place p.two) (λ m. record m { hp = h.hp }) (k.own.out z) refl)
 
--- A switch, of a side that is told (true) or of its foe
+-- A switch, of the teller's side (true) or of its foe
 
 abbrev Switches : Side → Side → List Member → Teller → Public → ℕ → ℕ → ℕ → Health → Bool → Type 0
 Switches s u team t p species place level h b =
@@ -400,10 +423,10 @@ switches One One team t p species place level h k low high z =
     let c = own-comes team p.one species place level h k.own low high z in
     subst (Switches One One team t p species place level h) (sym (is_own-is One One team t p k)) (c.0, refl, record { side = k.side; own = c.1; foe = k.foe })
 switches One Two team t p species place level h k low high z =
-    let c = foe-comes t p.two species place level h k.foe low high in
+    let c = foe-comes t p.two species place level h k.foe low high z in
     subst (Switches One Two team t p species place level h) (sym (is_own-is One Two team t p k)) (c.0, refl, record { side = k.side; own = k.own; foe = c.1 })
 switches Two One team t p species place level h k low high z =
-    let c = foe-comes t p.one species place level h k.foe low high in
+    let c = foe-comes t p.one species place level h k.foe low high z in
     subst (Switches Two One team t p species place level h) (sym (is_own-is Two One team t p k)) (c.0, refl, record { side = k.side; own = k.own; foe = c.1 })
 switches Two Two team t p species place level h k low high z =
     let c = own-comes team p.two species place level h k.own low high z in
@@ -563,17 +586,20 @@ settled-tellable _ d p f = tt
 
 -- All events
 
+abbrev pub MetBy : Side → List Member → List Event → Teller → Public → Type 0
+MetBy s team es t p = Known s team (meets_all es t) (hears_all es p)
+
 all-agree : (s : Side) (team : List Member) (es : List Event) (t : Teller) (p : Public) → Known s team t p → AllTellable es p
-    → hears_all (told_all es t) (as_known s team t p) ≡ as_known s team (meets_all es t) (hears_all es p)
+    → (hears_all (told_all es t) (as_known s team t p) ≡ as_known s team (meets_all es t) (hears_all es p)) × MetBy s team es t p
 unfolding hears_all told_all meets_all
-all-agree s team [] t p k f = refl
+all-agree s team [] t p k f = (refl, k)
 all-agree s team (e ∷ es) t p k f =
     let q : Public = settled e p in
     let a = event-agrees s team t q e (known-touched s team t p q k (settled-touches e p)) (settled-tellable e e p f.0) in
     let same : hears (told e t) (as_known s team t p) ≡ as_known s team (meets e t) (hears e p) =
     hears-in (told e t) (as_known s team t p) ∙ ap (takes_in (told e t)) (settled-told s team t p e) ∙ a.same ∙ ap (as_known s team (meets e t)) (sym (hears-in e p)) in
     let known : Known s team (meets e t) (hears e p) = subst (Known s team (meets e t)) (sym (hears-in e p)) a.known in
-    ap (hears_all (told_all es (meets e t))) same ∙ all-agree s team es (meets e t) (hears e p) known f.1
+    let more = all-agree s team es (meets e t) (hears e p) known f.1 in (ap (hears_all (told_all es (meets e t))) same ∙ more.0, more.1)
 
 -- Before the first event
 
@@ -599,6 +625,7 @@ foe-first = record {
   kept = λ i j q z. absurd (z (zero-at 6 i));
   out = λ z. absurd (z refl);
   hidden = λ q low none. none-at 6 (q - 1);
+  appeared = λ i z. absurd (z (zero-at 6 i));
 }
 
 known-first : (s : Side) (team : List Member) (pixels : ℕ) → Known s team (first_teller s pixels) first_public
@@ -616,4 +643,8 @@ holds s pixels one two r tellable foes log shown player reading is =
     let es : List Event = told_all (events_in r) first in
     let same : is.events ≡ es = (one_split log is.events es is.held [] is.splits (reading_splits log es reading)).0 in
     ap (λ (x : Player). x.public) is.is ∙ ap (λ (l : List Event). hears_all l (first_known s team)) same
-    ∙ ap (hears_all es) (sym (first-same s team pixels)) ∙ all-agree s team (events_in r) first first_public (known-first s team pixels) tellable
+    ∙ ap (hears_all es) (sym (first-same s team pixels)) ∙ (all-agree s team (events_in r) first first_public (known-first s team pixels) tellable).0
+
+-- Places that the teller keeps have appeared, in their order.
+pub met : (s : Side) (pixels : ℕ) (team : List Member) (r : Ran) → AllTellable (events_in r) first_public → MetBy s team (events_in r) (first_teller s pixels) first_public
+met s pixels team r tellable = (all-agree s team (events_in r) (first_teller s pixels) first_public (known-first s team pixels) tellable).1

@@ -1,4 +1,4 @@
--- Worked examples: what a side is told, what the log makes public, what a player knows, and what a side is shown of itself
+-- Worked examples: what a side learns, what the log makes public, what a player knows, and what a side is shown of itself
 -- (docs/PROOFS.md, "Worked examples").
 use Rattle.std.proofs.Common.{List, None, [], refl, replicate, ℕ, ◌∷◌, ◌≡◌, false, true}
 use Rattle.gen1_machine.specs.declared.event.DamageSource.TheVariants.{Direct}
@@ -112,7 +112,7 @@ digs : ((after (events.Prepare bull 91 ∷ [])).one.invulnerable ≡ 1) × ((aft
 unfolding computing hears_all hears settled takes_in on_out
 digs = (refl, refl, refl, refl)
 
--- Uses (docs/MECHANICS.md, "What the log makes public"): Wrap after itself may be going on, Rage goes on once it is announced, and Bide is
+-- Uses (docs/MECHANICS.md, "What the log makes public"): Wrap after itself may be continuing, Rage continues once it is announced, and Bide is
 -- used as it starts.
 abbrev uses_of : List Event → List SeenMove
 uses_of es = (seen_at 1 (after es).one).moves

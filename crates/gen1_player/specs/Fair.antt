@@ -20,9 +20,15 @@ use Rattle.gen1_machine.specs.Conditions.{ActiveConditions, Storing, Underway}
 use Rattle.gen1_machine.specs.OfferedChoices.{offered, or_struggle}
 use Rattle.gen1_machine.specs.Sides.{other}
 use Rattle.gen1_machine.specs.State.{Active, Field, Party, State, Terms, first_state, is_over, party, underway_in, with_party}
-use Rattle.gen1_machine.specs.Step.{Stepped, events_of, step}
+use Rattle.gen1_machine.specs.Step.{Stepped, events_of, step, run}
 use Rattle.gen1_player.specs.OwnSide.{OwnActive, OwnConditions, OwnMember, OwnSide, own_side}
-use Rattle.gen1_player.specs.PlainOwnSide.{no_member}
+use Rattle.gen1_player.specs.PlainOwnSide.{no_member, plain_side}
+use Rattle.std.specs.List.{flat_map}
+use Rattle.gen1_machine.specs.LogBytes.{codes_of}
+use Rattle.gen1_player.specs.declared.player.Player.{Player}
+use Rattle.gen1_player.specs.declared.teller.Teller.{Teller}
+use Rattle.gen1_player.specs.Player.{IsPlayer}
+use Rattle.gen1_player.specs.Telling.{meets_all, told_all}
 
 -- 1. The offered choices, in the words of docs/MECHANICS.md, "Offered choices"
 
@@ -211,3 +217,28 @@ pub record KnowsTheSame (player : AnyPlayer) (log_of : Logging) (s : Side) (a b 
 abbrev pub Fair : Type 0
 Fair = (player : AnyPlayer) (log_of : Logging) (s : Side) (a b : Played)
     → own_team s a ≡ own_team s b → given log_of s a ≡ given log_of s b → KnowsTheSame player log_of s a b
+
+-- The player of this crate
+
+-- The log that a teller makes of the events of an update.
+abbrev pub told_by : Teller → Logging
+told_by first before now = codes_of (told_all now (meets_all before first))
+
+-- The logs of all updates, one after the other.
+abbrev pub all_logs : List Given → List ℕ
+all_logs gives = flat_map (λ (g : Given). g.log) gives
+
+abbrev pub end_of : Played → Field
+end_of b = (run (begun b) b.pairs).state.field
+
+-- The player of a side after a battle. It was fed all logs, and shown itself and the set of its choices as they are in the end.
+abbrev pub IsPlayerIn : (List Choice → ℕ) → Teller → Side → ℕ → Played → Player → Type 0
+IsPlayerIn set_of first s foes b player =
+    IsPlayer s (own_team s b) foes (all_logs (given (told_by first) s b))
+    (record { own = plain_side (own_side s (end_of b)); offered = set_of (offered s (end_of b)) }) player
+
+-- In two battles of its team in which a side is given the same, its player is the same.
+abbrev pub FairPlayer : Type 0
+FairPlayer = (set_of : List Choice → ℕ) (first : Teller) (s : Side) (foes : ℕ) (a b : Played) (p q : Player)
+    → own_team s a ≡ own_team s b → given (told_by first) s a ≡ given (told_by first) s b
+    → IsPlayerIn set_of first s foes a p → IsPlayerIn set_of first s foes b q → p ≡ q

@@ -2,11 +2,9 @@
 pub mod Public
 -- What an event changes of the side that it names.
 pub mod Sides
--- What one side is told of the events.
+-- What one side learns of the events.
 pub mod Telling
--- What becomes of a value to which the events of log bytes are applied.
-pub mod Following
--- Log bytes that are told to one side.
+-- What becomes of a value to which the events of log bytes are applied, and the log bytes of one side.
 pub mod Retelling
 -- What a player knows.
 pub mod Player
@@ -17,5 +15,3 @@ pub mod PlainOwnSide
 pub mod Fair
 -- What holds of all that is public.
 pub mod True
--- The player in two battles that give a side the same.
-pub mod FairPlayer

@@ -115,7 +115,7 @@ used_in more (Some k) move slots = slice_set slots k (record { id = move; uses =
 abbrev pub is_slot : ℕ → SeenMove → Bool
 is_slot move m = m.id == move || m.id == 0
 
--- More uses of a move: one, or none as it is prepared or goes on.
+-- More uses of a move: one, or none as it is prepared or continues.
 abbrev pub used_more : ℕ → ℕ → List SeenMove → List SeenMove
 used_more more move slots = used_in more (position (is_slot move) slots) move slots
 
@@ -176,7 +176,7 @@ strikes x = record x {
   invulnerable = (if x.announced.charging == 0 then x.invulnerable else 0);
 }
 
--- Moves that may go on for some turns, without PP, and whose end the log need not tell.
+-- Moves that may last some turns, without PP, and whose end the log need not report.
 abbrev pub may_go_on : Effect → Bool
 may_go_on effect = traps effect || thrashes effect
 

@@ -106,7 +106,7 @@ abbrev pub current_move_of : Party → ℕ
 current_move_of t = number_in t.active.current_move (member_at t.active.place t).moves
 
 -- Bide, charging and bad poison are announced exactly if they are on. A member that is announced as invulnerable is so. The last move is
--- the current one. A member that has to recharge used a move for it last. A move that goes on, which costs no PP, isn't counted as a use.
+-- the current one. A member that has to recharge used a move for it last. A move that continues, which costs no PP, isn't counted as a use.
 pub record SideDoes (x : PublicSide) (t : Party) : Type 0 where
   pub bide : x.announced.bide ≡ bit_of (is_some t.active.conditions.underway.bide)
   pub charging : x.announced.charging ≡ bit_of t.active.conditions.underway.charging
@@ -207,7 +207,7 @@ own_places = 1 ∷ 2 ∷ 3 ∷ 4 ∷ 5 ∷ 6 ∷ []
 abbrev pub own_as_known : List Member → PublicSide → PublicSide
 own_as_known team x = record x { members = members_by (own_known team) own_places x }
 
--- The foe's members, with HP as it is told; none at place 0.
+-- The foe's members, with HP in the teller's form; none at place 0.
 abbrev pub with_hp_told : Teller → Seen → Seen
 with_hp_told t m = let h = health_told (record { hp = m.hp; max = m.max; kind = None }) t in record m { hp = h.hp; max = h.max }
 

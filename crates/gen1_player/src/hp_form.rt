@@ -1,4 +1,4 @@
-//! How HP of the foe's members is told (docs/MECHANICS.md, "What a side is told").
+//! How a player learns the HP of the foe's members (docs/MECHANICS.md, "What a side is told").
 ghost use Rattle.std.specs.Prelude.{◌≡◌, ◌≤◌};
 ghost use Rattle.gen1_player.specs.Telling.{bar, filled, form_number, form_of, hundredths, told_in};
 
@@ -9,7 +9,7 @@ const PIXELS: u16 = 48;
 
 const HUNDREDTHS: u16 = 100;
 
-/// How HP is told.
+/// How a player learns HP.
 #[derive(Clone, Copy, Debug, PartialEq, Eq, Drop)]
 pub enum HpForm {
     /// As it is.
@@ -43,7 +43,7 @@ impl HpForm {
         }
     }
 
-    /// Returns a health as it is told: the HP, and 48 or 100 as the maximum where HP is told in parts of it.
+    /// Returns a health in this form: the HP, and 48 or 100 as the maximum where the form has parts of it.
     pub fn tell(self, health: Health) -> Health
         ensures { result ≡ told_in self health }
     {

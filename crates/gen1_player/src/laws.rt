@@ -1,7 +1,6 @@
 //! Laws on what a player is shown (docs/PROVED.md). Each function has an empty body. Its contract is the law.
-ghost use Rattle.gen1_player.specs.FairPlayer.{FairPlayer};
 ghost use Rattle.gen1_player.specs.Telling.{TellsHp};
-ghost use Rattle.gen1_player.specs.Fair.{Fair, HidesTheCounts, HidesTheFoe, OffersWhatIsShown};
+ghost use Rattle.gen1_player.specs.Fair.{Fair, FairPlayer, HidesTheCounts, HidesTheFoe, OffersWhatIsShown};
 
 /// What a side is offered follows from what it is shown of itself (docs/MECHANICS.md, "Offered choices", "What a side is shown of
 /// itself").
@@ -22,7 +21,7 @@ pub fn hides_the_counts()
     ensures { HidesTheCounts }
 {}
 
-/// In each form in which HP is told, the number is 0 exactly of a member without HP, and else allows an interval that contains its HP.
+/// In each form of HP, the number is 0 exactly of a member without HP, and else allows an interval that contains its HP.
 #[tactic(auto, using(crate::proofs::HpForms::tells_hp))]
 pub fn tells_hp()
     ensures { TellsHp }

@@ -5,8 +5,8 @@
 //! - `seen`: a member that has appeared
 //! - `announced`: the conditions that the log has announced
 //! - `stages`: the stages of the active member
-//! - `hp_form`: [`HpForm`], how HP is told
-//! - `teller`: [`Teller`], what one side is told of the events
+//! - `hp_form`: [`HpForm`], how a player learns HP
+//! - `teller`: [`Teller`], what one side learns of the events
 //! - `own`: [`own_side`], what a side is shown of itself
 //! - `player`: [`Player`], what a player knows
 //! - `laws`: what is shown says nothing of what is hidden

@@ -32,7 +32,7 @@ pub fn members_agree()
 
 /// After any run with valid terms and seed bytes that ended in no fault, Bide, charging and bad poison are announced exactly if they are
 /// on, and invulnerability only if it is. The last move is the current one; one that has to recharge used a move for it last. A move that
-/// goes on, without PP, is not counted as a use.
+/// continues, without PP, is not counted as a use.
 #[tactic(auto, using(crate::proofs::DeedRuns::actives_agree))]
 pub fn actives_agree()
     ensures { ActivesAgree }
