@@ -91,7 +91,7 @@ used_slot id ids =
 abbrev pub has : ℕ → ℕ → Bool
 has conditions bit = bit_at conditions bit == 1
 
--- The active member, with middle values of the counts that nobody is told: three turns of confusion, four of Disable, two of Bide,
+-- The active member, with middle values of the hidden counts: three turns of confusion, four of Disable, two of Bide,
 -- thrashing or trapping, a Substitute of a quarter of the maximum HP, and bad poison at its beginning.
 abbrev pub active_state : Known → MemberState → ActiveState
 active_state k m = record {

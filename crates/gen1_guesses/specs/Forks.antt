@@ -1,6 +1,6 @@
--- The battle that fits what a player knows, and its state (docs/MECHANICS.md, "A battle that fits").
-use Rattle.std.specs.Prelude.{Bool, Err, List, None, Ok, Option, Result, Some, [], if◌then◌else◌, length, ℕ, ◌==◌, ◌∷◌}
-use Rattle.gen1_stats.specs.Members.{Member}
+-- The battle that fits what a player knows, its state (docs/MECHANICS.md, "A battle that fits"), and what holds of it.
+use Rattle.std.specs.Prelude.{Bool, Err, List, None, Ok, Option, Result, Some, [], if◌then◌else◌, length, ℕ, ◌==◌, ◌∷◌, true, ◌+◌, ◌<◌, ◌≡◌, ◌≢◌, ◌≤◌}
+use Rattle.gen1_stats.specs.Members.{Member, IsTeam}
 use Rattle.gen1_machine.specs.declared.side.Side.{Side}
 use Rattle.gen1_machine.specs.declared.side.Side.TheVariants.{One, Two}
 use Rattle.gen1_machine.specs.Rules.{bits_of_rules}
@@ -8,16 +8,35 @@ use Rattle.gen1_machine.specs.Sides.{other}
 use Rattle.gen1_player.specs.declared.own.OwnSide.{OwnSide}
 use Rattle.gen1_player.specs.declared.player.Player.{Player}
 use Rattle.gen1_player.specs.declared.public_side.PublicSide.{PublicSide}
-use Rattle.gen1_player.specs.Public.{public_side}
+use Rattle.gen1_player.specs.Public.{public_side, recharges_unless}
 use Rattle.gen1_states.specs.declared.plain.BattleState.{BattleState}
 use Rattle.gen1_states.specs.declared.plain.MemberState.{MemberState}
 use Rattle.gen1_states.specs.declared.plain.SideState.{SideState}
 use Rattle.gen1_guesses.specs.Active.{active_state, foe_known, is_on, own_known}
-use Rattle.gen1_guesses.specs.Members.{fresh_members, member_at, members_of, own_members}
+use Rattle.gen1_guesses.specs.Members.{fresh_members, member_at, members_of, own_members, hp_of, seen_in}
 use Rattle.gen1_guesses.specs.Tests.{tested, Tested}
 use Rattle.gen1_guesses.specs.declared.fault.GuessFault.{GuessFault}
 use Rattle.gen1_guesses.specs.declared.fault.GuessFault.TheVariants as faults
 use Rattle.gen1_guesses.specs.declared.guess.Guess.{Guess}
+use Rattle.gen1_rolls.specs.Streams.{IsStream, Link}
+use Rattle.gen1_machine.specs.declared.choice.Choice.{Choice}
+use Rattle.gen1_machine.specs.State.{first_state, party, Field, State, Terms}
+use Rattle.gen1_machine.specs.Step.{run, Ran}
+use Rattle.gen1_machine.specs.Valid.{IsTerms}
+use Rattle.gen1_machine.specs.View.{shows}
+use Rattle.gen1_events.specs.Splits.{IsReading}
+use Rattle.gen1_layout.specs.Parts.{parts_of}
+use Rattle.gen1_layout.specs.Within.{Stands}
+use Rattle.gen1_player.specs.declared.public.Public.{Public}
+use Rattle.gen1_player.specs.declared.seen.Seen.{Seen}
+use Rattle.gen1_player.specs.declared.teller.Teller.{Teller}
+use Rattle.gen1_player.specs.OwnSide.{own_side}
+use Rattle.gen1_player.specs.PlainOwnSide.{plain_side}
+use Rattle.gen1_player.specs.Player.{IsPlayer}
+use Rattle.gen1_player.specs.Telling.{form_of, told_all, told_in, IsTeller}
+use Rattle.gen1_player.specs.True.{as_known, events_in, first_teller, team_of, AgreesWith, BothDo, IsTold, SideHasAppeared}
+use Rattle.gen1_states.specs.Bytes.{bytes_of}
+use Rattle.gen1_states.specs.Completed.{completed}
 
 abbrev pub side_of : ℕ → Option Side
 side_of number = if number == 1 then Some One else if number == 2 then Some Two else None
@@ -83,3 +102,71 @@ by_side None p g = Err faults.NotGoingOn
 
 abbrev pub guessed_state : Player → Guess → Result BattleState GuessFault
 guessed_state p g = by_side (side_of p.side) p g
+
+-- What holds of a battle that fits
+
+-- The player of a side after a run, as the code can hold it: it was fed its side's log, and it was shown its own side last.
+pub record HasPlayer (s : Side) (form : ℕ) (one two : List Member) (r : Ran) (p : Player) : Type 0 where
+  pub foes : ℕ
+  pub offered : ℕ
+  pub log : List ℕ
+  pub told : IsReading log (told_all (events_in r) (first_teller s form))
+  pub slots : (k : ℕ) → length (seen_in k (public_side (other s) p.public).members).moves ≡ 5
+  pub is : IsPlayer s (team_of s one two) foes log (record { own = plain_side (own_side s r.state.field); offered = offered }) p
+
+-- A guess as the code can hold it.
+pub record IsGuess (g : Guess) : Type 0 where
+  pub team : IsTeam g.team
+  pub numbers : length g.numbers ≡ 10
+  pub limit : g.limit < 65536
+
+-- The battle that `from_player` returns represents this state.
+pub record IsFork (p : Player) (g : Guess) (f : State) : Type 0 where
+  pub state : BattleState
+  pub guessed : guessed_state p g ≡ Ok state
+  pub stands : Stands (parts_of (bytes_of (completed state))) f
+
+-- HP
+
+-- A player learns these HP of a maximum as a number of a whole.
+abbrev pub IsToldAs : ℕ → ℕ → ℕ → ℕ → ℕ → Type 0
+IsToldAs form n whole hp most =
+    let h = told_in (form_of form) (record { hp = hp; max = most; kind = None }) in (h.hp ≡ n) × (h.max ≡ whole)
+
+-- It learns some HP of this maximum so.
+abbrev pub MayBeTold : ℕ → ℕ → ℕ → ℕ → Type 0
+MayBeTold form n whole most = (hp : ℕ) × (hp ≤ most) × IsToldAs form n whole hp most
+
+-- The player learns the HP of a battle that fits as the number that it had learned, if it learns any HP of the guess's maximum so.
+abbrev pub ForksTellHp : Type 0
+ForksTellHp = (form n whole most : ℕ) → 11 ≤ most → MayBeTold form n whole most → IsToldAs form n whole (hp_of n whole most) most
+
+-- The members of the guess may have HP that the player learns as it did.
+abbrev pub MayHaveHp : Side → ℕ → Player → Guess → Type 0
+MayHaveHp s form p g = (k : ℕ) → let m : Seen = seen_in k (public_side (other s) p.public).members in
+    m.species ≢ 0 → MayBeTold form m.hp m.max (member_at (k + 1) (fresh_members g.team)).max_hp
+
+-- The whole
+
+-- The player is shown this side of the battle as its own. What it holds as public is what a side knows (`PlayersHoldThePublic`) of something
+-- that agrees with the battle, as the log of a run does (`PublicAgrees`, `ConditionsAgree`, `ActivesAgree`, `MembersAgree`). Only that the
+-- foe's member knows a move for a recharging that is announced isn't said.
+pub record AgreesWithFork (s : Side) (form : ℕ) (team : List Member) (p : Player) (f : Field) : Type 0 where
+  pub own : plain_side (own_side s f) ≡ p.own
+  pub teller : Teller
+  pub is_teller : IsTeller s teller
+  pub form_is : teller.pixels ≡ form
+  pub public : Public
+  pub known : p.public ≡ as_known s team teller public
+  pub view : AgreesWith public (shows f)
+  pub conditions : IsTold public f
+  pub actives : BothDo public f
+  pub own_members : SideHasAppeared (public_side s public) (party s f)
+  pub foe_members : SideHasAppeared (recharges_unless true (public_side (other s) public)) (party (other s) f)
+
+-- After any run of a battle of two teams from its start, of a player and any guess that fits.
+abbrev pub ForksAgree : Type 0
+ForksAgree = (t : Terms) (one two : List Member) (seed : List ℕ) (pairs : List (Choice × Choice))
+    → IsTerms t → IsStream (Link seed) → IsTeam one → IsTeam two
+    → (s : Side) (form : ℕ) (p : Player) → form ≤ 2 → HasPlayer s form one two (run (first_state t one two seed) pairs) p
+    → (g : Guess) (f : State) → IsGuess g → MayHaveHp s form p g → IsFork p g f → AgreesWithFork s form (team_of s one two) p f.field

@@ -4,5 +4,5 @@ pub mod Members
 pub mod Active
 -- Whether a guess fits.
 pub mod Tests
--- The battle, and its state.
+-- The battle, its state, and what holds of it.
 pub mod Forks

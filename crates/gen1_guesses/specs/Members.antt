@@ -51,7 +51,7 @@ fresh_at k team = member_state (slice_index_or team k nobody)
 abbrev pub fresh_members : List Member → List MemberState
 fresh_members team = fresh_at 0 team ∷ fresh_at 1 team ∷ fresh_at 2 team ∷ fresh_at 3 team ∷ fresh_at 4 team ∷ fresh_at 5 team ∷ []
 
--- The least HP of a member with this maximum that is told as this part of a whole. Of hundredths, which are rounded up, it is the most.
+-- The least HP of a member with this maximum that a player learns as this part of a whole. Of hundredths, which are rounded up, it is the most.
 abbrev pub least_hp : ℕ → ℕ → ℕ → ℕ
 least_hp told whole most = (told * most + (max whole 1 - 1)) / max whole 1
 

@@ -174,7 +174,7 @@ fn blocked_slot(member: &MemberState, last_move: u8) -> u8
     }
 }
 
-/// The active member, with middle values of the counts that nobody is told.
+/// The active member, with middle values of the hidden counts.
 pub(crate) fn active_state(known: &Known, member: &MemberState) -> ActiveState
     ensures { result ≡ active_state known.now member.now }
 {

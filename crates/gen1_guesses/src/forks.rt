@@ -5,7 +5,7 @@ ghost use Rattle.gen1_layout.specs.Parts.{parts_of};
 ghost use Rattle.gen1_states.specs.Bytes.{bytes_of};
 ghost use Rattle.gen1_states.specs.Completed.{completed};
 ghost use Rattle.gen1_states.specs.WholeTests.{fault_of};
-ghost use Rattle.gen1_guesses.specs.Forks.{foe_part, foe_request, forked, guessed_for, guessed_state, in_order, own_part, side_of};
+ghost use Rattle.gen1_guesses.specs.Forks.{ForksAgree, ForksTellHp, foe_part, foe_request, forked, guessed_for, guessed_state, in_order, own_part, side_of};
 ghost use Rattle.gen1_guesses.specs.declared.fault.GuessFault.TheVariants as faults;
 
 use crate::active::{active_state, foe_known, is_on, own_known};
@@ -161,3 +161,17 @@ fn in_order(
         Side::Two => ([foe, own], [asked, request]),
     }
 }
+
+/// In a battle that fits, the foe's HP have the numbers that the player learned, if any HP of the guess's maximum do.
+#[tactic(auto, using(crate::proofs::KnownFoes::forks_tell_hp))]
+pub fn forks_tell_hp()
+    ensures { ForksTellHp }
+{}
+
+/// Take the player of a side after any run from the start, and any guess that fits, whose maximum HP allow the numbers that the player
+/// learned. In the battle that fits, the side is shown the same of itself, and what the player holds as public agrees with it, as
+/// `public_agrees`, `conditions_agree`, `actives_agree` and `members_agree` say of a run. Only the move behind the foe's announced
+/// recharging may be missing.
+pub fn forks_agree()
+    ensures { ForksAgree }
+{}

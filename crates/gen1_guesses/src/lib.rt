@@ -5,7 +5,7 @@
 //! - `tests`: whether a guess fits
 //! - `members`: the members of both sides
 //! - `active`: the active members
-//! - `forks`: [`from_player`], the battle, and [`guessed_state`], its state
+//! - `forks`: [`from_player`], the battle, [`guessed_state`], its state, and laws of all of them
 #![tactic(auto)]
 
 mod active;
@@ -16,5 +16,5 @@ mod members;
 mod tests;
 
 pub use fault::GuessFault;
-pub use forks::{from_player, guessed_state};
+pub use forks::{forks_agree, forks_tell_hp, from_player, guessed_state};
 pub use guess::Guess;

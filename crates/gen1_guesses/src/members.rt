@@ -214,8 +214,8 @@ fn told(clause: bool, seen: &Seen, fresh: &MemberState) -> MemberState
     }
 }
 
-// The least HP of a member with this maximum that is told as this part of a whole; its maximum at most. Of hundredths, which are rounded
-// up, it is the most.
+// The least HP of a member with this maximum that a player learns as this part of a whole; its maximum at most. Of hundredths, which are
+// rounded up, it is the most.
 fn hp_of(told: u16, whole: u16, max: u16) -> u16
     ensures value { result ≡ hp_of told whole max }
     ensures full { result ≤ max }

@@ -6,7 +6,7 @@
 //! - `tests`: whether a guess fits
 //! - `members`: the members of both sides
 //! - `active`: the active members
-//! - `forks`: [`from_player`], the battle, and [`guessed_state`], its state
+//! - `forks`: [`from_player`], the battle, [`guessed_state`], its state, and laws of all of them
 
 mod active {
     //! The active members, as far as a player knows them ([docs/MECHANICS.md, "A battle that fits"](https://hibsuloy.example/gen1/blob/main/docs/MECHANICS.md#a-battle-that-fits)).
@@ -153,7 +153,7 @@ mod active {
         }
     }
 
-    /// The active member, with middle values of the counts that nobody is told.
+    /// The active member, with middle values of the hidden counts.
     pub(crate) fn active_state(known: &Known, member: &MemberState) -> ActiveState {
         let conditions = known.conditions;
         let (thrash, rage) = (has(conditions, THRASH), has(conditions, RAGE));
@@ -556,8 +556,8 @@ mod members {
         }
     }
 
-    // The least HP of a member with this maximum that is told as this part of a whole; its maximum at most. Of hundredths, which are rounded
-    // up, it is the most.
+    // The least HP of a member with this maximum that a player learns as this part of a whole; its maximum at most. Of hundredths, which are
+    // rounded up, it is the most.
     fn hp_of(told: u16, whole: u16, max: u16) -> u16 {
         let (told, whole, max) = (u32::from(told), u32::from(whole), u32::from(max));
         let hp = if whole == HUNDREDTHS {
@@ -718,5 +718,5 @@ mod tests {
 
 
 pub use fault::GuessFault;
-pub use forks::{from_player, guessed_state};
+pub use forks::from_player; pub use forks::guessed_state;
 pub use guess::Guess;

@@ -1,8 +1,8 @@
-use Rattle.std.proofs.Common.{Err, Ok, ap, length, sym, ◌∙◌}
+use Rattle.std.proofs.Common.{Ok, ap, length, sym, ◌∙◌}
 use Rattle.gen1_machine.specs.declared.side.Side.{Side}
 use Rattle.gen1_player.specs.Public.{public_side}
 use Rattle.gen1_guesses.specs.Members.{fresh_members}
-use Rattle.gen1_guesses.proofs.Made.{made}
+use Rattle.gen1_guesses.proofs.ForkedStates.{made}
 use Rattle.gen1_guesses.proofs.forks.guessed_for.Goals as goal
 
 pub returns-in-Ok : goal.returns-in-Ok

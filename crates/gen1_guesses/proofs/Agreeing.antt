@@ -1,0 +1,360 @@
+-- A battle that fits what a player knows after a run agrees with it.
+use Rattle.std.proofs.Common.{Bool, List, ap, arith, cond, false, inl, inr, is_some, length, refl, slice_index_or, subst, sym, true, ℕ, ◌+◌, ◌-◌, ◌<◌, ◌==◌, ◌∙◌, ◌≡◌, ◌≢◌, ◌≤◌, ◌⊎◌}
+use Rattle.std.specs.Prelude.{None, nat_lt}
+use Rattle.std.proofs.lemmas.Bool.{false≢true}
+use Rattle.std.proofs.lemmas.Bool.Decides.{eqb_tells, nat_tests}
+use Rattle.std.proofs.lemmas.List.{get_or_past}
+use Rattle.std.proofs.lemmas.List.Elements.{All-get_or}
+use Rattle.gen1_tables.specs.Effects.{traps}
+use Rattle.gen1_stats.specs.Members.{is_living, nobody, IsMember, Member}
+use Rattle.gen1_machine.specs.declared.side.Side.{Side}
+use Rattle.gen1_machine.specs.declared.side.Side.TheVariants.{One, Two}
+use Rattle.gen1_machine.specs.declared.terms.Outcome.{Outcome}
+use Rattle.gen1_machine.specs.declared.terms.Outcome.TheVariants as outcomes
+use Rattle.gen1_machine.specs.Layout.{outcome_byte}
+use Rattle.gen1_machine.specs.Numbers.{side_number}
+use Rattle.gen1_machine.specs.Rules.{bit_of, Rules}
+use Rattle.gen1_machine.specs.Sides.{other}
+use Rattle.gen1_machine.specs.State.{active_in, first_state, member_at, member_in, party, underway_in, Active, Field, Party, State}
+use Rattle.gen1_machine.specs.Step.{run, Ran}
+use Rattle.gen1_machine.specs.Valid.{IsMembersUnder, IsMemberUnder, IsParty, IsStarted, IsState, IsUnstarted}
+use Rattle.gen1_machine.specs.View.{shows, side_shows, Shown}
+use Rattle.gen1_machine.proofs.FirstStates.{first_states_are_valid}
+use Rattle.gen1_machine.proofs.ValidStates.{states_stay_valid}
+use Rattle.gen1_player.specs.declared.hp_form.HpForm.{HpForm}
+use Rattle.gen1_player.specs.declared.hp_form.HpForm.TheVariants.{Bar, Exact, Hundredths}
+use Rattle.gen1_player.specs.declared.own.OwnSide.{OwnSide}
+use Rattle.gen1_player.specs.declared.player.Player.{Player}
+use Rattle.gen1_player.specs.declared.public.Public.{Public}
+use Rattle.gen1_player.specs.declared.public_side.PublicSide.{PublicSide}
+use Rattle.gen1_player.specs.declared.seen.Seen.{Seen}
+use Rattle.gen1_player.specs.declared.teller.Teller.{Teller}
+use Rattle.gen1_player.specs.OwnSide.{own_active, own_side}
+use Rattle.gen1_player.specs.PlainOwnSide.{nobody_out as none_out, plain_out, plain_side}
+use Rattle.gen1_player.specs.Public.{on_public_side, public_side, recharges_unless, seen_at}
+use Rattle.gen1_player.specs.Telling.{form_of, meets_all, told_in}
+use Rattle.gen1_player.specs.True.{as_known, current_move_of, IsMoveOf, events_in, first_teller, foe_as_told, is_fault, own_as_known, public_of, team_of, AgreesWith, BothDo, IsTold, SideAgrees, SideDoes, SideHasAppeared, SideIsTold}
+use Rattle.gen1_player.proofs.Conditions.{conditions_agree}
+use Rattle.gen1_player.proofs.DeedRuns.{actives_agree}
+use Rattle.gen1_player.proofs.HpForms.{tells_hp}
+use Rattle.gen1_player.proofs.Lenses.{is-some, is-zero}
+use Rattle.gen1_player.proofs.Members.{all-tellable, members_agree}
+use Rattle.gen1_player.proofs.Placing.{agrees}
+use Rattle.gen1_player.proofs.ToldPublic.{holds, met, FoeKept, Known}
+use Rattle.gen1_states.specs.Plain.{no_member}
+use Rattle.gen1_states.specs.declared.plain.MemberState.{MemberState}
+use Rattle.gen1_guesses.specs.Forks.{AgreesWithFork, ForksAgree, IsFork, IsGuess, IsToldAs, MayBeTold, MayHaveHp, foe_part, own_part}
+use Rattle.gen1_guesses.specs.Active.{is_on}
+use Rattle.gen1_guesses.specs.Members.{fresh_members, hp_of, member_at as place_in, seen_in}
+use Rattle.gen1_guesses.specs.declared.guess.Guess.{Guess}
+use Rattle.gen1_guesses.proofs.OwnForked.{appeared-alike, does-alike, shows_at, told-alike, view-alike, Alike, own_alike, own_plain, same_shown, slot_of_own, stats_of_own, Shows, shows as shows_own}
+use Rattle.gen1_guesses.proofs.FoeForked.{foe_appeared, foe_does, foe_place, foe_told, foe_view, traps_on, and_same, exact, flag_of, guess_fits, on_is, told_there, Fits, Foe, IsFlag}
+use Rattle.gen1_guesses.proofs.ForkedStates.{fits, has_sides, HasSides, below_or, holds_side, party_valid, started, Holds}
+use Rattle.gen1_guesses.proofs.KnownFoes.{current_known, explained, foe_of_run, foe_plain, as_told, is_teller, numbered, out_told, teller_of, IsNumbered, forks_tell_hp}
+
+-- One side of what holds of both
+
+told_of : (s : Side) (p : Public) (f : Field) → IsTold p f → SideIsTold (public_side s p) (party s f)
+told_of One p f h = h.0
+told_of Two p f h = h.1
+
+does_of : (s : Side) (p : Public) (f : Field) → BothDo p f → SideDoes (public_side s p) (party s f)
+does_of One p f h = h.one
+does_of Two p f h = h.two
+
+view_of : (s : Side) (p : Public) (f : Field) → AgreesWith p (shows f) → SideAgrees (public_side s p) (side_shows (party s f))
+view_of One p f h = h.one
+view_of Two p f h = h.two
+
+appeared_of : (s : Side) (p : Public) (f : Field) → SideHasAppeared p.one f.one × SideHasAppeared p.two f.two → SideHasAppeared (public_side s p) (party s f)
+appeared_of One p f h = h.0
+appeared_of Two p f h = h.1
+
+-- What the player knows of each side
+
+foe_of_public : (s : Side) (team : List Member) (t : Teller) (p : Public) → public_side (other s) (as_known s team t p) ≡ foe_as_told t (public_side (other s) p)
+foe_of_public One team t p = refl
+foe_of_public Two team t p = refl
+
+own_of_public : (s : Side) (team : List Member) (t : Teller) (p : Public) → public_side s (as_known s team t p) ≡ own_as_known team (public_side s p)
+own_of_public One team t p = refl
+own_of_public Two team t p = refl
+
+abbrev with_foe : Side → PublicSide → Public → Public
+with_foe s y p = on_public_side (other s) (λ z. y) p
+
+known_with : (s : Side) (team : List Member) (t t1 : Teller) (p : Public) (y : PublicSide) → foe_as_told t1 y ≡ foe_as_told t (public_side (other s) p)
+    → as_known s team t p ≡ as_known s team t1 (with_foe s y p)
+known_with One team t t1 p y e = ap (λ (x : PublicSide). record p { one = own_as_known team p.one; two = x }) (sym e)
+known_with Two team t t1 p y e = ap (λ (x : PublicSide). record p { one = x; two = own_as_known team p.two }) (sym e)
+
+-- The whole, of its sides
+whole_view : (s : Side) (p : Public) (y : PublicSide) (f : Field) → SideAgrees (public_side s p) (side_shows (party s f)) → SideAgrees y (side_shows (party (other s) f))
+    → p.turn ≡ f.turn → p.outcome ≡ outcome_byte f.outcome → AgreesWith (with_foe s y p) (shows f)
+whole_view One p y f a b t o = record { one = a; two = b; turn = t; outcome = o }
+whole_view Two p y f a b t o = record { one = b; two = a; turn = t; outcome = o }
+
+whole_told : (s : Side) (p : Public) (y : PublicSide) (f : Field) → SideIsTold (public_side s p) (party s f) → SideIsTold y (party (other s) f) → IsTold (with_foe s y p) f
+whole_told One p y f a b = (a, b)
+whole_told Two p y f a b = (b, a)
+
+whole_does : (s : Side) (p : Public) (y : PublicSide) (f : Field) → SideDoes (public_side s p) (party s f) → SideDoes y (party (other s) f) → p.may_hit_itself ≡ 0 → BothDo (with_foe s y p) f
+whole_does One p y f a b h = record { one = a; two = b; may_hit_itself = h }
+whole_does Two p y f a b h = record { one = b; two = a; may_hit_itself = h }
+
+own_side_of : (s : Side) (p : Public) (y : PublicSide) → public_side s (with_foe s y p) ≡ public_side s p
+own_side_of One p y = refl
+own_side_of Two p y = refl
+
+foe_side_of : (s : Side) (p : Public) (y : PublicSide) → public_side (other s) (with_foe s y p) ≡ y
+foe_side_of One p y = refl
+foe_side_of Two p y = refl
+
+-- The state after the run
+
+place_of : (s : Side) (f : Field) → (plain_side (own_side s f)).place ≢ 0 → (active_in s f).place ≢ 0
+place_of s f z e = z (ap (λ (b : Bool). (cond b none_out (plain_out (own_active (member_in s f) (active_in s f)))).place) (is-zero (active_in s f).place e))
+
+begun : (s : Side) (b : State) → IsState b → (active_in s b.field).place ≢ 0 → b.field.turn ≡ 0 → ⊥
+begun s b v z turn = by s v.field z
+  where
+    by : (s : Side) → IsUnstarted b.terms b.field ⊎ IsStarted b.terms b.field → (active_in s b.field).place ≢ 0 → ⊥
+    by One (inl u) z = z (ap (λ (a : Active). a.place) u.nobody_one)
+    by Two (inl u) z = z (ap (λ (a : Active). a.place) u.nobody_two)
+    by s (inr w) z = let low = w.turn in omega (arith, low, turn)
+
+no_fault : (o : Outcome) → outcome_byte o ≡ 0 → is_fault o ≡ false
+no_fault outcomes.Ongoing e = refl
+no_fault outcomes.WinOne e = refl
+no_fault outcomes.WinTwo e = refl
+no_fault outcomes.Tie e = refl
+no_fault (outcomes.Fault n) e = absurd (omega (arith, e))
+
+-- A member at an index, if there is one
+
+member_ok : (rules : Rules) (t : Party) (i : ℕ) → IsMembersUnder rules t.members → (slice_index_or t.members i nobody).species ≢ 0 → IsMember (slice_index_or t.members i nobody)
+member_ok rules t i v z = by (below_or i (length t.members))
+  where
+    by : (i < length t.members) ⊎ (length t.members ≤ i) → IsMember (slice_index_or t.members i nobody)
+    by (inl inside) = let m : IsMemberUnder rules (slice_index_or t.members i nobody) = All-get_or (IsMemberUnder rules) t.members i nobody inside v.each in m.numbers
+    by (inr past) = absurd (z (ap (λ (m : Member). m.species) (get_or_past t.members i nobody past)))
+
+-- HP of the foe
+
+module _ (clause : Bool) (x : PublicSide) (held : Bool) (team : List Member) (t : Party) (rules : Rules) (p : Player)
+    (h : Holds t (foe_part clause x held (fresh_members team))) (v : IsParty rules t) (form : ℕ)
+    (may : (k : ℕ) → (seen_in k x.members).species ≢ 0 → MayBeTold form (seen_in k x.members).hp (seen_in k x.members).max (place_in (k + 1) (fresh_members team)).max_hp)
+    (f : Fits p x (fresh_members team)) where
+  foe_member : (i : ℕ) → i < 6 → (seen_in i x.members).species ≢ 0 → IsMember (slice_index_or t.members i nobody)
+  foe_member i low z = member_ok rules t i v.members (λ e. z ((f.members i low z).species ∙ sym (ap (λ (m : MemberState). m.species) (told_there clause x held (fresh_members team) t h i low z)) ∙ e))
+
+  pub hp_told : (i : ℕ) → i < 6 → (seen_in i x.members).species ≢ 0
+      → let m : Member = slice_index_or t.members i nobody in IsToldAs form (seen_in i x.members).hp (seen_in i x.members).max m.hp m.max
+  hp_told i low z =
+      let s : Seen = seen_in i x.members in
+      let fresh : MemberState = slice_index_or (fresh_members team) i no_member in
+      let e = told_there clause x held (fresh_members team) t h i low z in
+      let most : (slice_index_or t.members i nobody).max ≡ fresh.max_hp = ap (λ (m : MemberState). m.max_hp) e in
+      let hp : (slice_index_or t.members i nobody).hp ≡ hp_of s.hp s.max fresh.max_hp = ap (λ (m : MemberState). m.hp) e in
+      let ok = (foe_member i low z).max.0 in
+      let back : i + 1 - 1 ≡ i = omega arith in
+      let told : MayBeTold form s.hp s.max fresh.max_hp =
+      subst (λ (k : ℕ). MayBeTold form s.hp s.max (slice_index_or (fresh_members team) k no_member).max_hp) back (may i z) in
+      subst (λ (a : ℕ). IsToldAs form s.hp s.max a (slice_index_or t.members i nobody).max) (sym hp)
+      (subst (λ (b : ℕ). IsToldAs form s.hp s.max (hp_of s.hp s.max fresh.max_hp) b) (sym most)
+      (forks_tell_hp form s.hp s.max fresh.max_hp (omega (arith, ok, most)) told))
+
+  -- A member without HP in the log has none.
+  pub fallen_if_told : (i : ℕ) → i < 6 → (seen_in i x.members).species ≢ 0 → (seen_in i x.members).hp ≡ 0 → (slice_index_or t.members i nobody).hp ≡ 0
+  fallen_if_told i low z e =
+      let m = foe_member i low z in
+      (tells_hp (form_of form) (slice_index_or t.members i nobody).hp (slice_index_or t.members i nobody).max m.hp m.max.0).0 ((hp_told i low z).0 ∙ e)
+
+-- The foe's living member has HP in the log too: a member without HP has none there.
+
+none_told : (form : HpForm) (most : ℕ) → (told_in form (record { hp = 0; max = most; kind = None })).hp ≡ 0
+none_told Exact most = refl
+none_told Bar most = refl
+none_told Hundredths most = refl
+
+lives_if : (hp : ℕ) → hp ≢ 0 → nat_lt 0 hp ≡ true
+lives_if hp z = let some : 1 ≤ hp = omega (arith, z) in grind (arith, nat_tests)
+
+not_living : (hp : ℕ) → hp ≡ 0 → nat_lt 0 hp ≡ true → ⊥
+not_living hp e h = false≢true (sym (ap (λ (n : ℕ). nat_lt 0 n) e) ∙ h)
+
+told_none : (t : Teller) (w : PublicSide) (u : Party) (k : FoeKept t.places w.place w.members) → SideAgrees w (side_shows u) → (foe_as_told t w).place ≢ 0
+    → (member_at u.active.place u).hp ≡ 0 → (seen_in ((foe_as_told t w).place - 1) (foe_as_told t w).members).hp ≡ 0
+told_none t w u k a z dead =
+    let o = out_told t w k z in
+    let i = k.out o.1 in
+    let named : (seen_at w.place w).species ≢ 0 =
+    subst (λ (n : ℕ). (seen_at n w).species ≢ 0) i.2 (k.appeared i.0 (λ e. o.1 (sym i.2 ∙ e))) in
+    let hp : (seen_at w.place w).hp ≡ 0 =
+    (a.members w.place named).0 ∙ ap (λ (m : Shown). m.hp) (shows_at u w.place) ∙ ap (λ (n : ℕ). (member_at n u).hp) a.place ∙ dead in
+    ap (λ (s : Seen). s.hp) o.2 ∙ ap (λ (n : ℕ). (told_in (form_of t.pixels) (record { hp = n; max = (seen_at w.place w).max; kind = None })).hp) hp
+    ∙ none_told (form_of t.pixels) (seen_at w.place w).max
+
+-- All of it
+
+module _ (s : Side) (form : ℕ) (few : form ≤ 2) (team : List Member) (t : Teller) (q : Public) (b : State) (valid : IsState b)
+    (known : Known s team t q) (view : AgreesWith q (shows b.field)) (told : IsTold q b.field) (does : BothDo q b.field)
+    (members : SideHasAppeared q.one b.field.one × SideHasAppeared q.two b.field.two)
+    (p : Player) (side : p.side ≡ side_number s) (public : p.public ≡ as_known s team t q) (shown : p.own ≡ plain_side (own_side s b.field))
+    (slots : (k : ℕ) → length (seen_in k (public_side (other s) p.public).members).moves ≡ 5)
+    (g : Guess) (f : State) (guess : IsGuess g) (may : MayHaveHp s form p g) (fork : IsFork p g f) where
+  x_is : public_side (other s) p.public ≡ foe_as_told t (public_side (other s) q)
+  x_is = ap (public_side (other s)) public ∙ foe_of_public s team t q
+
+  own_is : public_side s p.public ≡ own_as_known team (public_side s q)
+  own_is = ap (public_side s) public ∙ own_of_public s team t q
+
+  fitting : Fits p (public_side (other s) p.public) (fresh_members g.team)
+  fitting = guess_fits p (public_side (other s) p.public) (length g.team) (fresh_members g.team) (fits s p g fork.state side fork.guessed).0
+
+  place_b : (active_in s b.field).place ≢ 0
+  place_b = place_of s b.field (λ e. fitting.own_out (ap (λ (o : OwnSide). o.place) shown ∙ e))
+
+  now_b : b.field.turn ≡ 0 → ⊥
+  now_b = begun s b valid place_b
+
+  starts_b : IsStarted b.terms b.field
+  starts_b = started b valid now_b
+
+  party_b : (u : Side) → IsParty b.terms.rules (party u b.field)
+  party_b u = party_valid u b.terms b.field starts_b.field
+
+  own_shows : Shows (plain_side (own_side s b.field)) s b.field
+  own_shows = shows_own s b.field (is-some (active_in s b.field).place place_b)
+
+  shows_p : Shows p.own s b.field
+  shows_p = subst (λ (o : OwnSide). Shows o s b.field) (sym shown) own_shows
+
+  turn_p : p.own.turn ≡ b.field.turn
+  turn_p = ap (λ (o : OwnSide). o.turn) shown
+
+  sides : HasSides s p g f
+  sides = has_sides s p g f fork side (λ e. now_b (sym turn_p ∙ e)) (own_plain g.rules.sleep_clause p.own (public_side s p.public) s b valid shows_p)
+      (foe_plain g.rules.sleep_clause (public_side (other s) p.public) (is_on p.own.held) g.team guess.team)
+      (let limit = starts_b.field.turn in let most = valid.terms.limit.1 in let e = turn_p in omega (arith, limit, most, e)) guess.limit guess.numbers
+
+  now_f : f.field.turn ≡ 0 → ⊥
+  now_f e = now_b (sym turn_p ∙ sym sides.turn ∙ e)
+
+  valid_f : IsState f
+  valid_f = fork.stands.valid
+
+  party_f : (u : Side) → IsParty f.terms.rules (party u f.field)
+  party_f u = party_valid u f.terms f.field (started f valid_f now_f).field
+
+  own_holds : Holds (party s f.field) (own_part g.rules.sleep_clause p.own (public_side s p.public))
+  own_holds = holds_side s f.field (own_part g.rules.sleep_clause p.own (public_side s p.public)) now_f sides.own
+
+  foe_holds : Holds (party (other s) f.field) (foe_part g.rules.sleep_clause (public_side (other s) p.public) (is_on p.own.held) (fresh_members g.team))
+  foe_holds = holds_side (other s) f.field (foe_part g.rules.sleep_clause (public_side (other s) p.public) (is_on p.own.held) (fresh_members g.team)) now_f sides.foe
+
+  -- The own side
+
+  own_q : SideDoes (public_side s q) (party s b.field)
+  own_q = does_of s q b.field does
+
+  last_is : (public_side s p.public).last_move ≡ (public_side s q).last_move
+  last_is = ap (λ (y : PublicSide). y.last_move) own_is
+
+  alike : Alike (party s f.field) (party s b.field)
+  alike = own_alike g.rules.sleep_clause p.own (public_side s p.public) s f b shows_p own_holds (party_f s) (party_b s) (last_is ∙ own_q.last_move)
+      (subst (λ (n : ℕ). IsMoveOf (member_in s b.field) n) (sym last_is) (appeared_of s q b.field members).last_move)
+
+  -- The foe's side
+
+  numbered_x : IsNumbered (public_side (other s) p.public)
+  numbered_x = subst IsNumbered (sym x_is) (numbered t (public_side (other s) q) known.foe)
+
+  foe_q : SideDoes (public_side (other s) q) (party (other s) b.field)
+  foe_q = does_of (other s) q b.field does
+
+  foe_x : Foe (public_side (other s) p.public)
+  foe_x = subst Foe (sym x_is) (foe_of_run t (public_side (other s) q) (party (other s) b.field) b.terms.rules (party_b (other s)) (view_of (other s) q b.field view)
+      (told_of (other s) q b.field told) foe_q (λ k. subst (λ (y : PublicSide). length (seen_in k y.members).moves ≡ 5) x_is (slots k))
+      (numbered t (public_side (other s) q) known.foe))
+
+  hp_x : (i : ℕ) → i < 6 → (seen_in i (public_side (other s) p.public).members).species ≢ 0 → let m : Member = slice_index_or (party (other s) f.field).members i nobody in
+      IsToldAs form (seen_in i (public_side (other s) p.public).members).hp (seen_in i (public_side (other s) p.public).members).max m.hp m.max
+  hp_x = hp_told g.rules.sleep_clause (public_side (other s) p.public) (is_on p.own.held) g.team (party (other s) f.field) f.terms.rules p foe_holds (party_f (other s)) form may fitting
+
+  -- The trapping of the foe
+
+  held_f : bit_of (is_some (underway_in (other s) f.field).trapping) ≡ bit_of (is_some (underway_in (other s) b.field).trapping)
+  held_f =
+      let held_p : p.own.held ≡ bit_of (is_some (underway_in (other s) b.field).trapping) = ap (λ (o : OwnSide). o.held) shown in
+      let on : is_on p.own.held ≡ is_some (underway_in (other s) b.field).trapping = on_is _ _ held_p in
+      let last : (public_side (other s) p.public).last_move ≡ current_move_of (party (other s) b.field) = ap (λ (z : PublicSide). z.last_move) x_is ∙ foe_q.last_move in
+      let tied = (party_b (other s)).active.conditions.underway.trapping_tied in
+      ap bit_of (traps_on g.rules.sleep_clause (public_side (other s) p.public) (is_on p.own.held) (fresh_members g.team) (party (other s) f.field) f.terms.rules p foe_holds (party_f (other s)) foe_x fitting
+      ∙ and_same _ _ (λ z. explained traps (party (other s) b.field) _ last (current_known b.terms.rules (party (other s) b.field) (party_b (other s))) (tied (sym on ∙ z))) ∙ on)
+
+  -- Leech Seed
+
+  seeded_x : is_living (member_at (party (other s) f.field).active.place (party (other s) f.field)) ≡ true → IsFlag (public_side (other s) p.public).announced.seeded
+  seeded_x living = by (eqb_tells (member_at (party (other s) b.field).active.place (party (other s) b.field)).hp 0)
+    where
+      by : ((((member_at (party (other s) b.field).active.place (party (other s) b.field)).hp == 0) ≡ true) × ((member_at (party (other s) b.field).active.place (party (other s) b.field)).hp ≡ 0))
+          ⊎ ((((member_at (party (other s) b.field).active.place (party (other s) b.field)).hp == 0) ≡ false) × ((member_at (party (other s) b.field).active.place (party (other s) b.field)).hp ≢ 0))
+          → IsFlag (public_side (other s) p.public).announced.seeded
+      by (inr e) = subst (λ (z : PublicSide). IsFlag z.announced.seeded) (sym x_is) (flag_of _ _ ((told_of (other s) q b.field told).seeded (lives_if _ e.1)))
+      by (inl e) =
+          let out : (foe_as_told t (public_side (other s) q)).place ≢ 0 = subst (λ (z : PublicSide). z.place ≢ 0) x_is fitting.foe_out in
+          let none = told_none t (public_side (other s) q) (party (other s) b.field) known.foe (view_of (other s) q b.field view) out e.1 in
+          let none_x : (seen_in ((public_side (other s) p.public).place - 1) (public_side (other s) p.public).members).hp ≡ 0 =
+          subst (λ (z : PublicSide). (seen_in (z.place - 1) z.members).hp ≡ 0) (sym x_is) none in
+          let o = numbered_x.out fitting.foe_out in
+          let place = o.2 in
+          let back : (public_side (other s) p.public).place - 1 ≡ o.0 = omega (arith, place) in
+          let low : (public_side (other s) p.public).place - 1 < 6 = (let l = o.1 in omega (arith, place, l)) in
+          let named : (seen_in ((public_side (other s) p.public).place - 1) (public_side (other s) p.public).members).species ≢ 0 =
+          λ z. o.3 (ap (λ (i : ℕ). (seen_in i (public_side (other s) p.public).members).species) (sym back) ∙ z) in
+          let dead = fallen_if_told g.rules.sleep_clause (public_side (other s) p.public) (is_on p.own.held) g.team (party (other s) f.field) f.terms.rules p foe_holds (party_f (other s)) form may fitting ((public_side (other s) p.public).place - 1) low named none_x in
+          absurd (not_living _ (ap (λ (n : ℕ). (member_at n (party (other s) f.field)).hp) (foe_place g.rules.sleep_clause (public_side (other s) p.public) (is_on p.own.held) (fresh_members g.team) (party (other s) f.field) f.terms.rules p foe_holds (party_f (other s)) foe_x fitting) ∙ dead) living)
+
+  pub whole : AgreesWithFork s form team p f.field
+  whole = record {
+    own = same_shown s f b alike (party_f s) (party_b s) (stats_of_own g.rules.sleep_clause p.own (public_side s p.public) s f.field b.field now_f sides.own shows_p) (slot_of_own g.rules.sleep_clause p.own (public_side s p.public) s f.field b.field own_holds shows_p) held_f (sides.turn ∙ turn_p)
+        (sides.request ∙ ap (λ (o : OwnSide). o.request) shown)
+        (sides.outcome ∙ sym fitting.going ∙ ap (λ (o : OwnSide). o.outcome) shown) ∙ sym shown;
+    teller = teller_of s form (public_side (other s) p.public);
+    is_teller = is_teller (public_side (other s) p.public) numbered_x s form few;
+    form_is = refl;
+    public = with_foe s (exact (party (other s) f.field) (public_side (other s) p.public)) q;
+    known = public ∙ known_with s team t (teller_of s form (public_side (other s) p.public)) q (exact (party (other s) f.field) (public_side (other s) p.public))
+        (as_told (public_side (other s) p.public) numbered_x s form (party (other s) f.field) hp_x fitting.foe_out ∙ x_is);
+    view = whole_view s q _ f.field (view-alike (public_side s q) _ _ alike (view_of s q b.field view)) (foe_view g.rules.sleep_clause (public_side (other s) p.public) (is_on p.own.held) (fresh_members g.team) (party (other s) f.field) f.terms.rules p foe_holds (party_f (other s)) foe_x fitting)
+        (turn_of view ∙ sym (sides.turn ∙ turn_p)) (outcome_of view ∙ sym (ap (λ (o : OwnSide). o.outcome) shown) ∙ fitting.going ∙ sym sides.outcome);
+    conditions = whole_told s q _ f.field (told-alike (public_side s q) _ _ alike (told_of s q b.field told)) (foe_told g.rules.sleep_clause (public_side (other s) p.public) (is_on p.own.held) (fresh_members g.team) (party (other s) f.field) f.terms.rules p foe_holds (party_f (other s)) foe_x fitting seeded_x);
+    actives = whole_does s q _ f.field (does-alike (public_side s q) _ _ alike own_q) (foe_does g.rules.sleep_clause (public_side (other s) p.public) (is_on p.own.held) (fresh_members g.team) (party (other s) f.field) f.terms.rules p foe_holds (party_f (other s)) foe_x fitting) does.may_hit_itself;
+    own_members = subst (λ (z : PublicSide). SideHasAppeared z (party s f.field)) (sym (own_side_of s q _))
+        (appeared-alike (public_side s q) (party s f.field) (party s b.field) alike (appeared_of s q b.field members));
+    foe_members = subst (λ (z : PublicSide). SideHasAppeared (recharges_unless true z) (party (other s) f.field)) (sym (foe_side_of s q _))
+        (foe_appeared g.rules.sleep_clause (public_side (other s) p.public) (is_on p.own.held) (fresh_members g.team) (party (other s) f.field) f.terms.rules p foe_holds (party_f (other s)) foe_x fitting);
+  }
+    where
+      turn_of : AgreesWith q (shows b.field) → q.turn ≡ b.field.turn
+      turn_of v = v.turn
+
+      outcome_of : AgreesWith q (shows b.field) → q.outcome ≡ outcome_byte b.field.outcome
+      outcome_of v = v.outcome
+
+pub forks_agree : ForksAgree
+forks_agree t one two seed pairs terms stream team_one team_two s form p few player g f guess may fork =
+    let r : Ran = run (first_state t one two seed) pairs in
+    let team : List Member = team_of s one two in
+    let tellable = all-tellable t one two seed pairs team_one team_two in
+    let valid : IsState r.state = states_stay_valid (first_state t one two seed) pairs (first_states_are_valid t one two seed terms team_one team_two stream) in
+    let view = agrees t one two seed pairs team_one team_two in
+    let own : p.own ≡ plain_side (own_side s r.state.field) = ap (λ (z : Player). z.own) player.is.is in
+    let side : p.side ≡ side_number s = ap (λ (z : Player). z.side) player.is.is in
+    let going = (guess_fits p (public_side (other s) p.public) (length g.team) (fresh_members g.team) (fits s p g fork.state side fork.guessed).0).going in
+    let does : BothDo (public_of r) r.state.field = actives_agree t one two seed pairs terms stream team_one team_two
+    (no_fault r.state.field.outcome (sym (ap (λ (o : OwnSide). o.outcome) own) ∙ going)) in
+    whole s form few team (meets_all (events_in r) (first_teller s form)) (public_of r) r.state valid (met s form team r tellable) view
+    (conditions_agree t one two seed pairs team_one team_two) does (members_agree t one two seed pairs team_one team_two)
+    p side (holds s form one two r tellable player.foes player.log _ p player.told player.is) own player.slots g f guess may fork
