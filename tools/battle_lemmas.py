@@ -17,7 +17,7 @@ BATTLES = """
     1 3 4 5 6 8 9 11 13 14 16 17 19 22 23 26 28 32 33 36 37 39 40 41 43 45 46 47 48 49 50 51 55 56 57 58 61 63 66
     67 69 71 73 75 76 78 80 82 83 85 86 87
 """
-PER_MODULE = 5
+PER_MODULE = 9
 COMPUTING = """-- A lemma that unfolds `computing` computes all definitions of a battle. Made by tools/gen.
 use Rattle.std.proofs.Common.{Bool, true}
 use Rattle.std.specs.Fmt.{digits}

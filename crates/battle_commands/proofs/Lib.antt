@@ -1,7 +1,6 @@
 -- What the loops of the subcommands keep true, what is returned if nothing is printed, and worked examples of command lines.
 pub mod Standing
 pub mod Outcomes
-pub mod Duels
 pub mod CalcOutcomes
 pub mod Heard
 pub mod Pieces

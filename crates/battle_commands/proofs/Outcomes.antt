@@ -15,9 +15,8 @@ use Rattle.battle_input.specs.declared.fault.SheetFault.{SheetFault}
 use Rattle.battle_input.specs.declared.fault.SheetFault.TheVariants.{Json as NoSheet, Memory as NoMemory}
 use Rattle.battle_input.specs.declared.misfit.Key.{Key}
 use Rattle.battle_input.specs.declared.misfit.Misfit.{Misfit}
-use Rattle.battle_commands.specs.Asked.{Asked, asked_of, begins, input_limit}
+use Rattle.battle_commands.specs.Asked.{Asked, asked_of, begins, input_limit, Opens}
 use Rattle.battle_commands.specs.Due.{Due, due_if}
-use Rattle.battle_commands.specs.AskedBattle.{Opens}
 use Rattle.battle_commands.specs.Faults.{of_sheet}
 use Rattle.battle_commands.specs.declared.asked_battle.Bout.{Bout}
 use Rattle.battle_commands.specs.declared.fault.ToolFault.{ToolFault}

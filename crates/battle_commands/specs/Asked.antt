@@ -1,6 +1,10 @@
 -- What an input asks for: a battle and what is done in it, or the error that is returned instead (docs/PROGRAM.md, "What is tested,
 -- in this order").
-use Rattle.std.specs.Prelude.{Err, List, None, Ok, Option, Result, Some, if◌then◌else◌, length, nat_lt, ℕ}
+use Rattle.std.specs.Prelude.{◌≡◌, ℕ, List, Result, Ok, Err, None, Option, Some, if◌then◌else◌, length, nat_lt}
+use Rattle.gen1_layout.specs.Within.{Stands}
+use Rattle.battle_commands.specs.declared.fault.ToolFault.{ToolFault}
+use Rattle.battle_commands.specs.declared.fault.ToolFault.TheVariants.{Read, Write, Memory, Json, TooLong, Team}
+use Rattle.battle_commands.specs.declared.asked_battle.Bout.{Bout}
 use Rattle.serde_json.specs.Data.{Data}
 use Rattle.gen1_stats.specs.Refusals.{number_of, place_of}
 use Rattle.gen1_stats.specs.Teams.{team_of, team_refusal}
@@ -12,8 +16,6 @@ use Rattle.battle_input.specs.declared.fault.JsonFault.{JsonFault}
 use Rattle.battle_input.specs.declared.misfit.Key.{Key}
 use Rattle.battle_input.specs.declared.misfit.Key.TheVariants.{Choices, Submissions}
 use Rattle.battle_input.specs.declared.misfit.Misfit.{Misfit}
-use Rattle.battle_commands.specs.declared.fault.ToolFault.{ToolFault}
-use Rattle.battle_commands.specs.declared.fault.ToolFault.TheVariants.{Json, TooLong, Team}
 
 -- a battle before its first update, and what is done in it
 pub record Asked (A : Type 0) : Type 0 where
@@ -46,3 +48,21 @@ asked_to_run = asked_of Choices pair_of
 
 abbrev pub asked_of_room : List ℕ → Result (Asked (Side × ℕ × ℕ)) ToolFault
 asked_of_room = asked_of Submissions submission_of
+
+-- An error is the expected one, unless memory ran out; it is never one of a device.
+abbrev pub IsAskedFault : {A : Type 0} → ToolFault → Result A ToolFault → Type 0
+IsAskedFault Memory asked = Unit {0}
+IsAskedFault Read asked = ⊥
+IsAskedFault Write asked = ⊥
+IsAskedFault fault asked = asked ≡ Err fault
+
+-- The battle represents the requested state, with what is done in it. An error is as above, or that of a read.
+abbrev pub Opens : {A : Type 0} → Result (Bout A) ToolFault → Result (Asked A) ToolFault → Type 0
+Opens {A = A} (Ok bout) asked = (x : Asked A) × (asked ≡ Ok x) × Stands bout.battle x.state × (bout.items.items ≡ x.items)
+Opens (Err Read) asked = Unit {0}
+Opens (Err fault) asked = IsAskedFault fault asked
+
+-- damage numbers are the requested ones
+abbrev pub Finds : Result (List ℕ) ToolFault → Result (List ℕ) ToolFault → Type 0
+Finds (Ok numbers) asked = asked ≡ Ok numbers
+Finds (Err fault) asked = IsAskedFault fault asked

@@ -1,5 +1,9 @@
 -- What `calc` is to write and return for an input, and what it has written and returns (docs/PROGRAM.md, "calc").
-use Rattle.std.specs.Prelude.{Err, List, Ok, Option, Result, [], if◌then◌else◌, length, nat_lt, ok_or, ℕ, ◌∷◌, ◌≡◌}
+use Rattle.std.specs.Prelude.{[], ◌∷◌, List, codes, decimal, ℕ, ◌++◌, Err, Ok, Option, Result, if◌then◌else◌, length, nat_lt, ok_or, ◌≡◌}
+use Rattle.gen1_stats.specs.Members.{Member}
+use Rattle.gen1_machine.specs.State.{Field, Party}
+use Rattle.gen1_machine.specs.SwitchingIn.{sent_out}
+use Rattle.std.specs.List.{flat_map}
 use Rattle.std.specs.Io.KnownBytes.{Appends}
 use Rattle.gen1_stats.specs.Teams.{member_of as begun_of, team_refusal}
 use Rattle.gen1_machine.specs.Damage.{numbers_in}
@@ -11,12 +15,35 @@ use Rattle.gen1_hits.specs.UsualDamage.{has_usual_damage}
 use Rattle.battle_input.specs.Sheets.{input_of}
 use Rattle.battle_commands.specs.Asked.{input_limit, unless}
 use Rattle.battle_input.specs.CalcSheets.{calc_sheet_of}
-use Rattle.battle_commands.specs.Duel.{duel}
-use Rattle.battle_commands.specs.NumberLine.{number_line}
 use Rattle.battle_input.specs.declared.calc_sheet.CalcSheet.{CalcSheet}
 use Rattle.battle_input.specs.declared.fault.JsonFault.{JsonFault}
 use Rattle.battle_commands.specs.declared.fault.ToolFault.{ToolFault}
 use Rattle.battle_commands.specs.declared.fault.ToolFault.TheVariants.{Calc, Json, Memory, Read, TooLong, Write}
+use Rattle.gen1_machine.specs.declared.terms.Outcome.TheVariants as outcomes
+use Rattle.gen1_machine.specs.declared.terms.Request.TheVariants as requests
+
+abbrev pub alone : Member → Party
+alone m = record { members = m ∷ []; active = sent_out 1 m }
+
+-- with nothing else between them
+abbrev pub duel : Member → Member → Field
+duel one two = record {
+  one = alone one;
+  two = alone two;
+  last_damage = 0;
+  turn = 0;
+  outcome = outcomes.Ongoing;
+  request_one = requests.Pass;
+  request_two = requests.Pass;
+}
+
+abbrev pub behind_space : ℕ → List ℕ
+behind_space n = codes " " ++ decimal n
+
+-- in decimal, with single spaces between them
+abbrev pub number_line : List ℕ → List ℕ
+number_line [] = codes "\n"
+number_line (first ∷ later) = decimal first ++ flat_map behind_space later ++ codes "\n"
 
 -- the damage at each factor from 217 to 255, of the attacker's move against the defender; none if the divisor is 0
 unfoldable pub damages_of : CalcSheet → Option (List ℕ)

@@ -1,10 +1,19 @@
 -- The exit status of each error, and what standard error gets of it (docs/PROGRAM.md, "Faults and statuses").
-use Rattle.std.specs.Prelude.{List, [], codes, decimal, ℕ, ◌++◌, ◌∷◌}
+use Rattle.std.specs.Prelude.{Bool, List, Option, option_and_then, ℕ, [], codes, decimal, ◌++◌, ◌∷◌}
+use Rattle.gen1_devices.specs.DeviceViews.{device_inner}
+use Rattle.battle_commands.specs.declared.folder.Disk.{Disk}
 use Rattle.gen1_machine.specs.Lines.{joined}
 use Rattle.battle_input.specs.declared.fault.SheetFault.{SheetFault}
 use Rattle.battle_input.specs.declared.fault.SheetFault.TheVariants.{Json as NoSheet, Memory as NoMemory}
 use Rattle.battle_commands.specs.declared.fault.ToolFault.{ToolFault}
 use Rattle.battle_commands.specs.declared.fault.ToolFault.TheVariants.{Json, TooLong, Team, Pair, Log, Calc, Read, Write, Memory}
+
+abbrev pub disk_failed : {R F : Type 0} → Disk R F → Bool
+disk_failed d = d.has_failed
+
+-- the bytes that are left of the file that is open, if its reader reports them
+abbrev pub disk_remaining : {R F : Type 0} → (F → Option (List ℕ)) → Disk R F → Option (List ℕ)
+disk_remaining left d = option_and_then (λ file. left (device_inner file)) d.opened
 
 -- why no sheet can be read
 abbrev pub of_sheet : SheetFault → ToolFault

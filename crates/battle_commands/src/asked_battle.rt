@@ -2,8 +2,7 @@
 ghost use Rattle.std.specs.Prelude.{◌+◌, ◌≡◌, ◌≤◌, ◌||◌, IfSome, false, length};
 ghost use Rattle.gen1_devices.specs.Input.{TakesAtMost};
 ghost use Rattle.battle_commands.specs.Answers.{is_read_fault, is_write_fault};
-ghost use Rattle.battle_commands.specs.Asked.{asked_of};
-ghost use Rattle.battle_commands.specs.AskedBattle.{Opens};
+ghost use Rattle.battle_commands.specs.Asked.{asked_of, Opens};
 
 use crate::fault::ToolFault;
 use crate::input::{INPUT_LIMIT, read_input};

@@ -5,7 +5,7 @@ ghost use Rattle.battle_commands.specs.Answers.{is_read_fault, is_write_fault};
 ghost use Rattle.battle_input.specs.Sheets.{input_of};
 ghost use Rattle.battle_commands.specs.Calc.{PrintsDamages, damages_due};
 ghost use Rattle.battle_input.specs.CalcSheets.{calc_sheet_of};
-ghost use Rattle.battle_commands.specs.AskedBattle.{Finds};
+ghost use Rattle.battle_commands.specs.Asked.{Finds};
 ghost use Rattle.battle_input.specs.SheetViews.{Gives};
 
 use crate::damage::damages;

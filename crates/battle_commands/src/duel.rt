@@ -3,7 +3,7 @@ ghost use Rattle.std.specs.Prelude.{[], ◌∷◌, ◌≡◌};
 ghost use Rattle.gen1_stats.specs.Sheets.{Sheet as MemberSheet};
 ghost use Rattle.gen1_stats.specs.Teams.{member_of, team_of};
 ghost use Rattle.gen1_layout.specs.Within.{Setting, Within};
-ghost use Rattle.battle_commands.specs.Duel.{duel};
+ghost use Rattle.battle_commands.specs.Calc.{duel};
 
 use gen1_layout::Packed;
 use gen1_machine::EventList;

@@ -1,6 +1,6 @@
 //! Inputs that are opened by name (docs/PROGRAM.md, "What is tested, in this order").
 ghost use Rattle.std.specs.Prelude.{IfSome, List, None, OnOk, Option, Some, false, is_err, ◌||◌, ◌≡◌, ℕ};
-ghost use Rattle.battle_commands.specs.Folders.{disk_failed, disk_remaining};
+ghost use Rattle.battle_commands.specs.Faults.{disk_failed, disk_remaining};
 
 use gen1_machine::{Device, DeviceFault, Source};
 use std::fs;

@@ -1,6 +1,6 @@
 //! The 39 damage numbers in one line (docs/PROGRAM.md, "calc").
 ghost use Rattle.std.specs.Prelude.{◌≡◌};
-ghost use Rattle.battle_commands.specs.NumberLine.{number_line};
+ghost use Rattle.battle_commands.specs.Calc.{number_line};
 
 use arrayvec::ArrayString;
 use itoa::Buffer;

@@ -14,8 +14,3 @@ mod Battles3
 mod Battles4
 mod Battles5
 mod Battles6
-mod Battles7
-mod Battles8
-mod Battles9
-mod Battles10
-mod Battles11

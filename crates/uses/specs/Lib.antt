@@ -4,9 +4,5 @@ pub mod Calculations
 pub mod Playing
 -- What a viewer has shown of a log.
 pub mod Viewing
--- What it shows of a member.
-pub mod Showing
--- What a player does next.
-pub mod Players
 -- What the calls of a battle return.
 pub mod TheTheorem

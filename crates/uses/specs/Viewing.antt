@@ -1,11 +1,25 @@
 -- What a viewer has shown of a log (docs/MECHANICS.md, "Log bytes", "Lines", "Spectator's view").
-use Rattle.std.specs.Prelude.{List, Option, ℕ, ◌++◌, ◌≡◌}
+use Rattle.std.specs.Prelude.{if◌then◌else◌, List, None, Option, ◌-◌, ◌==◌, ℕ, ◌++◌, ◌≡◌}
+use Rattle.std.specs.List.{slice_get}
+use Rattle.std.specs.Option.{option_map}
+use Rattle.gen1_stats.specs.Members.{Member}
+use Rattle.gen1_machine.specs.View.{shown_at, SideView, sees_all, View}
+use Rattle.uses.specs.declared.viewer.shown.Shown.{Shown}
 use Rattle.std.specs.Io.KnownBytes.{Appends}
 use Rattle.gen1_machine.specs.declared.event.Event.{Event}
 use Rattle.gen1_machine.specs.Lines.{lines}
-use Rattle.gen1_machine.specs.View.{sees_all, View}
 use Rattle.gen1_events.specs.Reader.{part, Reading}
 use Rattle.gen1_events.specs.Splits.{IsReading, Reads}
+
+-- HP and status are those of the view, species and maximum HP those of the team; there is no member at place 0
+abbrev pub shown_of : SideView → List Member → Option Shown
+shown_of x team =
+    if x.place == 0 then None else option_map (λ (m : Member). record {
+      species = m.species;
+      hp = (shown_at x.place x).hp;
+      max_hp = m.max;
+      status = (shown_at x.place x).kind;
+    }) (slice_get team (x.place - 1))
 
 -- A new reader that took these bytes returned events, which the view has applied and whose lines were written. It holds the bytes
 -- after them, and no event waits.

@@ -1,6 +1,6 @@
 use Rattle.std.proofs.Common.{List, [], ap, arith, codes, decimal, drop, get_or, length, refl, take, take_all, ℕ, ◌++◌, ◌≡◌, ◌≤◌, ◌∙◌, ◌∷◌}
 use Rattle.std.specs.List.{flat_map}
-use Rattle.battle_commands.specs.NumberLine.{behind_space, number_line}
+use Rattle.battle_commands.specs.Calc.{behind_space, number_line}
 use Rattle.battle_commands.proofs.number_line.number_line.Goals as goal
 
 -- after all numbers that follow the first one

@@ -1,7 +1,7 @@
 -- The numbers so far are written, each with at most five digits and the space before it.
 use Rattle.std.proofs.Common.{decimal, get_or, length, take, ◌*◌, ◌++◌, ◌+◌, ◌≡◌, ◌≤◌}
 use Rattle.std.specs.List.{flat_map}
-use Rattle.battle_commands.specs.NumberLine.{behind_space}
+use Rattle.battle_commands.specs.Calc.{behind_space}
 use Rattle.battle_commands.proofs.number_line.number_line.Given as goal
 
 abbrev pub invariant-loop-number : goal.invariant-loop-number
