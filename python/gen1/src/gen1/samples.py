@@ -11,7 +11,7 @@ from __future__ import annotations
 import os
 import sys
 from ctypes import byref
-from functools import cache
+from functools import cache, lru_cache
 from random import Random
 from typing import TYPE_CHECKING
 
@@ -20,7 +20,7 @@ from gen1._check import shown, truth, within
 from gen1.errors import BadType
 from gen1.names import Species
 from gen1.rows import SAMPLE_TEAMS
-from gen1.team_text import members_of
+from gen1.team_text import dict_of
 from gen1.teams import Member, Team
 
 if TYPE_CHECKING:
@@ -43,8 +43,19 @@ def _teams() -> dict[str, Team]:
     for number, name in enumerate(SAMPLE_TEAMS, 1):
         made = _library.TeamStruct()
         _library.sample_team(number, byref(made))
-        found[name] = Team(members_of(made))
+        found[name] = _team(made)
     return found
+
+
+def _team(made: _library.TeamStruct) -> Team:
+    """The team of a struct that the library wrote."""
+    return Team(_member(bytes(made.members[at])) for at in range(made.count))
+
+
+@lru_cache(maxsize=256)
+def _member(data: bytes) -> Member:
+    """The member with the bytes of a struct. Those of the sample teams are made once."""
+    return Member.from_dict(dict_of(_library.MemberStruct.from_buffer_copy(data)))
 
 
 def sample_sets(species: Species | str | int | None = None) -> tuple[Member, ...]:
@@ -74,7 +85,7 @@ def random_team(seed: int | Random | Generator | None = None, legal: bool = True
     number, made = _number(seed), _library.TeamStruct()
     size = within(count, "count", 1, 6)
     _library.random_team(number, size, not truth(legal, "legal"), byref(made))
-    return Team(members_of(made))
+    return _team(made)
 
 
 def _number(seed: object) -> int:

@@ -54,7 +54,7 @@ def packed_of(team: _library.TeamStruct) -> str:
 def _written(call: Any, team: _library.TeamStruct, room: int) -> str:
     text, length = create_string_buffer(room), c_size_t(0)
     if place := call(byref(team), text, room, byref(length)) >> 8:
-        ups = [number for _, number in _member(team.members[place - 1])["moves"]]
+        ups = [number for _, number in dict_of(team.members[place - 1])["moves"]]
         raise BadArgument(f"member {place}: in a text each move has three PP ups, but the moves have {ups}")
     return text.raw[: length.value].decode("ascii")
 
@@ -65,15 +65,11 @@ def _members(call: Any, text: object) -> list[dict[str, Any]]:
     given, made, fault = with_genders(text).encode("utf-8", "surrogatepass"), _library.TeamStruct(), FaultStruct()
     if call(given, len(given), byref(made), byref(fault)):
         raise _fault(fault, text)
-    return members_of(made)
+    return [dict_of(made.members[at]) for at in range(made.count)]
 
 
-def members_of(team: _library.TeamStruct) -> list[dict[str, Any]]:
-    """The members of a struct that the library wrote, as dicts."""
-    return [_member(team.members[at]) for at in range(team.count)]
-
-
-def _member(of: _library.MemberStruct) -> dict[str, Any]:
+def dict_of(of: _library.MemberStruct) -> dict[str, Any]:
+    """A member that the library wrote, as a dict."""
     moves = [(of.moves[at], of.pp_ups[at]) for at in range(4) if of.moves[at]]
     return {"species": of.species, "level": of.level, "dvs": list(of.dvs), "exp": list(of.exp), "moves": moves}
 
