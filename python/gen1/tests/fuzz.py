@@ -149,7 +149,7 @@ class Group:
         rows, _, self.ended, *_ = self.env.step(np.where(going, BITS[self.pairs[0]], self.env.action_masks().argmax(1)))
         self._compare([self.battles[at].alone for at in np.flatnonzero(going).tolist()])
         assert (self.env.battles.bytes[going] == self.array.bytes[going]).all(), "other bytes in the environment"
-        assert self.pixels or (rows[going] == self.players.observe(1)[going]).all(), "other rows"
+        assert not self.pixels or (rows[going] == self.players.observe(1)[going]).all(), "other rows"
 
     def _compare(self, alone):
         """Compares the arrays with the battles that were just updated."""
