@@ -35,7 +35,7 @@ autodoc_default_options = {"members": True, "undoc-members": True}
 # The pages of the Python reference: the modules whose names each of them has.
 TOPICS = {
     "battles": ("Battles", "battle choices recorder"),
-    "teams": ("Teams and tables", "teams samples team_text tables"),
+    "teams": ("Teams and tables", "teams samples tables"),
     "states": ("States, odds and outcomes", "states _odds _outcomes"),
     "events": ("Events and logs", "_events sentences"),
     "players": ("Players, hosts and spectators", "players own_sides guesses rooms hosts messages spectators"),
@@ -47,7 +47,7 @@ TOPICS = {
     "errors": ("Errors", "errors"),
 }
 # Modules with public names that gen1 itself does not have, and such names of another module.
-WHOLE = ("draws", "layout", "observations", "opponents", "search", "showdown", "team_text")
+WHOLE = ("draws", "layout", "observations", "opponents", "search", "showdown")
 MORE = {"encodings": ["encodings.Column", "encodings.described"], "sentences": ["sentences.sentence"]}
 INDEX = """Python reference
 ================
