@@ -24,7 +24,7 @@ from sqlalchemy.exc import DBAPIError, IntegrityError
 T = TypeVar("T")
 Statements = Callable[[Any], T]
 # How many works a transaction has at most; and for how many seconds works are gathered for it, unless there are enough.
-MOST, GATHER, ENOUGH = 500, 0.008, 16
+MOST, GATHER, ENOUGH = 500, 0.011, 16
 LOG = logging.getLogger("gen1_server")
 
 

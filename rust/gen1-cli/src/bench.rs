@@ -2,9 +2,10 @@
 use crate::commands::text_of;
 use crate::fault::Fault;
 use crate::files::put;
-use crate::random::Random;
+use crate::random;
 use clap::Args;
 use gen1::{Battle, Choice, EventList, Offered, Side};
+use gen1_search::Dice;
 use std::hint::black_box;
 use std::time::{Duration, Instant};
 
@@ -30,8 +31,8 @@ struct Game {
 
 /// Plays random battles of full teams in four ways, and prints how long an update takes in each.
 pub fn bench(measure: &Measure) -> Result<(), Fault> {
-    let mut random = Random::new(measure.seed);
-    let games: Vec<_> = (0..BATTLES).map(|_| game(&mut random)).collect();
+    let mut dice = Dice::new(measure.seed);
+    let games: Vec<_> = (0..BATTLES).map(|_| game(&mut dice)).collect();
     let limit = Duration::from_secs(measure.seconds) / 4;
     let row = |name: &str, includes: &str, play: &mut dyn FnMut(&Game) -> usize| {
         let seconds = time_of_update(&games, limit, play);
@@ -51,15 +52,15 @@ pub fn bench(measure: &Measure) -> Result<(), Fault> {
         &mut recorded,
     )?;
     let includes = "no events; choices drawn from masks, not tested again";
-    row("masks", includes, &mut |game| masked(game, &mut random))?;
+    row("masks", includes, &mut |game| masked(game, &mut dice))?;
     let includes = "events in a list; choices drawn from lists";
     row("lists", includes, &mut |game| {
-        listed(game, &mut random, &mut events, |_| ())
+        listed(game, &mut dice, &mut events, |_| ())
     })?;
     let lines = |events: &EventList| drop(black_box(text_of(events)));
     let includes = "as lists, and each event as a line of text";
     row("lines", includes, &mut |game| {
-        listed(game, &mut random, &mut events, lines)
+        listed(game, &mut dice, &mut events, lines)
     })
 }
 
@@ -75,10 +76,14 @@ fn time_of_update(games: &[Game], limit: Duration, play: &mut dyn FnMut(&Game) -
     begin.elapsed().as_secs_f64() / updates as f64
 }
 
-fn game(random: &mut Random) -> Game {
-    let start = Battle::new(&random.team(6), &random.team(6), random.seed());
+fn game(dice: &mut Dice) -> Game {
+    let start = Battle::new(
+        &random::team(6, dice),
+        &random::team(6, dice),
+        dice.numbers(),
+    );
     let (mut battle, mut pairs) = (start.clone(), Vec::new());
-    while let Some((one, two)) = drawn(&battle, random) {
+    while let Some((one, two)) = drawn(&battle, dice) {
         pairs.push((one.choice(), two.choice()));
         // Choices from the mask are accepted.
         let _ = battle.update_silent(one, two);
@@ -87,8 +92,8 @@ fn game(random: &mut Random) -> Game {
 }
 
 /// A choice for each side; `None` once the battle is over.
-fn drawn(battle: &Battle, random: &mut Random) -> Option<(Offered, Offered)> {
-    let [one, two] = Side::BOTH.map(|side| random.choice(battle.offered_mask(side)));
+fn drawn(battle: &Battle, dice: &mut Dice) -> Option<(Offered, Offered)> {
+    let [one, two] = Side::BOTH.map(|side| random::choice(battle.offered_mask(side), dice));
     Some((one?, two?))
 }
 
@@ -103,9 +108,9 @@ fn recorded(game: &Game) -> usize {
     game.pairs.len()
 }
 
-fn masked(game: &Game, random: &mut Random) -> usize {
+fn masked(game: &Game, dice: &mut Dice) -> usize {
     let (mut battle, mut updates) = (game.start.clone(), 0);
-    while let Some((one, two)) = drawn(&battle, random) {
+    while let Some((one, two)) = drawn(&battle, dice) {
         let _ = battle.update_silent(one, two);
         updates += 1;
     }
@@ -114,12 +119,12 @@ fn masked(game: &Game, random: &mut Random) -> usize {
 
 fn listed(
     game: &Game,
-    random: &mut Random,
+    dice: &mut Dice,
     events: &mut EventList,
     then: impl Fn(&EventList),
 ) -> usize {
     let (mut battle, mut updates) = (game.start.clone(), 0);
-    let mut choose = |battle: &Battle, side| random.pick(&battle.choices(side)).copied();
+    let mut choose = |battle: &Battle, side| random::one_of(&battle.choices(side), dice).copied();
     while let (Some(one), Some(two)) = (choose(&battle, Side::One), choose(&battle, Side::Two)) {
         if battle.update_with(one, two, events).is_err() {
             break;

@@ -4,7 +4,7 @@ use crate::fault::{self, Fault};
 use crate::files::{self, put};
 use crate::input::{Seed, seed_in, team_named};
 use crate::json::{EventObject, line_of};
-use crate::random::Random;
+use crate::random;
 use crate::screen::bar;
 use clap::{Args, ValueEnum};
 use gen1::{
@@ -82,7 +82,7 @@ pub fn follow(asked: &Follow) -> Result<(), Fault> {
         Some(guess) => {
             let seed = asked
                 .seed
-                .map_or_else(|| Random::any().seed(), |seed| seed.0);
+                .map_or_else(|| random::dice(None).numbers(), |seed| seed.0);
             let battle = follower.battle(guess, seed);
             put_battle(asked, &battle.map_err(refused)?)?;
         }

@@ -5,12 +5,13 @@ use crate::fault::Fault;
 use crate::files::{name_of, put, read, read_line};
 use crate::input::chosen::Chosen;
 use crate::input::{Given, ReadTerms, team};
-use crate::random::Random;
+use crate::random;
 use crate::screen;
 use clap::{Args, ValueEnum};
 use gen1::{
     Battle, Choice, Host, LogFault, Offered, Player, Rules, Side, Team, TurnLimit, events_of,
 };
+use gen1_search::Dice;
 use std::path::{Path, PathBuf};
 
 /// The arguments of `play`.
@@ -49,17 +50,20 @@ enum Foe {
 
 /// Plays a battle.
 pub fn play(game: &Game) -> Result<(), Fault> {
-    let mut random = game.seed.map_or_else(Random::any, Random::new);
+    let mut dice = random::dice(game.seed);
     let (battle, teams) = match game.file.as_deref() {
         Some(path) => battle_in(path)?,
         None => {
-            let (one, two) = (random.team(game.members), random.team(game.members));
-            (Battle::new(&one, &two, random.seed()), [one, two])
+            let (one, two) = (
+                random::team(game.members, &mut dice),
+                random::team(game.members, &mut dice),
+            );
+            (Battle::new(&one, &two, dice.numbers()), [one, two])
         }
     };
     let mut foe = game
         .level
-        .map(|level| Searcher::new(level, &teams, &mut random, &battle));
+        .map(|level| Searcher::new(level, &teams, &mut dice, &battle));
     let mut host = Host::new(battle);
     loop {
         report(&host, &mut foe)?;
@@ -76,7 +80,7 @@ pub fn play(game: &Game) -> Result<(), Fault> {
         if host.number() == number && host.awaits(Side::Two) {
             let choice = match &mut foe {
                 Some(foe) => foe.choice(),
-                None => answer(game, &host.battle(), &mut random),
+                None => answer(game, &host.battle(), &mut dice),
             };
             submit(&mut host, Side::Two, choice.unwrap_or_default())?;
         }
@@ -117,10 +121,10 @@ struct Searcher {
 }
 
 impl Searcher {
-    fn new(level: u8, teams: &[Team; 2], random: &mut Random, battle: &Battle) -> Searcher {
+    fn new(level: u8, teams: &[Team; 2], dice: &mut Dice, battle: &Battle) -> Searcher {
         let foes = teams[0].members().len() as u8;
         Searcher {
-            bot: Bot::new(level, random.bits()),
+            bot: Bot::new(level, dice.bits()),
             player: Player::with_foes(Side::Two, &teams[1], foes),
             rules: battle.state().rules,
             limit: TurnLimit::new(battle.limit()).unwrap_or_default(),
@@ -187,36 +191,32 @@ fn asked(battle: &Battle) -> Result<Option<Choice>, Fault> {
 }
 
 /// The choice of the computer.
-fn answer(game: &Game, battle: &Battle, random: &mut Random) -> Option<Choice> {
+fn answer(game: &Game, battle: &Battle, dice: &mut Dice) -> Option<Choice> {
     let choices = battle.choices(Side::Two);
     match game.against {
         _ if choices.len() < 2 => choices.first().copied(),
-        Foe::Random => random.pick(&choices).copied(),
+        Foe::Random => random::one_of(&choices, dice).copied(),
         Foe::Playouts => choices
             .iter()
             .copied()
-            .max_by_key(|choice| wins(game, battle, *choice, random)),
+            .max_by_key(|choice| wins(game, battle, *choice, dice)),
     }
 }
 
 /// The score of side 2 over random battles that begin with a choice: 2 for a win, 1 for a tie.
-fn wins(game: &Game, battle: &Battle, choice: Choice, random: &mut Random) -> u32 {
-    (0..game.playouts)
-        .map(|_| won(battle, choice, random))
-        .sum()
+fn wins(game: &Game, battle: &Battle, choice: Choice, dice: &mut Dice) -> u32 {
+    (0..game.playouts).map(|_| won(battle, choice, dice)).sum()
 }
 
 /// The score of side 2 in one random battle that begins with a choice: 2 for a win, 1 for a tie or a fault.
-fn won(battle: &Battle, choice: Choice, random: &mut Random) -> u32 {
+fn won(battle: &Battle, choice: Choice, dice: &mut Dice) -> u32 {
     let mut copy = battle.clone();
     let mut two = Some(choice);
-    while let (Some(one), Some(other)) = (random.choice(copy.offered_mask(Side::One)), two) {
+    while let (Some(one), Some(other)) = (random::choice(copy.offered_mask(Side::One), dice), two) {
         if copy.update_silent(one, other).is_err() {
             break;
         }
-        two = random
-            .choice(copy.offered_mask(Side::Two))
-            .map(Offered::choice);
+        two = random::choice(copy.offered_mask(Side::Two), dice).map(Offered::choice);
     }
     match copy.outcome().winner() {
         Some(winner) => 2 * u32::from(winner == Side::Two),

@@ -563,7 +563,7 @@ fn stages_types_and_conditions_are_said_as_clients_read_them() {
 fn a_disabled_move_is_named_to_its_owner() {
     let text = has_lines(
         ["Alakazam||||disable|||||||", "Snorlax||||bodyslam|||||||"],
-        2,
+        4,
         &[M1],
         &[
             "|split|p2",
@@ -589,7 +589,7 @@ fn a_sleeper_is_offered_its_moves() {
     ];
     let text = has_lines(
         teams,
-        2,
+        3,
         &[M1],
         &["|-status|p2a: Snorlax|slp|[from] move: Lovely Kiss"],
     );
@@ -604,7 +604,7 @@ fn a_sleeper_is_offered_its_moves() {
     );
     has_lines(
         teams,
-        2,
+        3,
         &[M1, ["move 1", "move rest"]],
         &["|cant|p2a: Snorlax|slp"],
     );
@@ -636,7 +636,7 @@ fn a_turn_with_a_fall_has_no_upkeep() {
 fn other_formats_have_clauses_and_hundredths() {
     let team = "Jynx||||lovelykiss|||||||";
     let foes = "Snorlax||||splash|||||||]Chansey||||splash|||||||";
-    let mut input = begun("gen1ou", json!([0, 0, 0, 2]), [team, foes]);
+    let mut input = begun("gen1ou", json!([0, 0, 0, 3]), [team, foes]);
     for command in [
         "p1 move 1",
         "p2 move 1",

@@ -308,7 +308,9 @@ fn seed_in(value: &Value, options: Options) -> Result<[u8; 10], String> {
     }
     if value.is_null() {
         let hashed = || RandomState::new().build_hasher().finish();
-        return Ok(seed_of(options.chance.map_or_else(hashed, |bits| bits())));
+        return Ok(gen1::seed_from_number(
+            options.chance.map_or_else(hashed, |bits| bits()),
+        ));
     }
     let numbers = value.as_array().ok_or_else(wrong)?;
     let numbers: Option<Vec<u64>> = numbers.iter().map(Value::as_u64).collect();
@@ -322,7 +324,7 @@ fn seed_of_numbers(numbers: &[u64]) -> Option<[u8; 10]> {
         return None;
     }
     match numbers.len() {
-        4 => Some(seed_of(
+        4 => Some(gen1::seed_from_number(
             numbers.iter().fold(0, |whole, part| whole << 16 | part),
         )),
         // Each is a byte.
@@ -346,18 +348,7 @@ fn seed_of_text(text: &str) -> [u8; 10] {
             (hash ^ u64::from(byte)).wrapping_mul(0x0000_0100_0000_01b3)
         })
     };
-    seed_of(digits.unwrap_or_else(hashed))
-}
-
-/// The ten bytes that are made from a number, by a xorshift generator. The program `gen1` makes the same ones from `--seed`.
-fn seed_of(number: u64) -> [u8; 10] {
-    let mut state = number.wrapping_mul(0x9e37_79b9_7f4a_7c15) | 1;
-    std::array::from_fn(|_| {
-        state ^= state << 13;
-        state ^= state >> 7;
-        state ^= state << 17;
-        (state >> 32) as u8
-    })
+    gen1::seed_from_number(digits.unwrap_or_else(hashed))
 }
 
 /// The name and the team of `>player`.

@@ -2,7 +2,6 @@
 use super::Members;
 use crate::fault::Fault;
 use crate::files;
-use crate::random::Random;
 use clap::Args;
 use std::io::IsTerminal;
 use std::path::PathBuf;
@@ -96,7 +95,7 @@ impl Terms {
 
 pub fn seed_in(text: &str) -> Result<Seed, String> {
     if let Ok(number) = text.parse() {
-        return Ok(Seed(Random::new(number).seed()));
+        return Ok(Seed(gen1::seed_from_number(number)));
     }
     let numbers: Option<Vec<u8>> = text.split(',').map(|it| it.trim().parse().ok()).collect();
     let expected = "expected ten numbers from 0 to 255, separated by commas, or one number";
