@@ -39,7 +39,7 @@ abbrev pub is_read_fault : {T : Type 0} → Result T ToolFault → Bool
 is_read_fault (Ok x) = false
 is_read_fault (Err fault) = of_read fault
 
--- why there is no input: its source failed, memory ran out, or it is too long
+-- why an input wasn't read: its source failed, memory ran out, or it is too long
 abbrev pub IsInputFault : ToolFault → Option (List ℕ) → Type 0
 IsInputFault Read told = Unit {0}
 IsInputFault Memory told = Unit {0}

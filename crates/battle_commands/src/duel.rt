@@ -1,4 +1,4 @@
-//! Two members in a battle of their own, each just sent out (docs/PROGRAM.md, "calc").
+//! A battle of two members, each just sent out (docs/PROGRAM.md, "calc").
 ghost use Rattle.std.specs.Prelude.{[], ◌∷◌, ◌≡◌};
 ghost use Rattle.gen1_stats.specs.Sheets.{Sheet as MemberSheet};
 ghost use Rattle.gen1_stats.specs.Teams.{member_of, team_of};

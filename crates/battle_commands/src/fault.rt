@@ -14,7 +14,7 @@ use std::fmt;
 /// The most bytes of an error's words: those of a pair, whose number may have 20 digits and whose refusal three.
 const WORDS_LENGTH: usize = 37;
 
-/// The same with `error: ` before it and the line feed after it.
+/// The most bytes of an error's line: its words with `error: ` before them and the line feed after them.
 const LINE_LENGTH: usize = 45;
 
 /// Why the program did not do all that was asked. Each is shown as it is on standard error, after `error: ` (docs/PROGRAM.md,

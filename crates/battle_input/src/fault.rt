@@ -11,7 +11,7 @@ pub enum JsonFault {
     Value(Misfit),
 }
 
-/// Why there is no sheet.
+/// Why a sheet can't be read.
 #[derive(Clone, Debug, PartialEq, Eq, Drop)]
 pub enum SheetFault {
     /// The input is not the expected JSON.

@@ -5,7 +5,7 @@
 //! - `calc_sheet`: calculations
 //! - `misfit`: where a value is not as expected, and what is expected there
 //! - `no_json`: where bytes are not JSON
-//! - `fault`: why there is no sheet
+//! - `fault`: why a sheet can't be read
 #![tactic(auto)]
 
 mod calc_sheet;

@@ -216,7 +216,7 @@ impl Misfit {
         Misfit { path, expected }
     }
 
-    // The same, seen from the value that a step goes into.
+    // This misfit with `step` before its path, as seen from the value that the step goes into.
     fn behind(self, step: Step) -> Misfit
         requires { length self.path ≤ 4 }
         ensures { result ≡ record { path = step ∷ self.path; expected = self.expected } }

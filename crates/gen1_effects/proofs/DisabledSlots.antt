@@ -1,5 +1,5 @@
 -- The slots that Disable may draw. The first four of a list are all there are, and a slot holds a move if it has a
--- number. Two bytes that are alike under the look of a slot lead to the same.
+-- number. Two bytes that look the same under the look of a slot lead to the same progress.
 use Rattle.gen1_layout.proofs.Words.{Bool, IsBetween, List, Progress, Side, [], ap, arith, choose-true, draw, false, inl, inr, known_in, length, nat_lt, nat_tests, refl, stay, stop, suc, sym, then-stops, true, zero, ℕ, ◌∙◌, ◌▸◌}
 use Rattle.std.proofs.Common.{All, slice_index_or, add-zero, get_or, if◌then◌else◌, not, ◌%◌, ◌&&◌, ◌+◌, ◌-◌, ◌<◌, ◌||◌, ◌∷◌, ◌≡◌, ◌≤◌, ◌⊎◌}
 use Rattle.gen1_stats.specs.declared.known_move.KnownMove.{KnownMove}
@@ -78,7 +78,7 @@ named_by moves {one = one} {two = two} {three = three} {four = four} first secon
     by (suc (suc (suc zero))) e lt = rw e fourth
     by (suc (suc (suc (suc k)))) e lt = absurd (omega arith)
 
--- Bytes that are alike
+-- Bytes that look the same
 
 fail-stops : (s : Side) (p : Progress) → (fail s p).stopped ≡ true
 unfolding fail stop

@@ -39,7 +39,7 @@ pub fn is_late(effect: Effect) -> bool
 /// Bide (docs/MECHANICS.md, "Late effects").
 ///
 /// The action has just begun. The hit test, if there is one, and a count of sleep or of Bide's turns are drawn. It needs
-/// two free places in `events`. What the effect doesn't change stays as it is. Where Bide begins, neither thrashing nor
+/// two free places in `events`. The effect changes nothing else. Where Bide begins, neither thrashing nor
 /// trapping of `side` may be underway.
 pub fn group_two<R: Rolls, S: EventSink>(
     battle: &mut Packed,
@@ -61,8 +61,8 @@ pub fn group_two<R: Rolls, S: EventSink>(
     group_two_knowing(battle, side, id, &mut known, random, events);
 }
 
-/// The same in the middle of an action, of which more may be known. The action ends with it (docs/MECHANICS.md,
-/// "Action").
+/// Does what [`group_two`] does in the middle of an action, of which more may be known. The action ends with it
+/// (docs/MECHANICS.md, "Action").
 pub fn group_two_knowing<R: Rolls, S: EventSink>(
     battle: &mut Packed,
     side: Side,

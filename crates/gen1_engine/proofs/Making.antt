@@ -25,7 +25,7 @@ use Rattle.gen1_engine.specs.declared.result.Refusal.TheVariants as refusals
 use Rattle.gen1_engine.specs.Replay.{IsRefused}
 use Rattle.gen1_engine.specs.Update.{AreOffered, IsBounded, IsBoundedAs, Tests}
 
--- if something is offered, the battle goes on
+-- if something is offered, the battle continues
 pub goes_on : (s : State) (side : Side) (c : Choice) → offers s side c ≡ true → s.field.outcome ≡ outcomes.Ongoing
 unfolding offered
 goes_on s side c h = by s.field.outcome refl
@@ -37,7 +37,7 @@ goes_on s side c h = by s.field.outcome refl
     by outcomes.Tie e = absurd (let f = rw e at h in cc)
     by (outcomes.Fault n) e = absurd (let f = rw e at h in cc)
 
--- the requests while a battle goes on
+-- the requests while a battle continues
 
 pub data Asks (f : Field) : Type 0 where
   moves : f.request_one ≡ requests.Move → f.request_two ≡ requests.Move → Asks f

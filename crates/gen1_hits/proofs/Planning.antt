@@ -100,7 +100,7 @@ module _ (terms : Terms) (plan : Side → Plan) (s : Side) (move : Move) (is : I
   unfolding lead_up
   lead_up-passes pick taking = passes-then (charge-passes pick) (passes-then (leads-passes (use_move-leads pick taking) (λ f a w h. tt)) begin_move-passes)
 
--- What holds if a phase goes on.
+-- Q holds after a phase that doesn't stop.
 pub went-on : {P Q R : Field → Action → Stream → Type 0} (f : Phase) (p : Progress) → Passes P Q R f → (f p).stopped ≡ false → P p.field p.action p.stream
     → Q (f p).field (f p).action (f p).stream
 went-on {P} {Q} {R} f p k e h =
@@ -209,7 +209,7 @@ awake s Continue p e = refl
 awake s Idle p e = absurd (false≢true (sym e ∙ idle-stops s p))
 awake s Held p e = absurd (false≢true (sym e ∙ held-stops s _ p))
 
--- What the gate and the test for going on keep
+-- The gate, and the test whether a move continues, keep plans
 
 pub gates : (terms : Terms) (plan : Side → Plan) (s : Side) (pick : Pick) → Keeps (Quiet terms plan) (gate_or_held s pick)
 gates terms plan s pick = gate_or_held-sound (quiet-sound terms plan) s pick

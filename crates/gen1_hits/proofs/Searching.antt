@@ -1,4 +1,4 @@
--- How shown facts pass through a draw, and through draws until one passes a test, if the byte is alike to the stream's.
+-- How shown facts pass through a draw, and through draws until one passes a test, if the byte looks like the stream's.
 use Rattle.std.proofs.Common.{◌+◌, ◌≡◌}
 use Rattle.gen1_layout.proofs.Words.{Bool, Frame, None, Option, Parts, Phase, Progress, ShowsDrawn, Some, Telling, ap, subst, draw, drawing, false, refl, sym, ℕ, ◌∙◌}
 use Rattle.gen1_rolls.specs.Draws.{Drawing, IsFound, IsMissed, IsNext, Source, StandsIn}

@@ -1,5 +1,5 @@
 -- What a call by itself shows: an operation of an action that has just begun, of which nothing is known yet. Its
--- bytes, events and generator are those of its phase. What the phase learns in addition doesn't matter.
+-- bytes, events and generator are those of its phase. Facts that only the phase learns don't matter.
 use Rattle.gen1_layout.specs.Words.{Frame, Phase, Progress, ShowsDrawn, Side, Telling, Within, false}
 use Rattle.gen1_rolls.specs.Draws.{Drawing, Ref, Since, Source, StandsIn}
 use Rattle.gen1_machine.specs.Ruling.{Ruling, ruling_of}

@@ -18,8 +18,8 @@ Varies d random damage result =
     (since : Since d random.exit.now) (n : ℕ) → StandsIn d since.source n random.entry.now
     → VariesFrom d since.source n damage result random.exit.now
 
--- The same for a caller to whom all damage from a limit on is alike. The machine's last damage is the result, or both are
--- at least the limit.
+-- `VariesFrom` for a caller that doesn't distinguish damages of at least a limit. The machine's last damage is the result,
+-- or both are at least the limit.
 pub record VariesAlike {A : Type 0} (d : Drawing A) (source : Source A) (n limit damage result : ℕ) (new : A) : Type 0 where
   pub drawn : ℕ
   pub stands : StandsIn d source drawn new

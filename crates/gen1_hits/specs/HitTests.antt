@@ -10,6 +10,6 @@ with_critical critical g = record g { action = record g.action { critical = crit
 abbrev pub with_miss_unless : Bool → Frame → Frame
 with_miss_unless hit g = record g { action = record g.action { missed = if hit then g.action.missed else true } }
 
--- The same, and the byte that was tested.
+-- A miss, as in `with_miss_unless`, and the byte that was tested.
 abbrev pub with_test : Bool → ℕ → Frame → Frame
 with_test hit byte g = record g { action = record g.action { missed = if hit then g.action.missed else true; accuracy_tested = Some byte } }

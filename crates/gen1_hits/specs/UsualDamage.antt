@@ -11,6 +11,6 @@ has_own_damage OneHitKnockOut = true
 has_own_damage SuperFang = true
 has_own_damage _ = false
 
--- Whether a move has power, and no damage rule of its own.
+-- Whether a move has power, and no special damage rule.
 abbrev pub has_usual_damage : Move → Bool
 has_usual_damage move = nat_lt 0 move.power && not (has_own_damage move.effect)

@@ -16,7 +16,7 @@ use gen1_machine::{Event, Side};
 use gen1_rolls::Rolls;
 use gen1_tables::MoveId;
 
-/// The hit test of a move of `side`, at its accuracy byte, or at the kept accuracy if the action goes on
+/// The hit test of a move of `side`, at its accuracy byte, or at the kept accuracy if the action continues
 /// (docs/MECHANICS.md, "Hit test").
 ///
 /// It takes at most one draw. `known` then holds the byte that was tested, and whether the action has missed. An

@@ -24,10 +24,10 @@ pub fn factor<R: Rolls>(damage: u16, random: &mut R) -> u16
     factor_up_to(damage, u16::MAX, false, random)
 }
 
-/// The same for a hit that does more from `edge` on: it fells the foe, or breaks its substitute.
+/// Damage times a drawn factor, for a hit that fells the foe or breaks its substitute if the damage is at least `edge`.
 ///
-/// `cut`: to the caller all damage from there on is alike. So the result may be another damage that is at least `edge`,
-/// if the drawn one is.
+/// `cut`: the caller doesn't distinguish damages of at least `edge`. So if the drawn damage is at least `edge`, the
+/// result may be another such damage.
 pub fn factor_up_to<R: Rolls>(damage: u16, edge: u16, cut: bool, random: &mut R) -> u16
     ensures varies { VariesUpTo R.drawing random (limit_of edge cut) damage result }
     ensures most { result ≤ damage }

@@ -25,7 +25,7 @@ pub struct Hit {
     /// Whether the move hits.
     pub hit: bool,
     /// The byte that the draw was compared with, or the base if the test was settled without a draw. It is kept for a
-    /// move that goes on (docs/MECHANICS.md, "Kept accuracy").
+    /// move that continues (docs/MECHANICS.md, "Kept accuracy").
     pub kept: u8,
 }
 

@@ -11,7 +11,7 @@ use gen1_machine::Side;
 pub struct Known {
     /// The side that acts.
     pub side: Side,
-    /// The action goes on from an earlier turn, by Thrash, Trapping or Rage (docs/MECHANICS.md, "Going on").
+    /// The action continues from an earlier turn, by Thrash, Trapping or Rage (docs/MECHANICS.md, "Going on").
     pub going_on: bool,
     /// The action lets out the energy of Bide.
     pub letting_go: bool,

@@ -8,7 +8,7 @@ use gen1_tables::{Effect, MoveId};
 /// Whether a move has the usual damage, as the damage numbers give it (docs/MECHANICS.md, "Fixed damage and one-hit
 /// moves", "Counter").
 ///
-/// Such a move has power, and no damage rule of its own.
+/// Such a move has power, and no special damage rule.
 pub fn has_usual_damage(id: MoveId) -> bool
     ensures { result ≡ has_usual_damage (move_at id) }
 {

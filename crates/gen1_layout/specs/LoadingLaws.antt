@@ -47,7 +47,7 @@ StartsStand = (s : State) (header one two : List ℕ) → header ≡ header_bloc
     ↔ ((s.field.outcome ≡ outcomes.Ongoing) × AsksNothing s.field × (is_living (member_at 1 s.field.one) ≡ true)
     × (is_living (member_at 1 s.field.two) ≡ true))
 
--- The same test from turn 1 on.
+-- The test of turn, outcome and requests from turn 1 on.
 abbrev pub RequestsStand : Type 0
 RequestsStand = (s : State) (header one two : List ℕ) → header ≡ header_block s → IsTerms s.terms → IsField s.terms s.field
     → 1 ≤ s.field.turn → places_of one ≡ member_blocks s.field.one.members → places_of two ≡ member_blocks s.field.two.members

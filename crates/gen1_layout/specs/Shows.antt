@@ -35,7 +35,7 @@ pub record Shows (g : Frame) (parts : Parts) (events : Telling) (stopped : Bool)
   pub skips : p.skips ≡ g.skips
   pub action : p.action ≡ g.action
 
--- The same while a side may have no member out. Nothing stops there.
+-- `Shows` while a side may have no member out. Nothing stops there.
 pub record ShowsPacked (g : Frame) (parts : Parts) (events : Telling) (p : Progress) : Type 0 where
   pub packs : Packs g.setting parts p.field
   pub written : events p.events
@@ -45,8 +45,8 @@ pub record ShowsPacked (g : Frame) (parts : Parts) (events : Telling) (p : Progr
   pub skips : p.skips ≡ g.skips
   pub action : p.action ≡ g.action
 
--- What is shown inside an update with a generator, which is at the place of its source that p has drawn to. What the
--- frame says about draws doesn't matter then.
+-- `Shows` inside an update with a generator, which is at the place of its source that p has drawn to. The draws of the
+-- frame don't matter then.
 pub record ShowsDrawn {A : Type 0} (d : Drawing A) (source : Source A) (g : Frame) (parts : Parts) (events : Telling) (now : A) (stopped : Bool) (p : Progress) : Type 0 where
   pub shows : Shows (record g { stream = source.stream; drawn = p.drawn }) parts events stopped p
   pub stands : StandsIn d source p.drawn now

@@ -40,7 +40,7 @@ pub record Within (g : Setting) (p : Parts) (f : Field) : Type 0 where
   pub seed : IsStream (Link g.seed)
   pub storable : IsStorable g.terms f
 
--- The same while a side may have no member out, as before the first update.
+-- `Within` while a side may have no member out, as before the first update.
 pub record Packs (g : Setting) (p : Parts) (f : Field) : Type 0 where
   pub same : p ≡ blocks_of (state_in g f)
   pub terms : IsTerms g.terms

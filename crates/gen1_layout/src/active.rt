@@ -81,7 +81,7 @@ impl Packed {
         used_from(self.active(side)[PICKED_MOVE])
     }
 
-    /// The accuracy byte that is kept for a move that goes on, 0 to 255.
+    /// The accuracy byte that is kept for a move that continues, 0 to 255.
     pub fn kept_accuracy(&self, side: Side) -> u8
         ensures stands { Reads self.now result λ f. (active_in side f).kept_accuracy }
     {

@@ -21,7 +21,7 @@ impl Packed {
         Packed::with_rules(one, two, seed, Rules::default())
     }
 
-    /// The same with rules.
+    /// A battle of two teams before its first update, with rules and a turn limit of 1,000.
     pub fn with_rules(one: &Team, two: &Team, seed: [u8; 10], rules: Rules) -> Packed
         ensures { Stands result
             (first_state (record { rules = rules; limit = 1000 }) one.now two.now seed) }
@@ -29,7 +29,7 @@ impl Packed {
         Packed::with_limit(one, two, seed, rules, TurnLimit::default())
     }
 
-    /// The same with rules and a turn limit.
+    /// A battle of two teams before its first update, with rules and a turn limit.
     pub fn with_limit(
         one: &Team,
         two: &Team,

@@ -30,7 +30,7 @@ impl Packed {
         word!(self.header(), LAST_DAMAGE)
     }
 
-    /// The outcome: the battle goes on, side 1 or side 2 has won, it is a tie, or it ended by fault 1 or 2.
+    /// The outcome: the battle continues, side 1 or side 2 has won, it is a tie, or it ended by fault 1 or 2.
     pub fn outcome(&self) -> Outcome
         ensures stands { Reads self.now result λ f. f.outcome }
         ensures packs { ReadsPacked self.now result λ f. f.outcome }

@@ -83,7 +83,7 @@ pub const MARK: usize = 23;
 /// The place of the member that is out.
 pub const PLACE: usize = 0;
 
-/// The same in the 180 bytes of a side.
+/// The place of the member that is out, in the 180 bytes of a side.
 pub const PLACE_IN_SIDE: usize = 144 + PLACE;
 
 /// The first type.

@@ -29,7 +29,7 @@ use Rattle.gen1_machine.specs.FixedDamage.{fixed_damage, knock_out}
 use Rattle.gen1_machine.specs.Counter.{counter}
 use Rattle.gen1_machine.specs.ManyHits.{missed_move, hits_end, hits}
 
--- A move that goes on costs no PP. If its condition has ended meanwhile, the move is used as a new one.
+-- A move that continues costs no PP. If its condition has ended meanwhile, the move is used as a new one.
 abbrev pub keeps_going : Underway → Bool
 keeps_going u = is_some u.thrash || is_some u.trapping || u.rage
 
@@ -82,7 +82,7 @@ damage_of s move effects.SuperFang = fixed_damage s move
 damage_of s move effects.OneHitKnockOut = knock_out s move
 damage_of s move _ = choose (λ _. nat_lt 0 move.power) (usual_damage s move) (set_last_damage 0)
 
--- Bide's energy and trapping that goes on skip the damage and go straight to the landing.
+-- Bide's energy and trapping that continues skip the damage and go straight to the landing.
 abbrev pub lands_at_once : Move → Progress → Bool
 lands_at_once move p = p.action.letting_go || (p.action.going_on && traps move.effect)
 

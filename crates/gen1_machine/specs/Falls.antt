@@ -1,5 +1,5 @@
--- The end of an update (docs/MECHANICS.md, "Falls and requests"): who has fallen, who has won, and what is asked for
--- next.
+-- The end of an update (docs/MECHANICS.md, "Falls and requests"): which members have fallen, which side has won, and what
+-- is asked for next.
 use Rattle.std.specs.Prelude.{Bool, false, nat_le, not, true, ◌&&◌, ◌||◌}
 use Rattle.gen1_machine.specs.declared.side.Side.{Side}
 use Rattle.gen1_machine.specs.declared.side.Side.TheVariants.{One, Two}
@@ -46,7 +46,7 @@ end_if_decided r =
     ▸ when (λ p. not (has_living Two p)) (battle_ends outcomes.WinOne (events.Win One))
     ▸ when (λ p. nat_le r.last_turn p.field.turn) (battle_ends outcomes.Tie events.Tie)
 
--- The battle goes on. It asks for a switch where a member has fallen, and for moves of the next turn otherwise.
+-- The battle continues. It asks for a switch where a member has fallen, and for moves of the next turn otherwise.
 
 abbrev pub switch_if : Bool → Request
 switch_if true = requests.Switch

@@ -1,4 +1,4 @@
--- Moves that go on over several turns (docs/MECHANICS.md, "Going on"): trapping, thrashing and Bide.
+-- Moves that continue over several turns (docs/MECHANICS.md, "Going on"): trapping, thrashing and Bide.
 use Rattle.std.specs.Prelude.{None, Option, Some, nat_le, true, ℕ, ◌%◌, ◌*◌, ◌+◌, ◌==◌}
 use Rattle.gen1_machine.specs.declared.side.Side.{Side}
 use Rattle.gen1_machine.specs.declared.event.Volatile.TheVariants as volatiles
@@ -32,7 +32,7 @@ trap s = choose goes_on_now
     (on_conditions s with_trapping_one_less)
     (on_conditions (other s) without_recharge ▸ draw_count (trap_for s))
 
--- Thrashing goes on for two or three more turns. Then its user is confused.
+-- Thrashing continues for two or three more turns. Then its user is confused.
 
 unfoldable pub thrash_less : Side → Option ℕ → Phase
 thrash_less s None = stay

@@ -28,7 +28,7 @@ unfoldable pub land_on_foes_substitute : Side → ℕ → Option ℕ → Phase
 land_on_foes_substitute s damage None = stay
 land_on_foes_substitute s damage (Some hp) = land_on_substitute (other s) damage hp
 
--- A user with a substitute of its own isn't hurt.
+-- A user with its own substitute isn't hurt.
 unfoldable pub hurt_itself_by : Side → Option ℕ → Phase
 hurt_itself_by s None = fault 1
 hurt_itself_by s (Some damage) =

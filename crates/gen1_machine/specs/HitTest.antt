@@ -69,7 +69,7 @@ test_by s base None = given (λ p. scaled_in s base p.field) λ byte. set_tested
 unfoldable pub hit_test : Side → Move → ℕ → Phase
 hit_test s move base = given (λ p. settled_hit_in s move p.field) (test_by s base)
 
--- A move that goes on is tested with the byte that was kept.
+-- A move that continues is tested with the byte that was kept.
 abbrev pub base_of : Side → Move → Progress → ℕ
 base_of s move p = if p.action.going_on then (active s p).kept_accuracy else accuracy_byte move
 

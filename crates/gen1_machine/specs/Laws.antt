@@ -103,7 +103,7 @@ pub data Tree : Type 0 where
   Draw : (next : ℕ → Tree) → Tree
   Search : (test : ℕ → Bool) → (found : ℕ → Tree) → (none : Tree) → Tree
 
--- The same battle, with draws from a place of a stream.
+-- A battle that draws from this place of a stream.
 abbrev pub drawing_from : Stream → ℕ → Progress → Progress
 drawing_from s n p = record p { stream = s; drawn = n }
 
@@ -137,7 +137,7 @@ sum_over test f = sum_below 256 λ b. if test b then f b else 0
 abbrev pub count_of : (ℕ → Bool) → ℕ
 count_of test = sum_over test λ b. 1
 
--- A whole is dealt out to the bytes that pass a test, the same to each. What is kept of it is the sum of their parts.
+-- A whole is dealt out to the bytes that pass a test, the same to each. The kept part of it is the sum of their parts.
 pub record IsDealt (test : ℕ → Bool) (IsPart : ℕ → ℕ → ℕ → Type 0) (whole kept : ℕ) : Type 0 where
   pub each : ℕ
   pub part : ℕ → ℕ
@@ -146,7 +146,7 @@ pub record IsDealt (test : ℕ → Bool) (IsPart : ℕ → ℕ → ℕ → Type 
   pub sum : sum_over test part ≡ kept
 
 -- The probability that a tree leads to a field which passes a test is this share of a whole, if each draw is a uniform byte and
--- independent of the others. What a search finds is a uniform one of the bytes that pass its test.
+-- independent of the others. A search finds a uniform one of the bytes that pass its test.
 unfoldable pub IsShare : Tree → (Field → Bool) → ℕ → ℕ → Type 0
 IsShare (Done left) passes whole share = share ≡ (if passes left.field then whole else 0)
 IsShare (Draw next) passes whole share = IsDealt (λ b. true) (λ b. IsShare (next b) passes) whole share
@@ -200,7 +200,7 @@ pub record Agree (s w : Stream) (n m : ℕ) : Type 0 where
   pub bytes : (k : ℕ) → n ≤ k → k < m → byte_at w k ≡ byte_at s k
   pub spans : (span w ≡ span s) ⊎ ((m < n + span s) × (m < n + span w))
 
--- The same battle, with draws from another stream.
+-- A battle that draws from another stream.
 abbrev pub on_stream : Stream → Progress → Progress
 on_stream w p = record p { stream = w }
 

@@ -34,8 +34,8 @@ HoldsPlan Any moves a = Unit {0}
 HoldsPlan (Plans used e) moves a = IsUsedMove (length moves) used × (effect_of used moves ≡ e) × IsUnderway effects.DamageOnly a.conditions.underway
 HoldsPlan (Doing e) moves a = effect_of a.current_move moves ≡ e
 
--- A valid field inside an update for which each side's plan holds. What is known of the action and the draws is valid
--- too.
+-- A valid field inside an update for which each side's plan holds. What is known of the action is valid too, and so are the
+-- draws.
 pub record IsPlanned (terms : Terms) (plan : Side → Plan) (f : Field) (a : Action) (w : Stream) : Type 0 where
   pub field : IsField terms f
   pub tested : IsCount 0 255 a.accuracy_tested
@@ -54,7 +54,7 @@ abbrev pub PlanOf : Choice → Plan → Type 0
 PlanOf (choices.Move (suc k)) x = (e : Effect) × (x ≡ Plans (Slot (suc k)) e)
 PlanOf _ x = x ≡ Any
 
--- The plan that a pick needs when it is acted on. Either a move is about to be used, or the current move goes on, and
+-- The plan that a pick needs when it is acted on. Either a move is about to be used, or the current move continues, and
 -- its effect explains why.
 abbrev pub FitsPick : Pick → Plan → Type 0
 FitsPick (Use used) x = (e : Effect) × (x ≡ Plans used e) × (used ≢ Nothing)

@@ -132,7 +132,7 @@ on_member s change = on_field (changed_member s change)
 unfoldable pub set_last_damage : ℕ → Phase
 set_last_damage damage = on_field (with_last_damage damage)
 
--- A condition begins, goes on or ends, and an event reports it.
+-- A condition begins, continues or ends, and an event reports it.
 
 unfoldable pub starts : Side → Volatile → (ActiveConditions → ActiveConditions) → Phase
 starts s what change = told (changed_conditions s change) λ f. events.Start (who_in s f) what
@@ -206,7 +206,7 @@ is_of s t p = has_type t (active s p)
 
 -- What many rules share
 
--- A battle that can't go on ends with a fault.
+-- A battle that can't continue ends with a fault.
 unfoldable pub fault : ℕ → Phase
 fault n = on_field (with_outcome (outcomes.Fault n)) ▸ stop
 

@@ -1,4 +1,4 @@
--- What a spectator who has seen every event of a battle knows (docs/MECHANICS.md, "Spectator's view").
+-- The knowledge of a spectator that has seen every event of a battle (docs/MECHANICS.md, "Spectator's view").
 use Rattle.std.specs.Prelude.{List, ℕ, ◌≡◌}
 use Rattle.std.specs.List.{flat_map}
 use Rattle.gen1_stats.specs.Members.{IsTeam, Member}

@@ -27,7 +27,7 @@ do_part r (Sends s place) = begin s ▸ send_out s place
 do_part r (Acts s pick) = begin s ▸ unless (λ p. p.skips) (act r s pick)
 do_part r (Suffers s) = residual s
 
--- An active member has fallen, or the battle can't go on.
+-- An active member has fallen, or the battle can't continue.
 abbrev pub is_cut : Progress → Bool
 is_cut p = has_fallen One p || has_fallen Two p || is_over p.field.outcome
 

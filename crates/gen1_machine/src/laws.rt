@@ -191,7 +191,7 @@ pub fn step_is_bounded()
     ensures { StepIsBounded }
 {}
 
-/// A spectator who has seen all events of a battle of two teams knows what the battle shows (docs/MECHANICS.md,
+/// A spectator that has seen all events of a battle of two teams knows what the battle shows (docs/MECHANICS.md,
 /// "Spectator's view").
 ///
 /// That is the active places, HP, kinds of status, stages, substitutes, confusion, screens, turn and outcome.

@@ -16,7 +16,7 @@ pub enum UsedMove {
 pub enum Pick {
     /// A move that is picked for this turn.
     Use(UsedMove),
-    /// The current move, which goes on.
+    /// The current move, which continues.
     Continue,
     /// Nothing, since the member is asleep or frozen.
     Idle,

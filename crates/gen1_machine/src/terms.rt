@@ -9,12 +9,12 @@ use std::marker::Model;
 /// The outcome of a battle so far (docs/MECHANICS.md, "Falls and requests").
 #[derive(Clone, Copy, Debug, PartialEq, Eq, Drop)]
 pub enum Outcome {
-    /// The battle goes on, and choices are asked for.
+    /// The battle continues, and choices are asked for.
     Ongoing,
     WinOne,
     WinTwo,
     Tie,
-    /// The battle could not go on. The code is that of its `Event::Fault`, 1 or 2.
+    /// The battle could not continue. The code is that of its `Event::Fault`, 1 or 2.
     Fault(u8),
 }
 

@@ -1,4 +1,4 @@
--- A use of Bide: it begins, or it goes on and may let out its energy (docs/MECHANICS.md, "Going on").
+-- A use of Bide: it begins, or it continues and may let out its energy (docs/MECHANICS.md, "Going on").
 use Rattle.std.specs.Prelude.{None, Option, Some, if◌then◌else◌, is_some, nat_le, ℕ}
 use Rattle.gen1_machine.specs.declared.side.Side.{Side}
 use Rattle.gen1_machine.specs.Conditions.{energy_with, Storing}

@@ -1,5 +1,5 @@
 -- A use of a trapping or thrashing move by a side of which nothing else is known (docs/MECHANICS.md, "Going on"). If
--- the move is on already, it goes on, as for a side that continues its move. Otherwise it begins.
+-- the move is on already, it continues, as for a side that continues its move. Otherwise it begins.
 use Rattle.gen1_machine.specs.declared.side.Side.{Side}
 use Rattle.gen1_machine.specs.declared.picks.Pick.TheVariants.{Continue}
 use Rattle.gen1_machine.specs.Moves.{Move}

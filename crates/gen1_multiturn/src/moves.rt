@@ -1,4 +1,4 @@
-//! Moves that last several turns, and moves with damage rules of their own (docs/MECHANICS.md, "Fixed damage and
+//! Moves that last several turns, and moves with special damage rules (docs/MECHANICS.md, "Fixed damage and
 //! one-hit moves", "Going on", "Charging", "Counter").
 pub mod bide;
 pub mod charging;

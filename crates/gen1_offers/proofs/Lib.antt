@@ -6,7 +6,7 @@ pub mod Collecting
 pub mod OfferedSet
 -- Whether a choice is among those offered, without their list.
 pub mod OneChoice
--- The same, by the request and in the order of the tests.
+-- Whether a choice is offered, by the request and in the order of the tests.
 pub mod TestedChoice
 -- The bytes of the offered choices rise.
 pub mod RisingOffers

@@ -60,7 +60,7 @@ chosen-picked (false ∷ bs) (c ∷ cs) =
     let half : number_of_bits (false ∷ bs) / 2 ≡ number_of_bits bs = omega arith in
     chosen-even (number_of_bits (false ∷ bs)) c cs even ∙ ap (λ (n : ℕ). chosen_by n cs) half ∙ chosen-picked bs cs
 
--- The same, joined from what each test passes.
+-- The choices that `picked` keeps, joined from what each test passes.
 abbrev pub all_ifs : List Bool → List Choice → List Choice
 all_ifs [] cs = []
 all_ifs (b ∷ bs) [] = []
@@ -147,7 +147,7 @@ module _ (s : Side) (f : Field) (slots : length (member_in s f).moves ≤ 4) (me
       ∙ chosen-picked (false ∷ false ∷ false ∷ false ∷ false ∷ false ∷ high) all_choices
       ∙ switches_picked s f members
 
--- By the request, and by whether the battle goes on
+-- By the request, and by whether the battle continues
 
 six_in : (s : Side) (terms : Terms) (f : Field) → IsField terms f → length (party s f).members ≤ 6
 six_in One terms f h = h.one.members.size.1

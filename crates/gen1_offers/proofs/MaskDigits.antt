@@ -229,7 +229,7 @@ asks_pass requests.Pass byte e one two = refl
 asks_pass requests.Move byte e one two = absurd (one e)
 asks_pass requests.Switch byte e one two = absurd (two e)
 
--- A side is asked for something only while the battle goes on
+-- A side is asked for something only while the battle continues
 
 nothing_asked : (s : Side) (f : Field) {r : Request} → (f.request_one ≡ requests.Pass) → (f.request_two ≡ requests.Pass) → request_of s f ≡ r → (requests.Pass ≡ r → ⊥) → ⊥
 nothing_asked One f one two is apart = apart (sym one ∙ is)

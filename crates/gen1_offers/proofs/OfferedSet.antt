@@ -380,7 +380,7 @@ asked_move s f c = by c (is_committed (underway_in s f)) (commits s f)
           λ h. is ∙ (move_slot s f k).1 (h.1, h.2),
         )
 
--- By the request, and by whether the battle goes on
+-- By the request, and by whether the battle continues
 
 by_request : (r : Request) (s : Side) (f : Field) (c : Choice) → (is_among c (offered_for r s f) ≡ true) ↔ MayChoose r s f c
 by_request requests.Move s f c = asked_move s f c

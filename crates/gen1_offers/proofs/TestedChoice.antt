@@ -20,7 +20,7 @@ use Rattle.gen1_offers.proofs.MaskDigits.{goes_on, nothing_usable, something_usa
 use Rattle.gen1_offers.proofs.OfferedSet.{or_no, or_yes, other_number}
 use Rattle.gen1_offers.proofs.OneChoice.{committed_slot, no_move_to_switch, no_pass_to_move, no_pass_to_switch, no_slot, switch_offered}
 
--- A battle that asks for something goes on, and the request settles what is offered.
+-- A battle that asks for something continues, and the request settles what is offered.
 pub offers_asked : (side : Side) (s : State) (c : Choice) {r : Request} → IsState s → request_of side s.field ≡ r → (requests.Pass ≡ r → ⊥)
     → offers s side c ≡ is_among c (offered_for r side s.field)
 unfolding offered

@@ -41,8 +41,8 @@ pub record IsUsable (s : Side) (f : Field) (slot : ℕ) : Type 0 where
   pub has_pp : 1 ≤ (known_in slot (member_in s f).moves).pp
   pub is_free : bars_slot (conditions_in s f).disabled slot ≡ false
 
--- The moves. Move 0 is offered if there is no choice, no slot, or no usable slot. Otherwise the usable slots are
--- offered.
+-- Whether a move is offered. Move 0 is offered if the side has no choice, no slot, or no usable slot. Otherwise the usable
+-- slots are offered.
 abbrev pub MayMove : Side → Field → ℕ → Type 0
 MayMove s f zero = IsCommitted s f ⊎ HasNoSlot s f ⊎ ((slot : ℕ) → IsUsable s f slot → ⊥)
 MayMove s f slot = (IsCommitted s f → ⊥) × (HasNoSlot s f → ⊥) × IsUsable s f slot

@@ -43,7 +43,7 @@ fn fits(battle: &Packed, side: Side, choice: &Choice) -> bool
     }
 }
 
-// If something is asked from a side, the battle goes on. So the outcome is tested only if nothing is asked.
+// A battle that asks a side for something continues. So the outcome is tested only if nothing is asked.
 #[inline(always)]
 fn fits_pass(battle: &Packed, side: Side) -> bool
     ensures { (s : State) → Stands battle.now s → result ≡ offers s side choices.Pass }

@@ -37,7 +37,7 @@ pub fn offered_mask(battle: &Packed, side: Side) -> u16
     }
 }
 
-// The same, where the bench may be known.
+// The mask of offered choices, where the bench may be known.
 #[inline(always)]
 pub(crate) fn mask(battle: &Packed, side: Side, known: Option<Bench>) -> u32
     requires { IfSome known (λ b. IsInRange b) }

@@ -27,7 +27,7 @@ pub fn offered(battle: &Packed, side: Side) -> Choices
     }
 }
 
-// The choices while the battle goes on.
+// The choices while the battle continues.
 fn offered_now(battle: &Packed, side: Side) -> Choices
     ensures { (s : State) → Stands battle.now s → is_over s.field.outcome ≡ false
         → result.items ≡ offered_for (request_of side s.field) side s.field }

@@ -333,7 +333,7 @@ accepted-after s x y valid o a b =
     (close-leads x y f.one f.two f.turn s.terms p.field.outcome).led (record p { stopped = false })
     (update-after s x y f.request_one f.request_two (state-ready s valid) o first second)
 
--- if something is offered, the battle goes on
+-- if something is offered, the battle continues
 goes-on : (s : State) (x : Choice) → offers s One x ≡ true → is_over s.field.outcome ≡ false
 unfolding offered
 goes-on s x h = by (is_over s.field.outcome) refl

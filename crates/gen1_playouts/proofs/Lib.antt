@@ -1,4 +1,4 @@
--- While a battle goes on, each side is offered something.
+-- While a battle continues, each side is offered something.
 pub mod Offers
 -- Pairs that were accepted, one after the other.
 pub mod Accepting

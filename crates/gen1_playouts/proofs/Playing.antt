@@ -25,7 +25,7 @@ use Rattle.gen1_playouts.specs.Playouts.{IsDrawn, IsZeros, Playout, drawn_from, 
 use Rattle.gen1_playouts.proofs.Offers.{offers-some}
 use Rattle.gen1_playouts.proofs.Weighing.{among-weighted, only-drawn, weighted-not_empty, zeros-weighted}
 
--- a choice drawn from the mask of a battle that goes on is drawn among the offered choices, and so is offered
+-- a choice drawn from the mask of a battle that continues is drawn among the offered choices, and so is offered
 
 pub drawn-offered : (side : Side) (t : State) (mask old : ℕ) {new : ℕ} {choice : Choice} → IsState t → is_over t.field.outcome ≡ false
     → mask ≡ offered_mask t side → (1 ≤ length (choices_in mask) → IsDrawn old (choices_in mask) choice new)

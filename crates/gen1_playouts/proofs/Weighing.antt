@@ -26,7 +26,7 @@ weight-odd m w odd = rw odd (let e : 1 * w ≡ w = omega arith in e)
 pub weight-even : (m w : ℕ) → m % 2 ≡ 0 → m % 2 * w ≡ 0
 weight-even m w even = rw even (let e : 0 * w ≡ 0 = omega arith in e)
 
--- the choices from a digit on: as many copies of its own choice as its weight says, and those of the digits after it
+-- the choices from a digit on: as many copies of the digit's choice as its weight says, and those of the digits after it
 pub digit-first : (weight : Choice → ℕ) (all : List Choice) (rest digit : ℕ) → digit < length all
     → repeated weight (chosen_by rest (drop digit all))
     ≡ replicate (rest % 2 * weight (get_or all digit Pass)) (get_or all digit Pass) ++ repeated weight (chosen_by (rest / 2) (drop (digit + 1) all))

@@ -124,7 +124,7 @@ played_out o s seed = played o.weights (most_updates s.terms.limit o.depth) s se
 abbrev pub IsPlayedOut : PlayoutOptions → State → ℕ → Outcome → ℕ → Type 0
 IsPlayedOut o s seed end random = (end ≡ end_in (played_out o s seed).battle.field) × (random ≡ (played_out o s seed).random)
 
--- a round: a copy of s with ten numbers of its own is played out
+-- a round: a copy of s is played out with ten numbers that were drawn for it
 abbrev pub round : PlayoutOptions → State → ℕ → Playout
 round o s seed = played_out o (begun s seed).battle (begun s seed).random
 

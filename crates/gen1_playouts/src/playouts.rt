@@ -27,7 +27,7 @@ pub struct PlayoutOptions {
     /// The number of updates after which a round is decided by the HP left. `None`: each round is played to its end.
     pub depth: Option<u32>,
     /// How often each choice is made compared to others: by the move's number, where Move 0 counts as Struggle, 165. The first is
-    /// the weight of each switch. Where all have the weight 0, all are alike.
+    /// the weight of each switch. Where all have the weight 0, all are equally likely.
     pub weights: [u8; 166],
 }
 
@@ -41,14 +41,14 @@ pub struct Playouts {
     pub wins_two: u32,
     /// Nobody won, and nobody is ahead.
     pub ties: u32,
-    /// The battle could not go on.
+    /// The battle could not continue.
     pub faults: u32,
 }
 
 /// Plays copies of a battle, each with random numbers to draw and by random choices among those offered, and counts how they end.
 ///
 /// A round draws the ten numbers of its copy. Then in each update each side takes one of the choices that it is offered, side 1 first.
-/// A round that still goes on after `depth` updates is won by the side that has the larger share of its HP left, and equal shares are
+/// A round that isn't over after `depth` updates is won by the side that has the larger share of its HP left, and equal shares are
 /// a tie. A battle that is over counts as it ended. The same arguments give the same counts.
 pub fn playout(battle: &Packed, options: &PlayoutOptions) -> Playouts
     ensures plays { (s : State) → Stands battle.now s
@@ -84,7 +84,7 @@ fn count(end: Outcome, counts: &mut Playouts)
     }
 }
 
-// How a round ends: a copy of a battle that draws from ten numbers of its own.
+// How a round ends: a copy of a battle that draws from ten numbers of the round.
 fn end_of(
     start: &Packed,
     options: &PlayoutOptions,
@@ -164,7 +164,7 @@ fn draw(
     pick(mask, random)
 }
 
-// The same by weights, where the mask of the side's offered choices is known.
+// A choice of a side at random, by weights. The mask of the side's offered choices is known.
 #[inline(never)] // docs/SPEED.md, "Hints on inlining"
 fn draw_by_weights(
     battle: &Packed,

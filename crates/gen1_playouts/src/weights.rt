@@ -40,7 +40,7 @@ pub fn pick(mask: u16, random: &mut ChoiceGenerator) -> Choice
     choice_at(mask, place)
 }
 
-// The same by weights: of the list that has each choice as often as its weight says, or once if all have the weight 0.
+// A choice by weights: one of the list that has each choice as often as its weight says, or once if all have the weight 0.
 pub(crate) fn pick_weighted(mask: u16, weights: &[u8; 12], random: &mut ChoiceGenerator) -> Choice
     requires { mask < 4096 }
     ensures { (weight : Choice → ℕ) → weights.now ≡ map weight all_choices → 1 ≤ length (choices_in mask)

@@ -113,7 +113,7 @@ one_more pool d =
 abbrev pub draft : DrawnFrom → ℕ → ℕ → Draft
 draft pool seed count = iterate count (one_more pool) (record { team = []; left = numbers_in (species_of pool); random = seed })
 
--- why there is no team of so many members
+-- why a team can't have so many members
 abbrev pub size_refusal : ℕ → Option TeamRefusal
 size_refusal count = if count == 0 then Some Empty else if nat_lt 6 count then Some TooMany else None
 

@@ -56,7 +56,7 @@ next_standing s one two valid h =
     (subst (λ (l : List Choice). is_among one l ≡ true) (offered-is One s.field going) h.first)
     (subst (λ (l : List Choice). is_among two l ≡ true) (offered-is Two s.field going) h.second)
 
--- while the battle goes on, a side is asked something else than Pass
+-- while the battle continues, a side is asked for something other than Pass
 
 asks_by : (one two : Bool) (terms : Terms) (f : Field) → IsAsked one two terms f → (is_pass f.request_one ≡ false) ⊎ (is_pass f.request_two ≡ false)
 asks_by false false terms f h = inl (ap is_pass h.0)
@@ -153,7 +153,7 @@ start_offered s h =
 pub unbegun_offers : {p : Parts} (s : State) → Stands p s → (s.field.turn == 0) ≡ true → AreOffered s choices.Pass choices.Pass
 unbegun_offers s h zero = start_offered s (unstarted_at s h.valid (eqb_zero s.field.turn zero))
 
--- only a battle before its start goes on and asks both sides for Pass
+-- a battle that isn't over asks both sides for Pass only before its start
 
 pub begun_over : (s : State) → IsState s → is_over s.field.outcome ≡ true → false ≡ (s.field.turn == 0)
 begun_over s valid over = by valid.field

@@ -45,7 +45,7 @@ abbrev pub Counts : ℕ → State → Type 0
 Counts number s = number + pairs_left s ≤ s.terms.limit + 11
 
 -- A room holds a course: the battle represents its state, the log is the code of its last events, and the choices are those made
--- for the current pair. While the battle goes on, one of them is missing.
+-- for the current pair. While the battle continues, one of them is missing.
 pub record Holds (r : Held) (c : Course) : Type 0 where
   pub stands : Stands r.battle c.state
   pub counted : r.number ≡ c.number
@@ -115,6 +115,6 @@ reply_of (Err why) = TurnedAway (why_of why)
 abbrev pub Takes : Held → Held → Result Submitted Why → Submission → Type 0
 Takes old new result submission = (c : Course) → Holds old c → Holds new (after c submission) × (reply_of result ≡ reply_to c submission)
 
--- The same course, in which the battle draws other numbers.
+-- A course with other numbers for its battle to draw.
 abbrev pub reseeded_in : Ring → Course → Course
 reseeded_in ring c = record c { state = reseeded ring c.state }

@@ -82,7 +82,7 @@ impl Room {
 
     /// Replaces the ten numbers that the battle draws, and changes nothing else: a choice that the room keeps stays.
     ///
-    /// A host calls this before each pair, with bytes of its own. Otherwise the draws can be predicted from those before
+    /// A host calls this before each pair, with its own random bytes. Otherwise the draws can be predicted from those before
     /// (docs/MECHANICS.md, "Link numbers").
     pub fn reseed(&mut self, numbers: &LinkRandom)
         ensures { (c : Course) → Holds self.old c → Holds self.new (reseeded_in numbers.now c) }

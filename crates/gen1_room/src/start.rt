@@ -47,7 +47,7 @@ fn start(battle: &mut Battle, events: &mut EventList, log: &mut LogBuf)
     }
 }
 
-// Only before its start does a battle go on while neither side is asked anything.
+// A battle that isn't over asks neither side for anything only before its start.
 fn has_not_begun(battle: &Battle) -> bool
     ensures turn { (s : State) → Stands battle.now s → result ≡ (s.field.turn == 0) }
     ensures valid { StandsForSome battle.now }

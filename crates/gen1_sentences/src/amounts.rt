@@ -78,7 +78,7 @@ pub(crate) fn with_hp(told: Told, health: Health) -> ArrayString<24>
     text
 }
 
-// What a member of which it is told lost.
+// How much HP a member lost, or its HP after the loss if those before aren't known.
 pub(crate) fn loss_text(told: Told, health: Health) -> ArrayString<31>
     ensures { result.bytes ≡ loss_words told health }
 {
@@ -110,7 +110,7 @@ pub(crate) fn left_text(told: Told, health: Health) -> ArrayString<27>
     text
 }
 
-// What a member of which it is told gained, and what it has.
+// How much HP a member gained and now has, or only the latter if its HP before aren't known.
 pub(crate) fn gain_text(told: Told, health: Health) -> ArrayString<45>
     ensures { result.bytes ≡ gain_words told health }
 {

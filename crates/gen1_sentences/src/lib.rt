@@ -1,6 +1,6 @@
 //! The events of a battle as sentences.
 //!
-//! - `narrator`: who is told, and which members are out
+//! - `narrator`: the reader of the sentences, and the members that are out
 //! - `sentences`: the sentence of an event
 //! - `amounts`: HP, what is lost or gained, and levels, in words
 //! - `texts`: the other words in sentences

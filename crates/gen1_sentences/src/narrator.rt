@@ -1,4 +1,4 @@
-//! Who is told, and which members are out.
+//! The reader of the sentences of a battle, and the members that are out.
 ghost use Rattle.std.specs.Prelude.{None, Some, ◌≡◌};
 ghost use Rattle.gen1_machine.specs.Sides.{other};
 ghost use Rattle.gen1_machine.specs.Numbers.{side_number};
@@ -30,7 +30,7 @@ pub struct Told {
     pub in_percent: u8,
 }
 
-/// Who is told, and which members are out. Any numbers are a narrator.
+/// The reader of the sentences of a battle, and the members that are out. Any numbers are a narrator.
 #[repr(C)]
 #[derive(Clone, Copy, Debug, PartialEq, Eq, Drop)]
 pub struct Narrator {
@@ -43,8 +43,8 @@ pub struct Narrator {
 }
 
 impl Narrator {
-    /// A narrator before a battle. `you` is the side that is told, `None` for a spectator; `in_percent` says of which sides the
-    /// HP are said in per cent, as for logs whose HP are shares (docs/MECHANICS.md, "What a side is told").
+    /// A narrator before a battle. `you` is the side that reads its sentences, `None` for a spectator. `in_percent` says for which
+    /// sides HP are in per cent, as for logs whose HP are shares (docs/MECHANICS.md, "What a side is told").
     pub fn new(you: Option<Side>, in_percent: [bool; 2]) -> Self
         ensures { result ≡ narrator_of you in_percent }
     {

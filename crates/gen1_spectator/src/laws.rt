@@ -7,7 +7,7 @@ pub fn watchers_agree()
     ensures { WatchersAgree }
 {}
 
-/// The same holds for a view that follows the log with a reader, in pieces cut anywhere; and no piece has an error.
+/// A view that reads the log in pieces, cut anywhere, knows what the battle shows. No piece has an error.
 pub fn followers_agree()
     ensures agree { FollowersAgree }
     ensures faultless { FollowersMeetNoFault }

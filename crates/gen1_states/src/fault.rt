@@ -131,7 +131,7 @@ pub(crate) fn within(field: StateField, index: u8, value: u32, low: u32, high: u
     }
 }
 
-/// The same test with a further rule.
+/// Adds a further rule to a test.
 pub(crate) fn ruled(test: Test, holds: bool) -> Test
     ensures { result ≡ ruled test holds }
 {

@@ -16,7 +16,7 @@ pub only : {X : Type 0} (P : X → Type 0) (x : X) → P x → All P (x ∷ [])
 only P x is zero d low = is
 only P x is (suc k) d low = absurd (omega arith)
 
--- The same after an element is added.
+-- What holds for each element of a list and for one more holds for each after that one is added.
 pub All-push : {X : Type 0} (P : X → Type 0) (xs ys : List X) (x : X) → ys ≡ xs ++ x ∷ [] → All P xs → P x → All P ys
 All-push P xs ys x is all one = rw is (All-append P xs (x ∷ []) all (only P x one))
 

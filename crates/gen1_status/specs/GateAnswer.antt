@@ -33,7 +33,7 @@ pub record Tells (g : Frame) (parts : Parts) (events : Telling) (answer : Gate) 
   pub shows : Shows (frame_after answer after g) parts events (stopped_by answer) after
   pub outcome : after.field.outcome ≡ outcome_after answer before.field.outcome
 
--- The same with a generator.
+-- `Tells` with a generator.
 pub record TellsDrawn {A : Type 0} (d : Drawing A) (source : Source A) (g : Frame) (parts : Parts) (events : Telling) (now : A) (answer : Gate) (before after : Progress) : Type 0 where
   pub shows : ShowsDrawn d source (frame_after answer after g) parts events now (stopped_by answer) after
   pub outcome : after.field.outcome ≡ outcome_after answer before.field.outcome
@@ -43,7 +43,7 @@ abbrev pub DoesTelling : Scene → Gate → Phase → Type 0
 DoesTelling s answer phase = s λ parts events knows parts' events' knows'.
     (g : Frame) (p : Progress) → Shows (knows g) parts events false p → Tells (knows' g) parts' events' answer p (phase p)
 
--- The same with draws, if a premise holds.
+-- Code with draws does what a phase does, if a premise holds, and its result says how that ended.
 abbrev pub DrawsTelling : {A : Type 0} → Drawing A → Ref A → Premise → Scene → Gate → Phase → Type 0
 DrawsTelling d random premise s answer phase = s λ parts events knows parts' events' knows'.
     (since : Since d random.exit.now) (g : Frame) (p : Progress) → premise g p

@@ -5,7 +5,7 @@ ghost use Rattle.gen1_status.specs.GateAnswer.{stopped_by};
 /// The result of the gate for an action (docs/MECHANICS.md, "Gate").
 #[derive(Clone, Copy, Debug, PartialEq, Eq)]
 pub enum Gate {
-    /// The action goes on: it passed every test.
+    /// The action continues: it passed every test.
     Go,
     /// The action ends.
     Stop,

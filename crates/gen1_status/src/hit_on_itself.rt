@@ -28,7 +28,7 @@ pub(crate) fn hurt_itself<S: EventSink>(battle: &mut Packed, side: Side, events:
     hurt_itself_by(battle, side, damage(&numbers), events)
 }
 
-// A member with a substitute of its own isn't hurt.
+// A member with its own substitute isn't hurt.
 fn hurt_itself_by<S: EventSink>(
     battle: &mut Packed,
     side: Side,

@@ -2,7 +2,7 @@
 //! (docs/MECHANICS.md, "Penalties", "Stage shift", "Picks" to "Hit on itself", "Residual damage"). The effects of moves
 //! and the moves that last build on this.
 //!
-//! - `picks`: what a side's choice becomes, the move that it names, and whether a move goes on
+//! - `picks`: what a side's choice becomes, the move that it names, and whether a move continues
 //! - `gate_tests`: what keeps a member from acting
 //! - `gate_answer`: the result of the gate
 //! - `hit_on_itself`: the hit of a confused member on itself

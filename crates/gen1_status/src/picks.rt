@@ -1,4 +1,4 @@
-//! What a side's choice becomes as the turn begins, the number of its move, and whether a move goes on
+//! What a side's choice becomes as the turn begins, the number of its move, and whether a move continues
 //! (docs/MECHANICS.md, "Picks", "Going on").
 ghost use Rattle.std.specs.Prelude.{◌≡◌, ◌≤◌};
 ghost use Rattle.gen1_layout.specs.Words.{Field, IsBetween, Reads, Setting, Within, active_in, length, member_in, underway_in, zero, ℕ};
@@ -68,7 +68,7 @@ fn must_continue(battle: &Packed, side: Side) -> bool
     battle.has_any(side, Conditions::CONTINUES)
 }
 
-/// Whether the member of `side` that is out goes on with its move: by thrashing, trapping or Rage (docs/MECHANICS.md,
+/// Whether the member of `side` that is out continues with its move: by thrashing, trapping or Rage (docs/MECHANICS.md,
 /// "Going on").
 #[inline(always)] // docs/SPEED.md, "Hints on inlining"
 pub fn keeps_going(battle: &Packed, side: Side) -> bool

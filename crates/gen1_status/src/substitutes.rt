@@ -23,8 +23,8 @@ pub fn substitute<S: EventSink>(battle: &mut Packed, side: Side, events: &mut S)
     make_substitute(battle, side, events);
 }
 
-/// The same, as a part of an action. Returns whether it fails, which ends the action (docs/MECHANICS.md, "Early
-/// effects").
+/// Makes a Substitute as a part of an action. Returns whether it fails, which ends the action (docs/MECHANICS.md,
+/// "Early effects").
 pub fn make_substitute<S: EventSink>(battle: &mut Packed, side: Side, events: &mut S) -> bool
     requires room { HasRoom S.room 2 events.old }
     ensures shown { Does (scene S.tells battle events) result (make_substitute side) }

@@ -44,7 +44,7 @@ with_out s place f = changed_active s (with_sent_out place (member_at place (par
 abbrev pub PutsOut : (Setting → Parts → Field → Type 0) → Side → ℕ → Parts → Parts → Type 0
 PutsOut StandsFor s place old new = (g : Setting) (f : Field) → StandsFor g old f → InRange s place f → StandsFor g new (with_out s place f)
 
--- The same, if these are the stats with which the member comes out.
+-- `PutsOut`, if these are the stats with which the member comes out.
 abbrev pub PutsOutWith : (Setting → Parts → Field → Type 0) → Side → ℕ → List ℕ → Parts → Parts → Type 0
 PutsOutWith StandsFor s place stats old new =
     (g : Setting) (f : Field) → StandsFor g old f → InRange s place f → stats ≡ stats_sent_out (member_at place (party s f))

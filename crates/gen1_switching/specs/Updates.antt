@@ -29,7 +29,7 @@ drawing_on stream drawn s = record (opened s) { stream = stream; drawn = drawn }
 abbrev pub both_come : Choice → Choice → Premise
 both_come one two g p Then = Comes one One p.field → Comes two Two p.field → Then
 
--- A battle that goes on. `asked` was asked for, and each side has chosen one of its offered choices.
+-- A battle that continues. `asked` was asked for, and each side has chosen one of its offered choices.
 pub record Plays (s : State) (asked : Request) (one two : Choice) : Type 0 where
   pub goes_on : s.field.outcome ≡ Ongoing
   pub asked_for : (s.field.request_one ≡ asked) ⊎ (s.field.request_two ≡ asked)
@@ -47,7 +47,7 @@ pub record Updated (g : Setting) (parts : Parts) (events : Telling) (q : Progres
   pub written : events q.events
   pub drawn : q.drawn ≡ g.drawn
 
--- The same with draws. Afterwards the generator is at the place that q has drawn to.
+-- The bytes and the events are those of q, and the generator is at the place that q has drawn to.
 pub record UpdatedDrawing {A : Type 0} (d : Drawing A) (source : Source A) (g : Setting) (parts : Parts) (events : Telling) (now : A) (q : Progress) : Type 0 where
   pub within : Within g parts q.field
   pub written : events q.events

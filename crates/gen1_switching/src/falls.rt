@@ -1,4 +1,4 @@
-//! The end of an update: who has fallen, who has won, and what is asked for next (docs/MECHANICS.md, "Falls and
+//! The end of an update: which members have fallen, which side has won, and what is asked for next (docs/MECHANICS.md, "Falls and
 //! requests", "Turn limit").
 ghost use Rattle.std.specs.Prelude.{not, ◌&&◌, ◌≡◌};
 ghost use Rattle.gen1_tables.specs.Types.{any};
@@ -41,7 +41,7 @@ pub fn close<S: EventSink>(battle: &mut Packed, actor: Side, events: &mut S)
     }
 }
 
-/// Closes an update like [`close`], if both members that are out live and the battle goes on. It tests neither again:
+/// Closes an update like [`close`], if both members that are out live and the battle continues. It tests neither again:
 /// the next turn begins, or the battle is tied at its turn limit.
 ///
 /// It writes at most one event, and needs one free place in `events`.

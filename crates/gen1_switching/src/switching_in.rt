@@ -37,7 +37,7 @@ pub fn send_out<S: EventSink>(battle: &mut Packed, side: Side, place: Place, eve
     battle.end_trapping(side.other());
 }
 
-// The same while a side may have no member out and the foe isn't trapping.
+// Sends out a member like `send_out`, while a side may have no member out and the foe isn't trapping.
 pub(crate) fn send_first<S: EventSink>(
     battle: &mut Packed,
     side: Side,

@@ -50,7 +50,7 @@ pub enum Effect {
     InflictSleep,
     /// Confuses the foe.
     InflictConfusion,
-    /// Deals damage by a rule of its own. Stats and types don't change it.
+    /// Deals damage by a special rule. Stats and types don't change it.
     FixedDamage,
     /// Disables one of the foe's moves for some turns.
     Disable,
@@ -136,7 +136,7 @@ impl Effect {
         matches!(self, Effect::Trapping)
     }
 
-    /// Whether the move goes on for some turns and then confuses its user.
+    /// Whether the move continues for some turns and then confuses its user.
     pub fn thrashes(self) -> bool
         ensures { result ≡ thrashes self }
     {

@@ -148,7 +148,7 @@ unfolding move_called
 move_by_letters text =
     ap (λ (o : Option ℕ). option_or o (other_name text)) (place_by_letters move_names text) ∙ ap (option_or (place_called move_names (id_of text))) (other_by_letters text)
 
--- a text without letters and digits is no name
+-- a text without letters and digits isn't a name
 
 pub no_species : species_called [] ≡ None
 unfolding species_called species_names place_called

@@ -390,7 +390,7 @@ strike-alike r s move q q' a =
     ∙ ap ends (hits-alike s move q a.damage a.goes lands)
     ∙ sym (not_missed s move after q a.goes a.hits)
 
--- The hit test leads from damage that is alike to the same, or to damage that is alike.
+-- The hit test leads from damages with the same effect to one progress, or to damages with the same effect.
 hit-like : (s : Side) (move : Move) (q r : Progress) → AlikeDamage s q r → (hit_or_miss s move q).stopped ≡ false
     → LikeDamage s (hit_or_miss s move q) (hit_or_miss s move r)
 hit-like s move q r a goes = by (hit-alike s move a.damage q a.goes)

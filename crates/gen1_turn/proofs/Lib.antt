@@ -1,6 +1,6 @@
 -- How an action begins and ends.
 pub mod Acted
--- How the damage of a move is found, and which damage is alike.
+-- How the damage of a move is found, and which damages have the same effect.
 pub mod Damage
 -- The number of a move, and PP.
 pub mod Used

@@ -1,4 +1,4 @@
--- Who lives in a turn. It begins with two living members that are out, while the battle goes on. A switch takes no HP
+-- Who lives in a turn. It begins with two living members that are out, while the battle continues. A switch takes no HP
 -- and brings out a living member. Residual damage doesn't change the outcome.
 use Rattle.std.proofs.Common.{get_or, not, ◌-◌, ◌==◌, ◌≡◌, ◌≢◌, ◌⊎◌, ◌||◌}
 use Rattle.std.proofs.lemmas.Bool.{false≢true}
@@ -62,7 +62,7 @@ not_false false e = absurd (false≢true (sym e))
 pub whole_of : (f : Field) → cut_in f ≡ false → (has_fallen_in One f ≡ false) × (has_fallen_in Two f ≡ false) × (is_over f.outcome ≡ false)
 whole_of f e = none_of (has_fallen_in One f) (has_fallen_in Two f) (is_over f.outcome) e
 
--- In a battle that goes on, only a fallen member cuts a turn.
+-- In a battle that continues, only a fallen member cuts a turn.
 fell-or-over : (a b c x : Bool) → c ≡ false → (a || b) ≡ x → (a || b || c) ≡ x
 fell-or-over true b c x e h = h
 fell-or-over false true c x e h = h

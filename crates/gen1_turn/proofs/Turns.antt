@@ -93,7 +93,7 @@ module _ {A : Type 0} {d : Drawing A} {source : Source A} where
       → Does (between parts events parts' events') false f → ShowsOver d source k g parts events now false p → Ends d source k g parts' events' now (f p)
   ended k g f does (broke, a) = (false, (broke, still {g' = knowing (with_broke broke k) g} a (does _ _ a.shows)))
 
--- The same end without a generator.
+-- The end of a turn without a generator.
 pub stops_as : {g : Frame} {parts : Parts} {events : Telling} (q q' : Progress) → q ≡ q' → (stopped : Bool) × Shows g parts events stopped q'
     → (stopped : Bool) × Shows g parts events stopped q
 stops_as q q' e a = rw e a

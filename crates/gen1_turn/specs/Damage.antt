@@ -1,5 +1,5 @@
 -- The damage of an action (docs/MECHANICS.md, "Action", "Landing"): how it is found, by the effect of the move, and which
--- damage is alike. Until the damage has landed, the bytes may show another last damage than the machine's.
+-- damages have the same effect. Until the damage has landed, the bytes may show another last damage than the machine's.
 use Rattle.std.specs.Prelude.{Bool, None, Option, Some, false, min, true, ℕ, ◌+◌, ◌≡◌, ◌≤◌, ◌⊎◌}
 use Rattle.gen1_tables.specs.declared.effect.Effect.{Effect}
 use Rattle.gen1_tables.specs.declared.effect.Effect.TheVariants as effects
@@ -27,7 +27,7 @@ abbrev pub edge_of : Option ℕ → ℕ → ℕ
 edge_of (Some left) hp = left + 1
 edge_of None hp = hp
 
--- All damage that fells a foe is alike. A Substitute takes damage uncut.
+-- All damage that fells a foe has the same effect. A Substitute takes damage uncut.
 abbrev pub cuts : Option ℕ → Bool
 cuts (Some _) = false
 cuts None = true
@@ -58,7 +58,7 @@ LikeDamage s q r = (q ≡ r) ⊎ AlikeDamage s q r
 abbrev pub LikeUsual : Side → Move → Progress → Progress → Type 0
 LikeUsual s move q r = LikeDamage s q r × (is_late move.effect ≡ true → q ≡ r)
 
--- Code with draws does what a phase does, but for what is alike: the bytes show q, and the phase leads to r.
+-- Code with draws does what a phase does, up to damages with the same effect: the bytes show q, and the phase leads to r.
 abbrev pub DrawsLike : {A : Type 0} → Drawing A → Ref A → Scene → Bool → (Progress → Progress → Type 0) → Phase → Type 0
 DrawsLike d random s stopped Like phase = s λ parts events knows parts' events' knows'.
     (since : Since d random.exit.now) (g : Frame) (p : Progress) → ShowsDrawn d since.source (knows g) parts events random.entry.now false p

@@ -2,7 +2,7 @@
 pub mod Action
 -- The phases of an action from some step on.
 pub mod ActionSteps
--- How the damage of a move is found, and which damage is alike.
+-- How the damage of a move is found, and which damages have the same effect.
 pub mod Damage
 -- What the parts of a turn show.
 pub mod TurnParts

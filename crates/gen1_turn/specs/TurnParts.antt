@@ -49,7 +49,7 @@ ActsAndSuffers d random side pick s falls = s λ parts events k parts' events' k
 abbrev pub Ends : {A : Type 0} → Drawing A → Source A → Known → Frame → Parts → Telling → A → Progress → Type 0
 Ends d source k g parts events now p = (stopped : Bool) × ShowsOver d source k g parts events now stopped p
 
--- The same with an answer: unless it is true, the turn isn't cut.
+-- `Ends`, and the turn isn't cut unless `cut` is true.
 abbrev pub EndsCut : {A : Type 0} → Drawing A → Source A → Known → Frame → Parts → Telling → A → Bool → Progress → Type 0
 EndsCut d source k g parts events now cut p = Ends d source k g parts events now p × (cut ≡ false → is_cut p ≡ false)
 
@@ -70,7 +70,7 @@ Brings (choices.Switch place) s f = MayCome s place f
 Brings _ s f = Unit {0}
 
 -- The premise about these choices: they have plans and bring out living members, both members that are out live, and
--- the battle goes on.
+-- the battle continues.
 abbrev pub Chooses : Choice → Choice → (Side → Plan) → Progress → Type 0
 Chooses one two plan p =
     PlanOf one (plan One) × PlanOf two (plan Two) × Brings one One p.field × Brings two Two p.field × (is_cut p ≡ false)

@@ -20,7 +20,7 @@ use gen1_status::gate;
 /// Plays the action of `side` by its pick, from the gate to the kept accuracy (docs/MECHANICS.md, "Action").
 ///
 /// Returns whether the battle is over then, which a fault causes. It writes at most 21 events, and needs that many
-/// free places in `events`. What is known of the last action is forgotten, except for the side that is skipped.
+/// free places in `events`. The facts known of the last action are forgotten, except for the side that is skipped.
 pub fn act<R: Rolls, S: EventSink>(
     battle: &mut Packed,
     side: Side,

@@ -116,8 +116,8 @@ fn roll_damage<R: Rolls>(
     false
 }
 
-// The damage from which on a hit fells the foe, or breaks its Substitute, and whether all damage from there on is alike.
-// A Substitute takes damage uncut.
+// The least damage of a hit that fells the foe or breaks its Substitute, and whether all damage from there on has the
+// same effect. A Substitute takes damage uncut.
 fn damage_edge(battle: &Packed, foe: Side) -> (u16, bool)
     ensures edge { Reads battle.now result.0 (edge_in foe) }
     ensures cut { Reads battle.now result.1 (cuts_in foe) }

@@ -119,7 +119,7 @@ fn damage_unless_landing<R: Rolls>(
     damage_of(battle, side, id, known, random)
 }
 
-// Bide's energy and trapping that goes on skip the damage and go straight to the landing.
+// Bide's energy and trapping that continues skip the damage and go straight to the landing.
 fn lands_at_once(known: &Known, effect: Effect) -> bool
     ensures { result ≡ (known.now.letting_go || (known.now.going_on && traps effect)) }
 {

@@ -1,4 +1,4 @@
-//! The move that an action takes, and whether it goes on (docs/MECHANICS.md, "Picks", "Going on").
+//! The move that an action takes, and whether it continues (docs/MECHANICS.md, "Picks", "Going on").
 ghost use Rattle.std.specs.Prelude.{◌&&◌, ◌≡◌};
 ghost use Rattle.gen1_layout.specs.Operations.{Does, unchanged};
 ghost use Rattle.gen1_layout.specs.Words.{Event, Field, IsBetween, List, Reads, Setting, Within, active_in, false, length, member_in, not, underway_in};
@@ -13,7 +13,7 @@ use gen1_machine::{Pick, Side};
 use gen1_status::{keeps_going, number_of, used_by};
 use gen1_tables::MoveId;
 
-// A move that goes on costs no PP. If its condition has ended meanwhile, the move is used as a new one.
+// A move that continues costs no PP. If its condition has ended meanwhile, the move is used as a new one.
 pub(crate) fn see_if_going_on(battle: &Packed, side: Side, pick: Pick, known: &mut Known)
     ensures shown { (told : List Event) → Does (aware known (unchanged told battle)) false
         (see_if_going_on side pick) }

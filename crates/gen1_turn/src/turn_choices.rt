@@ -27,7 +27,7 @@ use gen1_machine::{Choice, Pick, Place, Side, UsedMove};
 use gen1_rolls::Rolls;
 use gen1_status::{number_of, pick};
 
-// A whole turn. No member has fainted after it yet. If it returns false, both members that are out live and the battle goes on.
+// A whole turn. No member has fainted after it yet. If it returns false, both members that are out live and the battle continues.
 pub(crate) fn take_turn<R: Rolls, S: EventSink>(
     battle: &mut Packed,
     one: Choice,

@@ -130,7 +130,7 @@ fn suffer_unless_over<S: EventSink>(battle: &mut Packed, side: Side, events: &mu
     suffer(battle, side, events)
 }
 
-// A side's residual damage in a battle that goes on, unless an active member has fallen. Returns whether the turn is
+// A side's residual damage in a battle that continues, unless an active member has fallen. Returns whether the turn is
 // cut now.
 #[inline(always)] // docs/SPEED.md, "Hints on inlining"
 fn suffer<S: EventSink>(battle: &mut Packed, side: Side, events: &mut S) -> bool

@@ -39,7 +39,7 @@ pub(crate) fn use_move<S: EventSink>(
     note_move(battle, side, id, events);
 }
 
-// A picked move becomes the current one. A move that goes on is that already.
+// A picked move becomes the current one. A move that continues is that already.
 fn take_up(battle: &mut Packed, side: Side, pick: Pick)
     ensures shown { (told : List Event) → DoesWhere (holding (PicksMove side pick))
         (quiet told battle) false (λ r. make_current side pick) }

@@ -16,7 +16,7 @@ use gen1_tables::{MoveId, Species};
 // The move of slot 0 if no slot can be chosen (docs/TABLES.md, "Moves").
 const STRUGGLE: u8 = 165;
 
-/// Why words are no choice of a side.
+/// Why words don't name a choice of a side.
 #[derive(Clone, Copy, Debug, PartialEq, Eq, Drop)]
 pub enum WordsFault {
     /// The text says no choice, or names no move or species.

@@ -50,7 +50,7 @@ fn a_misfit_is_told_with_its_way(rt: HostRuntime) -> Result<(), Fail> {
     Ok(())
 }
 
-// The same inside a member.
+// A misfit inside a member is reported with its path.
 #[test]
 fn a_misfit_in_a_member_is_told_with_its_way(rt: HostRuntime) -> Result<(), Fail> {
     let cases = [

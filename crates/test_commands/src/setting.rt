@@ -163,7 +163,7 @@ pub(crate) fn ran_words(
     ran_in(rt, &mut Disk::new(rt), words, input)
 }
 
-/// The same with the files of a folder.
+/// The exit status and outputs of `battle_tool` with these arguments and the files of a folder.
 pub(crate) fn ran_in(
     rt: &impl AllocGlobal,
     folder: &mut impl Folder,
@@ -228,7 +228,7 @@ impl Folder for Shelf<'_> {
     }
 }
 
-/// The same with one argument and this standard input.
+/// The exit status and outputs of `battle_tool` with one argument and this standard input.
 pub(crate) fn ran(
     rt: &(impl AllocGlobal + Files),
     word: &str,

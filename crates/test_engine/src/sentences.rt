@@ -1,4 +1,4 @@
-//! Sentences, as they are told to a spectator and to a side.
+//! Sentences for a spectator and for a side.
 use crate::battles::assert_same;
 use gen1_events::LogReader;
 use gen1_machine::{Device, Side};
@@ -7,7 +7,7 @@ use std::alloc::Global;
 use std::process::Abort;
 use std::test::Fail;
 
-// The codes of a log one by one, and what a spectator is told.
+// The codes of a log one by one, and their sentences for a spectator.
 static TOLD: [(&[u8], &str); 18] = [
     (
         &[0x02, 1, 128, 1, 100, 97, 1, 97, 1, 0],

@@ -1,5 +1,5 @@
 //! Tests of `gen1_tables`, `gen1_rolls`, `gen1_stats`, `gen1_text`, `gen1_machine`, `gen1_layout` and `gen1_states`,
-//! through their public functions. They are in a crate of their own because a crate with tests is
+//! through their public functions. They are in a separate crate because a crate with tests is
 //! proved twice. Expected values come from docs/TABLES.md, docs/MECHANICS.md, docs/TEAM_TEXT.md and docs/LAYOUT.md.
 //!
 //! - `tables`: rows of each table

@@ -30,7 +30,7 @@ pub(crate) fn two_tauros() -> [u8; 384] {
     form
 }
 
-// The same with a second Tauros on side 1, after the first.
+// Three Tauros: those of `two_tauros`, and a second one on side 1 after the first.
 pub(crate) fn three_tauros() -> [u8; 384] {
     let mut form = two_tauros();
     form[48..72].copy_from_slice(&TAUROS);

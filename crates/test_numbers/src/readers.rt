@@ -18,7 +18,7 @@ fn at_turn_0() -> Result<Packed, Fail> {
     ))
 }
 
-// The same with the first member of each side out.
+// The battle of `at_turn_0` with the first member of each side out.
 fn begun() -> Result<Packed, Fail> {
     let mut packed = at_turn_0()?;
     packed.active_mut(Side::One)[0] = 1;

@@ -1,4 +1,4 @@
-//! The same with a countdown from a number: its first draw is that number.
+//! Operations that draw from a countdown from a number: its first draw is that number.
 ghost use Rattle.std.specs.Prelude.{◌<◌, ◌≡◌, ◌≤◌};
 ghost use Rattle.gen1_events.specs.Sink.{events_room};
 ghost use Rattle.gen1_layout.specs.Words.{Field, HasRoom, None, Reads, Setting, Within, move_at, nat_lt, status_in, true};

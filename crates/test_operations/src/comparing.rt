@@ -31,7 +31,7 @@ pub(crate) fn assert_same<T: PartialEq + Debug + Drop>(rt: &impl Abort, found: T
     assert_eq!(rt; found, expected);
 }
 
-// The same, for a named case.
+// Whether these are the same, for a named case.
 pub(crate) fn assert_same_for<T: PartialEq + Debug + Drop>(
     rt: &impl Abort,
     name: &impl Debug,

@@ -183,8 +183,8 @@ fn rage_builds_at_each_hit(rt: HostRuntime) {
     );
 }
 
-// By a call of its own. It builds no further than +6, and a member without Rage or without HP builds none. The foe of the raging
-// member takes its penalty once more: 298 becomes 149 (docs/MECHANICS.md, "Going on").
+// Rage builds in a separate call. It builds no further than +6, and doesn't build for a member without Rage or without HP. The foe of
+// the raging member takes its penalty once more: 298 becomes 149 (docs/MECHANICS.md, "Going on").
 #[test]
 fn rage_builds(rt: HostRuntime) {
     play(

@@ -1,4 +1,4 @@
-//! Moves that last several turns, as they begin and as they go on (docs/MECHANICS.md, "Going on", "Charging"). The places of
+//! Moves that last several turns, as they begin and as they continue (docs/MECHANICS.md, "Going on", "Charging"). The places of
 //! bytes are those of docs/LAYOUT.md: the user's condition bits begin at 185, and its turns are at 194, its energy at 195, its
 //! current move at 197 and its kept accuracy at 199. The last damage is at 3. Both sides have a Tauros out: 353 HP, a quarter of
 //! which is 88.
@@ -20,7 +20,7 @@ fn a_trap_begins(rt: HostRuntime) {
     play(&rt, "single; equal 3; trap; draws 2; is one.trapping 4");
 }
 
-// A count of 0 stays 0, the foe's Recharge isn't changed, and nothing is drawn: in an action that goes on, and by the bytes
+// A count of 0 stays 0, the foe's Recharge isn't changed, and nothing is drawn: in an action that continues, and by the bytes
 // alone.
 #[test]
 fn a_trap_goes_on(rt: HostRuntime) {
@@ -125,7 +125,7 @@ fn a_charge_hides_who_digs(rt: HostRuntime) {
     );
 }
 
-// The current move was Struggle, which is 5. A move that doesn't charge changes nothing, and the action goes on.
+// The current move was Struggle, which is 5. A move that doesn't charge changes nothing, and the action continues.
 #[test]
 fn what_is_picked_is_charged(rt: HostRuntime) {
     play(

@@ -1,6 +1,6 @@
 //! Tests of `gen1_hits`, `gen1_odds`, `gen1_status`, `gen1_effects` and `gen1_multiturn`, through their public
 //! functions. A third generator, with its own stream, meets the clauses of each operation that draws. The tests are in
-//! a crate of their own because a crate with tests is proved twice.
+//! a separate crate because a crate with tests is proved twice.
 //!
 //! - `script`: tests as text, which a few functions play that are proved once
 //! - `comparing`: the two sides, and what tests compare

@@ -320,8 +320,8 @@ fn fixed_damage(rt: HostRuntime) -> Result<(), Fail> {
         ways(&battle, "Night Shade")?,
         [0, all, hit * hit, all * all],
     );
-    // 204 of 256 draws hit. Of the numbers 1 to 149, 49 are at least 101. Of their pairs, 100 * 99 / 2 and no more have
-    // a sum of 100 or less.
+    // 204 of 256 draws hit. 49 of the numbers 1 to 149 are at least 101. Exactly 100 * 99 / 2 of their pairs have a sum of
+    // 100 or less.
     let chances = ways(&battle, "Psywave")?;
     let both = 204 * 204 * (149 * 149 - 4950);
     let one = 2 * 204 * 52 * 149 * 49;

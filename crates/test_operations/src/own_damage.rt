@@ -1,4 +1,4 @@
-//! Moves whose damage has a rule of its own: Counter, fixed damage and one-hit moves (docs/MECHANICS.md, "Counter", "Fixed damage
+//! Moves whose damage has a special rule: Counter, fixed damage and one-hit moves (docs/MECHANICS.md, "Counter", "Fixed damage
 //! and one-hit moves"). The last damage is at byte 3, and the outcome at byte 16. A Tauros has base Speed 110, so a draw, rotated
 //! left by 3 bits, is critical below 55 ("Critical hits").
 use crate::script::{play, play_each};

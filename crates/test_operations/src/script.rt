@@ -1,13 +1,13 @@
 //! Tests as text: each line of a script is a case, of clauses with `;` between them that are done in their order.
 //!
-//! - `words`: the words of a clause, and the tables of names that stand for values
+//! - `words`: the words of a clause, and the tables of names that represent values
 //! - `positions`: a clause that begins a battle, as `pair Tauros`, or writes a field, as `two.hp 50`
 //! - `scene`: the battle, and clauses on what an action knows and draws
 //! - `calls`: a clause that calls an operation, as `hits Take Down`
 //! - `checks`: a clause that compares, as `told damage two 253/353`
 //!
 //! A table has a row of names and rows of values, with `|` between them. A script is played once for each row of
-//! values, and a word `$name` stands for the row's value.
+//! values, and a word `$name` represents the row's value.
 mod calls;
 mod checks;
 mod positions;

@@ -32,7 +32,7 @@ fn picks_of_who_goes_on(rt: HostRuntime) {
     );
 }
 
-// A pick names its move, or goes on with the current one (docs/MECHANICS.md, "Picks").
+// A pick names its move, or continues with the current one (docs/MECHANICS.md, "Picks").
 #[test]
 fn what_a_pick_uses(rt: HostRuntime) {
     play(
@@ -110,7 +110,7 @@ fn a_disabled_move(rt: HostRuntime) {
     );
 }
 
-// 42 * 40 * 74 / 72 / 50 + 2: a Tauros takes 36 from its own hit, and is no longer out of reach. The third turn ends the
+// 42 * 40 * 74 / 72 / 50 + 2: a Tauros takes 36 from its own hit, and isn't out of reach any more. The third turn ends the
 // confusion without a draw (docs/MECHANICS.md, "Hit on itself", "Gate").
 #[test]
 fn confused(rt: HostRuntime) {

@@ -1,4 +1,4 @@
-//! Tables (docs/MECHANICS.md, "Hosts"): a battle that is played through a host, and its room and both tellers called by hand.
+//! Tables (docs/MECHANICS.md, "Hosts"): a battle that is played through a host, and its room and both tellers called directly.
 use crate::comparing::assert_same;
 use crate::events::{ONE, TWO};
 use crate::teams::{SEED, member};
@@ -34,7 +34,7 @@ const ENDED: HostReply = Ok(Replied::Ended);
 // The battle draws these numbers in its second pair.
 const NUMBERS: [u8; 10] = [9, 8, 7, 6, 5, 4, 3, 2, 1, 0];
 
-// Side 1 brings its third member out, which side 2 is told as the second. Then its time runs out, and its first choice is made.
+// Side 1 brings its third member out, which is reported to side 2 as the second. Then its time runs out, and its first choice is made.
 static STEPS: [(Step, HostReply); 13] = [
     (Step::Submits(ONE, 0, 0x23), KEPT),
     (Step::Submits(ONE, 0, 0x11), Err(HostRefusal::AlreadyChosen)),
@@ -137,7 +137,7 @@ fn told(teller: &mut Teller, log: &[u8]) -> Result<LogBuf, Fail> {
     }
 }
 
-// Both sides are told what these tellers tell of the log of the room, and the audience what both tell.
+// Both sides receive what these tellers report of the log of the room, and the audience what both report.
 fn expect_told(
     rt: &impl Abort,
     host: &Host,

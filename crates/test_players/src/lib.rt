@@ -1,5 +1,5 @@
 //! Tests of `gen1_spectator`, `gen1_player` and `gen1_room`, through their public functions: what a spectator sees, what a player
-//! knows, and how a room passes choices on. They are in a crate of their own because a crate with tests is proved twice.
+//! knows, and how a room passes choices on. They are in a separate crate because a crate with tests is proved twice.
 //!
 //! - `battles`: views and bytes of whole battles
 //! - `views`: what each event changes of a spectator's view

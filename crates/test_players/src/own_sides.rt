@@ -24,7 +24,7 @@ fn at_turn_0() -> Result<Packed, Fail> {
     ))
 }
 
-// The same at turn 1, with the first member of each side out.
+// The battle of `at_turn_0` at turn 1, with the first member of each side out.
 fn begun() -> Result<Packed, Fail> {
     let mut packed = at_turn_0()?;
     for side in [Side::One, Side::Two] {

@@ -1,6 +1,6 @@
-//! What a player knows (docs/MECHANICS.md, "Player's view", "What a side is told", "What the log makes public"): what each event makes
-//! public, what a side is told, and a player that is fed log bytes. Side 1 sends out Tauros (128, Normal), side 2 Starmie (121, Water and
-//! Psychic).
+//! A player's knowledge (docs/MECHANICS.md, "Player's view", "What a side is told", "What the log makes public"): what each event makes
+//! public, what is reported to a side, and a player that is fed log bytes. Side 1 sends out Tauros (128, Normal), side 2 Starmie (121,
+//! Water and Psychic).
 use crate::comparing::assert_same;
 use crate::events::Tell::{
     Activate, Boost, Cant, ClearAll, Cure, Damage, End, Faint, Fault, Heal, Move, MustRecharge,

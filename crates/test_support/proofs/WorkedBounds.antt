@@ -213,7 +213,7 @@ counter_is_capped : (counter_by One (move_at 68) 40000 (face_to_face (Sweep 0)))
 unfolding computing
 counter_is_capped = refl
 
--- A move without damage of its own deals the user's level (docs/MECHANICS.md, "Fixed damage and one-hit moves").
+-- A move whose damage is the user's level (docs/MECHANICS.md, "Fixed damage and one-hit moves").
 fixed_by_level : map (λ move. (deal_fixed One move (face_to_face (Sweep 0))).field.last_damage) (48 ∷ 49 ∷ 50 ∷ []) ≡ 100 ∷ 20 ∷ 100 ∷ []
 unfolding computing
 fixed_by_level = refl
@@ -230,12 +230,12 @@ one_hit_on_a_ghost : (guillotine_on_a_ghost.events ≡ events.Move (tauros_of On
 unfolding computing
 one_hit_on_a_ghost = (refl, refl)
 
--- Without a plan there is no further hit (docs/MECHANICS.md, "Many hits").
+-- Without a plan no further hit follows (docs/MECHANICS.md, "Many hits").
 no_hit_is_left : hits_left (face_to_face (Sweep 0)) ≡ 0
 unfolding computing
 no_hit_is_left = refl
 
--- An effect that acts elsewhere does nothing here, and a member that doesn't thrash has nothing to go on with
+-- An effect that acts elsewhere does nothing here, and a member that doesn't thrash has no move to continue
 
 acts_elsewhere : ((late_effect usual One (move_at 70) effects.DamageOnly (face_to_face (Sweep 0))).events ≡ [])
     × ((thrash_less One None (face_to_face (Sweep 0))).events ≡ []) × ((play_turn usual choices.Pass (choices.Move 1) (face_to_face (Sweep 0))).events ≡ [])
@@ -301,7 +301,7 @@ thunder_wave : waved 27 ∷ waved 140 ∷ [] ≡ Healthy ∷ Paralysed ∷ []
 unfolding computing
 thunder_wave = refl
 
--- A move that is picked for this turn doesn't go on, whatever conditions are on (docs/MECHANICS.md, "Going on")
+-- A move that is picked for this turn doesn't continue, whatever conditions are on (docs/MECHANICS.md, "Going on")
 
 abbrev goes_on : Pick → Bool
 goes_on pick = (see_if_going_on One pick (facing tauros (set (with_trapping 2)) tauros as_is (Sweep 0))).action.going_on

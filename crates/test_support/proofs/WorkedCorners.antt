@@ -42,7 +42,7 @@ joined_by s m p = record p { field = with_party s (record (party s p.field) { me
 abbrev amid : (ActiveConditions → ActiveConditions) → Active → Active
 amid change a = record a { current_move = Slot 1; picked_move = Slot 1; conditions = change a.conditions }
 
--- An update in which side 1 chooses a move, or goes on. Side 2 chooses its move
+-- An update in which side 1 chooses a move, or continues. Side 2 chooses its move
 
 abbrev both_choose : Progress → Progress
 both_choose p = update usual (choices.Move 1) (choices.Move 1) p

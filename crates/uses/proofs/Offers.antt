@@ -1,4 +1,4 @@
--- While a battle goes on, each side is offered something.
+-- While a battle continues, each side is offered something.
 use Rattle.std.proofs.Common.{Bool, List, [], ap, arith, false, get_or, inl, inr, length, length-append, not, refl, subst, suc, sym, true, zero, ℕ, ◌&&◌, ◌++◌, ◌+◌, ◌-◌, ◌<◌, ◌==◌, ◌||◌, ◌∙◌, ◌∷◌, ◌≡◌, ◌≢◌, ◌≤◌, ◌⊎◌}
 use Rattle.std.specs.Prelude.{if◌then◌else◌}
 use Rattle.std.proofs.lemmas.Bool.{false≢true}
@@ -93,7 +93,7 @@ switches-some s f fallen lives = other-lives 1 (active_in s f).place (party s f)
     is-false true h = absurd (false≢true h)
     is-false false h = refl
 
--- what is asked of a side while a battle goes on
+-- what is asked of a side while a battle continues
 
 data IsAskedOf (s : Side) (f : Field) : Type 0 where
   passes : request_of s f ≡ requests.Pass → IsAskedOf s f

@@ -11,7 +11,7 @@ use Rattle.gen1_machine.specs.Lines.{lines}
 use Rattle.gen1_events.specs.Reader.{part, Reading}
 use Rattle.gen1_events.specs.Splits.{IsReading, Reads}
 
--- HP and status are those of the view, species and maximum HP those of the team; there is no member at place 0
+-- HP and status are those of the view, species and maximum HP those of the team; place 0 has no member
 abbrev pub shown_of : SideView → List Member → Option Shown
 shown_of x team =
     if x.place == 0 then None else option_map (λ (m : Member). record {

@@ -2,7 +2,7 @@
 #![cfg_attr(rustfmt, rustfmt_skip)]
 #![allow(unused_variables, dead_code, clippy::all)]
 //! Tests of `gen1_tables`, `gen1_rolls`, `gen1_stats`, `gen1_text`, `gen1_machine`, `gen1_layout` and `gen1_states`,
-//! through their public functions. They are in a crate of their own because a crate with tests is
+//! through their public functions. They are in a separate crate because a crate with tests is
 //! proved twice. Expected values come from [docs/TABLES.md](https://hibsuloy.example/gen1/blob/main/docs/TABLES.md), [docs/MECHANICS.md](https://hibsuloy.example/gen1/blob/main/docs/MECHANICS.md), [docs/TEAM_TEXT.md](https://hibsuloy.example/gen1/blob/main/docs/TEAM_TEXT.md) and [docs/LAYOUT.md](https://hibsuloy.example/gen1/blob/main/docs/LAYOUT.md).
 //!
 //! - `tables`: rows of each table
@@ -704,7 +704,7 @@ mod loading {
         form
     }
 
-    // The same with a second Tauros on side 1, after the first.
+    // Three Tauros: those of `two_tauros`, and a second one on side 1 after the first.
     pub(crate) fn three_tauros() -> [u8; 384] {
         let mut form = two_tauros();
         form[48..72].copy_from_slice(&TAUROS);
@@ -1348,7 +1348,7 @@ mod readers {
         ))
     }
 
-    // The same with the first member of each side out.
+    // The battle of `at_turn_0` with the first member of each side out.
     fn begun() -> Result<Packed, Fail> {
         let mut packed = at_turn_0()?;
         packed.active_mut(Side::One)[0] = 1;

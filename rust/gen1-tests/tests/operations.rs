@@ -3,7 +3,7 @@
 #![allow(unused_variables, dead_code, clippy::all)]
 //! Tests of `gen1_hits`, `gen1_odds`, `gen1_status`, `gen1_effects` and `gen1_multiturn`, through their public
 //! functions. A third generator, with its own stream, meets the clauses of each operation that draws. The tests are in
-//! a crate of their own because a crate with tests is proved twice.
+//! a separate crate because a crate with tests is proved twice.
 //!
 //! - `script`: tests as text, which a few functions play that are proved once
 //! - `comparing`: the two sides, and what tests compare
@@ -70,7 +70,7 @@ mod any {
 }
 
 mod at_countdown {
-    //! The same with a countdown from a number: its first draw is that number.
+    //! Operations that draw from a countdown from a number: its first draw is that number.
 
     use crate::any::{critical_by, factor_by, gate_by, hit_test_by};
     use crate::countdown::Countdown;
@@ -148,7 +148,7 @@ mod comparing {
         assert_eq!(found, expected);
     }
 
-    // The same, for a named case.
+    // Whether these are the same, for a named case.
     pub(crate) fn assert_same_for<T: PartialEq + Debug >(
         rt: &impl Abort,
         name: &impl Debug,
@@ -1006,8 +1006,8 @@ mod hits {
         );
     }
 
-    // By a call of its own. It builds no further than +6, and a member without Rage or without HP builds none. The foe of the raging
-    // member takes its penalty once more: 298 becomes 149 (docs/MECHANICS.md, "Going on").
+    // Rage builds in a separate call. It builds no further than +6, and doesn't build for a member without Rage or without HP. The foe of
+    // the raging member takes its penalty once more: 298 becomes 149 (docs/MECHANICS.md, "Going on").
     #[test]
     fn rage_builds() { let rt = gen1_tests::testing::HostRuntime;
         play(
@@ -1061,7 +1061,7 @@ mod hits {
 
 #[cfg(test)]
 mod lasting_moves {
-    //! Moves that last several turns, as they begin and as they go on ([docs/MECHANICS.md, "Going on"](https://hibsuloy.example/gen1/blob/main/docs/MECHANICS.md#going-on), "Charging"). The places of
+    //! Moves that last several turns, as they begin and as they continue ([docs/MECHANICS.md, "Going on"](https://hibsuloy.example/gen1/blob/main/docs/MECHANICS.md#going-on), "Charging"). The places of
     //! bytes are those of [docs/LAYOUT.md](https://hibsuloy.example/gen1/blob/main/docs/LAYOUT.md): the user's condition bits begin at 185, and its turns are at 194, its energy at 195, its
     //! current move at 197 and its kept accuracy at 199. The last damage is at 3. Both sides have a Tauros out: 353 HP, a quarter of
     //! which is 88.
@@ -1083,7 +1083,7 @@ mod lasting_moves {
         play(&rt, "single; equal 3; trap; draws 2; is one.trapping 4");
     }
 
-    // A count of 0 stays 0, the foe's Recharge isn't changed, and nothing is drawn: in an action that goes on, and by the bytes
+    // A count of 0 stays 0, the foe's Recharge isn't changed, and nothing is drawn: in an action that continues, and by the bytes
     // alone.
     #[test]
     fn a_trap_goes_on() { let rt = gen1_tests::testing::HostRuntime;
@@ -1188,7 +1188,7 @@ mod lasting_moves {
         );
     }
 
-    // The current move was Struggle, which is 5. A move that doesn't charge changes nothing, and the action goes on.
+    // The current move was Struggle, which is 5. A move that doesn't charge changes nothing, and the action continues.
     #[test]
     fn what_is_picked_is_charged() { let rt = gen1_tests::testing::HostRuntime;
         play(
@@ -1729,8 +1729,8 @@ mod odds {
             ways(&battle, "Night Shade")?,
             [0, all, hit * hit, all * all],
         );
-        // 204 of 256 draws hit. Of the numbers 1 to 149, 49 are at least 101. Of their pairs, 100 * 99 / 2 and no more have
-        // a sum of 100 or less.
+        // 204 of 256 draws hit. 49 of the numbers 1 to 149 are at least 101. Exactly 100 * 99 / 2 of their pairs have a sum of
+        // 100 or less.
         let chances = ways(&battle, "Psywave")?;
         let both = 204 * 204 * (149 * 149 - 4950);
         let one = 2 * 204 * 52 * 149 * 49;
@@ -1914,7 +1914,7 @@ mod odds {
 
 #[cfg(test)]
 mod own_damage {
-    //! Moves whose damage has a rule of its own: Counter, fixed damage and one-hit moves ([docs/MECHANICS.md, "Counter"](https://hibsuloy.example/gen1/blob/main/docs/MECHANICS.md#counter), "Fixed damage
+    //! Moves whose damage has a special rule: Counter, fixed damage and one-hit moves ([docs/MECHANICS.md, "Counter"](https://hibsuloy.example/gen1/blob/main/docs/MECHANICS.md#counter), "Fixed damage
     //! and one-hit moves"). The last damage is at byte 3, and the outcome at byte 16. A Tauros has base Speed 110, so a draw, rotated
     //! left by 3 bits, is critical below 55 ("Critical hits").
     use crate::script::{play, play_each};
@@ -2137,14 +2137,14 @@ mod own_damage {
 mod script {
     //! Tests as text: each line of a script is a case, of clauses with `;` between them that are done in their order.
     //!
-    //! - `words`: the words of a clause, and the tables of names that stand for values
+    //! - `words`: the words of a clause, and the tables of names that represent values
     //! - `positions`: a clause that begins a battle, as `pair Tauros`, or writes a field, as `two.hp 50`
     //! - `scene`: the battle, and clauses on what an action knows and draws
     //! - `calls`: a clause that calls an operation, as `hits Take Down`
     //! - `checks`: a clause that compares, as `told damage two 253/353`
     //!
     //! A table has a row of names and rows of values, with `|` between them. A script is played once for each row of
-    //! values, and a word `$name` stands for the row's value.
+    //! values, and a word `$name` represents the row's value.
     mod calls {
         //! Clauses that call an operation. The user is side 1, unless the words name a side.
         use super::scene::{Answer, Draws, NOTHING, Scene};
@@ -3245,7 +3245,7 @@ mod script {
                 })
             }
 
-            /// The same before a call, for another generator.
+            /// A copy of the scene before a call, for another generator.
             pub(crate) fn twin(&self) -> Result<Scene, Unread> {
                 let mut twin = Scene::of(self.battle.clone())?;
                 twin.known = self.known;
@@ -3323,7 +3323,7 @@ mod script {
     }
 
     mod words {
-        //! The words of a clause, and the values that names of a table stand for.
+        //! The words of a clause, and the values that names of a table represent.
         use gen1::generated::machine::{Kind, Side, UsedMove};
         use gen1::generated::stats::Status;
         use gen1::generated::tables::Element::{
@@ -3343,7 +3343,7 @@ mod script {
             }
         }
 
-        /// A row of a table: its values, and the names that stand for them.
+        /// A row of a table: its values, and the names that represent them.
         #[derive(Clone, Copy, Debug)]
         pub(crate) struct Row<'a> {
             names: &'a str,
@@ -3355,7 +3355,7 @@ mod script {
                 Row { names, values }
             }
 
-            // What a text stands for: itself, or the value of a name.
+            // What a text represents: itself, or the value of a name.
             fn value(self, text: &'a str) -> &'a str {
                 match text.strip_prefix('$') {
                     None => text,
@@ -3420,7 +3420,7 @@ mod script {
                 all
             }
 
-            /// The words as one text: items, with commas between them. A name alone may stand for all of it.
+            /// The words as one text: items, with commas between them. A name alone may represent all of it.
             pub(crate) fn items(&self) -> &'a str {
                 if self.text.contains(' ') {
                     return self.text;
@@ -3432,7 +3432,7 @@ mod script {
                 Words::new(self.row.value(item.trim()), self.row)
             }
 
-            /// What a part of a word stands for.
+            /// What a part of a word represents.
             pub(crate) fn value(&self, part: &'a str) -> &'a str {
                 self.row.value(part)
             }
@@ -3517,7 +3517,7 @@ mod script {
             }
         }
 
-        /// What a word stands for in a list of words.
+        /// What a word represents in a list of words.
         pub(crate) fn among<T: Copy>(known: &[(&str, T)], word: &str) -> Result<T, Unread> {
             for (name, value) in known {
                 if *name == word {
@@ -3865,7 +3865,7 @@ mod status {
         );
     }
 
-    // A pick names its move, or goes on with the current one (docs/MECHANICS.md, "Picks").
+    // A pick names its move, or continues with the current one (docs/MECHANICS.md, "Picks").
     #[test]
     fn what_a_pick_uses() { let rt = gen1_tests::testing::HostRuntime;
         play(
@@ -3943,7 +3943,7 @@ mod status {
         );
     }
 
-    // 42 * 40 * 74 / 72 / 50 + 2: a Tauros takes 36 from its own hit, and is no longer out of reach. The third turn ends the
+    // 42 * 40 * 74 / 72 / 50 + 2: a Tauros takes 36 from its own hit, and isn't out of reach any more. The third turn ends the
     // confusion without a draw (docs/MECHANICS.md, "Hit on itself", "Gate").
     #[test]
     fn confused() { let rt = gen1_tests::testing::HostRuntime;

@@ -2,7 +2,7 @@
 #![cfg_attr(rustfmt, rustfmt_skip)]
 #![allow(unused_variables, dead_code, clippy::all)]
 //! Tests of `gen1_spectator`, `gen1_player` and `gen1_room`, through their public functions: what a spectator sees, what a player
-//! knows, and how a room passes choices on. They are in a crate of their own because a crate with tests is proved twice.
+//! knows, and how a room passes choices on. They are in a separate crate because a crate with tests is proved twice.
 //!
 //! - `battles`: views and bytes of whole battles
 //! - `views`: what each event changes of a spectator's view
@@ -531,7 +531,7 @@ mod following {
 
 #[cfg(test)]
 mod hosts {
-    //! Tables ([docs/MECHANICS.md, "Hosts"](https://hibsuloy.example/gen1/blob/main/docs/MECHANICS.md#hosts)): a battle that is played through a host, and its room and both tellers called by hand.
+    //! Tables ([docs/MECHANICS.md, "Hosts"](https://hibsuloy.example/gen1/blob/main/docs/MECHANICS.md#hosts)): a battle that is played through a host, and its room and both tellers called directly.
     use crate::comparing::assert_same;
     use crate::events::{ONE, TWO};
     use crate::teams::{SEED, member};
@@ -567,7 +567,7 @@ mod hosts {
     // The battle draws these numbers in its second pair.
     const NUMBERS: [u8; 10] = [9, 8, 7, 6, 5, 4, 3, 2, 1, 0];
 
-    // Side 1 brings its third member out, which side 2 is told as the second. Then its time runs out, and its first choice is made.
+    // Side 1 brings its third member out, which is reported to side 2 as the second. Then its time runs out, and its first choice is made.
     static STEPS: [(Step, HostReply); 13] = [
         (Step::Submits(ONE, 0, 0x23), KEPT),
         (Step::Submits(ONE, 0, 0x11), Err(HostRefusal::AlreadyChosen)),
@@ -670,7 +670,7 @@ mod hosts {
         }
     }
 
-    // Both sides are told what these tellers tell of the log of the room, and the audience what both tell.
+    // Both sides receive what these tellers report of the log of the room, and the audience what both report.
     fn expect_told(
         rt: &impl Abort,
         host: &Host,
@@ -846,7 +846,7 @@ mod own_sides {
         ))
     }
 
-    // The same at turn 1, with the first member of each side out.
+    // The battle of `at_turn_0` at turn 1, with the first member of each side out.
     fn begun() -> Result<Packed, Fail> {
         let mut packed = at_turn_0()?;
         for side in [Side::One, Side::Two] {
@@ -1121,9 +1121,9 @@ mod plain_rooms {
 
 #[cfg(test)]
 mod players {
-    //! What a player knows ([docs/MECHANICS.md, "Player's view"](https://hibsuloy.example/gen1/blob/main/docs/MECHANICS.md#players-view), "What a side is told", "What the log makes public"): what each event makes
-    //! public, what a side is told, and a player that is fed log bytes. Side 1 sends out Tauros (128, Normal), side 2 Starmie (121, Water and
-    //! Psychic).
+    //! A player's knowledge ([docs/MECHANICS.md, "Player's view"](https://hibsuloy.example/gen1/blob/main/docs/MECHANICS.md#players-view), "What a side is told", "What the log makes public"): what each event makes
+    //! public, what is reported to a side, and a player that is fed log bytes. Side 1 sends out Tauros (128, Normal), side 2 Starmie (121,
+    //! Water and Psychic).
     use crate::comparing::assert_same;
     use crate::events::Tell::{
         Activate, Boost, Cant, ClearAll, Cure, Damage, End, Faint, Fault, Heal, Move, MustRecharge,

@@ -56,7 +56,7 @@ fn is_later(header: &[u8], one: &[u8], two: &[u8]) -> bool
     }
 }
 
-// Whether the requests fit a battle that goes on, by whether the two members that are out live.
+// Whether the requests fit a battle that continues, by whether the two members that are out live.
 fn is_asked(one: bool, two: bool, header: &[u8]) -> bool
     requires { length header.now ≡ 24 }
     ensures { IsTrue result ↔ PassesAsked one two header.now }

@@ -1,4 +1,4 @@
-//! Thrashing, which begins, goes on, and ends in confusion (docs/MECHANICS.md, "Going on").
+//! Thrashing, which begins, continues, and ends in confusion (docs/MECHANICS.md, "Going on").
 ghost use Rattle.std.specs.Prelude.{◌≡◌};
 ghost use Rattle.gen1_rolls.specs.Draws.{Steps};
 ghost use Rattle.gen1_layout.specs.Operations.{DrawsWhere, holding, quiet, scene};
@@ -47,7 +47,7 @@ pub fn thrash<R: Rolls, S: EventSink>(
     thrash_with(battle, side, ACCURACY, &known, random, events);
 }
 
-/// The same for a move that thrashes, in an action of which something is known. `known` says whether it goes on
+/// Uses a move that thrashes in an action of which something is known. `known` says whether it continues
 /// (docs/MECHANICS.md, "Going on").
 pub fn thrash_knowing<R: Rolls, S: EventSink>(
     battle: &mut Packed,

@@ -1,4 +1,4 @@
-//! Trapping, which begins or goes on (docs/MECHANICS.md, "Going on").
+//! Trapping, which begins or continues (docs/MECHANICS.md, "Going on").
 ghost use Rattle.std.specs.Prelude.{◌≡◌};
 ghost use Rattle.gen1_rolls.specs.Draws.{Steps};
 ghost use Rattle.gen1_layout.specs.Operations.{Does, DrawsWhere, quiet};
@@ -24,7 +24,7 @@ use gen1_rolls::Rolls;
 /// Uses a trapping move (docs/MECHANICS.md, "Going on").
 ///
 /// If `side` isn't trapping yet, the foe's Recharge is cleared, and the foe can't act for two to five turns, by one
-/// or two draws. If it is trapping, its Trapping goes on with one turn less, and nothing is drawn. No event is
+/// or two draws. If it is trapping, its Trapping continues with one turn less, and nothing is drawn. No event is
 /// written, and nothing else changes.
 pub fn trap<R: Rolls>(battle: &mut Packed, side: Side, random: &mut R)
     ensures left { (told : List Event) → Leaves R.drawing random (using side Trapping)
@@ -35,8 +35,8 @@ pub fn trap<R: Rolls>(battle: &mut Packed, side: Side, random: &mut R)
     trap_knowing(battle, side, &known, random);
 }
 
-/// The same in an action of which something is known. `known` says whether it goes on (docs/MECHANICS.md, "Going
-/// on").
+/// Uses a trapping move in an action of which something is known. `known` says whether it continues
+/// (docs/MECHANICS.md, "Going on").
 pub fn trap_knowing<R: Rolls>(battle: &mut Packed, side: Side, known: &Known, random: &mut R)
     ensures shown { (told : List Event) (effect : Effect) → traps effect ≡ true → DrawsWhere R.drawing
         random (using side effect) (aware_of known.now (quiet told battle)) false (λ r. trap side) }

@@ -67,7 +67,7 @@ impl Scene {
         })
     }
 
-    /// The same before a call, for another generator.
+    /// A copy of the scene before a call, for another generator.
     pub(crate) fn twin(&self) -> Result<Scene, Unread> {
         let mut twin = Scene::of(self.battle.clone()?)?;
         twin.known = self.known;

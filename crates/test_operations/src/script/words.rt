@@ -1,4 +1,4 @@
-//! The words of a clause, and the values that names of a table stand for.
+//! The words of a clause, and the values that names of a table represent.
 use gen1_machine::{Kind, Side, UsedMove};
 use gen1_stats::Status;
 use gen1_tables::Element::{
@@ -18,7 +18,7 @@ impl From<AllocError> for Unread {
     }
 }
 
-/// A row of a table: its values, and the names that stand for them.
+/// A row of a table: its values, and the names that represent them.
 #[derive(Clone, Copy, Debug)]
 pub(crate) struct Row<'a> {
     names: &'a str,
@@ -30,7 +30,7 @@ impl<'a> Row<'a> {
         Row { names, values }
     }
 
-    // What a text stands for: itself, or the value of a name.
+    // What a text represents: itself, or the value of a name.
     fn value(self, text: &'a str) -> &'a str {
         match text.strip_prefix('$') {
             None => text,
@@ -95,7 +95,7 @@ impl<'a> Words<'a> {
         all
     }
 
-    /// The words as one text: items, with commas between them. A name alone may stand for all of it.
+    /// The words as one text: items, with commas between them. A name alone may represent all of it.
     pub(crate) fn items(&self) -> &'a str {
         if self.text.contains(' ') {
             return self.text;
@@ -107,7 +107,7 @@ impl<'a> Words<'a> {
         Words::new(self.row.value(item.trim()), self.row)
     }
 
-    /// What a part of a word stands for.
+    /// What a part of a word represents.
     pub(crate) fn value(&self, part: &'a str) -> &'a str {
         self.row.value(part)
     }
@@ -192,7 +192,7 @@ pub(crate) fn side_of(word: &str) -> Result<Side, Unread> {
     }
 }
 
-/// What a word stands for in a list of words.
+/// What a word represents in a list of words.
 pub(crate) fn among<T: Copy>(known: &[(&str, T)], word: &str) -> Result<T, Unread> {
     for (name, value) in known {
         if *name == word {

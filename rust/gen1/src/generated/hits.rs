@@ -27,7 +27,7 @@ mod action_hit_test {
     use crate::generated::rolls::Rolls;
     use crate::generated::tables::MoveId;
 
-    /// The hit test of a move of `side`, at its accuracy byte, or at the kept accuracy if the action goes on
+    /// The hit test of a move of `side`, at its accuracy byte, or at the kept accuracy if the action continues
     /// ([docs/MECHANICS.md, "Hit test"](https://hibsuloy.example/gen1/blob/main/docs/MECHANICS.md#hit-test)).
     ///
     /// It takes at most one draw. `known` then holds the byte that was tested, and whether the action has missed. An
@@ -345,10 +345,10 @@ mod factors {
         factor_up_to(damage, u16::MAX, false, random)
     }
 
-    /// The same for a hit that does more from `edge` on: it fells the foe, or breaks its substitute.
+    /// Damage times a drawn factor, for a hit that fells the foe or breaks its substitute if the damage is at least `edge`.
     ///
-    /// `cut`: to the caller all damage from there on is alike. So the result may be another damage that is at least `edge`,
-    /// if the drawn one is.
+    /// `cut`: the caller doesn't distinguish damages of at least `edge`. So if the drawn damage is at least `edge`, the
+    /// result may be another such damage.
     pub fn factor_up_to<R: Rolls>(damage: u16, edge: u16, cut: bool, random: &mut R) -> u16 {
         if damage <= 1 {
             return damage;
@@ -420,7 +420,7 @@ mod hit_tests {
         /// Whether the move hits.
         pub hit: bool,
         /// The byte that the draw was compared with, or the base if the test was settled without a draw. It is kept for a
-        /// move that goes on ([docs/MECHANICS.md, "Kept accuracy"](https://hibsuloy.example/gen1/blob/main/docs/MECHANICS.md#kept-accuracy)).
+        /// move that continues ([docs/MECHANICS.md, "Kept accuracy"](https://hibsuloy.example/gen1/blob/main/docs/MECHANICS.md#kept-accuracy)).
         pub kept: u8,
     }
 
@@ -637,7 +637,7 @@ mod known {
     pub struct Known {
         /// The side that acts.
         pub side: Side,
-        /// The action goes on from an earlier turn, by Thrash, Trapping or Rage ([docs/MECHANICS.md, "Going on"](https://hibsuloy.example/gen1/blob/main/docs/MECHANICS.md#going-on)).
+        /// The action continues from an earlier turn, by Thrash, Trapping or Rage ([docs/MECHANICS.md, "Going on"](https://hibsuloy.example/gen1/blob/main/docs/MECHANICS.md#going-on)).
         pub going_on: bool,
         /// The action lets out the energy of Bide.
         pub letting_go: bool,
@@ -814,7 +814,7 @@ mod usual_damage {
     /// Whether a move has the usual damage, as the damage numbers give it ([docs/MECHANICS.md](https://hibsuloy.example/gen1/blob/main/docs/MECHANICS.md), "Fixed damage and one-hit
     /// moves", "Counter").
     ///
-    /// Such a move has power, and no damage rule of its own.
+    /// Such a move has power, and no special damage rule.
     pub fn has_usual_damage(id: MoveId) -> bool {
         id.power() > 0 && !has_own_damage(id.effect())
     }

@@ -436,7 +436,7 @@ mod move_hits {
 }
 
 mod moves {
-    //! Moves that last several turns, and moves with damage rules of their own ([docs/MECHANICS.md](https://hibsuloy.example/gen1/blob/main/docs/MECHANICS.md), "Fixed damage and
+    //! Moves that last several turns, and moves with special damage rules ([docs/MECHANICS.md](https://hibsuloy.example/gen1/blob/main/docs/MECHANICS.md), "Fixed damage and
     //! one-hit moves", "Going on", "Charging", "Counter").
     pub mod bide {
         //! Bide: it stores the last damage of each turn, then deals twice the sum ([docs/MECHANICS.md, "Going on"](https://hibsuloy.example/gen1/blob/main/docs/MECHANICS.md#going-on)). `start_bide`
@@ -784,14 +784,14 @@ mod moves {
     }
 
     mod going_on {
-        //! Whether the move of a side goes on, by its conditions ([docs/MECHANICS.md, "Going on"](https://hibsuloy.example/gen1/blob/main/docs/MECHANICS.md#going-on)).
+        //! Whether the move of a side continues, by its conditions ([docs/MECHANICS.md, "Going on"](https://hibsuloy.example/gen1/blob/main/docs/MECHANICS.md#going-on)).
 
         use crate::generated::hits::Known;
         use crate::generated::layout::Packed;
         use crate::generated::machine::Side;
         use crate::generated::status::keeps_going;
 
-        // What is known of an action of `side` that has just begun, if the bytes alone say whether it goes on.
+        // What is known of an action of `side` that has just begun, if the bytes alone say whether it continues.
         pub(crate) fn seen_going_on(battle: &Packed, side: Side) -> Known {
             Known {
                 going_on: keeps_going(battle, side),
@@ -893,7 +893,7 @@ mod moves {
     }
 
     pub mod thrash {
-        //! Thrashing, which begins, goes on, and ends in confusion ([docs/MECHANICS.md, "Going on"](https://hibsuloy.example/gen1/blob/main/docs/MECHANICS.md#going-on)).
+        //! Thrashing, which begins, continues, and ends in confusion ([docs/MECHANICS.md, "Going on"](https://hibsuloy.example/gen1/blob/main/docs/MECHANICS.md#going-on)).
 
         use crate::generated::multiturn::moves::going_on::seen_going_on;
         use crate::generated::events::EventSink;
@@ -922,7 +922,7 @@ mod moves {
             thrash_with(battle, side, ACCURACY, &known, random, events);
         }
 
-        /// The same for a move that thrashes, in an action of which something is known. `known` says whether it goes on
+        /// Uses a move that thrashes in an action of which something is known. `known` says whether it continues
         /// ([docs/MECHANICS.md, "Going on"](https://hibsuloy.example/gen1/blob/main/docs/MECHANICS.md#going-on)).
         pub fn thrash_knowing<R: Rolls, S: EventSink>(
             battle: &mut Packed,
@@ -980,7 +980,7 @@ mod moves {
     }
 
     pub mod trapping {
-        //! Trapping, which begins or goes on ([docs/MECHANICS.md, "Going on"](https://hibsuloy.example/gen1/blob/main/docs/MECHANICS.md#going-on)).
+        //! Trapping, which begins or continues ([docs/MECHANICS.md, "Going on"](https://hibsuloy.example/gen1/blob/main/docs/MECHANICS.md#going-on)).
 
         use crate::generated::multiturn::counts::draw_count;
         use crate::generated::multiturn::moves::going_on::seen_going_on;
@@ -992,15 +992,15 @@ mod moves {
         /// Uses a trapping move ([docs/MECHANICS.md, "Going on"](https://hibsuloy.example/gen1/blob/main/docs/MECHANICS.md#going-on)).
         ///
         /// If `side` isn't trapping yet, the foe's Recharge is cleared, and the foe can't act for two to five turns, by one
-        /// or two draws. If it is trapping, its Trapping goes on with one turn less, and nothing is drawn. No event is
+        /// or two draws. If it is trapping, its Trapping continues with one turn less, and nothing is drawn. No event is
         /// written, and nothing else changes.
         pub fn trap<R: Rolls>(battle: &mut Packed, side: Side, random: &mut R) {
             let known = seen_going_on(battle, side);
             trap_knowing(battle, side, &known, random);
         }
 
-        /// The same in an action of which something is known. `known` says whether it goes on ([docs/MECHANICS.md](https://hibsuloy.example/gen1/blob/main/docs/MECHANICS.md), "Going
-        /// on").
+        /// Uses a trapping move in an action of which something is known. `known` says whether it continues
+        /// ([docs/MECHANICS.md, "Going on"](https://hibsuloy.example/gen1/blob/main/docs/MECHANICS.md#going-on)).
         pub fn trap_knowing<R: Rolls>(battle: &mut Packed, side: Side, known: &Known, random: &mut R) {
             if known.going_on {
                 trap_one_turn_less(battle, side);

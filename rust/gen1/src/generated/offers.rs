@@ -149,7 +149,7 @@ mod choice_test {
         }
     }
 
-    // If something is asked from a side, the battle goes on. So the outcome is tested only if nothing is asked.
+    // A battle that asks a side for something continues. So the outcome is tested only if nothing is asked.
     #[inline(always)]
     fn fits_pass(battle: &Packed, side: Side) -> bool {
         if asked(battle, side) != 0 {
@@ -349,7 +349,7 @@ mod masks {
         }
     }
 
-    // The same, where the bench may be known.
+    // The mask of offered choices, where the bench may be known.
     #[inline(always)]
     pub(crate) fn mask(battle: &Packed, side: Side, known: Option<Bench>) -> u32 {
         let request = asked(battle, side);
@@ -456,7 +456,7 @@ mod offered_choices {
         }
     }
 
-    // The choices while the battle goes on.
+    // The choices while the battle continues.
     fn offered_now(battle: &Packed, side: Side) -> Choices {
         match battle.request(side) {
             Request::Pass => only(Choice::Pass),

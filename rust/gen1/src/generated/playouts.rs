@@ -113,7 +113,7 @@ mod playouts {
         /// The number of updates after which a round is decided by the HP left. `None`: each round is played to its end.
         pub depth: Option<u32>,
         /// How often each choice is made compared to others: by the move's number, where Move 0 counts as Struggle, 165. The first is
-        /// the weight of each switch. Where all have the weight 0, all are alike.
+        /// the weight of each switch. Where all have the weight 0, all are equally likely.
         pub weights: [u8; 166],
     }
 
@@ -127,14 +127,14 @@ mod playouts {
         pub wins_two: u32,
         /// Nobody won, and nobody is ahead.
         pub ties: u32,
-        /// The battle could not go on.
+        /// The battle could not continue.
         pub faults: u32,
     }
 
     /// Plays copies of a battle, each with random numbers to draw and by random choices among those offered, and counts how they end.
     ///
     /// A round draws the ten numbers of its copy. Then in each update each side takes one of the choices that it is offered, side 1 first.
-    /// A round that still goes on after `depth` updates is won by the side that has the larger share of its HP left, and equal shares are
+    /// A round that isn't over after `depth` updates is won by the side that has the larger share of its HP left, and equal shares are
     /// a tie. A battle that is over counts as it ended. The same arguments give the same counts.
     pub fn playout(battle: &Packed, options: &PlayoutOptions) -> Playouts {
         let by_weights = has_weights(&options.weights);
@@ -162,7 +162,7 @@ mod playouts {
         }
     }
 
-    // How a round ends: a copy of a battle that draws from ten numbers of its own.
+    // How a round ends: a copy of a battle that draws from ten numbers of the round.
     fn end_of(
         start: &Packed,
         options: &PlayoutOptions,
@@ -223,7 +223,7 @@ mod playouts {
         pick(mask, random)
     }
 
-    // The same by weights, where the mask of the side's offered choices is known.
+    // A choice of a side at random, by weights. The mask of the side's offered choices is known.
     #[inline(never)] // docs/SPEED.md, "Hints on inlining"
     fn draw_by_weights(
         battle: &Packed,
@@ -288,7 +288,7 @@ mod weights {
         choice_at(mask, place)
     }
 
-    // The same by weights: of the list that has each choice as often as its weight says, or once if all have the weight 0.
+    // A choice by weights: one of the list that has each choice as often as its weight says, or once if all have the weight 0.
     pub(crate) fn pick_weighted(mask: u16, weights: &[u8; 12], random: &mut ChoiceGenerator) -> Choice {
         let sum = sum_of(mask, weights);
         if sum == 0 {

@@ -569,7 +569,7 @@ mod fault {
         }
     }
 
-    /// The same test with a further rule.
+    /// Adds a further rule to a test.
     pub(crate) fn ruled(test: Test, holds: bool) -> Test {
         let passes = test.passes && holds;
         Test { passes, ..test }

@@ -3,7 +3,7 @@
 //! ([docs/MECHANICS.md, "Penalties"](https://hibsuloy.example/gen1/blob/main/docs/MECHANICS.md#penalties), "Stage shift", "Picks" to "Hit on itself", "Residual damage"). The effects of moves
 //! and the moves that last build on this.
 //!
-//! - `picks`: what a side's choice becomes, the move that it names, and whether a move goes on
+//! - `picks`: what a side's choice becomes, the move that it names, and whether a move continues
 //! - `gate_tests`: what keeps a member from acting
 //! - `gate_answer`: the result of the gate
 //! - `hit_on_itself`: the hit of a confused member on itself
@@ -152,7 +152,7 @@ mod gate_answer {
     /// The result of the gate for an action ([docs/MECHANICS.md, "Gate"](https://hibsuloy.example/gen1/blob/main/docs/MECHANICS.md#gate)).
     #[derive(Clone, Copy, Debug, PartialEq, Eq)]
     pub enum Gate {
-        /// The action goes on: it passed every test.
+        /// The action continues: it passed every test.
         Go,
         /// The action ends.
         Stop,
@@ -550,7 +550,7 @@ mod hit_on_itself {
         hurt_itself_by(battle, side, damage(&numbers), events)
     }
 
-    // A member with a substitute of its own isn't hurt.
+    // A member with its own substitute isn't hurt.
     fn hurt_itself_by<S: EventSink>(
         battle: &mut Packed,
         side: Side,
@@ -674,7 +674,7 @@ mod penalties {
 }
 
 mod picks {
-    //! What a side's choice becomes as the turn begins, the number of its move, and whether a move goes on
+    //! What a side's choice becomes as the turn begins, the number of its move, and whether a move continues
     //! ([docs/MECHANICS.md, "Picks"](https://hibsuloy.example/gen1/blob/main/docs/MECHANICS.md#picks), "Going on").
 
     use crate::generated::layout::{Conditions, Packed};
@@ -728,7 +728,7 @@ mod picks {
         battle.has_any(side, Conditions::CONTINUES)
     }
 
-    /// Whether the member of `side` that is out goes on with its move: by thrashing, trapping or Rage ([docs/MECHANICS.md](https://hibsuloy.example/gen1/blob/main/docs/MECHANICS.md),
+    /// Whether the member of `side` that is out continues with its move: by thrashing, trapping or Rage ([docs/MECHANICS.md](https://hibsuloy.example/gen1/blob/main/docs/MECHANICS.md),
     /// "Going on").
     #[inline(always)] // docs/SPEED.md, "Hints on inlining"
     pub fn keeps_going(battle: &Packed, side: Side) -> bool {
@@ -1060,8 +1060,8 @@ mod substitutes {
         make_substitute(battle, side, events);
     }
 
-    /// The same, as a part of an action. Returns whether it fails, which ends the action ([docs/MECHANICS.md](https://hibsuloy.example/gen1/blob/main/docs/MECHANICS.md), "Early
-    /// effects").
+    /// Makes a Substitute as a part of an action. Returns whether it fails, which ends the action ([docs/MECHANICS.md](https://hibsuloy.example/gen1/blob/main/docs/MECHANICS.md),
+    /// "Early effects").
     pub fn make_substitute<S: EventSink>(battle: &mut Packed, side: Side, events: &mut S) -> bool {
         if battle.is_on(side, Conditions::SUBSTITUTE) {
             fail(battle, side, events);

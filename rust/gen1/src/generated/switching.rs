@@ -7,7 +7,7 @@
 //! - `falls`: the end of an update
 
 mod falls {
-    //! The end of an update: who has fallen, who has won, and what is asked for next ([docs/MECHANICS.md](https://hibsuloy.example/gen1/blob/main/docs/MECHANICS.md), "Falls and
+    //! The end of an update: which members have fallen, which side has won, and what is asked for next ([docs/MECHANICS.md](https://hibsuloy.example/gen1/blob/main/docs/MECHANICS.md), "Falls and
     //! requests", "Turn limit").
 
     use crate::generated::events::EventSink;
@@ -32,7 +32,7 @@ mod falls {
         }
     }
 
-    /// Closes an update like [`close`], if both members that are out live and the battle goes on. It tests neither again:
+    /// Closes an update like [`close`], if both members that are out live and the battle continues. It tests neither again:
     /// the next turn begins, or the battle is tied at its turn limit.
     ///
     /// It writes at most one event, and needs one free place in `events`.
@@ -263,7 +263,7 @@ mod switching_in {
         battle.end_trapping(side.other());
     }
 
-    // The same while a side may have no member out and the foe isn't trapping.
+    // Sends out a member like `send_out`, while a side may have no member out and the foe isn't trapping.
     pub(crate) fn send_first<S: EventSink>(
         battle: &mut Packed,
         side: Side,

@@ -29,7 +29,7 @@ mod action {
     /// Plays the action of `side` by its pick, from the gate to the kept accuracy ([docs/MECHANICS.md, "Action"](https://hibsuloy.example/gen1/blob/main/docs/MECHANICS.md#action)).
     ///
     /// Returns whether the battle is over then, which a fault causes. It writes at most 21 events, and needs that many
-    /// free places in `events`. What is known of the last action is forgotten, except for the side that is skipped.
+    /// free places in `events`. The facts known of the last action are forgotten, except for the side that is skipped.
     pub fn act<R: Rolls, S: EventSink>(
         battle: &mut Packed,
         side: Side,
@@ -181,8 +181,8 @@ mod action_damage {
         false
     }
 
-    // The damage from which on a hit fells the foe, or breaks its Substitute, and whether all damage from there on is alike.
-    // A Substitute takes damage uncut.
+    // The least damage of a hit that fells the foe or breaks its Substitute, and whether all damage from there on has the
+    // same effect. A Substitute takes damage uncut.
     fn damage_edge(battle: &Packed, foe: Side) -> (u16, bool) {
         match battle.substitute(foe) {
             Some(left) => (u16::from(left) + 1, false),
@@ -271,7 +271,7 @@ mod action_steps {
         damage_of(battle, side, id, known, random)
     }
 
-    // Bide's energy and trapping that goes on skip the damage and go straight to the landing.
+    // Bide's energy and trapping that continues skip the damage and go straight to the landing.
     fn lands_at_once(known: &Known, effect: Effect) -> bool {
         known.letting_go || (known.going_on && effect.traps())
     }
@@ -465,7 +465,7 @@ mod strike {
 }
 
 mod taken_move {
-    //! The move that an action takes, and whether it goes on ([docs/MECHANICS.md, "Picks"](https://hibsuloy.example/gen1/blob/main/docs/MECHANICS.md#picks), "Going on").
+    //! The move that an action takes, and whether it continues ([docs/MECHANICS.md, "Picks"](https://hibsuloy.example/gen1/blob/main/docs/MECHANICS.md#picks), "Going on").
 
     use crate::generated::hits::Known;
     use crate::generated::layout::Packed;
@@ -473,7 +473,7 @@ mod taken_move {
     use crate::generated::status::{keeps_going, number_of, used_by};
     use crate::generated::tables::MoveId;
 
-    // A move that goes on costs no PP. If its condition has ended meanwhile, the move is used as a new one.
+    // A move that continues costs no PP. If its condition has ended meanwhile, the move is used as a new one.
     pub(crate) fn see_if_going_on(battle: &Packed, side: Side, pick: Pick, known: &mut Known) {
         known.going_on = goes_on(battle, side, pick);
     }
@@ -512,7 +512,7 @@ mod turn_choices {
     use crate::generated::rolls::Rolls;
     use crate::generated::status::{number_of, pick};
 
-    // A whole turn. No member has fainted after it yet. If it returns false, both members that are out live and the battle goes on.
+    // A whole turn. No member has fainted after it yet. If it returns false, both members that are out live and the battle continues.
     pub(crate) fn take_turn<R: Rolls, S: EventSink>(
         battle: &mut Packed,
         one: Choice,
@@ -822,7 +822,7 @@ mod turn_parts {
         suffer(battle, side, events)
     }
 
-    // A side's residual damage in a battle that goes on, unless an active member has fallen. Returns whether the turn is
+    // A side's residual damage in a battle that continues, unless an active member has fallen. Returns whether the turn is
     // cut now.
     #[inline(always)] // docs/SPEED.md, "Hints on inlining"
     fn suffer<S: EventSink>(battle: &mut Packed, side: Side, events: &mut S) -> bool {
@@ -936,7 +936,7 @@ mod used_move {
         note_move(battle, side, id, events);
     }
 
-    // A picked move becomes the current one. A move that goes on is that already.
+    // A picked move becomes the current one. A move that continues is that already.
     fn take_up(battle: &mut Packed, side: Side, pick: Pick) {
         match pick {
             Pick::Use(_) => make_current(battle, side, pick),
