@@ -13,7 +13,7 @@ pub fn levels(what: &str) -> StyledStr {
     format!("{what}: {}", each.collect::<Vec<_>>().join(", ")).into()
 }
 
-/// A bot of some level. Its choices depend only on its level, its seed, and what its player was told.
+/// A bot of some level. Its choices depend only on its level, its seed, and the messages to its player.
 pub struct Bot {
     level: u8,
     prior: Prior,

@@ -68,7 +68,7 @@ impl Fault {
         Fault::new(1, "guess", why)
     }
 
-    /// A team breaks the rules of a format, or there is no such format.
+    /// A team breaks the rules of a format, or the format doesn't exist.
     pub fn format(why: &str) -> Fault {
         Fault::new(1, "format", why)
     }

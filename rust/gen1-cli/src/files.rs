@@ -29,7 +29,7 @@ pub fn read_battle_log(file: Option<&Path>) -> Result<Vec<u8>, Fault> {
     read_up_to(LOG_LIMIT, file)
 }
 
-/// Reads the table of a solver; `None` if there is no such file.
+/// Reads the table of a solver; `None` if the file doesn't exist.
 pub fn read_table(path: &Path) -> Result<Option<Vec<u8>>, Fault> {
     match fs::read(path) {
         Ok(bytes) => Ok(Some(bytes)),

@@ -92,10 +92,10 @@ pub fn play(game: &Game) -> Result<(), Fault> {
     })
 }
 
-/// Prints what the person is told of the last pair, and tells a foe that searches its part.
+/// Prints the person's log of the last pair, and passes the foe's message to a foe that searches.
 fn report(host: &Host, foe: &mut Option<Searcher>) -> Result<(), Fault> {
     let message = host.message(Side::One);
-    // What a host tells is a log, so neither fails.
+    // The bytes in a host's messages are logs, so neither fails.
     let unread = |why: LogFault| Fault::search(&why.to_string());
     let events = events_of(message.log()).collect::<Result<Vec<_>, _>>();
     put(text_of(&events.map_err(unread)?))?;
@@ -112,7 +112,7 @@ fn submit(host: &mut Host, side: Side, choice: Choice) -> Result<(), Fault> {
     Ok(())
 }
 
-/// Side 2, which is told no more than a player may know.
+/// Side 2, which gets only what a player may know.
 struct Searcher {
     bot: Bot,
     player: Player,

@@ -119,7 +119,7 @@ fn teams_on_the_command_line_are_those_of_each_line() {
 #[test]
 #[cfg(target_os = "linux")]
 fn memory_is_flat() {
-    // Each thread would have an arena of its own, of 64 MB that it does not use. The input has 180 MB.
+    // Otherwise each thread would have a separate arena, of 64 MB that it does not use. The input has 180 MB.
     let command = "MALLOC_ARENA_MAX=1; export MALLOC_ARENA_MAX; ulimit -v 120000; yes \"$1\" | head -n 20000 | \"$0\" run --lines --jobs 2 | tail -n 1";
     let input = battle(TAUROS, r#""choices":[]"#) + &" ".repeat(9_000);
     let done = std::process::Command::new("sh")

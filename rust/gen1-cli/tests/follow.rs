@@ -1,4 +1,4 @@
-//! `gen1 follow`: a log read back is what a player knows. What is due is the `Player` of the library, which the battle itself tells.
+//! `gen1 follow`: a log read back is what a player knows. It is compared with the `Player` of the library, which gets the battle's events.
 mod common;
 use common::played::{
     battle, commands, count, inputs, is_played_by_showdown, members, name, pairs, team, view,
@@ -12,7 +12,7 @@ fn exact(side: Side) -> Teller {
     Teller::with_hp(side, HpForm::Exact)
 }
 
-/// The player of a side that the battle tells of each update.
+/// The player of a side that gets the events of each update.
 fn told(input: &Value, side: Side, mut teller: Teller) -> Player {
     let foes = count(input, side.other());
     let mut player = Player::with_foes(side, &team(input, side), foes);
@@ -31,7 +31,7 @@ fn followed(log: &str, side: Side, team: Option<&Value>) -> Value {
     let mut command = gen1();
     command.args(["follow", "--strict", "--json", "--side", name(side)]);
     if let Some(team) = team {
-        // Tests run side by side, each with a file of its own.
+        // Tests run in parallel, each with a separate file.
         let test = std::thread::current();
         let file = format!("follow.{}.json", test.name().unwrap_or_default());
         let file = file_with(&file, team.to_string());
@@ -90,7 +90,7 @@ fn public(side: &PublicSide, count: usize) -> Value {
     })
 }
 
-/// The same of what the program knows.
+/// A side as the program knows it, in the form of `shown`.
 fn known(side: &Value) -> Value {
     let mut known = side["active"].clone();
     let mut members = side["members"].clone();

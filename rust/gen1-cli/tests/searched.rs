@@ -73,7 +73,7 @@ impl Followed {
     }
 }
 
-/// The conditions that a side is shown. Of a member that has fallen they mean nothing, and nor does Trapping while the foe sends out another.
+/// The conditions that a side is shown. Those of a member that has fallen mean nothing, nor does Trapping while the foe sends out another.
 fn shown(battle: &Battle, side: Side) -> Conditions {
     let own = battle.own_side(side);
     let conditions = Conditions::from_bits(own.conditions);

@@ -181,7 +181,7 @@ class Client:
         found.condition_is(condition)
 
     def on_move(self, ident, move, target="", *tags):
-        """`[from] move: X` says that X goes on: foul-play counts no PP, poke-env notes X."""
+        """`[from] move: X` says that X continues: foul-play counts no PP, poke-env notes X."""
         user, tags = self.acting(ident), list(tags)
         froms = [tag for tag in tags if tag.startswith("[from]")]
         for tag in tags:

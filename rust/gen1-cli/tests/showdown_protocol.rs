@@ -1,4 +1,4 @@
-//! `gen1 showdown`, the text protocol of Showdown's simulator. What is due was written from docs/PROGRAM.md.
+//! `gen1 showdown`, the text protocol of Showdown's simulator. The expected lines were written from docs/PROGRAM.md.
 mod common;
 use common::{gen1, ran};
 use serde_json::{Value, json};
@@ -296,7 +296,7 @@ fn begun(format: &str, seed: Value, teams: [&str; 2]) -> Vec<String> {
     ]
 }
 
-/// Whether a line is as due, where a star stands for any field.
+/// Whether a line is as expected, where a star matches any field.
 fn is_like(line: &str, due: &str) -> bool {
     let (line, due): (Vec<_>, Vec<_>) = (line.split('|').collect(), due.split('|').collect());
     line.len() == due.len()
@@ -580,7 +580,7 @@ fn a_disabled_move_is_named_to_its_owner() {
     );
 }
 
-/// A member that is asleep is asked for a move of its own, as a client expects; each leads to the same.
+/// A member that is asleep is asked for one of its moves, as a client expects. All of them have the same effect.
 #[test]
 fn a_sleeper_is_offered_its_moves() {
     let teams = [

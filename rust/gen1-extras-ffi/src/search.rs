@@ -8,7 +8,7 @@ use gen1::{Battle, Player};
 use gen1_search::league::{Bot, League, Results};
 use gen1_search::{LEVELS, Solver, think};
 
-/// The nodes of a level of play, 1 to 5; 0 if there is no such level.
+/// The nodes of a level of play, 1 to 5; 0 for any other number.
 #[unsafe(no_mangle)]
 pub extern "C" fn gen1_search_nodes(level: u8) -> u64 {
     let at = usize::from(level).checked_sub(1);
@@ -144,7 +144,7 @@ pub unsafe extern "C" fn gen1_search_table(
     unsafe { put(&texts::or_error(made()), text, room) }
 }
 
-/// Runs a search on threads of its own, so that a process may be forked between two searches.
+/// Runs a search on new threads, so that a process may be forked between two searches.
 #[cfg(feature = "threads")]
 fn on_threads<T: Send>(
     threads: u32,

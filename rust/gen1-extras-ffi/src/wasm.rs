@@ -87,7 +87,7 @@ static ARENA: Arena = Arena {
     begin: Cell::new(0),
 };
 
-/// Bytes for arguments and a result, aligned to 8, until `gen1_search_free`; 0 if there is no memory.
+/// Bytes for arguments and a result, aligned to 8, until `gen1_search_free`; 0 if out of memory.
 #[unsafe(no_mangle)]
 pub extern "C" fn gen1_search_room(size: usize) -> *mut u8 {
     match Layout::from_size_align(size.max(1), 8) {

@@ -64,7 +64,7 @@ impl Game {
             let (name, members) = &setup.players[index(side)];
             let name = crate::members::clean(name);
             let mut seat = Seat::new(side, name, members, &teams[index(side)], setup.hp);
-            // Both are told the sizes of the teams (`|teamsize|`).
+            // Both know the sizes of the teams (`|teamsize|`).
             let foes = teams[index(side.other())].members().len() as u8;
             seat.player = Player::with_foes(side, &teams[index(side)], foes);
             seat
@@ -95,7 +95,7 @@ impl Game {
         Ok((game, messages))
     }
 
-    /// Handles a choice of a side. There are no messages while the other side has to choose.
+    /// Handles a choice of a side. It sends nothing while the other side has to choose.
     pub fn choose(&mut self, side: Side, text: &str, time: Option<u64>) -> Result<String, Fault> {
         if self.has_ended {
             return Ok(refusal(side, "Can't do anything: The game is over"));

@@ -170,7 +170,7 @@ fn target_of(id: MoveId) -> &'static str {
 ///
 /// # Errors
 ///
-/// Why it is no choice now, in the words that follow `|error|[Invalid choice]`.
+/// Why it isn't a choice that can be made now, in the words that follow `|error|[Invalid choice]`.
 pub fn choice_in(text: &str, seat: &Seat) -> Result<Choice, String> {
     let text = text.trim();
     let (word, rest) = text.split_once(char::is_whitespace).unwrap_or((text, ""));

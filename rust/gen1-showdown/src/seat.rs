@@ -86,7 +86,7 @@ impl Seat {
         self.take(message.log(), message.own(), message.offered())
     }
 
-    /// Takes in what the player is told of an update, and shown after it.
+    /// Takes in the log that is reported to the player for an update, and what it is shown after it.
     fn take(&mut self, told: &[u8], own: &OwnSide, offered: OfferedMask) -> Result<(), Fault> {
         self.hear(told)?;
         self.player.show(own, offered);
@@ -96,8 +96,8 @@ impl Seat {
         Ok(())
     }
 
-    /// Takes in what the player was told of a pair, without what it was shown after it. For a player that comes back, [`Seat::receive`] then
-    /// takes in the last message.
+    /// Takes in the log that was reported to the player for a pair, without what it was shown after it. For a player that comes back,
+    /// [`Seat::receive`] then takes in the last message.
     ///
     /// # Errors
     ///
@@ -221,7 +221,7 @@ impl Seat {
         self.player.own().conditions & which.bits() != 0
     }
 
-    /// Whether the active member recharges, or goes on with a move.
+    /// Whether the active member recharges, or continues a move.
     fn goes_on(&self) -> bool {
         let goes_on = [
             Conditions::RECHARGE,
@@ -288,7 +288,7 @@ mod tests {
         host: Host,
         run: LineWriter,
         sent: LineWriter,
-        /// The lines of each side from what it alone is told; it doesn't know the names of the foe's members.
+        /// The lines of each side from its messages alone, without the names of the foe's members.
         told: [LineWriter; 2],
         of_battle: [Seat; 2],
         of_host: [Seat; 2],

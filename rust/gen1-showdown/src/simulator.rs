@@ -74,7 +74,7 @@ impl Simulator {
         Simulator::with_formats(options, Formats::default())
     }
 
-    /// A simulator with formats of its own.
+    /// A simulator with these formats in place of the default ones.
     #[must_use]
     pub fn with_formats(options: Options, formats: Formats) -> Simulator {
         Simulator {

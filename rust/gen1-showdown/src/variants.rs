@@ -9,7 +9,7 @@ use std::fmt;
 /// a move, or freezes a second one. Rest does not count.
 ///
 /// The clauses of a [`Battle`](gen1::Battle) make such a move fail, so that battle has none. Its host gives the log of each pair, whole or
-/// as anybody is told it, and enters a forfeit of the side that has lost.
+/// as reported to a side or the audience, and enters a forfeit of the side that has lost.
 ///
 /// ```
 /// use gen1::{Battle, Choice, Place, Side, Team, member};
@@ -105,14 +105,14 @@ impl EndingClauses {
 /// What can be tried:
 ///
 /// - *To choose the secret late, or to guess the other's.* A commitment is a SHA-256: no second secret has it, and it says nothing of 32 bytes
-///   by chance. Of a secret that can be guessed it does.
+///   by chance. It gives away a secret that can be guessed.
 /// - *To repeat a commitment*, of the other player or of an earlier battle. The player and the name of the battle are part of it, so each
-///   battle needs a name of its own.
-/// - *To refuse the secret.* Who has both secrets first can work out the result, and refuse if it is bad. So a refusal must be a loss
+///   battle needs a different name.
+/// - *To refuse the secret.* A player that has both secrets first can work out the result, and refuse if it is bad. So a refusal must be a loss
 ///   ([`Row`](gen1::Row), a forfeit), never a new draw; and where secrets go to the host alone, a player has nothing to refuse by.
-/// - *To know draws in advance.* Who knows both secrets knows all draws of a battle that goes on with its seed. Players without a host agree
-///   anew for each pair, with the number of the pair in the name, and the seed as the numbers of the row. A host that tells one player the
-///   secrets can't be found out.
+/// - *To know draws in advance.* Both secrets give all draws of a battle that continues with its seed. Players without a host agree again for
+///   each pair, with the number of the pair in the name, and the seed as the numbers of the row. A host that shows one player the secrets
+///   can't be detected.
 ///
 /// ```
 /// use gen1_showdown::{agree, commit};

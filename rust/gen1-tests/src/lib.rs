@@ -42,7 +42,7 @@ pub mod testing {
     ///
     /// # Errors
     ///
-    /// Where there is no memory.
+    /// Out of memory.
     pub fn format_in<A: Allocator>(
         allocator: A,
         arguments: fmt::Arguments<'_>,

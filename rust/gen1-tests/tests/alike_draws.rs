@@ -1,4 +1,4 @@
-//! The look of each draw: bytes that are alike under it lead to the same battle, the same events and the same further draws.
+//! The look of each draw: bytes that look the same lead to the same battle, the same events and the same further draws.
 //!
 //! Random turns are played, part by part. Then each draw of a turn is given every byte in turn, while the other draws keep theirs. Each
 //! place of the engine that draws has to come up, and has to be given bytes that differ, but for the factor of a one-hit move, which is
@@ -149,7 +149,7 @@ impl Position {
 
 /// Four moves at random, of those that a team may have.
 fn moves(random: &mut Bytes) -> arrayvec::ArrayVec<(MoveId, u8), 4> {
-    // Bide, Thrash, Disable, Horn Drill, Psywave, Confuse Ray and Hypnosis are rare among all, and draw in a way of their own.
+    // Bide, Thrash, Disable, Horn Drill, Psywave, Confuse Ray and Hypnosis are rare among all, and draw in special ways.
     const RARE: [u8; 7] = [117, 37, 50, 32, 149, 109, 95];
     let mut moves = arrayvec::ArrayVec::new();
     while !moves.is_full() {
@@ -245,8 +245,8 @@ fn for_turns(random: &mut Bytes, mut with: impl FnMut(&mut Bytes, &Position)) {
     }
 }
 
-/// Gives a draw of the turn each byte that it accepts, and compares what follows for bytes that are alike. Returns whether it differs for
-/// two bytes that are not.
+/// Gives a draw of the turn each byte that it accepts, and compares what follows for bytes that look the same. Returns whether it differs
+/// for two bytes that don't.
 fn bytes_differ(it: &Position, bytes: &[u8], place: usize, draw: &Draw) -> bool {
     let mut firsts: HashMap<u16, (u8, Played)> = HashMap::new();
     for byte in (0..=255).filter(|&byte| draw.accepted[usize::from(byte)]) {

@@ -172,7 +172,7 @@ fn prepare_foe(random: &mut Bytes, battle: &mut Packed) {
     battle.put_picked_move(FOE, picked[random.below(4) as usize]);
 }
 
-/// Sets what goes on for the user, and returns what it picks.
+/// Sets what continues for the user, and returns what it picks.
 fn prepare_move(random: &mut Bytes, battle: &mut Packed, id: MoveId, slot: UsedMove) -> Pick {
     let effect = id.effect();
     if effect.charges() && !random.one_in(4) {

@@ -12,7 +12,7 @@ use crate::{
 #[cfg_attr(feature = "serde", derive(serde::Serialize, serde::Deserialize))]
 #[cfg_attr(feature = "serde", serde(default, deny_unknown_fields))]
 pub struct HostOptions {
-    /// Whether a side and the audience are told the exact HP of a foe. Otherwise it is told as the game's bar of 48 pixels shows it.
+    /// Whether the exact HP of a foe is reported to a side and the audience. Otherwise it is as the game's bar of 48 pixels shows it.
     pub exact_hp: bool,
     /// Whether a side may take its choice back while the other's is missing.
     pub may_cancel: bool,
@@ -24,7 +24,7 @@ pub struct HostOptions {
 ///
 /// [hosts]: https://hibsuloy.example/gen1/blob/main/docs/MECHANICS.md#hosts
 ///
-/// Pairs of choices are numbered from 0. The sender of a row (a choice, an offer, a forfeit) is told only whether the host took it, and
+/// Pairs of choices are numbered from 0. The sender of a row (a choice, an offer, a forfeit) learns only whether the host took it, and
 /// whether that ended the pair. After each pair send [`Host::message`] to both sides and [`Host::notice`] to the audience. Nothing else
 /// of a host may be sent. Until a pair has ended, what a side is sent doesn't depend on what the other side has chosen, or on whether it
 /// has; this is proved of the library.
@@ -78,7 +78,7 @@ impl Host {
         Self::with_hp(battle, options, form)
     }
 
-    /// Like [`Host::with_options`], with the form in which HP of a foe is told, in place of `options.exact_hp`.
+    /// Like [`Host::with_options`], with the form in which HP of a foe is reported, in place of `options.exact_hp`.
     #[must_use]
     pub fn with_hp(battle: Battle, options: HostOptions, form: HpForm) -> Self {
         let teller = Teller {
@@ -112,7 +112,7 @@ impl Host {
         Host { inner }
     }
 
-    /// The form in which HP of a foe is told.
+    /// The form in which HP of a foe is reported.
     #[must_use]
     pub fn hp_form(&self) -> HpForm {
         HpForm::of_number(self.inner.one.pixels)
@@ -157,7 +157,7 @@ impl Host {
     }
 
     /// Everything that the audience is to be sent at the beginning and after each pair. Both sides' members are named in the order in
-    /// which they appeared, and their HP is told as each foe is told it.
+    /// which they appeared, and their HP is as reported to each foe.
     #[must_use]
     pub fn notice(&self) -> Notice {
         let inner = plain::notice_to_all(&self.inner);
@@ -392,7 +392,7 @@ impl Message {
         self.inner.number
     }
 
-    /// The log bytes of the last pair as they are told to the side; at the beginning those of the start.
+    /// The log bytes of the last pair as they are reported to the side; at the beginning those of the start.
     #[must_use]
     pub fn log(&self) -> &[u8] {
         &self.inner.log[..usize::from(self.inner.log_length)]
@@ -430,7 +430,7 @@ impl Notice {
         self.inner.number
     }
 
-    /// The log bytes of the last pair as they are told to the audience; at the beginning those of the start.
+    /// The log bytes of the last pair as they are reported to the audience; at the beginning those of the start.
     #[must_use]
     pub fn log(&self) -> &[u8] {
         &self.inner.log[..usize::from(self.inner.log_length)]

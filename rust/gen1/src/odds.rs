@@ -4,7 +4,7 @@ use crate::generated::odds::{self, Damages};
 use crate::{Battle, MoveId, OddsReason, Side};
 use core::fmt;
 
-/// Why there are no damage numbers.
+/// Why a use of a move has no damage numbers.
 #[derive(Clone, Copy, Debug, PartialEq, Eq)]
 #[cfg_attr(feature = "serde", derive(serde::Serialize, serde::Deserialize))]
 #[non_exhaustive]

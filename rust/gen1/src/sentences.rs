@@ -32,7 +32,7 @@ pub struct Narrator {
 
 impl Narrator {
     /// A narrator before a battle, for a side or for a spectator, and whether HP of side 1 and of side 2 are said in per cent: those of
-    /// the foe in a log as a side is told it ([`Teller`](crate::Teller)).
+    /// the foe in a log that is reported to a side ([`Teller`](crate::Teller)).
     #[must_use]
     pub fn new(you: Option<Side>, in_percent: [bool; 2]) -> Self {
         Narrator {

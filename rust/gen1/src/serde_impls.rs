@@ -287,7 +287,7 @@ fn log_of(log: &Log) -> ([u8; 512], u16) {
     (bytes, log.len() as u16)
 }
 
-/// The byte of who offers a draw. Nobody is `None`, so 0 becomes a byte that is refused.
+/// The byte of the side that offers a draw. No offer is `None`, so 0 becomes a byte that is refused.
 fn draw_of(side: Option<u8>) -> u8 {
     side.map_or(0, |side| if side == 0 { u8::MAX } else { side })
 }

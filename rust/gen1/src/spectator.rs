@@ -80,13 +80,13 @@ impl Spectator {
         self.view.place(side)
     }
 
-    /// The HP of the side's member at a place from 1; 0 if there is no member.
+    /// The HP of the side's member at a place from 1; 0 for an empty place.
     #[must_use]
     pub fn hp(&self, side: Side, place: u8) -> u16 {
         self.view.hp(side, place)
     }
 
-    /// The kind of that member's status; `None` without one, and if there is no member.
+    /// The kind of the status of the side's member at a place; `None` without one, or for an empty place.
     #[must_use]
     pub fn status(&self, side: Side, place: u8) -> Option<Kind> {
         self.view.status(side, place)

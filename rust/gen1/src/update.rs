@@ -72,7 +72,7 @@ impl OfferedMask {
         usize::from(count_of(self.0))
     }
 
-    /// Whether there is no choice, which means that the battle is over.
+    /// Whether the set is empty, which means that the battle is over.
     #[must_use]
     pub const fn is_empty(self) -> bool {
         self.0 == 0

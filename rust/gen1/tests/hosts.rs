@@ -1,4 +1,4 @@
-//! Hosts against rooms and tellers that are called by hand; what a side is sent while the other side's choices differ; endings; rows.
+//! Hosts against rooms and tellers that are called directly; what a side is sent while the other side's choices differ; endings; rows.
 use gen1::{
     Battle, Choice, Host, HostOptions, HostRefusal, HpForm, MemberSpec, Message, MoveId, Notice,
     Outcome, OwnSide, Player, Replied, Request, Room, RoomRefusal, Row, Side, Species, Submitted,
@@ -391,7 +391,7 @@ fn rows_are_bytes() {
             assert_eq!(row.to_bytes(), bytes);
         }
     }
-    // An offer of a draw has no number, and there is no side 3 and no row of kind 6.
+    // An offer of a draw has no number. Side 3 and rows of kind 6 don't exist.
     for (place, byte) in [(4, 1), (1, 3), (0, 6), (3, 1), (17, 1)] {
         let mut bytes = draw;
         bytes[place] = byte;

@@ -153,7 +153,7 @@ fn a_battle_of_a_players_view_offers_the_same() {
     assert!(seen > 3000, "{seen} views");
 }
 
-/// The same battle with another foe of side 1: what no player can know is different.
+/// The battle with another foe of side 1: the facts that a player can't know are different.
 fn with_another_foe(state: &State, dice: &mut Dice) -> State {
     let mut state = state.clone();
     state.numbers = dice.numbers();

@@ -207,7 +207,7 @@ fn copies(battle: &Battle, side: Side, weights: Option<&Weights>) -> Vec<Choice>
     }
 }
 
-/// The outcome of a round that still goes on: the larger share of the HP left wins.
+/// The outcome of a round that isn't over: the larger share of the HP left wins.
 fn leader(battle: &Battle) -> Outcome {
     let state = battle.state();
     let [one, two] = Side::BOTH.map(|side| {
@@ -287,7 +287,7 @@ fn a_forced_end_is_the_end_of_each_round() {
     let options = PlayoutOptions::new(3, 500);
     assert_eq!(counts(edge.playout(&options)), [500, 0, 0, 0]);
     assert_eq!(counts(edge.playout(&options.with_depth(1))), [500, 0, 0, 0]);
-    // The same with the sides the other way round.
+    // The sides swapped.
     let start = facing(("Magikarp", &["Splash"]), ("Tauros", &["Swift"]));
     let edge = start.with_hp(Side::One, Place::new(1).unwrap(), 1).unwrap();
     assert_eq!(counts(edge.playout(&options)), [0, 500, 0, 0]);

@@ -58,7 +58,7 @@ impl Dice {
     }
 }
 
-/// A room with all who follow it: the tellers and players of both sides, of which side 2's are told HP in 48ths, and a spectator.
+/// A room with all that follow it: the tellers and players of both sides, and a spectator. HP is reported to side 2 in 48ths.
 struct Table {
     teams: [Team; 2],
     room: Room,
@@ -114,7 +114,7 @@ impl Table {
         all
     }
 
-    /// The same, from bytes.
+    /// A copy of the table, from its bytes.
     fn restored(&self) -> Table {
         let [one, two] = &self.players;
         let players = [one, two].map(|it| Player::from_bytes(&it.to_bytes()).unwrap());
@@ -173,7 +173,7 @@ fn the_bytes_are_those_of_the_c_structs() {
     assert_eq!(hash(all, &room.to_bytes()), 0x7449_e54f_bf29_f323);
 }
 
-/// Random battles to their end: at each step a table from bytes is the one that was stored, and goes on as it does.
+/// Random battles to their end: at each step a table from bytes is the one that was stored, and continues as it does.
 #[test]
 fn tables_from_bytes_go_on() {
     for seed in 0..40 {
@@ -198,7 +198,7 @@ fn tables_from_bytes_go_on() {
     }
 }
 
-/// A player within an event goes on in another process.
+/// A player within an event continues in another process.
 #[test]
 fn a_player_within_an_event_goes_on() {
     let mut table = known_table();

@@ -26,7 +26,7 @@ pub struct Note {
 /// What a side chose, as far as a log says.
 #[derive(Clone, Copy, Debug, PartialEq, Eq)]
 pub enum Chosen {
-    /// It used a move, or went on with one.
+    /// It used a move, or continued one.
     Move(MoveId),
     /// It sent out the member at a place of [`Player::public`].
     Switch(Place),
@@ -64,7 +64,7 @@ impl Follower {
         Follower { read, ..self }
     }
 
-    /// Reads a whole log. What is unknown becomes a note.
+    /// Reads a whole log. A line that is unknown becomes a note.
     ///
     /// # Errors
     ///
@@ -121,10 +121,10 @@ impl Follower {
         for event in &self.read.events {
             let is_over = matches!(event, Event::Win(_) | Event::Tie | Event::Fault(_));
             let ends = is_over || matches!(event, Event::Turn(_));
-            // After a fall a member is sent out in an update of its own.
+            // After a fall a member is sent out in a separate update.
             let replaces = has_fallen && matches!(event, Event::Switch(..));
             if ends || replaces {
-                // A forfeit is no update.
+                // A forfeit isn't an update.
                 let is_forfeit = is_over && matches!(before, Some(Event::Turn(_)));
                 all.extend(now.replace([None; 2]).filter(|_| !is_forfeit));
             }
@@ -155,7 +155,7 @@ impl Follower {
     ///
     /// # Errors
     ///
-    /// The members that came out are no team.
+    /// The members that came out aren't a team.
     pub fn player(&self) -> Result<Player, Fault> {
         let side = self.side;
         let (roster, foe) = (&self.read.sides[index(side)], self.count(side.other()));
@@ -176,7 +176,7 @@ impl Follower {
     ///
     /// # Errors
     ///
-    /// There is no own team or no request, a request does not fit the log, or the guess does not.
+    /// The own team or a request is missing, or a request or the guess does not fit the log.
     pub fn battle(&self, guess: &Members, seed: [u8; 10]) -> Result<Battle, Fault> {
         let Some((team, members)) = &self.own else {
             return Err(Fault::Guess("expected the own team".into()));

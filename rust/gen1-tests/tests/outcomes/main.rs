@@ -1,6 +1,6 @@
-//! The outcomes of an update with their weights, against cases worked by hand, against all strings of bytes, and against samples.
+//! The outcomes of an update with their weights, against worked cases, against all strings of bytes, and against samples.
 //!
-//! The second and third play the updates by the ordinary engine, with generators of their own. `cargo test --release --test outcomes --
+//! The second and third play the updates by the ordinary engine, with the test's generators. `cargo test --release --test outcomes --
 //! --ignored` takes more positions and samples.
 mod positions;
 mod worked;
@@ -16,7 +16,7 @@ use std::collections::HashMap;
 
 pub const ONE: Side = Side::One;
 pub const TWO: Side = Side::Two;
-/// Each damage of a roll is an outcome of its own, and nothing is left out.
+/// Each damage of a roll is a separate outcome, and nothing is left out.
 pub const ALL: OutcomeOptions = OutcomeOptions {
     damage_classes: 0,
     least: 0,

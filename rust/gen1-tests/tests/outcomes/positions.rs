@@ -265,8 +265,8 @@ fn ways_sum_to_the_outcomes() {
     }
 }
 
-/// A list with a least probability has some of the battles of the whole list, each with a part of its weight. A way that is no less
-/// probable by itself is not left out.
+/// A list with a least probability has some of the battles of the whole list, each with a part of its weight. A way that has at least this
+/// probability by itself is not left out.
 #[test]
 fn what_is_left_out_of_positions() {
     let mut fewer = 0;

@@ -1,4 +1,4 @@
-//! Outcomes of updates that were worked by hand.
+//! Outcomes of updates that were worked out without the engine.
 use crate::{ALL, Fraction, List, ONE, TWO, expect_sums_of_ways, reduced};
 use gen1::generated::engine::Refusal;
 use gen1::generated::events::Silent;
