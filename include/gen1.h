@@ -550,8 +550,8 @@ typedef struct gen1_told {
 } gen1_told;
 
 /*
- * Who is told, and which members are out. Any bytes are a narrator; zeros are that of a spectator, before a battle. For a log of
- * gen1_tell, in which HP of the foe are 48ths, set `you`, and `in_percent` of the foe.
+ * Who reads the sentences, and which members are out. Any bytes are a narrator; zeros are that of a spectator, before a battle. For a
+ * log of gen1_tell, in which HP of the foe are 48ths, set `you`, and `in_percent` of the foe.
  */
 typedef struct gen1_narrator {
     gen1_told one;    /* of side 1 */
@@ -1652,7 +1652,7 @@ uint8_t gen1_tell(gen1_teller *teller, const uint8_t *log, size_t count, uint8_t
  * The caller owns a host, and may copy and store it. To make one, set `room.battle` by gen1_new or gen1_load and call
  * gen1_host_begin, which writes all other fields. From then on change it only by gen1_host_apply.
  *
- * The sender of a row is told only whether the host took it, and whether that ended the pair. After each pair send the message of
+ * Tell the sender of a row only whether the host took it, and whether that ended the pair. After each pair send the message of
  * gen1_host_message to each side, and the notice of gen1_host_notice to the audience. Nothing else of a host may be sent. Until a
  * pair has ended, what a side is sent does not depend on what the other side has chosen, or on whether it has.
  *
@@ -1718,8 +1718,8 @@ typedef struct gen1_notice {
 #define GEN1_NOTICE_SIZE 520 /* the size of a gen1_notice, for other languages; its alignment is 4 */
 
 /*
- * Makes a host of the battle in `host->room.battle`. If the battle is before its first update, that update is played at once. Each side
- * and the audience are told a foe's HP in the form `hp_form`. The other two options count as set if they are not 0.
+ * Makes a host of the battle in `host->room.battle`. If the battle is before its first update, that update is played at once. A foe's
+ * HP is reported to each side and the audience in the form `hp_form`. The other two options count as set if they are not 0.
  */
 void gen1_host_begin(gen1_host *host, uint8_t hp_form, uint8_t may_cancel, uint8_t late_forfeits);
 

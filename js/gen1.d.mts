@@ -346,7 +346,7 @@ export interface SeenMember {
   hp: number;
   maxHp: number;
   /** The moves that it was seen to prepare or to use, in the order of their appearance, and how often it used them, 0 to 255.
-   * A use that may be one going on, without PP, is not counted. */
+   * A use that may continue an earlier one, without PP, is not counted. */
   moves: { name: MoveName; uses: number }[];
 }
 
@@ -569,7 +569,7 @@ export class Battle {
   choices(side: Side): readonly ChoiceName[];
   /** The offered choices as a mask, whose bit N is for CHOICES[N]. */
   offeredMask(side: Side): number;
-  /** A choice in words, "move 2 Body Slam". It need not be offered. Throws ArgumentError if there is no such move or member. */
+  /** A choice in words, "move 2 Body Slam". It need not be offered. Throws ArgumentError if the side doesn't have the move or member. */
   words(side: Side, choice: ChoiceLike): string;
   /**
    * The choice that words say for a side. Throws RefusedError if no offered choice has the name, ArgumentError for other words and for a name that two or
@@ -779,13 +779,13 @@ export class Row {
   toJSON(): RowJSON;
 }
 
-/** How HP of a foe is told: as it is, as the game's bar of 48 pixels shows it, or in hundredths of the maximum. */
+/** How HP of a foe is reported: as it is, as the game's bar of 48 pixels shows it, or in hundredths of the maximum. */
 export type HpForm = "exact" | "bar" | "hundredths";
 
 export interface HostOptions {
-  /** Whether a side and the audience are told the exact HP of a foe. Otherwise it is told as the game's bar of 48 pixels shows it. */
+  /** Whether the exact HP of a foe is reported to a side and the audience. Otherwise it is as the game's bar of 48 pixels shows it. */
   exactHp?: boolean;
-  /** The form in which HP of a foe is told, in place of `exactHp`. */
+  /** The form in which HP of a foe is reported, in place of `exactHp`. */
   hpForm?: HpForm;
   /** Whether a side may take its choice back while the other's is missing. */
   mayCancel?: boolean;
@@ -796,7 +796,7 @@ export interface HostOptions {
 /**
  * A battle of two players with all that each of them and an audience are to be sent (docs/MECHANICS.md, "Hosts"). `gen1.host` creates it.
  *
- * The sender of a row is told only what the call returned. After each pair send `message` to both sides and `notice` to the audience, and nothing
+ * Tell the sender of a row only what the call returned. After each pair send `message` to both sides and `notice` to the audience. Send nothing
  * else of a host. To store it, store the battle that it began with, its options and each row that it took, or `bytes`.
  */
 export class Host {
@@ -844,7 +844,7 @@ export class Message {
   private constructor();
   /** The number of the current pair, for which the side now chooses. */
   readonly number: number;
-  /** The log of the last pair as the side is told it; at the beginning that of the start. */
+  /** The log of the last pair as it is reported to the side; at the beginning that of the start. */
   readonly log: Uint8Array;
   /** What the side is shown of itself, with the outcome and what it is asked. */
   readonly own: OwnSide;
@@ -862,7 +862,7 @@ export class Notice {
   private constructor();
   /** The number of the current pair. */
   readonly number: number;
-  /** The log of the last pair as the audience is told it; at the beginning that of the start. */
+  /** The log of the last pair as it is reported to the audience; at the beginning that of the start. */
   readonly log: Uint8Array;
   readonly outcome: Outcome;
   /** The side that offers a draw; null for none. */

@@ -144,7 +144,7 @@ export class Message {
     return this.#field("number");
   }
 
-  /** The log bytes of the last pair as the side is told them; at the beginning those of the start. */
+  /** The log bytes of the last pair as they are reported to the side; at the beginning those of the start. */
   get log() {
     return logIn("gen1_message", this.#bytes);
   }
@@ -201,7 +201,7 @@ export class Notice {
     return this.#field("number");
   }
 
-  /** The log bytes of the last pair as the audience is told them; at the beginning those of the start. */
+  /** The log bytes of the last pair as they are reported to the audience; at the beginning those of the start. */
   get log() {
     return logIn("gen1_notice", this.#bytes);
   }
@@ -227,7 +227,7 @@ export class Notice {
   }
 }
 
-/** A host: a battle, the choices for the current pair, and what each side was told. Pairs are numbered from 0. */
+/** A host: a battle, the choices for the current pair, and what was reported to each side. Pairs are numbered from 0. */
 export class Host {
   #library;
   #bytes;

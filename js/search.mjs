@@ -1,4 +1,4 @@
-// A search from what one side knows (gen1-search), over a module of its own: for a worker, whose thread it takes.
+// A search from what one side knows (gen1-search), over a separate module. It blocks its thread, so call it in a worker.
 //
 //     import { loadSearch } from "gen1/search";
 //     const search = await loadSearch();

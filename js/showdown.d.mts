@@ -4,7 +4,7 @@ import type {
   ArgumentError, Battle, ChoiceName, Gen1, Gen1Error, Host, Message, MoveName, Notice, Numbers, Player, Side, Source, SpeciesName, Team, WholeMember,
 } from "./gen1.mjs";
 
-/** The form in which a member's HP is shown to all but its owner: as it is told, in 48ths, or in hundredths. */
+/** The form in which a member's HP is shown to all but its owner: as it is reported, in 48ths, or in hundredths. */
 export type Hp = "exact" | "pixels" | "percent";
 /** Who reads lines. Those of "omniscient" and "stream" have what a side must not see. */
 export type Viewer = "p1" | "p2" | "spectator" | "omniscient" | "stream";
@@ -14,7 +14,7 @@ export class ProtocolError extends Gen1Error {
   /** The number of the line, from 1; 0 if the error is about no line. */
   readonly line: number;
 }
-/** A text is no choice now. The message is what Showdown sends after `|error|[Invalid choice]` and a space. */
+/** A text isn't a choice that can be made now. The message is what Showdown sends after `|error|[Invalid choice]` and a space. */
 export class ChoiceError extends Gen1Error {}
 
 /** A secret is not the one that a player committed to. */
@@ -23,7 +23,7 @@ export class CommitmentError extends ArgumentError {
   readonly player: number;
 }
 
-/** A member with its exact names. What is left out is at its maximum. */
+/** A member with its exact names. A field that is left out has its maximum. */
 export interface NamedMember {
   species: SpeciesName;
   level?: number;
@@ -155,7 +155,7 @@ export class EndingClauses implements Kept {
 
 /**
  * A battle log of one battle from its beginning, as the player of a side reads it (docs/PROGRAM.md, "follow"). Its lines may come in pieces. All
- * properties and calls throw ProtocolError for the first line that can't be part of the battle, and as long as not both sides have sent out a member.
+ * properties and calls throw ProtocolError for the first line that can't be part of the battle, and until both sides have sent out a member.
  */
 export class Follower {
   private constructor();
@@ -203,11 +203,11 @@ export class Showdown {
    * name. A host shows both commitments to both players, and only then asks for the secrets. What can be tried:
    *
    * - To choose a secret late, or to guess the other's: no second secret has the commitment, and it says nothing of 32 bytes by chance.
-   * - To repeat a commitment, of the other player or of an earlier battle: it has the player and the name, so each battle needs a name of its own.
-   * - To refuse the secret: who has both first knows the result. So a refusal must be a loss, never a new draw; and where secrets go to the host
-   *   alone, a player has nothing to refuse by.
-   * - To know draws in advance: who knows both secrets knows all draws of a battle that goes on with its seed. Players without a host agree anew for
-   *   each pair, and submit the seed as its numbers. A host that tells a player the secrets can't be found out.
+   * - To repeat a commitment, of the other player or of an earlier battle: it has the player and the name, so each battle needs a different name.
+   * - To refuse the secret: a player that has both first knows the result. So a refusal must be a loss, never a new draw; and where secrets go to
+   *   the host alone, a player has nothing to refuse by.
+   * - To know draws in advance: both secrets give all draws of a battle that continues with its seed. Players without a host agree again for
+   *   each pair, and submit the seed as its numbers. A host that shows a player the secrets can't be detected.
    */
   commit(battle: string, player: 1 | 2, secret: Uint8Array): Uint8Array;
   /**

@@ -1,4 +1,4 @@
-// Showdown's protocol (gen1-showdown), over a module of its own: teams with nicknames, formats, lines, requests and choices, a simulator, and
+// Showdown's protocol (gen1-showdown), over a separate module: teams with nicknames, formats, lines, requests and choices, a simulator, and
 // battle logs read back.
 //
 //     import { loadShowdown } from "gen1/showdown";
@@ -26,7 +26,7 @@ export class ProtocolError extends Gen1Error {
   }
 }
 
-/** A text is no choice now. The message is what Showdown sends after `|error|[Invalid choice]` and a space. */
+/** A text isn't a choice that can be made now. The message is what Showdown sends after `|error|[Invalid choice]` and a space. */
 export class ChoiceError extends Gen1Error {}
 
 /** A secret is not the one that `player`, 1 or 2, committed to. */

@@ -5,7 +5,7 @@ import {eventsOf, linesOf} from "./events.mjs";
 import {Library} from "./memory.mjs";
 import {resultOf} from "./views.mjs";
 
-// Logs are kept in pieces of longer arrays, since creating an array for each would take as long as an update.
+// Logs are kept in pieces of longer arrays, since an array for each log would double the time of an update.
 const SLAB = 32768;
 let slab = new Uint8Array(SLAB);
 let used = 0;

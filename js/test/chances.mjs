@@ -207,7 +207,7 @@ function uses(gen1, check) {
     ];
     for (const [it, move, reason] of cases) equal([move, ...reasonOf(it, move)], [move, 0, reason]);
     equal(cases.every(([, , reason]) => library.REASONS.includes(reason)), true);
-    // The same Fissure by the faster side: 30 % of 255 is 76.
+    // Fissure by the faster side: 30 % of 255 is 76.
     equal(reasonOf(battle, "Fissure", 2), [76 / 256, null]);
   });
   check("fixed damage", () => {

@@ -225,7 +225,7 @@ function sorted(value) {
       Object.entries(value).sort(([one], [two]) => (one < two ? -1 : 1)).map(([key, it]) => [key, sorted(it)]));
 }
 
-// The same updates as two players' submissions, side 2 first in every other pair.
+// A room case: the updates of the battle as two players' submissions, side 2 first in every other pair.
 function roomCase(gen1, terms, [first, ...updates]) {
   const room = gen1.room(gen1.battle(termsOf(terms)));
   equal([hexOf(room.log), hexOf(room.battle.bytes)], [first.log, first.bytes]);

@@ -93,7 +93,7 @@ function played(number) {
   return updates;
 }
 
-// The same battle by a copy, from its bytes, or from its state.
+// A battle equal to this one, by a copy, from its bytes, or from its state.
 function changed(battle) {
   const ways = [() => battle.clone(), () => gen1.load(battle.bytes), () => gen1.battleOfState(battle.state)];
   const other = ways[random(ways.length)]();

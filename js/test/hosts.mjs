@@ -254,7 +254,7 @@ function storedHosts(gen1, check, begun) {
   });
 }
 
-/** A room with all who follow it; side 2 is told HP in 48ths. */
+/** A room with all that follow it. HP is reported to side 2 in 48ths. */
 function tableOf(gen1) {
   const [one, two] = [
     "Tauros||||BodySlam,HyperBeam,Blizzard,Earthquake|||||||]Chansey||||IceBeam,Thunderbolt,SoftBoiled|||||||",

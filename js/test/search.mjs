@@ -1,4 +1,4 @@
-// Tests of search.mjs under Node: node test/search.mjs. What a player doesn't know makes no difference, and a level 3 search is quick.
+// Tests of search.mjs under Node: node test/search.mjs. Facts that a player doesn't know make no difference, and a level 3 search is quick.
 import {ArgumentError, ArgumentTypeError, load} from "../gen1.mjs";
 import {loadSearch, SearchError} from "../search.mjs";
 

@@ -1,4 +1,4 @@
-// States that no battle can have, and words that are no choice: each error names the field, its value and the lawful ones.
+// States that no battle can have, and words that don't name a choice: each error names the field, its value and the lawful ones.
 import * as library from "../gen1.mjs";
 
 import {equal, thrown} from "./holding.mjs";
@@ -115,7 +115,7 @@ export function wrongStates(gen1, battle, check) {
   });
 }
 
-/** Words that are no choice of a battle in which each side has the move Strength alone. */
+/** Words that don't name a choice of a battle in which each side has the move Strength alone. */
 export function wrongWords(gen1, battle, check) {
   check("words that are no choice", () => {
     for (const it of [undefined, null, 17, {}])

@@ -140,7 +140,7 @@ const TOLD = [
   [[26, 2], "Side 2 wins."],
   [[27], "The battle is a tie."],
 ];
-// The same for side 2, which is told HP of side 1 in 48ths.
+// The report of the battle to side 2, in which HP of side 1 is in 48ths.
 const TOLD_TO_TWO = [
   [[5, 1, 128, 24, 0, 48, 0, 0, 2], "The foe's Tauros is down to 50% by its burn."],
   [[6, 2, 121, 130, 0, 200, 0, 5], "Your Starmie is healed to 130 of 200 HP."],
@@ -534,7 +534,7 @@ function copies(battle, side, weights) {
   return found.length ? found : offered;
 }
 
-// The same rounds update by update, with the generator that include/gen1.h describes.
+// Plays rounds of a playout update by update, with the generator that include/gen1.h describes.
 function playedOut(battle, seed, rounds, {depth = Infinity, weights = {}} = {}) {
   const counts = {winsOne: 0, winsTwo: 0, ties: 0, faults: 0};
   const names = {"win one": "winsOne", "win two": "winsTwo", tie: "ties", "fault 1": "faults", "fault 2": "faults"};

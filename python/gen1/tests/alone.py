@@ -70,7 +70,7 @@ class Alone:
         return result & 7, result >> 3 & 3, result >> 5 & 3
 
     def update(self, one, two):
-        """The code and the log of an update, of which both players are told."""
+        """The code and the log of an update, which is reported to both players."""
         code, log = raw_update(self.battle, one, two)
         if code == 0:
             for side in SIDES:

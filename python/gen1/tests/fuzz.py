@@ -140,7 +140,7 @@ class Group:
         return np.where(drawn < 0, masks.argmax(1), drawn)
 
     def _step(self, going):
-        """Updates the battles that go on, each by itself and all in the arrays, and compares them."""
+        """Updates the battles that continue, each by itself and all in the arrays, and compares them."""
         self.going, self.pairs[:] = going, 0
         for at in np.flatnonzero(going).tolist():
             self.pairs[:, at] = self.battles[at].step(self.dice)

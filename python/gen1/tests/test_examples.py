@@ -95,7 +95,7 @@ def test_the_last_hit_of_a_duel(duel, plays):
 
 
 def test_a_frozen_member_of_a_duel(duel):
-    """Ice thaws only by fire, so whoever faces a frozen member wins."""
+    """Ice thaws only by fire, so the side that faces a frozen member wins."""
     member = Member("Jynx", ["Blizzard", "Pound"], level=2)
     tauros = Member("Tauros", ["Blizzard", "Body Slam"], level=3)
     for each in (member, tauros):

@@ -76,7 +76,7 @@ class OnPaper:
         self.draw = None
 
     def tell(self, side, event):
-        """An event as a side is told it."""
+        """An event as it is reported to a side."""
         if getattr(event, "who", None) is None or event.who.side is side or not hasattr(event, "health"):
             return event
         made, hp = event, event.health
@@ -91,7 +91,7 @@ class OnPaper:
         return made
 
     def told_all(self):
-        """What both tellers make of the events: of each event of a side, what the foe of that side is told."""
+        """The events as reported to the audience: each event of a side is as its foe receives it."""
         pairs = zip(self.told[Side.ONE], self.told[Side.TWO])
         return [
             two if getattr(two, "who", None) is not None and two.who.side is Side.ONE else one for one, two in pairs

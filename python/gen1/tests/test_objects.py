@@ -56,7 +56,7 @@ def test_choices_and_their_bytes():
 
 
 def test_formats_of_names():
-    """The same in every Python: the label, or the number if the format is that of a number."""
+    """A formatted name is the label, or the number if the format is that of a number, in every version of Python."""
     move, side = Move.BODY_SLAM, Side.ONE
     assert (f"{move}", f"{move:>10}", f"{move:s}", f"{move!s}") == ("Body Slam", " Body Slam", "Body Slam", "Body Slam")
     assert (f"{move:d}", f"{move:03d}", f"{move:#04x}", f"{side:b}", "%d" % move) == ("34", "034", "0x22", "1", "34")

@@ -395,7 +395,7 @@ def weighted(battle, side, weights):
 
 
 def played_out(battle, seed, rounds, depth=math.inf, weights=None):
-    """The same update by update."""
+    """Plays the rounds of a playout update by update."""
     ends, draw = [0] * 4, draws(seed)
     for _ in range(rounds):
         it, updates = battle.copy(), 0

@@ -319,7 +319,7 @@ def test_updates_are_among_the_outcomes():
 
 
 def test_forms_of_a_list():
-    """The same list as pairs, as numbers and as bytes. The battle stays as it was."""
+    """Outcomes as pairs, as numbers and as bytes are one list. The battle stays as it was."""
     battle = facing(("Tauros", "Body Slam"), ("Starmie", "Thunder"))
     before, found = battle.bytes, battle.outcomes(FIRST, FIRST)
     assert battle.bytes == before and len(found) == len(found.battles) == len(found.weights) > _outcomes.PLACES
@@ -338,7 +338,7 @@ def test_numpy_arrays():
 
 
 def test_without_numpy():
-    """The same numbers where numpy is not installed."""
+    """The numbers don't change where numpy is not installed."""
     program = """
 import sys
 sys.modules["numpy"] = None

@@ -59,7 +59,7 @@ def damage(side, species, hp, most):
 
 
 def seen_by(player, *events):
-    """A player of side 1 after it was told of these events, and the foe as it knows it."""
+    """The foe as a player of side 1 knows it after these events."""
     player.feed(b"".join(map(bytes, events)))
     return player.foe
 
@@ -102,7 +102,7 @@ def test_before_the_battle(player):
 
 
 def test_places_of_the_foe_are_told_by_appearance():
-    """The foe's places 5, 2 and 5 again are told as 1, 2 and 1; the own place 5 as it is."""
+    """The foe's places 5, 2 and 5 again are reported as 1, 2 and 1; the own place 5 as it is."""
     teller = Teller(Side.ONE, pixels=False)
     for place, told in ((5, 1), (2, 2), (5, 1)):
         assert teller.tell(switch(2, 113, place, 322, 323)) == switch(2, 113, told, 322, 323)
@@ -112,7 +112,7 @@ def test_places_of_the_foe_are_told_by_appearance():
 
 def test_forms_of_hp():
     """docs/MECHANICS.md, "Player's view": as the bar 322 of 323 HP are 48, since 12 * 322 / 80 is 48.3, and 254 of 255 are 47; in hundredths
-    322 of 323 are 99. Own HP is told as it is.
+    322 of 323 are 99. Own HP is reported as it is.
     """
     for hp, most, bar, hundredths in (
         *((322, 323, 48, 99), (323, 323, 48, 100), (266, 323, 39, 83), (7, 323, 1, 3), (6, 323, 1, 2), (0, 323, 0, 0)),
@@ -560,7 +560,7 @@ def test_choices_that_are_shown(player):
 
 
 def known_table():
-    """A room with all who follow it, as in rust/gen1/tests/wire.rs: side 2 is told HP in 48ths."""
+    """A room with all that follow it, as in rust/gen1/tests/wire.rs. HP is reported to side 2 in 48ths."""
     one = "Tauros||||BodySlam,HyperBeam,Blizzard,Earthquake|||||||]Chansey||||IceBeam,Thunderbolt,SoftBoiled|||||||"
     two = "Gengar||||Hypnosis,Dig,NightShade|||||||]Snorlax||||BodySlam,Substitute,Amnesia|||||||"
     teams = [Team.from_packed(it) for it in (one, two)]
@@ -584,7 +584,7 @@ def fnv(before, data):
 
 
 def test_bytes_are_those_of_the_c_structs():
-    """In a battle that Rust and JavaScript play too; at each step all go on from their bytes."""
+    """In a battle that Rust and JavaScript play too; at each step all continue from their bytes."""
     table, pairs = known_table(), 0
     told(*table)
     found = fnv(0xCBF29CE484222325, b"".join(map(bytes, table)))

@@ -45,7 +45,7 @@ def test_recorded_battles(name):
 
 
 def test_from_json():
-    """The same battle, to its bytes, and the same record."""
+    """A recorder made of its JSON has the battle, to its bytes, and the record of the first one."""
     dice = random.Random(2)
     for _ in range(20):
         made = a_recorder(dice)

@@ -54,7 +54,7 @@ def is_there():
 
 pytestmark = pytest.mark.skipif(not is_there(), reason="libgen1_extras.so is missing: no cargo")
 SAMPLES = [list(it.members) for it in sample_teams().values()]
-# Moves that go on, that fail, and that hide what is left of them.
+# Moves that continue, that fail, and that hide what is left of them.
 GOING_ON = [
     Move.WRAP,
     Move.CLAMP,
@@ -279,7 +279,7 @@ def messages(said):
 
 
 def mixed(dice):
-    """A team with moves that go on, whose members have different names."""
+    """A team with moves that continue, whose members have different names."""
     species = dice.sample(range(1, 152), 3)
     return Members([Member(it, [dice.choice(GOING_ON), *dice.sample(OTHERS, 2)]) for it in species])
 
@@ -384,7 +384,7 @@ def test_nothing_hidden_changes_the_lines_of_the_others():
             differed += first[1].text(Viewer.TWO) != second[1].text(Viewer.TWO) or (
                 first[2][Side.TWO].request(1) != second[2][Side.TWO].request(1)
             )
-            # What shows nothing of the hidden: the first two moves, and what goes on.
+            # Choices that show nothing of the hidden: the first two moves, and a move that continues.
             theirs = [it for it in first[0].message(2).choices if it <= Choice.MOVE_2]
             if not theirs or not all(map(first[0].awaits, Side)):
                 break
@@ -398,7 +398,7 @@ def test_nothing_hidden_changes_the_lines_of_the_others():
 
 
 def said_of(choice, host, side, members):
-    """A choice in the words of `Follower.choices`. One that goes on with a move does not say which."""
+    """A choice in the words of `Follower.choices`. One that continues with a move does not say which."""
     if choice in (Choice.PASS, Choice.MOVE_0):
         return None if choice == Choice.PASS else "move "
     if choice >= 0x20:

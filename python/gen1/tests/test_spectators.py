@@ -39,7 +39,7 @@ def shown(side):
 
 
 def read(given, at):
-    """The same from the 180 bytes of a side (docs/LAYOUT.md). A side without an active member has no stages."""
+    """A spectator's view from the 180 bytes of a side (docs/LAYOUT.md). A side without an active member has no stages."""
     places = [given[at + 24 * it : at + 24 * it + 24] for it in range(6)]
     active = given[at + 144 : at + 180]
     members = [(it[4] + 256 * it[5], KINDS.get(it[14], Status.SLEEP)) for it in places if it[0]]

@@ -42,7 +42,7 @@ def test_a_state_and_back():
 
 
 def test_other_hp(battle):
-    """The state has other HP and nothing else, and the battle goes on with them."""
+    """The state has other HP and nothing else, and the battle continues with them."""
     other, before = battle.with_hp(2, 1, 30), battle.bytes
     assert other.state == battle.state.with_member(2, 1, hp=30) and other.state.member(2, 1).hp == 30
     assert other.state.one == battle.state.one and other.state.member(2, 2) == battle.state.member(2, 2)

@@ -116,7 +116,7 @@ def test_steps(mode, opponent):
 
 
 def test_one_battle_is_that_of_a_single_environment():
-    """The same seed and actions give the same observations, rewards and masks, for each opponent and encoding."""
+    """One seed with the same actions gives the same observations, rewards and masks, for each opponent and encoding."""
     for opponent in ("random", "greedy", lambda observations, masks: masks.argmax(1)):
         for encoding in (Encoding(), Encoding("uint8", True)):
             many = VectorEnv(1, opponent=opponent, autoreset="disabled", observations=encoding)

@@ -159,7 +159,7 @@ class Host:
     to be sent.
 
     Pairs are numbered from 0. The sender of a row (a choice, an offer, a
-    forfeit) is told only whether the host took it, and whether that ended
+    forfeit) learns only whether the host took it, and whether that ended
     the pair. After each pair send `message` to both sides and `notice` to
     the audience. Nothing else of a host may be sent. Until a pair has
     ended, what a side is sent does not depend on what the other side has
@@ -189,8 +189,8 @@ class Host:
         """Creates the host of a copy of the battle. A battle that has not
         begun is started at once.
 
-        A side and the audience are told HP of a foe in the form `hp_form`;
-        without it exactly with `exact_hp`, else as the game's bar. With
+        HP of a foe is reported in the form `hp_form`. Without it, HP is
+        exact with `exact_hp`, and as in the game's bar otherwise. With
         `may_cancel` a side may take its choice back while the other's is
         missing. With `late_forfeits` a side whose time has run out
         forfeits, otherwise its first choice is made. Raises `BadType`.

@@ -35,7 +35,7 @@ class _Sent:
 
     @property
     def log(self) -> bytes:
-        """The log bytes of the last pair, as they are told; at the beginning
+        """The log bytes of the last pair as reported; at the beginning
         those of the start.
         """
         return bytes(self._held.log[: self._held.log_length])
@@ -140,7 +140,7 @@ class Notice(_Sent):
     beginning.
 
     Both sides' members are numbered in the order in which they appeared,
-    and their HP is told as each foe is told it. `bytes` of a notice are the
+    and their HP is as reported to each foe. `bytes` of a notice are the
     520 bytes of a `gen1_notice`.
     """
 

@@ -1,8 +1,7 @@
 """Opponents in an environment: random, by the greatest damage, or a function
 of observations and masks.
 
-Each of them sees the knowledge of its own side's player, and never the
-battle.
+Each opponent sees the knowledge of its side's player, and never the battle.
 """
 
 from __future__ import annotations

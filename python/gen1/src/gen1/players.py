@@ -45,7 +45,7 @@ _BITS = {int(it): 1 << bit for bit, it in enumerate(CHOICES)}
 class SeenMove:
     """A move that a member was seen to prepare or to use, and how often
     it used it: 0 to 255, where 255 means 255 or more. A use that may be
-    one going on, without PP, is not counted.
+    the continuation of an earlier one, without PP, is not counted.
     """
 
     move: Move
@@ -217,7 +217,7 @@ class Player:
 
     @property
     def _team(self) -> tuple[int, ...]:
-        """The species and level of each member of its own side, by the log."""
+        """The species and level of each member of the player's side, by the log."""
         return _TEAM(self._held, _MEMBERS[self._held.side - 1])
 
     @property

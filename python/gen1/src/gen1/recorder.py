@@ -107,7 +107,7 @@ class Recorder:
         and without a network.
 
         `page` is the page that web/build made; by default the one that a
-        wheel installs. Raises `BadArgument` if there is no page, and
+        wheel installs. Raises `BadArgument` if the page is missing, and
         `OSError` if the file cannot be written.
         """
         held = self.json().replace("<", "\\u003c")

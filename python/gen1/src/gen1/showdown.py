@@ -65,8 +65,8 @@ class ProtocolFault(Error):
 
 
 class ChoiceRefused(Error):
-    """A text is no choice now. The message is what Showdown sends after
-    `|error|[Invalid choice]` and a space.
+    """A text isn't a choice that can be made now. The message is what Showdown
+    sends after `|error|[Invalid choice]` and a space.
     """
 
 
@@ -271,7 +271,7 @@ class Lines(_Kept):
         their number, for the lines of one viewer (`receive`). Then its
         members have the names of their species.
 
-        `hp` is the form of a foe's HP, made from what a side is told: with
+        `hp` is the form of a foe's HP, made from the reported HP: with
         `Hp.EXACT` the lines of a host that tells 48ths have 48ths. Raises
         `BadArgument`, `BadType`.
         """
@@ -317,7 +317,7 @@ class Lines(_Kept):
         spectator. Each is taken in once, in order.
 
         `text` of this viewer has them. A spectator sees no `[from]` at a
-        trapping move that goes on, as nothing that it is sent says so.
+        trapping move that continues, as nothing that it is sent says so.
         Raises `BadArgument`, `BadType`.
         """
         if not isinstance(sent, (Message, Notice)):
@@ -334,7 +334,7 @@ class Lines(_Kept):
     def hear(self, log: ReadableBuffer) -> None:
         """Adds the lines of an earlier pair for one viewer, of which only the
         told log was kept. Its own Disable lacks the move, and a trapping
-        move that goes on has no `[from]`. Raises `BadArgument`, `BadType`.
+        move that continues has no `[from]`. Raises `BadArgument`, `BadType`.
         """
         self._ask("hear", log=octets(log, "log").hex(), side=None, message=None, time=None)
 
@@ -489,15 +489,15 @@ def commit(battle: str, player: int, secret: ReadableBuffer) -> bytes:
     - To choose a secret late, or to guess the other's: no second secret has
       the commitment, and it says nothing of 32 bytes by chance.
     - To repeat a commitment, of the other player or of an earlier battle:
-      it has the player and the name, so each battle needs a name of its
-      own.
-    - To refuse the secret: who has both first knows the result. So a
-      refusal must be a loss (`Row.forfeit`), never a new draw; and where
-      secrets go to the host alone, a player has nothing to refuse by.
-    - To know draws in advance: who knows both secrets knows all draws of a
-      battle that goes on with its seed. Players without a host agree anew
-      for each pair, and submit the seed as `numbers`. A host that tells a
-      player the secrets can't be found out.
+    it has the player and the name, so each battle needs a different
+    name.
+    - To refuse the secret: a player that has both first knows the result.
+    So a refusal must be a loss (`Row.forfeit`), never a new draw; and
+    where secrets go to the host alone, a player has nothing to refuse by.
+    - To know draws in advance: both secrets give all draws of a battle
+    that continues with its seed. Players without a host agree again for
+    each pair, and submit the seed as `numbers`. A host that shows a
+    player the secrets can't be detected.
 
     Raises `BadArgument`, `BadType`.
     """
@@ -577,7 +577,7 @@ class Follower:
 
     Its lines may come in pieces. All properties speak of the lines so far,
     and raise `ProtocolFault` for the first line that can't be part of the
-    battle, and as long as not both sides have sent out a member.
+    battle, and until both sides have sent out a member.
     """
 
     def __init__(self, side: Side | int, members: Members | None = None) -> None:
