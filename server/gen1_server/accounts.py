@@ -1,8 +1,8 @@
 """Names, passwords and tokens.
 
 A password is kept as its salted scrypt, a token as its SHA-256. A guest has a
-name without a password, which is nobody's own: while nobody uses it, anyone
-may, except that its open battles stay with the address that it came from.
+name without a password: anyone may use it while it isn't in use, except that
+its open battles stay with the address that it came from.
 """
 
 import hashlib

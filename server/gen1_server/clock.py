@@ -8,7 +8,7 @@ It is computed from the times of the room's rows. Times are milliseconds since
 class Clock:
     """When each side's time for the current pair runs out.
 
-    It depends on earlier pairs alone, so it does not tell whether the other
+    It depends on earlier pairs alone, so it does not reveal whether the other
     side has chosen.
     """
 

@@ -43,7 +43,7 @@ class Config:
     grace_seconds: float = 30.0
     exact_hp: bool = False
     may_cancel: bool = False
-    # The audience is told of a pair when so many more have ended.
+    # A pair is reported to the audience when so many more have ended.
     audience_delay: int = 0
     # Ratings and their history are kept apart for each season.
     season: str = "1"
@@ -58,7 +58,7 @@ class Config:
     bot_seconds: float = 30.0
     # Origins that a browser's page may have, besides the server's own.
     origins: tuple[str, ...] = ()
-    # Whether the last address of X-Forwarded-For is the client's. Only behind a proxy that sets it.
+    # Whether the last address of X-Forwarded-For is the client's. Set it only if a proxy sets that header.
     proxied: bool = False
     # Signs the login of Showdown's protocol. Empty: a new one at each start.
     secret: str = ""

@@ -151,7 +151,7 @@ class Connection(Watcher, asyncio.Protocol):
         self.services.rooms.online[account.id].add(self)
 
     def exit(self) -> None:
-        """From now on the connection is nobody's."""
+        """Logs the connection out."""
         self.services.lobby.depart(self)
         self.services.rooms.depart(self.account.id if self.account else 0, self)
         self.account = None
@@ -205,7 +205,7 @@ class Connection(Watcher, asyncio.Protocol):
         self.greet()
 
     def connection_lost(self, _: Exception | None) -> None:
-        """Ends the connection, once what it has sent is answered."""
+        """Ends the connection, once its requests have been handled."""
         metrics.CONNECTIONS.labels(self.protocol).dec()
         self._login.cancel()
         self._is_lost = True
@@ -281,7 +281,7 @@ class Connection(Watcher, asyncio.Protocol):
         return None
 
     async def _finish(self, rest: Rest, waiting: deque[WSMessage]) -> None:
-        """Finishes an answer, then answers the messages that have come meanwhile."""
+        """Finishes a request, then handles the messages that have come meanwhile."""
         while rest or waiting and not self._closed:
             try:
                 rest = rest or self._accept(waiting.popleft())

@@ -1,6 +1,6 @@
 """A battle of two accounts: its start and its rows, and the view of each side.
 
-There is no socket, no statement and no clock of a machine here. The same
+This module uses no socket, no SQL and no clock of the machine. The same
 start and entries make the same match, in the process that committed them and
 in one that reads them back. What happens in a battle, and what each side may
 know, is decided by `gen1.Host`.
@@ -84,7 +84,7 @@ class View:
     of it and of nothing else.
 
     `side` is None for the audience. `sent` is what the host sends it, and
-    `logs` are the log bytes that it was told for the start and each pair, of
+    `logs` are the log bytes that it received for the start and each pair, of
     which the last is that of `sent`; do not keep the list, as it grows.
     `sizes` are how many members the teams have. `team` is the own team as
     JSON, and `due` when the own time runs out; both are empty for the
@@ -117,11 +117,11 @@ class After(NamedTuple):
 
 
 class Watcher:
-    """A connection, or the computer, as rooms see it. What a subclass does not
-    define does nothing.
+    """A connection, or the computer, as rooms see it. A method that a subclass
+    does not define does nothing.
     """
 
-    # Whether its client goes on at another process where it is told to.
+    # Whether its client continues at another process if the server names one.
     follows: ClassVar[bool] = False
 
     def joined(self, view: View) -> None:
@@ -147,7 +147,7 @@ class Watcher:
 
 
 class Match:
-    """A room's host, the logs that were told, and the clock."""
+    """A room's host, the logs that were sent, and the clock."""
 
     __slots__ = "start host clock count lapses ending audience_moved _sizes _logs _notices".split()
 

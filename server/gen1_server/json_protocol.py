@@ -186,7 +186,7 @@ def _text(data: bytes) -> str:
 
 
 def _standing(view: View) -> dict[str, Any]:
-    """Where a room stands for a side or the audience."""
+    """The current position of a room, for a side or the audience."""
     found: dict[str, Any] = {"room": view.room, "number": view.number, "sent": _text(bytes(view.sent))}
     if view.side:
         assert isinstance(view.sent, gen1.Message)

@@ -24,7 +24,7 @@ class Failed(Exception):
 
 
 def within(config: Config, statements: Any) -> Any:
-    """Runs statements in a transaction of a connection of their own."""
+    """Runs statements in a transaction of a separate connection."""
     engine = engine_of(config.url, config.durable)
     try:
         with engine.begin() as connection:
@@ -50,7 +50,7 @@ def migrate(config: Config) -> str:
 def prepare(config: Config) -> None:
     """Makes the tables of an empty database."""
     if not within(config, schema.version_of):
-        # In a process of its own, which gives the 10 MB back that Alembic takes.
+        # A separate process, since its end frees the 10 MB that Alembic takes.
         child = get_context("fork").Process(target=migrate, args=(config,))
         child.start()
         child.join()

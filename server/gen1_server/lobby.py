@@ -44,7 +44,7 @@ class Lobby:
         self._searches: dict[records.Key, Seeker] = {}
         self._challengers: dict[int, Watcher] = {}
         metrics.SEARCHES.set_function(lambda: len(self._searches))
-        # The computer accepts each challenge with a team of its own.
+        # The computer accepts each challenge, with its own team.
         self.computer: Account | None = None
 
     async def search(self, seeker: Seeker, code: str = "", ends: int = 0) -> None:
@@ -89,8 +89,8 @@ class Lobby:
         self._told(account.id)
 
     async def challenge(self, to: str, seeker: Seeker) -> str:
-        """Challenges an account, or with an empty name whoever has the code, which
-        is returned. The computer accepts at once. Raises `Refused`.
+        """Challenges an account, or with an empty name anyone who has the code,
+        which is returned. The computer accepts at once. Raises `Refused`.
         """
         self._rooms.room_for(seeker.account)
         if to and folded(to) == folded(seeker.name):
@@ -135,7 +135,7 @@ class Lobby:
 
     async def rematch(self, start: Start, seeker: Seeker) -> None:
         """Begins a battle once both players of a room that is over ask for it: it
-        is a challenge, of which the other one is told no code. Raises `Refused`.
+        is a challenge whose code isn't sent to the other one. Raises `Refused`.
         """
         self._rooms.room_for(seeker.account)
         code = f"{REMATCH}{start.id}"
@@ -159,7 +159,7 @@ class Lobby:
             self._store.run(partial(records.forget, keys, self._rooms.process))
 
     async def _challenge(self, seeker: Seeker, code: str, to: int) -> None:
-        """Challenges an account, or with 0 whoever has the code. Raises `Refused`."""
+        """Challenges an account, or with 0 anyone who has the code. Raises `Refused`."""
         is_here = to in self._rooms.online
         # Where another process has the account, it says so by removing the end.
         ends = now() + PATIENCE if to and not is_here and self._config.address else 0

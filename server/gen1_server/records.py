@@ -31,9 +31,9 @@ class Waiting(NamedTuple):
 
     `follows` says whether the client can be led to another process, and `room`
     is the battle that another process has begun, or 0. `to` is the account
-    that is challenged, or 0 for whoever has the code; None for others. `ends`
-    is when an acceptance ends, and a challenge that the account was not told
-    of; 0: never.
+    that is challenged, or 0 for anyone who has the code; None for others. `ends`
+    is when an acceptance ends, or a challenge that wasn't shown to the account;
+    0: never.
     """
 
     process: int
@@ -263,7 +263,7 @@ def stored(numbers: list[int], connection: Any) -> list[StoredRoom]:
     of = select(room_row.c.room, room_row.c.bytes, room_row.c.at, room_row.c.cause)
     rows: dict[int, list[tuple[Any, ...]]] = defaultdict(list)
     ordered = of.where(room_row.c.room.in_(numbers)).order_by(room_row.c.room, room_row.c.sequence)
-    # The driver's rows: SQLAlchemy's would take as long as all the rest.
+    # The driver's rows: SQLAlchemy's would double the time of this function.
     for row in connection.execute(ordered).cursor:
         rows[row[0]].append(row)
     changes = _changes([it[0] for it in found if it.outcome], connection)

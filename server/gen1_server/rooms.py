@@ -126,7 +126,7 @@ class Rooms:
             for found in await self._store.run(partial(records.stored, numbers[at : at + 100])):
                 if found.start.id not in self.open and not found.ending and found.process == self.process:
                     self._seat(OpenRoom(found, self._grace()))
-            # Requests of clients go on in between.
+            # Lets requests of clients run in between.
             await asyncio.sleep(0)
 
     def _grace(self) -> int:
@@ -134,8 +134,8 @@ class Rooms:
         return now() + int(self._config.grace_seconds * 1000)
 
     async def stop(self) -> None:
-        """Takes no more requests. What is being committed is done before the lease
-        is released, since the store keeps the order.
+        """Takes no more requests. Commits that have begun end before the lease is
+        released, since the store keeps the order.
         """
         self.stops = True
         try:

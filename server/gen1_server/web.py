@@ -136,7 +136,7 @@ class Server:
             made.transport.abort()
 
     def _address(self, request: web.Request) -> str:
-        """The address of a client; behind a proxy the one that it names."""
+        """The address of a client; with a proxy, the one that the proxy names."""
         named = request.headers.get("X-Forwarded-For", "") if self.config.proxied else ""
         return named.rpartition(",")[2].strip() or request.remote or ""
 

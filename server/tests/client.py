@@ -31,7 +31,7 @@ def free_port():
 @contextmanager
 def postgresql(*options):
     """A PostgreSQL in a temporary folder, run by another user if this is root's. Gives a function that makes databases, or None if
-    there is no PostgreSQL."""
+    PostgreSQL isn't installed."""
     found = sorted(Path("/usr/lib/postgresql").glob("*/bin"), key=lambda it: float(it.parent.name))
     if not found or not shutil.which("runuser"):
         yield None
@@ -134,7 +134,7 @@ class Client:
         await self.socket.send_str(json.dumps(given))
 
     async def hear(self, seconds=30):
-        # Not wait_for, which goes on where it is cancelled while its message comes.
+        # Not wait_for, which continues where it is cancelled while its message comes.
         async with asyncio.timeout(seconds):
             message = await self.socket.receive()
         if message.type is not aiohttp.WSMsgType.TEXT:

@@ -1,4 +1,4 @@
-"""What the tests of the server share: a server process, and a PostgreSQL of their own."""
+"""Fixtures that the tests of the server share: a server process, and a PostgreSQL for them."""
 
 import sys
 from pathlib import Path

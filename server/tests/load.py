@@ -268,7 +268,7 @@ class Figures:
 
     @contextmanager
     def servers(self, count=1, **options):
-        """Servers on one database, each on a core of its own."""
+        """Servers on one database, each on a separate core."""
         database, made = self.database(), []
         try:
             for name, core in zip(("one", "two")[:count], self.cores):

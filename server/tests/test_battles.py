@@ -16,7 +16,7 @@ from gen1_server import keeping, records
 from gen1_server.config import Config
 from gen1_server.core import replayed
 
-# How often a server is killed, and how many duels go on meanwhile.
+# How often a server is killed, and how many duels continue meanwhile.
 KILLS, DUELS = int(os.environ.get("KILLS", "3")), int(os.environ.get("DUELS", "12"))
 TEAMS = [it.to_dicts() for it in sample_teams().values()]
 
@@ -66,7 +66,7 @@ def test_a_search_meets_those_of_another_process(server, postgres):
             if foe is bot:
                 await bot.send_str("|/search gen1randombattle")
             await client.ask("searching", type="search", format="gen1randombattle")
-            # What is answered from the database comes after the search is in it.
+            # A reply from the database comes after the search is in it.
             await client.ask("refused", type="accept", code="none")
             if foe is b:
                 await b.ask("searching", type="search", format="gen1randombattle")
@@ -128,7 +128,7 @@ def two_processes(server, postgres):
 
 
 def test_a_challenge_meets_a_player_of_another_process(two_processes):
-    """By name and by link; whoever accepts has the battle, and the other one is led there."""
+    """By name and by link; the process of the player that accepts has the battle, and the other one is led there."""
     one, two = two_processes.values()
 
     async def test(session):
@@ -143,7 +143,7 @@ def test_a_challenge_meets_a_player_of_another_process(two_processes):
         assert {json.dumps(it["team"]) for it in (here, shown)} == {json.dumps(it) for it in TEAMS[:2]}
         ends = await asyncio.gather(play(there, shown), play(b, here))
         assert ends[0]["ending"] == ends[1]["ending"] and ends[0]["ending"]["ratings"] == []
-        # A link is for whoever comes first, from any process.
+        # A link is for the first that comes, from any process.
         code = (await a.ask("challenging", type="challenge", format="gen1randombattle"))["code"]
         assert (await a.ask("refused", type="accept", code=code))["code"] == "no challenge"
         c, d = await guest(session, one, "C"), await guest(session, two, "D")
@@ -426,7 +426,7 @@ class Duel:
                 await me.say(type="choose", room=given["room"], number=given["number"], choice=choice)
 
     def hear(self, given, logs):
-        """Keeps the logs that a side was told, as base64. Those that it is told again are the same."""
+        """Keeps the logs that a side received, as base64. Logs that are sent again are the same."""
         if given["type"] == "room":
             assert logs == given["history"][: len(logs)] or logs[:-1] == given["history"]
             logs[:] = given["history"]
@@ -434,7 +434,7 @@ class Duel:
 
 
 def test_killed_three_times(server, database):
-    """Nothing that was taken is lost, no pair is played twice, and what was told is what the rows say."""
+    """No row that was taken is lost, no pair is played twice, and the logs that were sent are those of the rows."""
     it = server(database=database, grace_seconds=30, messages_per_second=1000.0)
     kills = KILLS if database.endswith(".db") else 1
 

@@ -1,4 +1,4 @@
-"""Processes that lose their lease, databases that fail, clients that mean harm, and stops."""
+"""Processes that lose their lease, databases that fail, malicious clients, and stops."""
 
 import asyncio
 import gc
@@ -155,7 +155,7 @@ def test_a_client_that_does_not_read_is_dropped(server):
 
 
 def test_a_flood_is_slowed_down(server):
-    """Others are answered while one client sends all that it can."""
+    """The server replies to others while one client sends all that it can."""
     it = server(messages_per_second=20.0, messages_at_once=20)
 
     async def test(session):
@@ -234,7 +234,7 @@ def test_what_the_start_leaves_is_not_collected_again(tmp_path):
 
 @pytest.mark.parametrize("was_committed", [True, False])
 def test_a_commit_that_fails(tmp_path, monkeypatch, was_committed):
-    """Nobody knows whether the row is there. The room is read again, and the battle goes on."""
+    """It is unknown whether the row is there. The room is read again, and the battle continues."""
     config = Config(database=str(tmp_path / "a.db"), port=free_port(), bot="")
     keeping.prepare(config)
     failing, added = [], store.add_rows

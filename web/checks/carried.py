@@ -161,7 +161,7 @@ def damaged_values_of_a_battle_are_refused(browser):
 
 
 def what_is_hidden_does_not_come_into_the_calculator(browser):
-    """In covered hands the foe has a usual set, and of its team only what came out; none of its own moves before they are used."""
+    """In covered hands the foe has a usual set, and of its team only what came out; none of its moves before they are used."""
     begin_fight(browser, "3 1 4 1 5 9 2 6 5 3", "covered")
     browser.fill("#play-team-2", f"{BURNS}\n\nPorygon\n- Splash")
     browser.fill("#play-who-2", "random")

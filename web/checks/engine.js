@@ -268,7 +268,7 @@ check("the computer is asked with what its side knows", () => {
   equal([17, 18].includes(choose(engine, question)), true);
 });
 
-// A team of moves that miss, are often critical, change stages, go on, charge and put up a Substitute.
+// A team of moves that miss, are often critical, change stages, continue, charge and put up a Substitute.
 const VARIED = [
   ["Tauros", "Body Slam", "Blizzard", "Sand Attack", "Fissure"],
   ["Starmie", "Thunder", "Minimize", "Substitute", "Hydro Pump"],

@@ -1,4 +1,4 @@
-"""Bad input: each gets a message, which is visible and names the side and the field, and the page keeps working. What is not wrong is no alert."""
+"""Bad input: each gets a message, which is visible and names the side and the field, and the page keeps working. Good input causes no alert."""
 import json
 
 from checks.browser import SIZES

@@ -1,4 +1,4 @@
-"""The part Online: persons in browsers of their own at a server (server/gen1_server), which each check may stop and start again."""
+"""The part Online: persons at a server (server/gen1_server), each in a separate browser. A check may stop and start the server."""
 import random
 import re
 import sys
@@ -24,7 +24,7 @@ STRIP = "return document.getElementById('online-strip').textContent"
 
 
 class Person(Browser):
-    """A person with a browser, who has a name at the server."""
+    """A person with a browser and a name at the server."""
 
     def come(self, address="#online"):
         """Opens the page as a stranger."""
@@ -202,7 +202,7 @@ def a_stranger_watches(club):
 
 
 def a_client_is_led_to_another_process(club):
-    """It goes on at the address that the server names, with the same battle."""
+    """A client continues at the address that the server names, with the same battle."""
     ann = club.persons[0]
     kept = "window.sockets = []; const Own = WebSocket; WebSocket = class extends Own { constructor(...a) { super(...a); sockets.push(this) } };"
     given = {"source": kept}

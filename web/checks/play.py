@@ -651,7 +651,7 @@ def a_member_has_a_card(browser):
                 break
             ActionChains(browser.driver).move_to_element(browser.find("h1")).perform()
         assert "Tauros" in card() and "24 PP" in card() and "Attack 298" in card(), (selector, card())
-        # The pointer may go on to the card, which closes when that is left.
+        # The pointer may move from the button to the card, which closes when the pointer leaves it.
         ActionChains(browser.driver).move_to_element(browser.find("#play-card")).perform()
         time.sleep(0.7)
         assert "Tauros" in card()

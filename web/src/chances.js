@@ -11,7 +11,7 @@ import {sideOf} from "./words.js";
  * @typedef {{ side: 1 | 2, move: string, events: GameEvent[], from: number }} Act a move with its events, and the place of its first event
  */
 
-/** The conditions in which a move goes on, mostly without a new test. */
+/** The conditions in which a move continues, mostly without a new test. */
 const GOING = ["bide", "thrash", "trapping", "rage"];
 /** The conditions of a side that end, or begin to matter, as it acts before its foe. */
 const PASSING = ["bide", "charging", "invulnerable", "recharge"];

@@ -19,7 +19,7 @@ import {percentage, span, STATUS_TAGS, STATUS_WORDS} from "./words.js";
 const [ONLY, MOVE, SWITCH] = [0x10, 0x11, 0x21];
 
 /**
- * The key of a choice: that of the slot of a move, and after them those of the other members by their places, whoever of them has fainted.
+ * The key of a choice: that of the slot of a move, and after them those of the other members by their places, also those that have fainted.
  * @param {string} keys @param {number} choice @param {number} place of the active member
  */
 export function keyOf(keys, choice, place) {

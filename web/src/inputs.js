@@ -51,7 +51,7 @@ function sizesOf(value) {
   return list(value, "sizes", 2).map((it, at) => whole(it, `sizes[${at}]`, 6, 1));
 }
 
-/** A byte that is no choice. */
+/** A byte that isn't a choice. */
 const UNOFFERED = 255;
 /** White space, and the byte order mark with which some editors begin a text. */
 const BLANKS = [9, 10, 13, 32, 0xef, 0xbb, 0xbf];

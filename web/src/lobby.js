@@ -6,7 +6,7 @@ import {sampleTeams, savedTeams, textOf} from "./team_lists.js";
  * @typedef {{ title: string, team: boolean, rules?: number, limit?: number }} Format its title, and whether players bring their teams
  * @typedef {{ code: string, from: string, format: string }} Call a challenge to the account
  * @typedef {{ formats: Record<string, Format>, limit?: number, computer?: string, now?: number }} Greeting
- * @typedef {{ room: number, format: string, rated: boolean, names: string[] | null }} Open a battle that is going on
+ * @typedef {{ room: number, format: string, rated: boolean, names: string[] | null }} Open a battle that isn't over
  */
 
 /** @param {string} text @param {() => void} click @param {Record<string, string>} [more] */
@@ -210,7 +210,7 @@ export class Lobby {
   }
 
   /**
-   * Shows the battles of the account after one was told, whose challenge is no longer open.
+   * Shows the battles of the account after one has begun, whose challenge isn't open any more.
    * @param {import("./remote.js").Room} room @param {Map<number, import("./remote.js").RemoteMatch>} matches
    */
   begun({names, format}, matches) {

@@ -33,7 +33,7 @@ export class Log {
     new ResizeObserver(() => this.toEnd()).observe(list);
   }
 
-  /** @param {import("gen1").Narrator} narrator tells the events that are added */
+  /** @param {import("gen1").Narrator} narrator makes the sentences of the events that are added */
   clear(narrator) {
     this.narrator = narrator;
     this.search.value = "";

@@ -294,7 +294,7 @@ export class LocalMatch extends Match {
   }
 
   /**
-   * The log of a step's update as no side is told it.
+   * The complete log of a step's update, which isn't reported to a side.
    * @param {Step} step
    */
   whole(step) {

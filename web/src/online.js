@@ -95,7 +95,7 @@ class Online {
   }
 
   /**
-   * Shows a battle as soon as it is told.
+   * Shows a battle as soon as its messages come.
    * @param {number} room
    */
   show(room) {
@@ -124,7 +124,7 @@ class Online {
     return side && !isOver && !isAwaited ? `Waiting for ${names?.[2 - side]}.` : "";
   }
 
-  /** The field was drawn, perhaps with another battle than before, which then goes on without the person. */
+  /** The field was drawn, perhaps with another battle than before. That battle then continues without the person. */
   drawn() {
     const {shown, before} = this;
     this.before = shown;
@@ -227,7 +227,7 @@ class Online {
       for (const id of OWN) find(id, HTMLElement).hidden = false;
     });
     this.lobby.enter(name);
-    // The server tells the open battles of the account by itself.
+    // The server sends the open battles of the account without a request.
     const {shown} = this;
     this.matches = new Map([...this.matches].filter(([room]) => room === shown?.room));
     const room = this.wanted || (shown?.isOver ? 0 : shown?.room);
@@ -292,7 +292,7 @@ class Online {
     this.server.move(address);
   }
 
-  /** The account has logged out, or its token is no longer valid. */
+  /** The account has logged out, or its token isn't valid any more. */
   exit() {
     this.server.token = "";
     this.server.close();

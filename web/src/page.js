@@ -1,2 +1,2 @@
-// The page's only script. Its text also runs as the worker, where there is no document.
+// The page's only script. Its text also runs as the worker, which has no document.
 void (typeof document === "undefined" ? import("./worker.js") : import("./main.js"));

@@ -122,7 +122,7 @@ export class Play {
     return this.isLocal && (this.isOpen || !this.game.persons.length || this.game.isOver);
   }
 
-  /** Who tells the lines, which stays the same for a whole battle. @returns {import("./match.js").Viewer} */
+  /** The viewer of the lines, which stays the same for a whole battle. @returns {import("./match.js").Viewer} */
   get teller() {
     const {persons} = this.game;
     if (this.isOpen || (this.isLocal && !persons.length)) return "all";
@@ -685,7 +685,7 @@ export class Play {
   }
 
   /**
-   * What a side's active member does if it has no choice, in words; empty if no move goes on.
+   * What a side's active member does if it has no choice, in words; empty if no move continues.
    * @param {Side} side
    */
   going(side) {

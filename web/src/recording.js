@@ -14,7 +14,7 @@ import {told} from "./words.js";
  *   and the frame that first did
  */
 
-/** The maximum HP of each member of the foe in a log as it is reported to a side (docs/MECHANICS.md, "What a side is told"), and in Showdown's logs. */
+/** The maximum HP of each member of the foe in a log that is reported to a side (docs/MECHANICS.md, "What a side is told"), and in Showdown's logs. */
 const PIXELS = [48, 100];
 const ENDS = ["turn", "win", "tie", "fault"];
 /**

@@ -27,8 +27,8 @@ const REASONS = {
 };
 
 /**
- * A battle at a server. A side's knowledge is the library's Player, which receives the server's messages; that of the audience are two players without
- * teams of their own, of which each sees the other side.
+ * A battle at a server. A side's knowledge is the library's Player, which receives the server's messages. That of the audience is two players without
+ * teams, of which each sees the other side.
  * @extends {Match<import("./match.js").Known>}
  */
 export class RemoteMatch extends Match {
@@ -113,7 +113,7 @@ export class RemoteMatch extends Match {
   }
 
   /**
-   * Of the pairs that were told at once, only the last shows the own side.
+   * Only the last of the pairs that came at once shows the own side.
    * @param {Viewer} viewer @param {import("./match.js").Known} step
    */
   basis(viewer, step) {

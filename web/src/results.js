@@ -73,7 +73,7 @@ function harm(range, {hp, max}) {
       part("lost", least, hp));
 }
 
-/** The width and the height of the plot in units of its own; it is stretched to its place. */
+/** The width and the height of the plot in its own units; it is stretched to its place. */
 const [WIDTH, HEIGHT] = [1000, 100];
 
 /** @param {string} name @param {Record<string, string | number>} attributes @param {string} [title] */
@@ -186,7 +186,7 @@ export class Results {
    * @param {string[]} species
    */
   directions(species) {
-    // Two members of one species are told apart by their sides.
+    // The sides distinguish two members of one species.
     const names = species[0] === species[1] ? ["Side 1", "Side 2"] : species;
     return make("div", {class: "directions", role: "group", "aria-label": "Who attacks"},
         ...[0, 1].map((at) => make("button", {

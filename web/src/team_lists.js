@@ -185,7 +185,7 @@ function block(member) {
 }
 
 /**
- * The export text of a team; also of members that are no team yet, or have other PP ups, which `teamToText` of the package refuses.
+ * The export text of a team; also of members that aren't a team yet, or have other PP ups, which `teamToText` of the package refuses.
  * @param {Member[]} team
  */
 export function textOf(team) {
