@@ -60,7 +60,7 @@ int main(void) { LINES return 0; }
 
 
 class Layouts(NamedTuple):
-    """The bytes of each type, and the fields of each struct: name, type, length (0 where it is no array) and offset."""
+    """The bytes of each type, and the fields of each struct: name, type, length (0 if it isn't an array) and offset."""
 
     sizes: dict
     fields: dict

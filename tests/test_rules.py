@@ -2,7 +2,8 @@
 
 A file of code with a function has to be reached from a section of a document. A section has to have a definition, code, a worked
 example, a test and an edit. Each edit has to be applicable. The first line of a file says what it is, and the head of a lib.rt names
-each of its modules. `tools/rules` prints what was read. Each field that the log makes public has to stand in a law of crates/gen1_player/specs/True.antt.
+each of its modules. `tools/rules` prints what was read. A law of crates/gen1_player/specs/True.antt has to name each field that the log
+makes public.
 """
 
 import re

@@ -108,7 +108,7 @@ def test_sentences(package, archive, room, compared, needs):
     said, faults = [], []
     for log, told in zip(map(bytes.fromhex, logs), json.loads(done.stdout), strict=True):
         for voice, sentences in enumerate(told):
-            # A gen1_narrator: for each side its HP, its species, and whether they are told in per cent; the side that is told.
+            # A gen1_narrator: for each side its HP, its species, and whether HP are in per cent; the side that reads the sentences.
             narrator = bytearray(10)
             narrator[3], narrator[7], narrator[8] = voice == 2, voice == 1, voice
             held, at, length = (ctypes.c_char * 10).from_buffer(narrator), size(), size()

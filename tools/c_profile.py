@@ -54,7 +54,7 @@ def profiler():
 
 
 def want_profiler():
-    """Missing where there is no rustc or no such llvm-profdata."""
+    """Raises Missing if rustc or the right llvm-profdata isn't installed."""
     if not shutil.which(os.environ.get("RUSTC", "rustc")):
         raise Missing("there is no rustc, which `tools/setup profile` installs")
     if not profiler():
@@ -126,7 +126,7 @@ def profiled_archive():
 class Module:
     """The module that rattle hands to clang, which it does only for a proved crate.
 
-    `toolchain` is the kit's, and `keeping`, in a folder of its own, does the same and keeps the module.
+    `toolchain` is the kit's, and `keeping`, in a separate folder, does the same and keeps the module.
     """
 
     def __init__(self, toolchain, folder):

@@ -1,11 +1,11 @@
 """Tries edits of a crate: many in one check where they change the bodies of different functions, and the others alone.
 
-A function is proved from the contracts of those that it calls, whatever their bodies are. So an edit in a body opens goals of its own
-function alone. Of the functions that call it the prover prints that what they call is not proved. Where such a function has an edit
-too, and none of its own goals is open, that edit waits for the next round. A round is a check of the edited functions and of those that
-they call.
+A function is proved from the contracts of those that it calls, whatever their bodies are. So an edit in a body opens goals of that
+function alone. For a function that calls it, the prover prints that the called function is not proved. Where such a caller has an edit
+too, and none of the caller's goals is open, that edit waits for the next round. A round is a check of the edited functions and of those
+that they call.
 
-An edit is tried alone, by a check of the whole crate, where it changes something else than bodies, such as a constant or a definition,
+An edit is tried alone, by a check of the whole crate, where it changes something other than bodies, such as a constant or a definition,
 and where a round does not refuse it.
 """
 

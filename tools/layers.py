@@ -1,6 +1,6 @@
 """The table of the crates of crates.txt in their layers, between the two marks of docs/ARCHITECTURE.md.
 
-This file says which layer a crate belongs to, and what the layer knows. A crate may depend on crates of its own layer and of
+This file says which layer a crate belongs to, and what the layer knows. A crate may depend on crates of its layer and of
 those below; one that depends on a crate above, or that is in no layer, is an error. A row has the beginning of the crate's head.
 """
 

@@ -18,7 +18,7 @@ NOT_IN_TESTS = {"test_support", "linked_list_allocator"}
 NOT_PLAIN = re.compile(r"\b(?:test_support|linked_list_allocator|std::io|Device)\b|::laws\b")
 # A module of tests within a library.
 OWN_TESTS = re.compile(r"\n#\[cfg\(test\)\]\nmod tests(?:;(?=\n)| \{\n.*?\n\}\n)", re.S)
-# A module whose text is in a file of its own.
+# A module whose text is in a separate file.
 MODULE = re.compile(r"(?m)^( *)((?:#\[[^\n]*\]\n *)*(?:pub(?:\([a-z]+\))? )?)mod (\w+);$")
 
 
@@ -255,8 +255,8 @@ def rooted(text, path, roots, own):
 
 
 def tidied(text):
-    """A text laid out again where clauses were: what ends a signature is in its last line. There are no two empty lines, and none where a
-    mark for the prover was, after a comment or an attribute."""
+    """A text laid out again where clauses were: what ends a signature is in its last line. No two lines in a row are empty, and none is
+    where a mark for the prover was, after a comment or an attribute."""
     kept = []
     for line in text.split("\n"):
         if line.strip() in ("{", ";"):

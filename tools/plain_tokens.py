@@ -1,4 +1,4 @@
-"""The tokens of a source of crates/: Rust, with contracts and ghost code as tokens of their own."""
+"""The tokens of a source of crates/: Rust, in which each clause of a contract and each piece of ghost code is one token."""
 import re
 
 TOKEN = re.compile(

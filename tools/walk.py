@@ -417,7 +417,7 @@ def sound():
     return written("SoundWalk", body, written_imports(body, words, aliases, {}))
 
 
-# What a phase needs of a fact besides, by what it may do: it hurts, it faults, it breaks off a move that goes on, it changes
+# What a phase needs of a fact besides, by what it may do: it hurts, it faults, it breaks off a move that continues, it changes
 # rage or thrashing of the side that acts, or it changes what is known of the action.
 ASKED = {"hurts": "Hurts P", "faults": "Faults P", "broken": "Breaks P %s", "own": "Own P %s", "acts": "Acts P"}
 

@@ -26,7 +26,7 @@ void begin_guarded(uint64_t seed);
 /* A block of `size` bytes, at most GUARDED_ROOM, for the argument of this number, from 0; its bytes are drawn. */
 void *block(int number, size_t size);
 
-/* The same block with these bytes. */
+/* A block for the argument of this number, with these bytes. */
 void *block_of(int number, const void *bytes, size_t size);
 
 /* Stores the contents of all blocks, before a call. */

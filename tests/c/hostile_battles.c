@@ -366,7 +366,7 @@ static void try_next_line(void) {
     tell("gen1_next_line", got == want && is_kept, got, want);
 }
 
-/* Any bytes are a narrator, and a sentence that is told again in as much room as it needs is the same. */
+/* Any bytes are a narrator, and a sentence that is written again, in exactly the room that it needs, is the same. */
 static void try_next_sentence(void) {
     size_t count, length = 0;
     const uint8_t *log = some_log(&count);

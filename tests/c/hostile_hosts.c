@@ -1,4 +1,4 @@
-/* Calls of hosts, with arguments out of their ranges (hostile.c). What a host does is worked out by its room and its tellers. */
+/* Calls of hosts, with arguments out of their ranges (hostile.c). The expected result is from its room and its tellers. */
 #include "lawful.h"
 
 #include <string.h>
@@ -98,7 +98,7 @@ static uint8_t fault_of_row(const gen1_host *host, const gen1_row *row) {
                                                                          : fault_at(host, row);
 }
 
-/* A choice is submitted to the room. If that ends the pair, both tellers tell the log before it, and no draw is offered. */
+/* A choice is submitted to the room. If that ends the pair, both tellers report the log before it, and an offer of a draw lapses. */
 static void submit(gen1_host *host, const gen1_row *row, uint8_t choice) {
     gen1_room next = host->room;
     if (row->has_numbers != 0)
@@ -166,7 +166,7 @@ static void try_host_apply(void) {
 
 /* ---- messages ---- */
 
-/* Writes what one side's teller, and then perhaps the other's, tell of a host's last pair. Returns its length. */
+/* Writes what one side's teller, and then perhaps the other's, reports of a host's last pair. Returns its length. */
 static size_t told_of(const gen1_host *host, uint8_t side, bool is_of_both, uint8_t told[GEN1_LOG_ROOM]) {
     uint8_t log[GEN1_LOG_ROOM] = {GEN1_EVENT_WIN, (uint8_t)(3 - host->ending)};
     size_t length = host->ending == 3 ? 1 : 2;

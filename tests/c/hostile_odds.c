@@ -12,7 +12,7 @@ static bool is_as_damage(const gen1_damages *got, const gen1_battle *battle, uin
            memcmp(got->numbers, numbers, sizeof numbers) == 0;
 }
 
-/* Whether the user's trapping goes on with the move, which is then its current one. */
+/* Whether the user's trapping continues with the move, which is then its current one. */
 static bool traps_on(const gen1_state *state, uint8_t side, uint8_t move) {
     const gen1_side_state *own = &state->sides[side - 1];
     const gen1_active_state *user = &own->active;
@@ -26,13 +26,13 @@ static uint16_t hp_out(const gen1_state *state, uint8_t side) {
     return own->members[own->active.place - 1].hp;
 }
 
-/* Whether there is no such damage, since the use does not deal it. */
+/* Whether the damage is missing, since the use does not deal it. */
 static bool is_unusual(const gen1_damages *got) {
     const gen1_damages none = {.code = GEN1_ERROR_UNUSUAL};
     return got->code == none.code && got->count == 0 && memcmp(got->numbers, none.numbers, sizeof none.numbers) == 0;
 }
 
-/* Whether the damages are those of the battle. Trapping that goes on lands the last damage again, without a test. */
+/* Whether the damages are those of the battle. Trapping that continues lands the last damage again, without a test. */
 static bool has_its_damage(const gen1_odds *odds, const gen1_battle *battle, uint8_t side, uint8_t move) {
     gen1_state state;
     gen1_get_state(battle, &state);
@@ -60,7 +60,7 @@ static bool is_likely(const gen1_odds *odds, const gen1_battle *battle, uint8_t 
     bool is_plain = !(user->conditions & GEN1_CONDITION_FOCUS_ENERGY) && !is_often;
     bool is_level = user->stages[4] == 6 && foe->stages[5] == 6 &&
                     !(foe->conditions & (GEN1_CONDITION_INVULNERABLE | GEN1_CONDITION_MIST));
-    /* A move that goes on has another accuracy, and a foe that has to recharge is put to sleep without a test. */
+    /* A move that continues has another accuracy, and a foe that has to recharge is put to sleep without a test. */
     const uint32_t going_on = GEN1_CONDITION_THRASH | GEN1_CONDITION_RAGE | GEN1_CONDITION_TRAPPING;
     bool is_new = !(user->conditions & going_on) && !(foe->conditions & GEN1_CONDITION_RECHARGE);
     uint16_t accuracy = row.accuracy > 1 ? row.accuracy : 1;

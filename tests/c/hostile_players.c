@@ -116,7 +116,7 @@ static void try_teller_begin(void) {
     tell("gen1_teller_begin", got == want && is_right, got, want);
 }
 
-/* What is told has as many bytes as the log; with exact HP it differs from it in places of the foe's members alone. */
+/* A reported log has as many bytes as the log. With exact HP it differs from it only in places of the foe's members. */
 static void try_tell(void) {
     size_t count, room = draw(GUARDED_ROOM / 4);
     const uint8_t *log = some_log(&count);

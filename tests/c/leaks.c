@@ -79,7 +79,7 @@ static sight seen(const gen1_battle *battle, uint8_t side) {
     return it;
 }
 
-/* Which bits of a byte are hidden from a side. Of the own status the count of a sleep is, if it stays above 0. */
+/* Which bits of a byte are hidden from a side. A sleep's count in the own status is, if it stays above 0. */
 
 static uint8_t hidden_of_member(int at, uint8_t byte) { return at == 23 ? 0xff : at == 14 && (byte & 7) != 0 ? 7 : 0; }
 
@@ -242,7 +242,7 @@ static bool sent_alike(const gen1_host *host, const gen1_host *other, uint8_t si
     return memcmp(&messages[0], &messages[1], sizeof messages[0]) == 0;
 }
 
-/* Takes secret rows of the foe, and changes hidden bits of the battle. What the side and the audience are sent stays the same. */
+/* Takes secret rows of the foe, and changes hidden bits of the battle. The messages to the side and the audience stay the same. */
 static int look_at_host(const gen1_host *host, uint8_t side) {
     gen1_host other = *host;
     for (uint32_t rows = draw(3); rows > 0; rows--) {

@@ -4,7 +4,7 @@
  *     cc -O2 -I include -I tests/c tests/c/samples.c tests/c/lawful.c tests/c/guarded.c crates/gen1_c/out/libgen1_c.a -lm -o samples
  *     ./samples [POSITIONS [SAMPLES [SEED]]]         200 positions, 200,000 samples of each
  *
- * gen1_walk_next first plays the draws that are in the walk. This program sets them, so each draw gets a byte of its own. A search gets
+ * gen1_walk_next first plays the draws that are in the walk. This program sets them, so each draw gets a separate byte. A search gets
  * a byte that passes its test. All such bytes are equally likely; `passes` has them from docs/MECHANICS.md. A position is left out if it
  * has a search other than those of damage and of sleep.
  *

@@ -142,7 +142,7 @@ def leader(battle):
 def copies(battle, side, weights):
     """The offered choices of a side, each as often as its weight says."""
     start = 24 if side == 1 else 204
-    # The place of the member that is out is the first byte of the active block, and its moves are bytes 15 to 18 of its own (docs/LAYOUT.md).
+    # The place of the member that is out is the first byte of the active block. Its moves are bytes 15 to 18 of its block (docs/LAYOUT.md).
     moves = battle.bytes[start + 24 * (battle.bytes[start + 144] - 1) + 15 :][:4]
     number = {0x10: 165, **{0x11 + slot: move for slot, move in enumerate(moves)}}
     offered = battle.choices(side)

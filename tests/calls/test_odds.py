@@ -13,7 +13,7 @@ from structs import battle_of, cases_of, member, state_read
 
 # The conditions that matter to a hit (docs/LAYOUT.md, "Condition bits").
 INVULNERABLE, MIST, FOCUS_ENERGY = 32, 128, 256
-# A recharging member, and the conditions by which a move goes on: Thrash, Trapping, Rage.
+# A recharging member, and the conditions by which a move continues: Thrash, Trapping, Rage.
 RECHARGE, GOES_ON = 1024, 2 | 4 | 2048
 OFTEN_CRITICAL = ("Karate Chop", "Razor Leaf", "Crabhammer", "Slash")
 PERCENTS = (25, 28, 33, 40, 50, 66, 100, 150, 200, 250, 300, 350, 400)
@@ -65,7 +65,7 @@ def compare_odds_of(battle, side, move, name, checks):
     """Compares the odds of a move by a side in the current state of a battle."""
     state, odds = state_read(battle.bytes), battle.odds(side, move)
     user, foe = state["sides"][side - 1], state["sides"][2 - side]
-    # A move that goes on, and a sleep move against a foe that recharges, have rules of their own (rust/gen1-tests, sampled_odds).
+    # A move that continues, and a sleep move against a foe that recharges, have special rules (rust/gen1-tests, sampled_odds).
     if user["active"]["conditions"] & GOES_ON or foe["active"]["conditions"] & RECHARGE:
         return
     mine, other = (it["members"][it["active"]["place"] - 1] for it in (user, foe))

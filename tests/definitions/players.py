@@ -1,6 +1,6 @@
-"""What the log makes public, next to the state of each recorded battle: the fold of crates/gen1_player/specs/Public.antt. And the same fold
-over what each side is told (Telling.antt), next to the fold over the log: it differs in the order of the foe's members, and in their HP
-where it is told as the bar or in hundredths.
+"""What the log makes public, next to the state of each recorded battle: the fold of crates/gen1_player/specs/Public.antt. And this fold
+over the log that is reported to each side (Telling.antt), next to the fold over the whole log: it differs in the order of the foe's
+members, and in their HP where it is reported as the bar or in hundredths.
 """
 
 from collections import Counter
@@ -160,14 +160,14 @@ class Sleepers:
 
 
 class Told:
-    """A side that is told a log, and what that makes public."""
+    """A side that a log is reported to, and what that makes public."""
 
     def __init__(self, players, side, pixels):
         self.players, self.public = players, players.first
         self.teller = players.machine.record(side=side, pixels=pixels, places=(0,) * 6)
 
     def hear(self, event):
-        """Hears what it is told of the next event."""
+        """Takes in the report of the next event."""
         self.public = self.players.hears(self.players.told(event, self.teller), self.public)
         self.teller = self.players.meets(event, self.teller)
 
@@ -181,7 +181,7 @@ class Told:
         return public._replace(**{foe: side._replace(place=number, members=tuple(members))})
 
     def seen(self, member):
-        """A member of the foe with its HP as it is told."""
+        """A member of the foe with its HP as it is reported."""
         hp, most = member.hp, member.max
         if self.teller.pixels == 1:
             part = 12 * hp // (most // 4) if most > 255 else 48 * hp // most

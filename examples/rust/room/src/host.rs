@@ -97,7 +97,7 @@ impl Host {
         let until = Instant::now() + self.terms.patience;
         self.spectator.end(until);
         for player in self.players {
-            // A player that is out gets no more time. It may still be writing, but is no longer read.
+            // A player that is out gets no more time. It may still be writing, but the host has stopped reading it.
             let soon = Instant::now() + Duration::from_secs(1);
             player.process.end(if player.out.is_some() {
                 soon.min(until)

@@ -101,7 +101,7 @@ fn host(opening: &Opening) -> Result<(), (u8, String)> {
 }
 
 fn main() -> ExitCode {
-    // A player that is no longer read has nothing to add.
+    // A player that the host has stopped reading has nothing to add.
     let of_pipes = |done: io::Result<()>| match done {
         Err(why) if why.kind() != io::ErrorKind::BrokenPipe => Err((3, why.to_string())),
         _ => Ok(()),

@@ -34,7 +34,7 @@ struct Kept {
     said: [VecDeque<Said>; 2],
     /// The side whose line is handled next, so that neither waits for the other's flood.
     turn: usize,
-    /// The sides that are no longer read.
+    /// The sides that the host has stopped reading.
     is_deaf: [bool; 2],
 }
 
@@ -160,7 +160,7 @@ impl Process {
     }
 }
 
-/// Writes the bytes to send, until there are no more, or the process no longer reads.
+/// Writes the bytes to send, until none are left or the process stops reading.
 fn write_all(mut to: ChildStdin, lines: &mpsc::Receiver<Vec<u8>>) {
     for bytes in lines {
         if to.write_all(&bytes).is_err() {
@@ -169,7 +169,7 @@ fn write_all(mut to: ChildStdin, lines: &mpsc::Receiver<Vec<u8>>) {
     }
 }
 
-/// Reads a player's lines, cut to the length of the longest valid one, until it ends or is no longer read.
+/// Reads a player's lines, cut to the length of the longest valid one, until it ends or the host stops reading it.
 fn listen<R: Read>(mut from: R, side: Side, mailbox: &Mailbox) -> R {
     let (mut bytes, mut line) = ([0; 4096], Vec::new());
     loop {

@@ -21,7 +21,7 @@
 pub const LINE_MOST: usize = 14;
 /// The code of a line that is not two numbers.
 pub const RUBBISH: u8 = 5;
-/// The code after which a player gets no more lines, and is no longer read.
+/// The code after which a player gets no more lines, and the host stops reading it.
 pub const TOO_MANY: u8 = 6;
 
 /// The number of a pair and the byte of a choice in a player's line, if it has exactly these.
