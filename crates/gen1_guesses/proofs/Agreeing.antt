@@ -31,7 +31,7 @@ use Rattle.gen1_player.specs.declared.seen.Seen.{Seen}
 use Rattle.gen1_player.specs.declared.teller.Teller.{Teller}
 use Rattle.gen1_player.specs.OwnSide.{own_active, own_side}
 use Rattle.gen1_player.specs.PlainOwnSide.{nobody_out as none_out, plain_out, plain_side}
-use Rattle.gen1_player.specs.Public.{on_public_side, public_side, recharges_unless, seen_at}
+use Rattle.gen1_player.specs.Public.{on_public_side, public_side, seen_at}
 use Rattle.gen1_player.specs.Telling.{form_of, meets_all, told_in}
 use Rattle.gen1_player.specs.True.{as_known, current_move_of, IsMoveOf, events_in, first_teller, foe_as_told, is_fault, own_as_known, public_of, team_of, AgreesWith, BothDo, IsTold, SideAgrees, SideDoes, SideHasAppeared, SideIsTold}
 use Rattle.gen1_player.proofs.Conditions.{conditions_agree}
@@ -333,7 +333,7 @@ module _ (s : Side) (form : ℕ) (few : form ≤ 2) (team : List Member) (t : Te
     actives = whole_does s q _ f.field (does-alike (public_side s q) _ _ alike own_q) (foe_does g.rules.sleep_clause (public_side (other s) p.public) (is_on p.own.held) (fresh_members g.team) (party (other s) f.field) f.terms.rules p foe_holds (party_f (other s)) foe_x fitting) does.may_hit_itself;
     own_members = subst (λ (z : PublicSide). SideHasAppeared z (party s f.field)) (sym (own_side_of s q _))
         (appeared-alike (public_side s q) (party s f.field) (party s b.field) alike (appeared_of s q b.field members));
-    foe_members = subst (λ (z : PublicSide). SideHasAppeared (recharges_unless true z) (party (other s) f.field)) (sym (foe_side_of s q _))
+    foe_members = subst (λ (z : PublicSide). SideHasAppeared z (party (other s) f.field)) (sym (foe_side_of s q _))
         (foe_appeared g.rules.sleep_clause (public_side (other s) p.public) (is_on p.own.held) (fresh_members g.team) (party (other s) f.field) f.terms.rules p foe_holds (party_f (other s)) foe_x fitting);
   }
     where

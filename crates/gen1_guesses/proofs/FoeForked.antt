@@ -20,7 +20,7 @@ use Rattle.gen1_player.specs.declared.player.Player.{Player}
 use Rattle.gen1_player.specs.declared.public_side.PublicSide.{PublicSide}
 use Rattle.gen1_player.specs.declared.seen.Seen.{Seen}
 use Rattle.gen1_player.specs.declared.seen.SeenMove.{SeenMove}
-use Rattle.gen1_player.specs.Public.{new_uses, not_seen, not_used, seen_at, may_go_on, recharges_unless}
+use Rattle.gen1_player.specs.Public.{new_uses, not_seen, not_used, seen_at, may_go_on}
 use Rattle.gen1_player.specs.True.{current_move_of, IsMoveOf, IsSeen, SideAgrees, SideDoes, SideHasAppeared, SideIsTold}
 use Rattle.gen1_states.specs.Faults.{◌▸◌}
 use Rattle.gen1_states.specs.Plain.{no_member}
@@ -33,7 +33,7 @@ use Rattle.gen1_guesses.specs.Members.{member_at as place_in, members_of, seen_i
 use Rattle.gen1_guesses.specs.Tests.{at_index, id_in, knows as knows_move, tested, tested_member, tested_members, tested_use, tested_uses, unless, Tested}
 use Rattle.gen1_guesses.specs.declared.fault.GuessFault.{GuessFault}
 use Rattle.gen1_guesses.specs.declared.fault.GuessFault.TheVariants as faults
-use Rattle.gen1_guesses.proofs.OwnForked.{bits_same, four, is-move, shows_at}
+use Rattle.gen1_guesses.proofs.OwnForked.{bits_same, four, is-move, knows_used, shows_at}
 use Rattle.gen1_guesses.proofs.ForkedStates.{below_or, current_is, few_moves, Holds}
 use Rattle.gen1_machine.specs.Action.{keeps_going}
 
@@ -94,6 +94,7 @@ pub record Foe (x : PublicSide) : Type 0 where
   pub charging : IsFlag x.announced.charging
   pub bides : is_on x.announced.bide ≡ true → bides (effect_of_number x.last_move) ≡ true
   pub charges : is_on x.announced.charging ≡ true → charges (effect_of_number x.last_move) ≡ true
+  pub rests : x.announced.recharging ≢ 0 → recharges (move_at x.last_move).effect ≡ true
   pub rages : is_on x.announced.rage ≡ true → rages (effect_of_number x.last_move) ≡ true
   pub slots : (k : ℕ) → length (seen_in k x.members).moves ≡ 5
   pub out : x.place ≢ 0 → (seen_at x.place x).species ≢ 0
@@ -423,6 +424,7 @@ module _ (clause : Bool) (x : PublicSide) (held : Bool) (fresh : List MemberStat
     invulnerable = λ z. on 5 ∙ reached x.invulnerable z;
     last_move = sym foe_current;
     recharge = λ z. by_number recharges refl x.last_move (both _ _ (sym (on 10) ∙ z)).1;
+    rests = k.rests;
     uses = λ z. ap (λ (n : ℕ). new_uses n x) foe_current ∙ by (is_on x.announced.rage) refl (eqb_tells x.last_move x.last_move) (left_on z);
   }
     where
@@ -472,7 +474,10 @@ module _ (clause : Bool) (x : PublicSide) (held : Bool) (fresh : List MemberStat
             (f.uses j (omega (arith, within, five)) n)));
       }
 
-  pub foe_appeared : SideHasAppeared (recharges_unless true (exact t x)) t
+  foe_last : IsMoveOf (member_at t.active.place t) x.last_move
+  foe_last = is-move (member_at t.active.place t) (few_moves rules t v.members t.active.place) x.last_move last_use
+
+  pub foe_appeared : SideHasAppeared (exact t x) t
   foe_appeared = record {
     out = λ z.
         let low = v.place.0 in
@@ -480,6 +485,6 @@ module _ (clause : Bool) (x : PublicSide) (held : Bool) (fresh : List MemberStat
         λ e. k.out z (sym (ap (λ (s : Seen). s.species) (exact_in t x (x.place - 1) few) ∙ exact_species t (x.place - 1) x) ∙ e);
     each = λ place z. let e = seen_exact (place - 1) z in
         subst (λ (s : Seen). IsSeen s (member_at place t)) (sym e.2) (seen_is (place - 1) e.0 e.1 (few_moves rules t v.members place));
-    last_move = is-move (member_at t.active.place t) (few_moves rules t v.members t.active.place) x.last_move last_use;
-    recharging = λ z. absurd (z refl);
+    last_move = foe_last;
+    recharging = λ z. knows_used (member_at t.active.place t) (few_moves rules t v.members t.active.place) x.last_move foe_last (k.rests z);
   }

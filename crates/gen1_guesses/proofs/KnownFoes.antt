@@ -539,6 +539,7 @@ foe_of_run t w u rules v a b d slots n =
       charging = flag_of _ _ d.charging;
       bides = λ z. explained bides u w.last_move d.last_move few (ties.bide_tied (sym (on_is _ _ d.bide) ∙ z));
       charges = λ z. explained charges u w.last_move d.last_move few (ties.charging_tied (sym (on_is _ _ d.charging) ∙ z));
+      rests = d.rests;
       rages = λ z. explained rages u w.last_move d.last_move few (ties.rage_tied (sym (on_is _ _ b.rage) ∙ z));
       slots = slots;
       out = λ z e. let o = n.out z in

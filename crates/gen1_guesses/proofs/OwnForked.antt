@@ -2,6 +2,7 @@
 use Rattle.std.proofs.Common.{Bool, List, [], ap, arith, false, get_or, inl, inr, is_some, length, map, refl, slice_index, slice_index_or, subst, suc, sym, true, zero, ℕ, ◌+◌, ◌-◌, ◌<◌, ◌==◌, ◌∙◌, ◌∷◌, ◌≡◌, ◌≢◌, ◌≤◌, ◌⊎◌, ◌||◌, cond, lit<, ◌&&◌}
 use Rattle.std.proofs.Math.ListN.{get_or-map}
 use Rattle.std.specs.Prelude.{nat_lt, if◌then◌else◌}
+use Rattle.std.proofs.lemmas.Bool.{false≢true}
 use Rattle.std.proofs.lemmas.Bool.Decides.{eqb_tells, nat_tests}
 use Rattle.gen1_tables.specs.Effects.{recharges}
 use Rattle.gen1_tables.specs.Moves.{move_row, move_rows, struggle}
@@ -145,6 +146,7 @@ does-alike x t u a h = record {
   invulnerable = λ z. ap (λ (c : OwnConditions). c.invulnerable) a.conditions ∙ h.invulnerable z;
   last_move = h.last_move ∙ sym a.current;
   recharge = λ z. h.recharge (sym (ap (λ (c : OwnConditions). c.recharge) a.conditions) ∙ z);
+  rests = h.rests;
   uses = λ z. ap (λ (n : ℕ). new_uses n x) a.current ∙ h.uses (sym (ap (λ (c : OwnConditions). c.thrash || c.trapping || c.rage) a.conditions) ∙ z);
 }
 
@@ -220,6 +222,34 @@ move-alike m n e few_m few_n id h =
 pub no_move_recharges : recharges (move_at 0).effect ≡ false
 unfolding move_rows move_row
 no_move_recharges = refl
+
+-- A move for it isn't Struggle, so it is one of the member's own.
+no_struggle_recharges : recharges (move_at struggle).effect ≡ false
+unfolding move_rows move_row
+no_struggle_recharges = refl
+
+or_if : (a b c d : Bool) → (a ≡ true → c ≡ true) → (b ≡ true → d ≡ true) → (a || b) ≡ true → (c || d) ≡ true
+or_if true b true d f g e = refl
+or_if true b false d f g e = absurd (false≢true (f refl))
+or_if false b true d f g e = refl
+or_if false b false d f g e = g e
+
+four_by : (test : ℕ → Bool) (id : ℕ) (ids : List ℕ) → test id ≡ true → four (λ (j : ℕ). j == id) ids ≡ true → four test ids ≡ true
+four_by test id ids h = or_if _ _ _ _ (or_if _ _ _ _ (or_if _ _ _ _ (by (slice_index ids 0)) (by (slice_index ids 1))) (by (slice_index ids 2))) (by (slice_index ids 3))
+  where
+    by : (j : ℕ) → (j == id) ≡ true → test j ≡ true
+    by j e = tells (eqb_tells j id)
+      where
+        tells : (((j == id) ≡ true) × (j ≡ id)) ⊎ (((j == id) ≡ false) × (j ≢ id)) → test j ≡ true
+        tells (inl k) = ap test k.1 ∙ h
+        tells (inr k) = absurd (false≢true (sym k.0 ∙ e))
+
+pub knows_used : (m : Member) → length m.moves ≤ 4 → (id : ℕ) → IsMoveOf m id → recharges (move_at id).effect ≡ true → knows recharges m ≡ true
+knows_used m few id h e = by (move-is m few id h (λ z. false≢true (sym (ap (λ (n : ℕ). recharges (move_at n).effect) z ∙ no_move_recharges) ∙ e)))
+  where
+    by : (id ≡ struggle) ⊎ (four (λ (j : ℕ). j == id) (ids_of m) ≡ true) → knows recharges m ≡ true
+    by (inl z) = absurd (false≢true (sym (ap (λ (n : ℕ). recharges (move_at n).effect) z ∙ no_struggle_recharges) ∙ e))
+    by (inr i) = any-four (λ (j : ℕ). recharges (move_at j).effect) no_move_recharges m few ∙ four_by (λ (j : ℕ). recharges (move_at j).effect) id (ids_of m) e i
 
 knows-alike : (m n : Member) → ids_of m ≡ ids_of n → length m.moves ≤ 4 → length n.moves ≤ 4 → knows recharges n ≡ true → knows recharges m ≡ true
 knows-alike m n e few_m few_n h =

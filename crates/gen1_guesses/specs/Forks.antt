@@ -1,5 +1,5 @@
 -- The battle that fits what a player knows, its state (docs/MECHANICS.md, "A battle that fits"), and what holds of it.
-use Rattle.std.specs.Prelude.{Bool, Err, List, None, Ok, Option, Result, Some, [], if◌then◌else◌, length, ℕ, ◌==◌, ◌∷◌, true, ◌+◌, ◌<◌, ◌≡◌, ◌≢◌, ◌≤◌}
+use Rattle.std.specs.Prelude.{Bool, Err, List, None, Ok, Option, Result, Some, [], if◌then◌else◌, length, ℕ, ◌==◌, ◌∷◌, ◌+◌, ◌<◌, ◌≡◌, ◌≢◌, ◌≤◌}
 use Rattle.gen1_stats.specs.Members.{Member, IsTeam}
 use Rattle.gen1_machine.specs.declared.side.Side.{Side}
 use Rattle.gen1_machine.specs.declared.side.Side.TheVariants.{One, Two}
@@ -8,7 +8,7 @@ use Rattle.gen1_machine.specs.Sides.{other}
 use Rattle.gen1_player.specs.declared.own.OwnSide.{OwnSide}
 use Rattle.gen1_player.specs.declared.player.Player.{Player}
 use Rattle.gen1_player.specs.declared.public_side.PublicSide.{PublicSide}
-use Rattle.gen1_player.specs.Public.{public_side, recharges_unless}
+use Rattle.gen1_player.specs.Public.{public_side}
 use Rattle.gen1_states.specs.declared.plain.BattleState.{BattleState}
 use Rattle.gen1_states.specs.declared.plain.MemberState.{MemberState}
 use Rattle.gen1_states.specs.declared.plain.SideState.{SideState}
@@ -149,8 +149,7 @@ MayHaveHp s form p g = (k : ℕ) → let m : Seen = seen_in k (public_side (othe
 -- The whole
 
 -- The player is shown this side of the battle as its own. What it holds as public is what a side knows (`PlayersHoldThePublic`) of something
--- that agrees with the battle, as the log of a run does (`PublicAgrees`, `ConditionsAgree`, `ActivesAgree`, `MembersAgree`). Only that the
--- foe's member knows a move for a recharging that is announced isn't said.
+-- that agrees with the battle, as the log of a run does (`PublicAgrees`, `ConditionsAgree`, `ActivesAgree`, `MembersAgree`).
 pub record AgreesWithFork (s : Side) (form : ℕ) (team : List Member) (p : Player) (f : Field) : Type 0 where
   pub own : plain_side (own_side s f) ≡ p.own
   pub teller : Teller
@@ -162,7 +161,7 @@ pub record AgreesWithFork (s : Side) (form : ℕ) (team : List Member) (p : Play
   pub conditions : IsTold public f
   pub actives : BothDo public f
   pub own_members : SideHasAppeared (public_side s public) (party s f)
-  pub foe_members : SideHasAppeared (recharges_unless true (public_side (other s) public)) (party (other s) f)
+  pub foe_members : SideHasAppeared (public_side (other s) public) (party (other s) f)
 
 -- After any run of a battle of two teams from its start, of a player and any guess that fits.
 abbrev pub ForksAgree : Type 0

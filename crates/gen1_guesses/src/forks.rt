@@ -170,8 +170,7 @@ pub fn forks_tell_hp()
 
 /// Take the player of a side after any run from the start, and any guess that fits, whose maximum HP allow the numbers that the player
 /// learned. In the battle that fits, the side is shown the same of itself, and what the player holds as public agrees with it, as
-/// `public_agrees`, `conditions_agree`, `actives_agree` and `members_agree` say of a run. Only the move behind the foe's announced
-/// recharging may be missing.
+/// `public_agrees`, `conditions_agree`, `actives_agree` and `members_agree` say of a run.
 pub fn forks_agree()
     ensures { ForksAgree }
 {}

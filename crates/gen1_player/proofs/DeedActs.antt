@@ -101,6 +101,7 @@ does-idle : (x : PublicSide) (t : Party) → is_some t.active.conditions.underwa
 does-idle x t a b m = record {
   same = ap (λ (k : Deeds). record k { bide = 0; charging = 0 }) m.same ∙ off-deeds t.active.place (core t.active.conditions) a b;
   reach = λ e. absurd (e refl);
+  rests = m.rests;
   last = m.last;
   few = m.few;
 }
@@ -326,11 +327,11 @@ unfoldable pub UsedBy : Side → ℕ → Public → Type 0
 UsedBy s k p = (public_side s p).last_move ≡ k
 
 suffers-if : (c : Bool) (x : PublicSide) → Fades (recharges_unless c (on_seen is_overtaken x)) x
-suffers-if true x = record { same = refl; reach = λ e. e; last = refl }
-suffers-if false x = record { same = refl; reach = λ e. e; last = refl }
+suffers-if true x = record { same = refl; reach = λ e. e; rests = λ e. absurd (e refl); last = refl }
+suffers-if false x = record { same = refl; reach = λ e. e; rests = λ e. e; last = refl }
 
 does-uses : (x : PublicSide) (t : Party) (k : ℕ) → current_of t ≡ k → Strikes x t → Does (uses_move k x) t
-does-uses x t k e m = record { same = m.same; reach = m.reach; last = sym e; few = m.few }
+does-uses x t k e m = record { same = m.same; reach = m.reach; rests = λ i. absurd (i refl); last = sym e; few = m.few }
 
 struck : (s : Side) (k : ℕ) (f : Field) (q : Public) → BothOut f → current_of (party s f) ≡ k → Strikes (public_side s q) (party s f) → Does (public_side (other s) q) (party (other s) f)
     → Even f (on_out s (uses_move k) q) × (public_side s (on_out s (uses_move k) q) ≡ uses_move k (public_side s q))

@@ -224,11 +224,11 @@ is_light reasons.Paralysed = false
 is_light _ = true
 
 light-fades : (why : CantReason) → is_light why ≡ true → (x : PublicSide) → Fades (on_announced (is_kept_by why) x) x
-light-fades reasons.Flinched h x = record { same = refl; reach = λ e. e; last = refl }
-light-fades reasons.Recharging h x = record { same = refl; reach = λ e. e; last = refl }
+light-fades reasons.Flinched h x = record { same = refl; reach = λ e. e; rests = λ e. absurd (e refl); last = refl }
+light-fades reasons.Recharging h x = record { same = refl; reach = λ e. e; rests = λ e. absurd (e refl); last = refl }
 light-fades reasons.Disabled h x = absurd (true≢false (sym h))
 light-fades reasons.Paralysed h x = absurd (true≢false (sym h))
-light-fades _ h x = record { same = refl; reach = λ e. e; last = refl }
+light-fades _ h x = record { same = refl; reach = λ e. e; rests = λ e. e; last = refl }
 
 kept-light : (why : CantReason) → is_light why ≡ true → (s : Side) (f : Field) (es : List Event) → Even f (settled_by (side_number s) (told_by es)) → Kept why s f es
 kept-light why h s f es m = even-fades f (settled_by (side_number s) (told_by es)) _ (λ u. fades-side s u (on_announced (is_kept_by why)) _ (light-fades why h)) m
@@ -243,7 +243,7 @@ kept-disabled s f es o m =
     let q : Public = settled_by (side_number s) (told_by es) in
     let d = does-in s m in
     even-party s (on_announced (is_kept_by reasons.Disabled)) (with_conditions without_charging (party s f)) f q o
-    (record { same = ap (λ (k : Deeds). record k { charging = 0 }) d.same; reach = d.reach; last = d.last; few = d.few }) m
+    (record { same = ap (λ (k : Deeds). record k { charging = 0 }) d.same; reach = d.reach; rests = d.rests; last = d.last; few = d.few }) m
 
 kept-paralysed : (s : Side) (f : Field) (es : List Event) → BothOut f → Even f (settled_by (side_number s) (told_by es)) → Kept reasons.Paralysed s (changed_conditions s broken_off f) es
 unfolding changed_active changed_conditions broken_off
@@ -251,7 +251,7 @@ kept-paralysed s f es o m =
     let q : Public = settled_by (side_number s) (told_by es) in
     let d = does-in s m in
     even-party s (on_announced (is_kept_by reasons.Paralysed)) (with_conditions broken_off (party s f)) f q o
-    (record { same = ap (λ (k : Deeds). record k { bide = 0; charging = 0 }) d.same; reach = d.reach; last = d.last; few = d.few }) m
+    (record { same = ap (λ (k : Deeds). record k { bide = 0; charging = 0 }) d.same; reach = d.reach; rests = d.rests; last = d.last; few = d.few }) m
 
 -- The hit on itself
 
@@ -262,7 +262,7 @@ lives-conditions Two change f l = l
 
 does-hit : (x : PublicSide) (t : Party) → Does x t → Does (takes_damage sources.Confusion x) (with_conditions broken_off t)
 unfolding broken_off
-does-hit x t m = record { same = ap (λ (k : Deeds). record k { bide = 0; charging = 0 }) m.same; reach = λ e. absurd (e refl); last = m.last; few = m.few }
+does-hit x t m = record { same = ap (λ (k : Deeds). record k { bide = 0; charging = 0 }) m.same; reach = λ e. absurd (e refl); rests = m.rests; last = m.last; few = m.few }
 
 turned-hurt : (s : Side) (f : Field) (es : List Event) → Turned s f es → Hurt s (changed_conditions s broken_off f) es
 unfolding changed_active changed_conditions
@@ -283,7 +283,7 @@ Level change = (place : ℕ) (c : ActiveConditions) → deeds_of place (core (ch
 
 does-level : (change : ActiveConditions → ActiveConditions) → Level change → (x : PublicSide) (t : Party) → Does (takes_damage sources.Confusion x) t
     → Does (takes_damage sources.Confusion x) (with_conditions change t)
-does-level change h x t m = record { same = m.same ∙ sym (h t.active.place t.active.conditions); reach = λ e. absurd (e refl); last = m.last; few = m.few }
+does-level change h x t m = record { same = m.same ∙ sym (h t.active.place t.active.conditions); reach = λ e. absurd (e refl); rests = m.rests; last = m.last; few = m.few }
 
 hurt-level : (s : Side) (change : ActiveConditions → ActiveConditions) → Level change → (f : Field) (es : List Event) → Hurt s f es → Hurt s (changed_conditions s change f) es
 unfolding changed_active changed_conditions
@@ -331,7 +331,7 @@ does-hurt : (hp amount : ℕ) (x : PublicSide) (t : Party) → (n : Member) → 
     → Does (own_hurt hp x) (with_member t.active.place n t)
 does-hurt hp amount x t n e m =
     let k = does-member n (takes_damage sources.Confusion x) t e m in
-    record { same = k.same; reach = λ i. absurd (i refl); last = k.last; few = k.few }
+    record { same = k.same; reach = λ i. absurd (i refl); rests = k.rests; last = k.last; few = k.few }
 
 even-hurt : (s : Side) (hp amount : ℕ) (f : Field) (q : Public) → BothOut f → Even f (hit s q) → Even (changed_member s (hurt_by amount) f) (on_out s (own_hurt hp) q)
 unfolding changed_member hurt_by

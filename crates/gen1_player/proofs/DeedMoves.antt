@@ -45,7 +45,7 @@ use Rattle.gen1_player.proofs.ToldEffects.{early_effect-tells, late_effect-tells
 use Rattle.gen1_player.proofs.ToldActions.{damage_of-tells, prelude-tells, spent-tame, strike-tells}
 use Rattle.gen1_player.proofs.Appearing.{bide-number}
 use Rattle.gen1_player.proofs.Deeds.{calm-bland, core, current-kept, current_of, deeds, deeds_of, even-active, even-conditions, pending-out, with_conditions, Deeds, Does, Even}
-use Rattle.gen1_player.proofs.DeedStory.{deeding, does-marked, told_by, Tale, Lasts}
+use Rattle.gen1_player.proofs.DeedStory.{deeding, does-marked, told_by, Tale}
 use Rattle.gen1_player.proofs.DeedGate.{acted-tale, at-conditions, at-draw, at-field, at-member, at-note, at-stop, at-told, at-weak, dull-tale, out-tale, tale-past, In, Near, Nothing_more, Opens, Over, Past}
 use Rattle.gen1_player.proofs.DeedActs.{bide-power, due-uses, ending-due, gate_or_held-deeds, is-bide, nothing-lasts, off-due, off-ending, reach-if, rests-leads, tie-of, used-lasts, uses-spent, uses-tale, with-keeps, foe_of, own_of, taken_up, Due, Ending, IdleIsQuiet, Off, Ready, Tie, UsedBy, Uses}
 
@@ -86,7 +86,7 @@ Primes move x t = Does (prepares move.number x) t
 
 hidden-primes : (move : Move) (x : PublicSide) (t : Party) → current_of t ≡ move.number → Raises x t → Primes move x (with_conditions with_invulnerability t)
 unfolding with_invulnerability
-hidden-primes move x t e m = record { same = m.same; reach = λ i. refl; last = sym e; few = m.few }
+hidden-primes move x t e m = record { same = m.same; reach = λ i. refl; rests = λ i. absurd (i refl); last = sym e; few = m.few }
 
 plain-reach : (h : Bool) (i : ℕ) → h ≡ false → (if h then 1 else i) ≢ 0 → i ≢ 0
 plain-reach h i e k = subst (λ (c : Bool). (if c then 1 else i) ≢ 0) e k
@@ -95,6 +95,7 @@ open-primes : (move : Move) (x : PublicSide) (t : Party) → hides (move_at move
 open-primes move x t h e m = record {
   same = m.same;
   reach = λ i. m.reach (plain-reach (hides (move_at move.number).effect) x.invulnerable h i);
+  rests = λ i. absurd (i refl);
   last = sym e;
   few = m.few;
 }
@@ -195,6 +196,7 @@ does-stored turns x t e m = record {
   same = ap (λ (k : Deeds). record k { bide = 1; charging = 0 }) m.plainly.same
       ∙ ap (λ (d : Bool). record (deeds_of t.active.place (core t.active.conditions)) { bide = 1; charging = bit_of d }) (sym m.charging);
   reach = λ i. m.plainly.reach (reach-if (x.announced.charging == 0) x.invulnerable i);
+  rests = λ i. absurd (i refl);
   last = sym e;
   few = m.plainly.few;
 }
@@ -315,9 +317,9 @@ acted-use : (s : Side) (move : Move) → (after_use s move).acted s move
 unfolding deeding UsedBy
 acted-use s move p u = u
 
-knows-any : (U : Public → Type 0) (l : Lasts U) (s : Side) (move : Move) → bides move.effect ≡ false → (deeding U l).knows s move
-unfolding deeding
-knows-any U l s move h = h
+knows-used : (s : Side) (move : Move) → move ≡ move_at move.number → bides move.effect ≡ false → (after_use s move).knows s move
+unfolding deeding UsedBy
+knows-used s move same h = (h, λ e p u. subst (λ (k : ℕ). recharges (move_at k).effect ≡ true) (sym u) (subst (λ (m : Move). recharges m.effect ≡ true) same e))
 
 used-over : {n : Sizes} {pre : List Event} (b : Bool) (s : Side) (move : Move) (p : Progress) → MayFall (after_use s move) n pre p → In n pre (Over b s) p
 unfolding deeding
@@ -358,9 +360,9 @@ module _ (t : Terms) {n : Sizes} {pre : List Event} (b : Bool) (s : Side) (pick 
   carry-plain = none-goes
       ⊳ watching.choose-sees lets_energy_go (record { leads = λ p r m. absurd (true≢false (sym m.1 ∙ m.0.1)) }) (before-leads (λ p m. m.0.0) lead-deeds)
       ⊳ rests-leads (used-over b s move) (choose-tells _ stay-tells (damage_of-tells s move move.effect))
-      ⊳ rests-leads (used-over b s move) (choose-tells _ stay-tells (choose-tells _ (late_effect-tells (ruling_of t) (ruling_of-tells t) s move move.effect (λ e. (knows-any _ _ s move h, e)) ⊳ stop-tells) stay-tells))
+      ⊳ rests-leads (used-over b s move) (choose-tells _ stay-tells (choose-tells _ (late_effect-tells (ruling_of t) (ruling_of-tells t) s move move.effect (λ e. (knows-used s move same h, e)) ⊳ stop-tells) stay-tells))
       ⊳ after-leads (used-over b s move) (rests-leads (used-over b s move) (strike-tells (ruling_of t) (ruling_of-tells t) s move
-      (λ e. record { acts = acted-use s move; plain = not-toxic move.number (ap (λ (m : Move). may_poison_by m.effect) (sym same) ∙ e) }) (λ e. knows-any _ _ s move h)))
+      (λ e. record { acts = acted-use s move; plain = not-toxic move.number (ap (λ (m : Move). may_poison_by m.effect) (sym same) ∙ e) }) (λ e. knows-used s move same h)))
 
 -- Bide
 

@@ -431,6 +431,7 @@ side-does x t rage r m = record {
   charging = ap (λ (k : Deeds). k.charging) m.same;
   toxic = ap (λ (k : Deeds). k.toxic) m.same;
   invulnerable = m.reach;
+  rests = m.rests;
   last_move = m.last;
 }
 
@@ -452,8 +453,8 @@ unfolding hears_all deeding
 first-ready t one two seed a b =
     let start : Tale Nothing_more (first_state t one two seed).field [] = record {
       even = record {
-        one = record { same = refl; reach = λ i. absurd (i refl); last = refl; few = a.size.1 };
-        two = record { same = refl; reach = λ i. absurd (i refl); last = refl; few = b.size.1 };
+        one = record { same = refl; reach = λ i. absurd (i refl); rests = λ i. absurd (i refl); last = refl; few = a.size.1 };
+        two = record { same = refl; reach = λ i. absurd (i refl); rests = λ i. absurd (i refl); last = refl; few = b.size.1 };
       };
       quiet = refl;
       more = tt;

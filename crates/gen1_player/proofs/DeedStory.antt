@@ -1,6 +1,6 @@
 -- The story of what active members do.
-use Rattle.std.proofs.Common.{[], Bool, List, ap, false, if◌then◌else◌, not, refl, subst, sym, true, true≢false, ℕ, ◌++◌, ◌==◌, ◌∙◌, ◌∷◌, ◌≡◌, ◌≤◌}
-use Rattle.gen1_tables.specs.Effects.{bides}
+use Rattle.std.proofs.Common.{[], Bool, List, ap, false, if◌then◌else◌, not, refl, subst, sym, true, true≢false, ℕ, ◌++◌, ◌==◌, ◌∙◌, ◌∷◌, ◌≡◌, ◌≢◌, ◌≤◌}
+use Rattle.gen1_tables.specs.Effects.{bides, recharges}
 use Rattle.gen1_stats.specs.Members.{Member}
 use Rattle.gen1_machine.specs.declared.side.Side.{Side}
 use Rattle.gen1_machine.specs.declared.side.Side.TheVariants.{One, Two}
@@ -11,7 +11,7 @@ use Rattle.gen1_machine.specs.declared.event.Event.TheVariants as events
 use Rattle.gen1_machine.specs.declared.health.Kind.{Kind}
 use Rattle.gen1_machine.specs.declared.health.Kind.TheVariants as kinds
 use Rattle.gen1_machine.specs.declared.health.Who.{Who}
-use Rattle.gen1_machine.specs.Moves.{toxic, Move}
+use Rattle.gen1_machine.specs.Moves.{move_at, toxic, Move}
 use Rattle.gen1_machine.specs.Rules.{bit_of}
 use Rattle.gen1_machine.specs.Sides.{other}
 use Rattle.gen1_machine.specs.Conditions.{after_haze, with_bad_poison, with_recharge, without_seed, ActiveConditions}
@@ -93,6 +93,10 @@ noted-deeds volatiles.TypeChange on place c = refl
 noted-deeds volatiles.Trapped on place c = refl
 noted-deeds volatiles.Splash on place c = refl
 
+set-rests : (what : Volatile) (on : ℕ) (x : PublicSide) → (on_announced (set_volatile what on) x).announced.recharging ≡ x.announced.recharging
+set-rests volatiles.Confusion on x = refl
+set-rests _ on x = refl
+
 noted-reach : (what : Volatile) (on : Bool) (c : Followed) → (noted what on c).invulnerable ≡ c.invulnerable
 noted-reach volatiles.Mist on c = refl
 noted-reach volatiles.FocusEnergy on c = refl
@@ -117,6 +121,7 @@ does-marked what on change h x t m =
       same = set-deeds what (bit_of on) x ∙ ap (with_deed what (bit_of on)) m.same ∙ sym (noted-deeds what on t.active.place (followed c))
           ∙ sym (ap (λ (z : Followed). deeds_of t.active.place (core_of z)) e);
       reach = λ i. ap (λ (z : Followed). z.invulnerable) e ∙ noted-reach what on (followed c) ∙ m.reach i;
+      rests = λ i. m.rests (subst (λ (n : ℕ). n ≢ 0) (set-rests what (bit_of on) x) i);
       last = m.last;
       few = m.few;
     }
@@ -125,7 +130,7 @@ does-marked what on change h x t m =
 
 does-typed : (foe : Active) (y x : PublicSide) (t : Party) → Does x t → Does (takes_types y x) (with_active (with_types_of foe t.active) t)
 unfolding with_types_of
-does-typed foe y x t m = record { same = m.same; reach = m.reach; last = m.last; few = m.few }
+does-typed foe y x t m = record { same = m.same; reach = m.reach; rests = m.rests; last = m.last; few = m.few }
 
 abbrev cleared_party : Party → Party
 cleared_party t = with_conditions after_haze (with_active (with_levelled_stats t.active) t)
@@ -135,7 +140,7 @@ without_poison k = record k { toxic = 0 }
 
 does-cleared : (x : PublicSide) (t : Party) → Does x t → Does (is_cleared x) (cleared_party t)
 unfolding after_haze with_levelled_stats
-does-cleared x t m = record { same = ap without_poison m.same; reach = m.reach; last = m.last; few = m.few }
+does-cleared x t m = record { same = ap without_poison m.same; reach = m.reach; rests = m.rests; last = m.last; few = m.few }
 
 even-cleared : (f : Field) (p : Public) → BothOut f → Even f p → Even (with_cleared Two (with_cleared One f)) (on_out Two is_cleared (on_out One is_cleared p))
 unfolding changed_active changed_conditions
@@ -152,8 +157,8 @@ even-cleared f p o m =
 does-poisoned : (b : Bool) (x : PublicSide) (t : Party) → Does x t
     → Does (on_announced (λ a. if b then record a { toxic = 1 } else a) (on_seen (is_afflicted kinds.Poison) x)) (if b then with_conditions with_bad_poison t else t)
 unfolding with_bad_poison
-does-poisoned true x t m = record { same = ap (λ (k : Deeds). record k { toxic = 1 }) m.same; reach = m.reach; last = m.last; few = m.few }
-does-poisoned false x t m = record { same = m.same; reach = m.reach; last = m.last; few = m.few }
+does-poisoned true x t m = record { same = ap (λ (k : Deeds). record k { toxic = 1 }) m.same; reach = m.reach; rests = m.rests; last = m.last; few = m.few }
+does-poisoned false x t m = record { same = m.same; reach = m.reach; rests = m.rests; last = m.last; few = m.few }
 
 poisons-one : (b : Bool) (f : Field) → (if b then changed_conditions One with_bad_poison f else f) ≡ with_party One (if b then with_conditions with_bad_poison f.one else f.one) f
 unfolding changed_active changed_conditions
@@ -260,13 +265,19 @@ module _ {U : Public → Type 0} (lasts : Lasts U) where
       tells-out s (takes_types (public_side (other s) p)) (with_active (with_types_of (active_in (other s) f) (active_in s f)) (party s f)) f es e
       (types-hears (who_in s g) p) (λ x. refl) o (does-typed (active_in (other s) f) (public_side (other s) p) (public_side s p) (party s f)) m
 
-  pub tale-rests : (s : Side) (f : Field) (es : List Event) → BothOut f → Tale U f es
+  pub tale-rests : (s : Side) → ((p : Public) → U p → recharges (move_at (public_side s p).last_move).effect ≡ true) → (f : Field) (es : List Event) → BothOut f → Tale U f es
       → Tale U (changed_conditions s with_recharge f) (es ++ events.MustRecharge (who_in s (changed_conditions s with_recharge f)) ∷ [])
   unfolding changed_active changed_conditions with_recharge
-  tale-rests s f es o m =
+  tale-rests s a f es o m =
       let g : Field = changed_conditions s with_recharge f in
       tells-out s (on_announced (λ a. record a { recharging = 1 })) (with_conditions with_recharge (party s f)) f es (events.MustRecharge (who_in s g))
-      (rest-hears (who_in s g) _) (λ x. refl) o (λ d. record { same = d.same; reach = d.reach; last = d.last; few = d.few }) m
+      (rest-hears (who_in s g) _) (λ x. refl) o (λ d. record {
+        same = d.same;
+        reach = d.reach;
+        rests = λ i. subst (λ (k : ℕ). recharges (move_at k).effect ≡ true) (sym (last-settled (events.MustRecharge (who_in s g)) s (told_by es))) (a (told_by es) m.more);
+        last = d.last;
+        few = d.few;
+      }) m
 
   pub tale-clears : (f : Field) (es : List Event) → BothOut f → Tale U f es → Tale U (with_cleared Two (with_cleared One f)) (es ++ events.ClearAll ∷ [])
   tale-clears f es o m =
@@ -317,7 +328,7 @@ deeding U l = record {
   loose = Tale U;
   said = λ s move. ⊥;
   acted = λ s move. (p : Public) → U p → (public_side s p).last_move ≡ move.number;
-  knows = λ s move. bides move.effect ≡ false;
+  knows = λ s move. (bides move.effect ≡ false) × (recharges move.effect ≡ true → (p : Public) → U p → recharges (move_at (public_side s p).last_move).effect ≡ true);
   loosen = λ f es m. m;
   tighten = λ f es m a b. m;
   member = λ s change h f es m. tale-member l s change (sparing-tame change h) f es m;
@@ -333,8 +344,8 @@ deeding U l = record {
   moves = λ s move k f es o m. absurd k;
   prepares = λ s move k f es o m. absurd k;
   explodes = λ s f es o m. tale-conditions l s without_seed seed-bland (changed_member s fallen f) es (tale-member l s fallen fallen-tame f es m);
-  stores = λ s move k e turns f es o m. absurd (true≢false (sym e ∙ k));
-  rests = λ s move k e f es o m. tale-rests l s f es o m;
+  stores = λ s move k e turns f es o m. absurd (true≢false (sym e ∙ k.0));
+  rests = λ s move k e f es o m. tale-rests l s (k.1 e) f es o m;
   loose_active = λ s change h f es m. tale-active l s change h f es m;
   loose_apart = λ f g es a b m. tale-apart l f g es a b m;
   loose_noise = λ e f h es m. tale-dull l e f (dull-is f e h) es m;

@@ -79,6 +79,7 @@ does-sent species place level h x t low high m =
     subst (λ (y : PublicSide). Does y (with_active (with_sent_out place (member_at place t) t.active) t)) (sym (comes-is species place level h x low (omega (arith, high, m.few)))) (record {
       same = sym (ap (λ (a : Standing). deeds_of a.place (core a.conditions)) e);
       reach = λ i. absurd (i refl);
+      rests = λ i. absurd (i refl);
       last = sym (ap (λ (a : Standing). number_in a.current_move (member_at a.place t).moves) e);
       few = m.few;
     })

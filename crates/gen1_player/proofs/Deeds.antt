@@ -1,7 +1,8 @@
--- What the log tells of what the active members do: Bide, charging, reach, Substitute, bad poison, rage, and the last move.
+-- What the log tells of what the active members do: Bide, charging, reach, recharging, Substitute, bad poison, rage, and the last move.
 use Rattle.std.proofs.Common.{Bool, List, ap, arith, false, if◌then◌else◌, length, length-set, map, not, refl, slice_index_or, subst, sym, true, true≢false, ℕ, ◌-◌, ◌==◌, ◌∙◌, ◌≡◌, ◌≢◌, ◌≤◌}
 use Rattle.std.proofs.Math.ListN.{get_or-map}
 use Rattle.std.proofs.Math.Seq.{map-set_same}
+use Rattle.gen1_tables.specs.Effects.{recharges}
 use Rattle.gen1_stats.specs.declared.known_move.KnownMove.{KnownMove}
 use Rattle.gen1_stats.specs.Members.{nobody, nothing_known, Member}
 use Rattle.gen1_machine.specs.declared.side.Side.{Side}
@@ -17,6 +18,7 @@ use Rattle.gen1_machine.specs.declared.health.Kind.TheVariants as kinds
 use Rattle.gen1_machine.specs.declared.health.Who.{Who}
 use Rattle.gen1_machine.specs.declared.picks.UsedMove.{UsedMove}
 use Rattle.gen1_machine.specs.declared.picks.UsedMove.TheVariants.{Nothing, Slot, Struggle}
+use Rattle.gen1_machine.specs.Moves.{move_at}
 use Rattle.gen1_machine.specs.Picks.{number_in}
 use Rattle.gen1_machine.specs.Rules.{bit_of}
 use Rattle.gen1_machine.specs.Sides.{other}
@@ -69,6 +71,7 @@ current_of t = number_in t.active.current_move (member_at t.active.place t).move
 pub record Does (x : PublicSide) (t : Party) : Type 0 where
   pub same : deeds x ≡ deeds_of t.active.place (core t.active.conditions)
   pub reach : x.invulnerable ≢ 0 → t.active.conditions.invulnerable ≡ true
+  pub rests : x.announced.recharging ≢ 0 → recharges (move_at x.last_move).effect ≡ true
   pub last : x.last_move ≡ current_of t
   pub few : length t.members ≤ 6
 
@@ -90,6 +93,7 @@ pub does-active : (change : Active → Active) → Placid change → (x : Public
 does-active change h x t m = record {
   same = m.same ∙ sym (ap (λ (a : Standing). deeds_of a.place (core a.conditions)) (h t.active));
   reach = λ e. ap (λ (a : Standing). a.conditions.invulnerable) (h t.active) ∙ m.reach e;
+  rests = m.rests;
   last = m.last ∙ sym (ap (λ (a : Standing). number_in a.current_move (member_at a.place t).moves) (h t.active));
   few = m.few;
 }
@@ -98,6 +102,7 @@ pub does-conditions : (change : ActiveConditions → ActiveConditions) → Bland
 does-conditions change h x t m = record {
   same = m.same ∙ sym (ap (deeds_of t.active.place) (h t.active.conditions));
   reach = λ e. ap (λ (c : Core). c.invulnerable) (h t.active.conditions) ∙ m.reach e;
+  rests = m.rests;
   last = m.last;
   few = m.few;
 }
@@ -122,26 +127,29 @@ pub does-member : (n : Member) (x : PublicSide) (t : Party) → traits n ≡ tra
 does-member n x t e m = record {
   same = m.same;
   reach = m.reach;
+  rests = m.rests;
   last = m.last ∙ sym (current-kept n t e);
   few = rw (length-set t.members (t.active.place - 1) n) m.few;
 }
 
--- Sides of which as much is announced, or less of reach
+-- Sides of which as much is announced, or less of reach and recharging
 pub record Fades (y x : PublicSide) : Type 0 where
   pub same : deeds y ≡ deeds x
   pub reach : y.invulnerable ≢ 0 → x.invulnerable ≢ 0
+  pub rests : y.announced.recharging ≢ 0 → x.announced.recharging ≢ 0
   pub last : y.last_move ≡ x.last_move
 
 pub fades-refl : (x : PublicSide) → Fades x x
-fades-refl x = record { same = refl; reach = λ e. e; last = refl }
+fades-refl x = record { same = refl; reach = λ e. e; rests = λ e. e; last = refl }
 
 pub fades-then : (z y x : PublicSide) → Fades z y → Fades y x → Fades z x
-fades-then z y x a b = record { same = a.same ∙ b.same; reach = λ e. b.reach (a.reach e); last = a.last ∙ b.last }
+fades-then z y x a b = record { same = a.same ∙ b.same; reach = λ e. b.reach (a.reach e); rests = λ e. b.rests (a.rests e); last = a.last ∙ b.last }
 
 pub does-fades : (y x : PublicSide) (t : Party) → Fades y x → Does x t → Does y t
 does-fades y x t q m = record {
   same = q.same ∙ m.same;
   reach = λ e. m.reach (q.reach e);
+  rests = λ e. subst (λ (k : ℕ). recharges (move_at k).effect ≡ true) (sym q.last) (m.rests (q.rests e));
   last = q.last ∙ m.last;
   few = m.few;
 }
@@ -164,16 +172,16 @@ fades-same Two p q a b = subst (λ (x : PublicSide). Fades p.two x) b (fades-ref
 
 hurt-fades : (source : DamageSource) → not (is_own_damage source) ≡ true → (x : PublicSide) → Fades (takes_damage source x) x
 hurt-fades sources.Confusion e x = absurd (true≢false (sym e))
-hurt-fades _ e x = record { same = refl; reach = λ e. e; last = refl }
+hurt-fades _ e x = record { same = refl; reach = λ e. e; rests = λ e. e; last = refl }
 
 status-fades : (kind : Kind) → not (is_poison kind) ≡ true → (move : ℕ) (x : PublicSide) → Fades (on_announced (gets_status kind move) x) x
 status-fades kinds.Poison e move x = absurd (true≢false (sym e))
-status-fades kinds.Freeze e move x = record { same = refl; reach = λ e. e; last = refl }
-status-fades _ e move x = record { same = refl; reach = λ e. e; last = refl }
+status-fades kinds.Freeze e move x = record { same = refl; reach = λ e. e; rests = λ e. absurd (e refl); last = refl }
+status-fades _ e move x = record { same = refl; reach = λ e. e; rests = λ e. e; last = refl }
 
 seen-fades : (h : PublicSide → PublicSide) → ((x : PublicSide) → deeds (h x) ≡ deeds x) → ((x : PublicSide) → (h x).invulnerable ≡ x.invulnerable)
-    → ((x : PublicSide) → (h x).last_move ≡ x.last_move) → (x : PublicSide) → Fades (h x) x
-seen-fades h a b c x = record { same = a x; reach = λ e. subst (λ (i : ℕ). i ≢ 0) (b x) e; last = c x }
+    → ((x : PublicSide) → (h x).announced.recharging ≡ x.announced.recharging) → ((x : PublicSide) → (h x).last_move ≡ x.last_move) → (x : PublicSide) → Fades (h x) x
+seen-fades h a b r c x = record { same = a x; reach = λ e. subst (λ (i : ℕ). i ≢ 0) (b x) e; rests = λ e. subst (λ (i : ℕ). i ≢ 0) (r x) e; last = c x }
 
 pub dull-fades : (e : Event) → is_dull e ≡ true → (u : Side) (p : Public) → Fades (public_side u (takes_in e p)) (public_side u p)
 unfolding takes_in
@@ -182,16 +190,16 @@ dull-fades (events.Switch w place level k) h u p = absurd (true≢false (sym h))
 dull-fades (events.Move w move foe) h u p = absurd (true≢false (sym h))
 dull-fades (events.Cant w why) h u p = absurd (true≢false (sym h))
 dull-fades (events.Damage w k source) h u p = fades-side w.side u (λ x. takes_damage source (on_seen (λ m. record m { hp = k.hp }) x)) p
-    (λ x. fades-then _ (on_seen (λ m. record m { hp = k.hp }) x) x (hurt-fades source h _) (seen-fades (on_seen (λ m. record m { hp = k.hp })) (λ y. refl) (λ y. refl) (λ y. refl) x))
-dull-fades (events.Heal w k) h u p = fades-side w.side u (on_seen (λ m. record m { hp = k.hp })) p (seen-fades _ (λ x. refl) (λ x. refl) (λ x. refl))
+    (λ x. fades-then _ (on_seen (λ m. record m { hp = k.hp }) x) x (hurt-fades source h _) (seen-fades (on_seen (λ m. record m { hp = k.hp })) (λ y. refl) (λ y. refl) (λ y. refl) (λ y. refl) x))
+dull-fades (events.Heal w k) h u p = fades-side w.side u (on_seen (λ m. record m { hp = k.hp })) p (seen-fades _ (λ x. refl) (λ x. refl) (λ x. refl) (λ x. refl))
 dull-fades (events.Status w kind) h u p = fades-side w.side u
     (λ x. on_announced (gets_status kind (public_side (other w.side) p).last_move) (on_seen (is_afflicted kind) x)) p
     (λ x. fades-then _ (on_seen (is_afflicted kind) x) x (status-fades kind h _ _)
-    (seen-fades (on_seen (is_afflicted kind)) (λ y. refl) (λ y. refl) (λ y. refl) x))
-dull-fades (events.Cure w kind) h u p = fades-side w.side u (on_seen is_cured) p (seen-fades _ (λ x. refl) (λ x. refl) (λ x. refl))
-dull-fades (events.Faint w) h u p = fades-side w.side u (on_seen has_fainted) p (seen-fades _ (λ x. refl) (λ x. refl) (λ x. refl))
-dull-fades (events.Boost w stat i) h u p = fades-side w.side u _ p (seen-fades _ (λ x. refl) (λ x. refl) (λ x. refl))
-dull-fades (events.Unboost w stat i) h u p = fades-side w.side u _ p (seen-fades _ (λ x. refl) (λ x. refl) (λ x. refl))
+    (seen-fades (on_seen (is_afflicted kind)) (λ y. refl) (λ y. refl) (λ y. refl) (λ y. refl) x))
+dull-fades (events.Cure w kind) h u p = fades-side w.side u (on_seen is_cured) p (seen-fades _ (λ x. refl) (λ x. refl) (λ x. refl) (λ x. refl))
+dull-fades (events.Faint w) h u p = fades-side w.side u (on_seen has_fainted) p (seen-fades _ (λ x. refl) (λ x. refl) (λ x. refl) (λ x. refl))
+dull-fades (events.Boost w stat i) h u p = fades-side w.side u _ p (seen-fades _ (λ x. refl) (λ x. refl) (λ x. refl) (λ x. refl))
+dull-fades (events.Unboost w stat i) h u p = fades-side w.side u _ p (seen-fades _ (λ x. refl) (λ x. refl) (λ x. refl) (λ x. refl))
 dull-fades events.ClearAll h u p = absurd (true≢false (sym h))
 dull-fades (events.Start w what) h u p = absurd (true≢false (sym h))
 dull-fades (events.End w what) h u p = absurd (true≢false (sym h))

@@ -106,7 +106,8 @@ abbrev pub current_move_of : Party → ℕ
 current_move_of t = number_in t.active.current_move (member_at t.active.place t).moves
 
 -- Bide, charging and bad poison are announced exactly if they are on. A member that is announced as invulnerable is so. The last move is
--- the current one. A member that has to recharge used a move for it last. A move that continues, which costs no PP, isn't counted as a use.
+-- the current one. A member that has to recharge, or is announced so, used a move for it last. A move that continues, which costs no PP, isn't
+-- counted as a use.
 pub record SideDoes (x : PublicSide) (t : Party) : Type 0 where
   pub bide : x.announced.bide ≡ bit_of (is_some t.active.conditions.underway.bide)
   pub charging : x.announced.charging ≡ bit_of t.active.conditions.underway.charging
@@ -114,6 +115,7 @@ pub record SideDoes (x : PublicSide) (t : Party) : Type 0 where
   pub invulnerable : x.invulnerable ≢ 0 → t.active.conditions.invulnerable ≡ true
   pub last_move : x.last_move ≡ current_move_of t
   pub recharge : t.active.conditions.underway.recharge ≡ true → recharges (move_at x.last_move).effect ≡ true
+  pub rests : x.announced.recharging ≢ 0 → recharges (move_at x.last_move).effect ≡ true
   pub uses : keeps_going t.active.conditions.underway ≡ true → new_uses (current_move_of t) x ≡ 0
 
 abbrev pub is_fault : Outcome → Bool

@@ -31,8 +31,8 @@ pub fn members_agree()
 {}
 
 /// After any run with valid terms and seed bytes that ended in no fault, Bide, charging and bad poison are announced exactly if they are
-/// on, and invulnerability only if it is. The last move is the current one; one that has to recharge used a move for it last. A move that
-/// continues, without PP, is not counted as a use.
+/// on, and invulnerability only if it is. The last move is the current one; a member that has to recharge, or is announced so, used a move
+/// for it last. A move that continues, without PP, is not counted as a use.
 #[tactic(auto, using(crate::proofs::DeedRuns::actives_agree))]
 pub fn actives_agree()
     ensures { ActivesAgree }
