@@ -33,7 +33,7 @@ refuses kind out err status mistaken r = record { asked = asks; refused = λ a b
 pub helps : (kind : ErrorKind) (out err : Sent) (status : ℕ) → ((kind ≢ DisplayHelp) × (kind ≢ DisplayVersion) → ⊥) → IsHelp out err status → IsReply kind out err status
 helps kind out err status asked r = record { asked = λ e. r; refused = λ a b. absurd (asked (a, b)) }
 
--- the text that is said
+-- the text of a reply
 pub said_is : (text result : List ℕ) → (0 < length text → result ≡ text) → (length text ≡ 0 → result ≡ usage) → result ≡ said_or_usage text
 said_is [] result same value = value refl
 said_is (x ∷ xs) result same value = same (omega arith)

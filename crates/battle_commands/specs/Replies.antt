@@ -10,7 +10,7 @@ use Rattle.battle_commands.specs.Served.{IsUnheld, TellsEnd, status_after}
 use Rattle.battle_commands.specs.declared.fault.ToolFault.{ToolFault}
 use Rattle.battle_commands.specs.declared.fault.ToolFault.TheVariants.{Write}
 
--- what is said in place of an empty text
+-- the text that replaces an empty one
 abbrev pub usage : List ℕ
 usage = codes "usage: battle_tool SUBCOMMAND [--explain] [FILE]\n"
 

@@ -17,7 +17,7 @@ module _ {A : Type 0} {d : Drawing A} {source : Source A} where
       → ShowsKnown d source k' g parts' events' now b (f p)
   does_still {k' = k'} g {p = p} f does h = still {g' = knowing k' g} h (does (record g { stream = source.stream; drawn = p.drawn }) p h.shows)
 
-  -- The same for code that learns nothing.
+  -- `does_still` for code that learns nothing.
   pub plain_still : (k : Known) (g : Frame) {parts parts' : Parts} {events events' : Telling} {now : A} {b : Bool} {p : Progress} (f : Phase)
       → Does (between parts events parts' events') b f → ShowsKnown d source k g parts events now false p
       → ShowsKnown d source k g parts' events' now b (f p)

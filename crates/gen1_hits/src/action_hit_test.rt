@@ -40,7 +40,7 @@ pub fn hit_or_miss<R: Rolls>(
     known.accuracy_tested = Some(test.kept);
 }
 
-/// The same for a test whose miss ends the action (docs/MECHANICS.md, "Early effects", "Late effects").
+/// A hit test whose miss ends the action (docs/MECHANICS.md, "Early effects", "Late effects").
 ///
 /// A miss is reported, and `true` is returned. It writes at most one event, and none on a hit. It needs one free
 /// place in `events`.

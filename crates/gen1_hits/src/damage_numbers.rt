@@ -11,7 +11,7 @@ use gen1_tables::{Element, MoveId, Stat};
 
 /// The numbers of a hit on the foe (docs/MECHANICS.md, "Damage numbers").
 ///
-/// A critical hit doubles the level and takes the own stats. Stages, penalties and screens don't matter for it.
+/// A critical hit doubles the level and takes each member's own stats. Stages, penalties and screens don't matter for it.
 #[inline(always)] // docs/SPEED.md, "Hints on inlining"
 pub fn numbers(battle: &Packed, side: Side, id: MoveId, critical: bool) -> Numbers
     ensures stands { Reads battle.now result (numbers_in side (move_at id) critical) }

@@ -66,7 +66,7 @@ abbrev pub IsReadAs : Result (List ℕ) LoadFault → List ℕ → Type 0
 IsReadAs (Ok form) bytes = PassesBefore 8 bytes × (form ≡ version_three bytes)
 IsReadAs (Err fault) bytes = PassesBefore (number_of fault) bytes × (PassesTest fault bytes → ⊥)
 
--- The same for a loaded battle: its parts are those of the form.
+-- A loaded battle has the parts of the form. Otherwise the error is that of the first test that fails.
 abbrev pub IsLoadedAs : Result Parts LoadFault → List ℕ → Type 0
 IsLoadedAs (Ok loaded) bytes = PassesBefore 8 bytes × (loaded ≡ parts_of (version_three bytes))
 IsLoadedAs (Err fault) bytes = PassesBefore (number_of fault) bytes × (PassesTest fault bytes → ⊥)

@@ -39,7 +39,7 @@ looking tells battle events Then =
 abbrev pub unchanged : List Event → Look Parts → Scene
 unchanged told battle Then = Then battle.entry.now (Told told) (λ g. g) battle.exit.now (Told told) (λ g. g)
 
--- The same for values, for lemmas and for code that holds no battle: from these parts and events to those, or with no
+-- Scenes of values, for lemmas and for code that holds no battle: from these parts and events to those, or with no
 -- change.
 abbrev pub between : Parts → Telling → Parts → Telling → Scene
 between parts events parts' events' Then = Then parts events (λ g. g) parts' events' (λ g. g)

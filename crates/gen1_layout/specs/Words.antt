@@ -21,11 +21,11 @@ pub use Rattle.gen1_layout.specs.Shows.{Frame, Shows, ShowsDrawn, Telling, Told}
 abbrev pub Reads : {A : Type 0} → Parts → A → (Field → A) → Type 0
 Reads parts value read = (g : Setting) (f : Field) → Within g parts f → value ≡ read f
 
--- The same for what no write to a field changes.
+-- `Reads` for a value of the setting, which no write to a field changes.
 abbrev pub ReadsSetting : {A : Type 0} → Parts → A → (Setting → A) → Type 0
 ReadsSetting parts value read = (g : Setting) (f : Field) → Within g parts f → value ≡ read g
 
--- The same for a field in which a member may not be out yet.
+-- `Reads` for a field in which a member may not be out yet.
 abbrev pub ReadsPacked : {A : Type 0} → Parts → A → (Field → A) → Type 0
 ReadsPacked parts value read = (g : Setting) (f : Field) → Packs g parts f → value ≡ read f
 

@@ -64,7 +64,7 @@ impl Packed {
         self.hp(side) == 0
     }
 
-    /// The own Attack, Defense, Speed or Special of the member that is out, before stages, 5 to 999. For accuracy and
+    /// The Attack, Defense, Speed or Special of the member that is out, before stages, 5 to 999. For accuracy and
     /// evasion, which have no number, it is 0.
     pub fn unmodified(&self, side: Side, stat: Stat) -> u16
         ensures stands { Reads self.now result λ f. unmodified stat (member_in side f) }
@@ -156,7 +156,7 @@ impl Packed {
         word!(self.member(side, place), MAX_HP)
     }
 
-    /// The own Attack, Defense, Speed and Special of the member at a place, 1 to 6: each 5 to 999, or 0 for an empty
+    /// The Attack, Defense, Speed and Special of the member at a place, 1 to 6: each 5 to 999, or 0 for an empty
     /// place.
     pub fn own_stats_at(&self, side: Side, place: u8) -> [u16; 4]
         requires low { 1 ≤ place }

@@ -48,16 +48,16 @@ pub const MAX_HP: usize = 2;
 /// The HP, u16.
 pub const HP: usize = 4;
 
-/// The own Attack, u16.
+/// The member's own Attack, u16.
 pub const ATTACK: usize = 6;
 
-/// The own Defense, u16.
+/// The member's own Defense, u16.
 pub const DEFENSE: usize = 8;
 
-/// The own Speed, u16.
+/// The member's own Speed, u16.
 pub const SPEED: usize = 10;
 
-/// The own Special, u16.
+/// The member's own Special, u16.
 pub const SPECIAL: usize = 12;
 
 /// The status.

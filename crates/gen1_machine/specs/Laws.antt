@@ -195,7 +195,7 @@ abbrev pub UpdatesHaveProbabilities : Type 0
 UpdatesHaveProbabilities = (terms : Terms) (one two : Choice) (p : Progress) (passes : Field → Bool) → HasProbability terms one two p passes
 
 -- Two streams have the same bytes from one place up to another, and a search among those goes equally far in both: their spans are
--- equal, or each is more than so many bytes.
+-- equal, or each is more than the number of those bytes.
 pub record Agree (s w : Stream) (n m : ℕ) : Type 0 where
   pub bytes : (k : ℕ) → n ≤ k → k < m → byte_at w k ≡ byte_at s k
   pub spans : (span w ≡ span s) ⊎ ((m < n + span s) × (m < n + span w))

@@ -45,7 +45,7 @@ unfolding changed_conditions changed_active
 foe-apart One t change f e = rw e refl
 foe-apart Two t change f e = rw e refl
 
--- The same for thrashing and for Bide
+-- Thrashing and Bide
 
 pub beside-thrash : (u : Underway) (turns : ℕ) → IsStorableUnderway u → u.thrash ≡ Some turns → (u.bide ≡ None) × (u.trapping ≡ None)
 beside-thrash u turns h is =

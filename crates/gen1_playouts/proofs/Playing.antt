@@ -101,7 +101,7 @@ goes-on : (weights : List ℕ) (p : Playout) {middle random : ℕ} {one two : Ch
 unfolding play_on
 goes-on weights p going first second = rw (going, second.0, second.1, first.0, first.1) refl
 
--- a battle represents the state that so many updates lead to, and the generator has the state after them
+-- a battle represents the state that a number of updates leads to, and the generator has the state after them
 pub record PlaysOn (weights : List ℕ) (s : State) (seed updates : ℕ) (battle : Parts) (random : ℕ) : Type 0 where
   pub stands : Stands battle (played weights updates s seed).battle
   pub drawn : random ≡ (played weights updates s seed).random

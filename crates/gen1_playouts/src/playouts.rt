@@ -114,7 +114,7 @@ fn copy_of(battle: &Packed) -> Result<Packed, AllocError>
     Ok(battle.clone()?)
 }
 
-// Plays a battle by random choices to its end, or so many updates long, and returns how it ended.
+// Plays a battle by random choices to its end, or for a number of updates, and returns how it ended.
 fn run(
     battle: &mut Packed,
     options: &PlayoutOptions,

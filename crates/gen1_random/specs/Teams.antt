@@ -113,7 +113,7 @@ one_more pool d =
 abbrev pub draft : DrawnFrom → ℕ → ℕ → Draft
 draft pool seed count = iterate count (one_more pool) (record { team = []; left = numbers_in (species_of pool); random = seed })
 
--- why a team can't have so many members
+-- why a team can't have this many members
 abbrev pub size_refusal : ℕ → Option TeamRefusal
 size_refusal count = if count == 0 then Some Empty else if nat_lt 6 count then Some TooMany else None
 
@@ -123,7 +123,7 @@ pub record IsRandomMember (s : Sheet) : Type 0 where
   pub four : length s.moves ≡ 4
   pub known : All (λ chosen. IsBetween 1 164 chosen.0) s.moves
 
--- a lawful team of so many members of different species
+-- a lawful team of this many members of different species
 pub record IsRandomTeam (count : ℕ) (team : List Sheet) : Type 0 where
   pub size : length team ≡ count
   pub lawful : team_refusal team ≡ None

@@ -66,7 +66,7 @@ fn hp_text(in_percent: bool, health: Health) -> ArrayString<17>
     text
 }
 
-// HP as they are said of a member that comes out. Full HP are left out.
+// The HP of a member that comes out, in words. Full HP are left out.
 pub(crate) fn with_hp(told: Told, health: Health) -> ArrayString<24>
     ensures { result.bytes ≡ with_hp told health }
 {
@@ -142,7 +142,7 @@ pub(crate) fn times_text(count: HitCount) -> ArrayString<9>
     text
 }
 
-// A level as it is said after a species. Level 100 is left out.
+// The level after a species, in words. Level 100 is left out.
 pub(crate) fn level_text(level: Level) -> ArrayString<11>
     ensures { result.bytes ≡ level_words level }
 {

@@ -18,7 +18,7 @@ pub enum Person {
     Two,
 }
 
-/// The member of a side that is out, as the events so far tell it.
+/// The member of a side that is out, as the events so far show it.
 #[repr(C)]
 #[derive(Clone, Copy, Debug, PartialEq, Eq, Drop)]
 pub struct Told {
@@ -26,7 +26,7 @@ pub struct Told {
     pub hp: u16,
     /// The number of its species; 0 before the first came out.
     pub species: u8,
-    /// Whether HP of this side are said in per cent: if not 0.
+    /// Whether HP of this side are in per cent: if not 0.
     pub in_percent: u8,
 }
 

@@ -63,7 +63,7 @@ impl Shown {
         }
     }
 
-    /// The same as a plain struct.
+    /// The HP and the kind of status as a plain struct.
     pub(crate) fn plain(self) -> PlainMember
         ensures shown { shown_of result ≡ self }
         ensures exact { result ≡ plain_member self }

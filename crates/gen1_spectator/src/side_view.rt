@@ -89,7 +89,7 @@ impl SideView {
         }
     }
 
-    /// The same as a plain struct.
+    /// The side's view as a plain struct.
     pub(crate) fn plain(&self) -> PlainSide
         ensures view { side_view_of result ≡ self.now }
         ensures exact { result ≡ plain_side self.now }

@@ -126,7 +126,7 @@ impl Stages {
         }
     }
 
-    /// The same as a plain struct.
+    /// The stages as a plain struct.
     pub(crate) fn plain(self) -> PlainStages
         ensures stages { stages_of result ≡ self }
         ensures exact { result ≡ plain_stages self }

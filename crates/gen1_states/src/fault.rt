@@ -17,7 +17,7 @@ pub enum StateField {
     Level,
     MaxHp,
     Hp,
-    /// Of a member's own stats, 1 Attack to 4 Special.
+    /// One of a member's own stats, 1 Attack to 4 Special.
     OwnStat,
     Status,
     Sleep,
@@ -41,7 +41,7 @@ pub enum StateField {
     PickedMove,
     /// A bit of the conditions that belongs to an effect of the current move; the index is its place, from 0.
     TiedCondition,
-    /// Of the current stats, 1 Attack to 4 Special.
+    /// One of the current stats, 1 Attack to 4 Special.
     CurrentStat,
 }
 
@@ -98,7 +98,7 @@ pub struct StateFault {
     pub side: u8,
     /// The place of the member, 1 to 6; 0 for a field of an active member, a side or the whole battle.
     pub place: u8,
-    /// Which one of several: a slot or a stat from 1, a bit from 0; 0 for a field that stands once.
+    /// Which one of several: a slot or a stat from 1, a bit from 0; 0 for a field that occurs once.
     pub index: u8,
     pub value: u32,
     pub low: u32,
@@ -159,7 +159,7 @@ pub(crate) fn first_of(tests: &[Test]) -> Result<(), Test>
     Ok(())
 }
 
-/// The same as a fault of a side, or of the whole battle, and of a place in it.
+/// The result of tests, with an error as a fault of a side, or of the whole battle, and of a place in it.
 pub(crate) fn at(side: u8, place: u8, tested: Result<(), Test>) -> Result<(), StateFault>
     ensures { result ≡ fault_at side place tested }
 {

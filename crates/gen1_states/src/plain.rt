@@ -46,7 +46,7 @@ pub struct ActiveState {
     pub disabled_slot: u8,
     pub disabled_turns: u8,
     pub bad_poison: u8,
-    /// Of Bide, thrashing or trapping.
+    /// The turns of Bide, thrashing or trapping.
     pub turns: u8,
 }
 

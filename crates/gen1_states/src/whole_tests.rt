@@ -28,7 +28,7 @@ pub(crate) fn test_state(state: &BattleState) -> Result<(), StateFault>
     test_requests(state)
 }
 
-/// The same for a state that loading refuses.
+/// The first field that is wrong, in a state that loading refuses.
 pub(crate) fn fault_of(state: &BattleState) -> StateFault
     ensures { result ≡ fault_of state.now }
 {

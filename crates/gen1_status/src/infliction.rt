@@ -32,7 +32,7 @@ pub fn inflict<S: EventSink>(
     inflict_status(battle, target, status_of_kind(kind, count), kind, events);
 }
 
-/// The same as [`inflict`], with the status itself (docs/MECHANICS.md, "Penalties").
+/// Does what [`inflict`] does, with the status itself (docs/MECHANICS.md, "Penalties").
 ///
 /// `kind` must be its kind. A marked sleep is allowed only under the sleep clause (docs/MECHANICS.md, "Rules (sleep
 /// clause, freeze clause)").

@@ -19,7 +19,7 @@ const STRUGGLE: u8 = 165;
 /// Why words don't name a choice of a side.
 #[derive(Clone, Copy, Debug, PartialEq, Eq, Drop)]
 pub enum WordsFault {
-    /// The text says no choice, or names no move or species.
+    /// The text doesn't say a choice, or doesn't name a move or species.
     Unknown,
     /// No choice that the side is offered has this name.
     NotOffered,

@@ -22,7 +22,7 @@ pub enum ChoiceWords {
     PlaceCalled(Place, Species),
 }
 
-/// Returns what a text says of a choice; `None` if it says no choice, or names no move or species. Only letters and digits count,
+/// Returns what a text says of a choice; `None` if it doesn't say one, or names no move or species. Only letters and digits count,
 /// in either case (docs/PROGRAM.md, "Text in place of JSON").
 pub fn words_in_text(text: &[u8]) -> Option<ChoiceWords>
     ensures { result ≡ words_said (id_of text.now) }

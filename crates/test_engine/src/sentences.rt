@@ -59,7 +59,7 @@ static TOLD: [(&[u8], &str); 18] = [
     (&[0x1B], "The battle is a tie."),
 ];
 
-// The same for side 2, to which the HP of side 1 are 48ths.
+// Codes of a log, and their sentences for side 2, to which the HP of side 1 are 48ths.
 static TOLD_TO_TWO: [(&[u8], &str); 9] = [
     (
         &[0x05, 1, 128, 24, 0, 48, 0, 0, 2],

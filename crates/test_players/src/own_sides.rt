@@ -73,7 +73,7 @@ fn a_side_before_the_first_update(rt: HostRuntime) -> Result<(), Fail> {
     Ok(())
 }
 
-// Speed 318 at stage 7 is 318 * 15 / 10 = 477, and a quarter of it is 119. The own Speed stays 318.
+// Speed 318 at stage 7 is 318 * 15 / 10 = 477, and a quarter of it is 119. The member's own Speed stays 318.
 #[test]
 fn a_paralysed_tauros_at_plus_1_speed(rt: HostRuntime) -> Result<(), Fail> {
     let mut packed = begun()?;

@@ -895,7 +895,7 @@ mod own_sides {
         Ok(())
     }
 
-    // Speed 318 at stage 7 is 318 * 15 / 10 = 477, and a quarter of it is 119. The own Speed stays 318.
+    // Speed 318 at stage 7 is 318 * 15 / 10 = 477, and a quarter of it is 119. The member's own Speed stays 318.
     #[test]
     fn a_paralysed_tauros_at_plus_1_speed() -> Result<(), Fail> { let rt = gen1_tests::testing::HostRuntime;
         let mut packed = begun()?;

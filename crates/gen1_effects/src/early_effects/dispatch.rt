@@ -72,7 +72,7 @@ pub fn group_one<R: Rolls, S: EventSink>(
     group_one_knowing(battle, side, id, &mut known, random, events);
 }
 
-/// The same as [`group_one`] in the middle of an action, which `known` describes.
+/// Does what [`group_one`] does in the middle of an action, which `known` describes.
 ///
 /// Afterwards `known` holds the miss and the byte of a hit test, and after Haze whether the foe is skipped this turn.
 pub fn group_one_knowing<R: Rolls, S: EventSink>(

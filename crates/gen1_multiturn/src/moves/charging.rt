@@ -32,8 +32,8 @@ pub fn charge<S: EventSink>(battle: &mut Packed, side: Side, id: MoveId, events:
     charge_by(battle, side, pick, id, events)
 }
 
-/// The same for the move that a pick takes up, in an action of which something is known (docs/MECHANICS.md,
-/// "Charging").
+/// Charges the move that a pick takes up, if the move charges, in an action of which something is known
+/// (docs/MECHANICS.md, "Charging").
 ///
 /// Returns whether the action ends, which is so in the first turn. The move becomes the current one then.
 pub fn charge_knowing<R: Rolls, S: EventSink>(

@@ -67,7 +67,7 @@ pub fn thrash_knowing<R: Rolls, S: EventSink>(
     thrash_with(battle, side, id.accuracy_byte(), known, random, events);
 }
 
-// The same for a move with this accuracy byte.
+// Uses a move that thrashes, with this accuracy byte.
 fn thrash_with<R: Rolls, S: EventSink>(
     battle: &mut Packed,
     side: Side,

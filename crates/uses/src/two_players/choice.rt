@@ -53,7 +53,7 @@ pub fn choose(player: &mut Player, byte: u8, room: &mut Room) -> Next
     }
 }
 
-/// Returns the log bytes of the last pair, for either player. The player goes on to the current pair.
+/// Returns the log bytes of the last pair, for either player. The player moves to the current pair.
 pub fn look<'a>(player: &mut Player, room: &'a Room) -> &'a [u8]
     ensures log { (c : Course) → Holds room.now c → IsReading result.now c.events }
     ensures current { (c : Course) → Holds room.now c → player.new.number ≡ c.number }

@@ -46,7 +46,7 @@ mod action_hit_test {
         known.accuracy_tested = Some(test.kept);
     }
 
-    /// The same for a test whose miss ends the action ([docs/MECHANICS.md, "Early effects"](https://hibsuloy.example/gen1/blob/main/docs/MECHANICS.md#early-effects), "Late effects").
+    /// A hit test whose miss ends the action ([docs/MECHANICS.md, "Early effects"](https://hibsuloy.example/gen1/blob/main/docs/MECHANICS.md#early-effects), "Late effects").
     ///
     /// A miss is reported, and `true` is returned. It writes at most one event, and none on a hit. It needs one free
     /// place in `events`.
@@ -207,7 +207,7 @@ mod damage_numbers {
 
     /// The numbers of a hit on the foe ([docs/MECHANICS.md, "Damage numbers"](https://hibsuloy.example/gen1/blob/main/docs/MECHANICS.md#damage-numbers)).
     ///
-    /// A critical hit doubles the level and takes the own stats. Stages, penalties and screens don't matter for it.
+    /// A critical hit doubles the level and takes each member's own stats. Stages, penalties and screens don't matter for it.
     #[inline(always)] // docs/SPEED.md, "Hints on inlining"
     pub fn numbers(battle: &Packed, side: Side, id: MoveId, critical: bool) -> Numbers {
         let foe = side.other();

@@ -554,8 +554,8 @@ mod moves {
             charge_by(battle, side, pick, id, events)
         }
 
-        /// The same for the move that a pick takes up, in an action of which something is known ([docs/MECHANICS.md](https://hibsuloy.example/gen1/blob/main/docs/MECHANICS.md),
-        /// "Charging").
+        /// Charges the move that a pick takes up, if the move charges, in an action of which something is known
+        /// ([docs/MECHANICS.md, "Charging"](https://hibsuloy.example/gen1/blob/main/docs/MECHANICS.md#charging)).
         ///
         /// Returns whether the action ends, which is so in the first turn. The move becomes the current one then.
         pub fn charge_knowing<R: Rolls, S: EventSink>(
@@ -935,7 +935,7 @@ mod moves {
             thrash_with(battle, side, id.accuracy_byte(), known, random, events);
         }
 
-        // The same for a move with this accuracy byte.
+        // Uses a move that thrashes, with this accuracy byte.
         fn thrash_with<R: Rolls, S: EventSink>(
             battle: &mut Packed,
             side: Side,

@@ -184,7 +184,7 @@ mod playouts {
         Ok(battle.clone())
     }
 
-    // Plays a battle by random choices to its end, or so many updates long, and returns how it ended.
+    // Plays a battle by random choices to its end, or for a number of updates, and returns how it ended.
     fn run(
         battle: &mut Packed,
         options: &PlayoutOptions,

@@ -459,7 +459,7 @@ mod fault {
         Level,
         MaxHp,
         Hp,
-        /// Of a member's own stats, 1 Attack to 4 Special.
+        /// One of a member's own stats, 1 Attack to 4 Special.
         OwnStat,
         Status,
         Sleep,
@@ -483,7 +483,7 @@ mod fault {
         PickedMove,
         /// A bit of the conditions that belongs to an effect of the current move; the index is its place, from 0.
         TiedCondition,
-        /// Of the current stats, 1 Attack to 4 Special.
+        /// One of the current stats, 1 Attack to 4 Special.
         CurrentStat,
     }
 
@@ -538,7 +538,7 @@ mod fault {
         pub side: u8,
         /// The place of the member, 1 to 6; 0 for a field of an active member, a side or the whole battle.
         pub place: u8,
-        /// Which one of several: a slot or a stat from 1, a bit from 0; 0 for a field that stands once.
+        /// Which one of several: a slot or a stat from 1, a bit from 0; 0 for a field that occurs once.
         pub index: u8,
         pub value: u32,
         pub low: u32,
@@ -590,7 +590,7 @@ mod fault {
         Ok(())
     }
 
-    /// The same as a fault of a side, or of the whole battle, and of a place in it.
+    /// The result of tests, with an error as a fault of a side, or of the whole battle, and of a place in it.
     pub(crate) fn at(side: u8, place: u8, tested: Result<(), Test>) -> Result<(), StateFault> {
         match tested {
             Ok(()) => Ok(()),
@@ -872,7 +872,7 @@ mod plain {
         pub disabled_slot: u8,
         pub disabled_turns: u8,
         pub bad_poison: u8,
-        /// Of Bide, thrashing or trapping.
+        /// The turns of Bide, thrashing or trapping.
         pub turns: u8,
     }
 
@@ -1330,7 +1330,7 @@ mod whole_tests {
         test_requests(state)
     }
 
-    /// The same for a state that loading refuses.
+    /// The first field that is wrong, in a state that loading refuses.
     pub(crate) fn fault_of(state: &BattleState) -> StateFault {
         match test_state(state) {
             Err(fault) => fault,

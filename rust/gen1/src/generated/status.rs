@@ -610,7 +610,7 @@ mod infliction {
         inflict_status(battle, target, status_of_kind(kind, count), kind, events);
     }
 
-    /// The same as [`inflict`], with the status itself ([docs/MECHANICS.md, "Penalties"](https://hibsuloy.example/gen1/blob/main/docs/MECHANICS.md#penalties)).
+    /// Does what [`inflict`] does, with the status itself ([docs/MECHANICS.md, "Penalties"](https://hibsuloy.example/gen1/blob/main/docs/MECHANICS.md#penalties)).
     ///
     /// `kind` must be its kind. A marked sleep is allowed only under the sleep clause ([docs/MECHANICS.md](https://hibsuloy.example/gen1/blob/main/docs/MECHANICS.md), "Rules (sleep
     /// clause, freeze clause)").

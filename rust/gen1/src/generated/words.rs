@@ -19,7 +19,7 @@ mod chosen {
     /// Why words don't name a choice of a side.
     #[derive(Clone, Copy, Debug, PartialEq, Eq)]
     pub enum WordsFault {
-        /// The text says no choice, or names no move or species.
+        /// The text doesn't say a choice, or doesn't name a move or species.
         Unknown,
         /// No choice that the side is offered has this name.
         NotOffered,
@@ -170,7 +170,7 @@ mod words {
         PlaceCalled(Place, Species),
     }
 
-    /// Returns what a text says of a choice; `None` if it says no choice, or names no move or species. Only letters and digits count,
+    /// Returns what a text says of a choice; `None` if it doesn't say one, or names no move or species. Only letters and digits count,
     /// in either case ([docs/PROGRAM.md, "Text in place of JSON"](https://hibsuloy.example/gen1/blob/main/docs/PROGRAM.md#text-in-place-of-json)).
     pub fn words_in_text(text: &[u8]) -> Option<ChoiceWords> {
         if has_same_id(b"pass", text) {
