@@ -542,7 +542,7 @@ uint8_t gen1_event_bytes(const gen1_event *event, uint8_t bytes[10], size_t *len
  */
 uint8_t gen1_next_line(const uint8_t *log, size_t count, size_t *at, char *text, size_t room, size_t *length);
 
-/* The member of a side that is out, as the events so far told it. */
+/* The member of a side that is out, as the events so far show it. */
 typedef struct gen1_told {
     uint16_t hp;        /* its HP, in the units of the log */
     uint8_t species;    /* 0 before the first came out */
@@ -1600,7 +1600,7 @@ uint8_t gen1_player_feed(gen1_player *player, const uint8_t *told, size_t count)
 /* Writes a side of a battle, as it is shown to its own player. Returns 0, or GEN1_ERROR_SIDE; then nothing has changed. */
 uint8_t gen1_get_own_side(const gen1_battle *battle, uint8_t side, gen1_own_side *own);
 
-/* Replaces the own side that a player was last shown, and the mask of its choices. */
+/* Replaces the view of its own side that a player was last shown, and the mask of its choices. */
 void gen1_player_show(gen1_player *player, const gen1_own_side *own, uint16_t offered);
 
 /* A guess of what a player can't know. */
@@ -1755,8 +1755,8 @@ void gen1_host_notice(const gen1_host *host, gen1_notice *notice);
 uint32_t gen1_host_number(const gen1_host *host);
 
 /*
- * Returns the sides whose choices are missing: 1 for side 1, plus 2 for side 2; 0 once the battle is over. It is for the host: a side
- * may be told it only of itself.
+ * Returns the sides whose choices are missing: 1 for side 1, plus 2 for side 2; 0 once the battle is over. It is for the host: only the
+ * side itself may learn that its choice is missing.
  */
 uint8_t gen1_host_awaited(const gen1_host *host);
 

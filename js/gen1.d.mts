@@ -812,7 +812,7 @@ export class Host {
   /** A copy of its gen1_host (include/gen1.h), which must not be sent. */
   readonly bytes: Uint8Array;
   clone(): Host;
-  /** Whether a side's choice for the current pair is missing. It is for the host: a side may be told it only of itself. */
+  /** Whether a side's choice for the current pair is missing. It is for the host: only the side itself may learn it. */
   awaits(side: Side): boolean;
   /** All that a side is to be sent at the beginning and after each pair. */
   message(side: Side): Message;
@@ -830,7 +830,7 @@ export class Host {
   cancel(side: Side, number: number): boolean;
   /** Ends a side's time for the pair with this number: it forfeits, or its first choice is made, as the options say. */
   expire(side: Side, number: number, numbers?: Numbers | null): boolean;
-  /** Offers a draw, or accepts the other side's offer. An offer ends with the pair. It ends none, so report it to the other side by itself. */
+  /** Offers a draw, or accepts the other side's offer. An offer lapses with the pair and doesn't end it, so report it to the other side separately. */
   offerDraw(side: Side): boolean;
   /** Ends the battle by a forfeit of a side: the other side wins. */
   forfeit(side: Side): boolean;

@@ -44,7 +44,7 @@ const ROOM = offsetsOf("gen1_room");
 // The byte of a choice that is missing.
 const DUE = 255;
 
-/** The bytes of a room that was stored: that of a host whose tellers have told nothing, or what a forfeit makes of such a room. */
+/** The bytes of a room that was stored: that of a host whose tellers have reported nothing, or such a room after a forfeit. */
 export function storedRoom(library, bytes) {
   const given = structBytes(library, "gen1_room", bytes);
   const [side, view] = [given[ROOM.forfeit], new DataView(given.buffer)];
@@ -268,7 +268,7 @@ export class Host {
     return this.result.outcome !== "ongoing";
   }
 
-  /** Whether a side's choice is missing. It is for the host: a side may be told it only of itself. */
+  /** Whether a side's choice is missing. It is for the host: only the side itself may learn it. */
   awaits(side) {
     return (this.#library.calls.gen1_host_awaited(this.#put()) & sideOf(side)) !== 0;
   }

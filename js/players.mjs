@@ -39,8 +39,8 @@ export function tellerOf(library, terms) {
 
 /** The library of a player. */
 export let libraryOf;
-// The turn by the log; the turn of the own side as it was last shown, whether it begins a turn, and whether it is the log's; and a player that
-// becomes another.
+// The turn by the log; the turn of the player's own side as it was last shown, whether it begins a turn, and whether it is the log's; and a
+// player that becomes another.
 let turnsOf;
 let become;
 // The team of a player by the log, as text.
@@ -140,7 +140,7 @@ export class Player {
     this.#showAt(player, own, library.calls.gen1_offered(from, side), "battle");
   }
 
-  // Shows the player at a pointer the own side at another, and keeps it, if the team is its own.
+  // Shows the player at a pointer its own side at another, and keeps it, if the team is its own.
   #showAt(player, own, offered, what) {
     const library = this.#library;
     const known = knownTo(this);

@@ -94,7 +94,7 @@ export class Lines implements Kept {
   report(host: Host, time?: number): void;
   /** Adds the lines of a pair for one viewer: the player of the side whose members are known, or a spectator. Each is taken in once, in order. */
   receive(sent: Message | Notice, time?: number): void;
-  /** Adds the lines of an earlier pair for one viewer, of which only the told log was kept. */
+  /** Adds the lines of an earlier pair for one viewer, of which only the log that was sent to it was kept. */
   hear(log: Uint8Array): void;
   /** Ends the battle by a win of a side, or with null by a tie. */
   end(winner: Side | null): void;
@@ -115,7 +115,7 @@ export class Seat implements Kept {
   private constructor();
   /** Takes in a message of the player's host: each once, in order. */
   receive(message: Message): void;
-  /** Takes in the told log of an earlier pair, for a player that comes back; `receive` then takes in the last message. */
+  /** Takes in the log of an earlier pair that was sent to the player, for a player that comes back; `receive` then takes in the last message. */
   hear(log: Uint8Array): void;
   /** Takes in an update of a battle: the battle after it, and its log. */
   tell(battle: Battle, log: Uint8Array): void;
@@ -167,12 +167,12 @@ export class Follower {
   readonly log: Uint8Array;
   /**
    * What both sides chose for each update after the first, such as "move Body Slam" and "switch Bob". Null where the log doesn't say: for a side that had
-   * nothing to choose, or whose member did not act. An update of which the log has no end is left out.
+   * nothing to choose, or whose member did not act. An update whose end isn't in the log is left out.
    */
   readonly choices: [string | null, string | null][];
   /** The name, the number of members (null if the log does not have it), and the members' names of a side. */
   side(side: Side): { name: string; count: number | null; names: string[] };
-  /** What the player knows after the log. Without the own team it has a team of the members that came out. */
+  /** What the player knows after the log. Without its team it has a team of the members that came out. */
   player(gen1: Gen1): Player;
   /** A battle that fits what the player knows, its last request, and a guess of the foe's team in any order. Without a seed its draws are by chance. */
   battle(gen1: Gen1, guess: Members, seed?: Numbers): Battle;
@@ -217,7 +217,7 @@ export class Showdown {
   agree(
       battle: string, commitments: readonly [Uint8Array, Uint8Array], secrets: readonly [Uint8Array, Uint8Array],
   ): { seed: Uint8Array; sides: [Side, Side] };
-  /** With the own team its members have their places; without it they are numbered as they came out. */
+  /** With the player's team its members have their places; without it they are numbered as they came out. */
   follower(options: { side: Side; members?: Members }): Follower;
 }
 

@@ -268,7 +268,7 @@ export class Lines extends Kept {
     this.#pair = number;
   }
 
-  /** Adds the lines of an earlier pair for one viewer, of which only the told log was kept. */
+  /** Adds the lines of an earlier pair for one viewer, of which only the log that was sent to it was kept. */
   hear(log) {
     this._ask("hear", {log: hexOf(octets(log, "log")), side: null, message: null, time: null});
   }
@@ -324,7 +324,7 @@ export class Seat extends Kept {
     this.#pair = number;
   }
 
-  /** Takes in the told log of an earlier pair, for a player that comes back. */
+  /** Takes in the log of an earlier pair that was sent to the player, for a player that comes back. */
   hear(log) {
     this._ask("hear", {log: hexOf(octets(log, "log")), side: null, message: null, time: null});
   }

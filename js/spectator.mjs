@@ -82,7 +82,7 @@ export function narratorOf(library, terms) {
   return bytesOf("gen1_narrator", library.isLong, {one, two, you: you === null ? 0 : sideOf(you, "you")});
 }
 
-/** Tells the events of a battle in sentences, to a spectator or to a side. */
+/** Makes sentences of the events of a battle, for a spectator or a side. */
 export class Narrator {
   #library;
   #bytes;

@@ -694,7 +694,7 @@ function narrators(gen1, check) {
     const {log} = gen1.battle(TERMS).update("pass", "pass");
     for (const it of [undefined, null, 5, "a log", [1]])
       wrong(() => narrator.sentences(it), /^log is .*, not bytes, as a Uint8Array$/);
-    // The first event of the log is whole, and not told.
+    // The first event of the log is whole, and isn't reported.
     const {at} =
         thrown(() => narrator.sentences(log.subarray(0, 13)), LogError, /^byte 10: the bytes end within an event/);
     equal([at, narrator.sentences(log)], [10, gen1.narrator().sentences(log)]);

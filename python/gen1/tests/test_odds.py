@@ -185,7 +185,7 @@ def test_chances_to_knock_out():
 
 
 def felled(hp, changes, uses):
-    """The chance that so many Body Slams of Tauros fell another: what is left after each use and its change, summed use by use."""
+    """The chance that a number of Body Slams of Tauros fell another: what is left after each use and its change, summed use by use."""
     standing, fallen = {hp: Fraction(1)}, Fraction(0)
     for use in range(uses):
         following = {}

@@ -102,7 +102,7 @@ def test_before_the_battle(player):
 
 
 def test_places_of_the_foe_are_told_by_appearance():
-    """The foe's places 5, 2 and 5 again are reported as 1, 2 and 1; the own place 5 as it is."""
+    """The foe's places 5, 2 and 5 again are reported as 1, 2 and 1; the side's own place 5 as it is."""
     teller = Teller(Side.ONE, pixels=False)
     for place, told in ((5, 1), (2, 2), (5, 1)):
         assert teller.tell(switch(2, 113, place, 322, 323)) == switch(2, 113, told, 322, 323)

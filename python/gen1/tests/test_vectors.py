@@ -196,7 +196,7 @@ def test_greedy_beats_random():
 
 
 def test_what_greedy_estimates():
-    """Twice the power is twice the worth; the own type gives half more, and the chart its factors, also those of both types."""
+    """Twice the power is twice the worth; the user's type gives half more, and the chart its factors, also those of both types."""
     chart = {"Blizzard": 4.0, "Thunderbolt": 0.0, "Strength": 1.0, "Earthquake": 1.0}
     team, foe = [Member("Rhydon", list(chart))], [Member("Dragonite", ["Surf"])]
     array = PlayerArray(2, team, foe)

@@ -101,7 +101,7 @@ fn known(side: &Value) -> Value {
     known
 }
 
-/// Compares what the program knows with the player that the battle told. Without a team the own side is in the order of appearance, so only
+/// Compares what the program knows with the player of the battle. Without a team the player's side is in the order of appearance, so only
 /// the foe is compared.
 fn compare(object: &Value, player: &Player, has_team: bool) {
     assert_eq!(object["turn"], json!(player.turn()));

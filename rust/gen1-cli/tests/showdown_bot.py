@@ -418,7 +418,7 @@ class Player(Client):
 
 
 def read_by(client, kind, lines):
-    """Gives a message to a client. Of two lines after a split only the first is for the side that it names."""
+    """Gives a message to a client. Only the first of two lines after a split is for the side that the split names."""
     if kind == "sideupdate" and lines[0] == client.role:
         _, word, text = lines[1].split("|", 2)
         client.refused(text) if word == "error" else client.asks(text)

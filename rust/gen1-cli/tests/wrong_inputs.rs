@@ -43,7 +43,7 @@ fn row(block: &'static str) -> Row {
 }
 
 impl Row {
-    /// What is found in place of what is due.
+    /// What is found in place of what is expected.
     fn fault(&self) -> Option<String> {
         let (status, text) = ended(&self.words, self.input.as_bytes());
         let lines: Vec<&str> = text.lines().collect();

@@ -58,8 +58,8 @@ enum Ask {
         notice: String,
         time: Option<u64>,
     },
-    /// Adds the lines of a pair as it was reported to a side or to the audience. Or has a seat hear it, or clauses, which return the side
-    /// that has lost. A side's message says what it is shown.
+    /// Adds the lines of a pair as it was reported to a side or to the audience. Or passes it to a seat, or to clauses, which return the
+    /// side that has lost. A side's message says what it is shown.
     Hear {
         of: u64,
         log: String,

@@ -210,7 +210,7 @@ impl Seat {
         }]
     }
 
-    /// Whether the active member is asleep, frozen or held. Showdown lists its moves then, of which any leads to the same.
+    /// Whether the active member is asleep, frozen or held. Showdown lists its moves then. All of them have the same effect.
     fn cannot_act(&self) -> bool {
         let own = self.player.own();
         let status = own.member_out().and_then(|member| member.status());

@@ -13,7 +13,7 @@ use std::hint::black_box;
 
 /// Room for all outcomes of any position that is known.
 const PLACES: usize = 1 << 16;
-/// Of so many positions one is taken.
+/// One of this many positions is taken.
 const EVERY: u64 = 8;
 
 /// Members as people play them.

@@ -283,7 +283,7 @@ fn play(battle: &mut Packed, pick: Pick, random: &mut Bytes) -> Outcome {
     }
 }
 
-/// Whether a count fits this part of so many samples, within six standard deviations.
+/// Whether a count fits this part of a number of samples, within six standard deviations.
 fn fits(count: u32, samples: u32, part: f64) -> bool {
     let mean = f64::from(samples) * part;
     let deviation = (mean * (1.0 - part)).max(0.0).sqrt();

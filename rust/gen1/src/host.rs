@@ -136,7 +136,7 @@ impl Host {
         plain::result(&self.inner)
     }
 
-    /// Whether a side's choice for the current pair is missing. It is for the host: a side may be told it only of itself.
+    /// Whether a side's choice for the current pair is missing. It is for the host: only the side itself may learn it.
     #[must_use]
     pub fn awaits(&self, side: Side) -> bool {
         plain::awaited(&self.inner) & side.number() != 0
@@ -199,7 +199,7 @@ impl Host {
 
     /// Offers a draw. It is agreed on if the other side has offered one for this pair; an offer ends with the pair.
     ///
-    /// An offer ends no pair, so no message is due. Report it to the other side by itself: [`Message::draw`] has it. A player that
+    /// An offer doesn't end a pair, so no message is due. Report it to the other side separately: [`Message::draw`] has it. A player that
     /// received the same message twice would read its log twice.
     ///
     /// # Errors

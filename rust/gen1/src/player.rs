@@ -77,7 +77,7 @@ impl Player {
         self.inner.feed(told)
     }
 
-    /// Replaces the own side that the player was last shown, and its choices.
+    /// Replaces the view of its side that the player was last shown, and its choices.
     pub fn show(&mut self, own: &OwnSide, offered: OfferedMask) {
         self.inner.show(own, offered.bits());
     }
@@ -96,7 +96,7 @@ impl Player {
         self.side
     }
 
-    /// The own side as it was last shown; zeros before the first time.
+    /// The player's side as it was last shown; zeros before the first time.
     #[must_use]
     pub fn own(&self) -> &OwnSide {
         &self.inner.own
@@ -184,13 +184,13 @@ pub struct Teller {
 
 impl Teller {
     /// The teller of a side before the first event of a battle. The HP of the foe's members is reported as the game's bar of 48 pixels shows
-    /// it: the maximum is 48. Exact HP would tell a player DVs; [`Teller::with_hp`] reports it.
+    /// it: the maximum is 48. Exact HP would reveal DVs to a player; [`Teller::with_hp`] reports it.
     #[must_use]
     pub fn new(side: Side) -> Self {
         Self::with_hp(side, HpForm::Bar)
     }
 
-    /// The same as [`Teller::new`].
+    /// Makes the teller that [`Teller::new`] makes.
     #[must_use]
     pub fn in_pixels(side: Side) -> Self {
         Self::new(side)

@@ -9,7 +9,7 @@ use core::ops::Deref;
 /// The length of the longest sentence in bytes.
 const LENGTH: usize = 127;
 
-/// Tells the events of a battle in sentences, to a spectator or to a side.
+/// Makes sentences of the events of a battle, for a spectator or a side.
 ///
 /// It notes which members are out, so that a sentence can say what is lost and who is withdrawn: [`say`](Self::say) each event, in
 /// order. The default is a spectator who sees all HP.

@@ -243,7 +243,7 @@ impl From<&OwnSide> for OwnFields {
 }
 
 impl OwnFields {
-    /// The own side, which is not tested yet.
+    /// The player's side, which is not tested yet.
     fn untested(self) -> OwnSide {
         let member = |it: Option<&MemberFields>| OwnMember {
             species: it.map_or(0, |it| it.species),

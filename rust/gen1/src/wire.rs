@@ -198,7 +198,7 @@ impl OwnSide {
         written(|to| self.put(to))
     }
 
-    /// The own side with these bytes.
+    /// The player's side with these bytes.
     ///
     /// # Errors
     ///
@@ -469,7 +469,7 @@ fn field_of(why: HostFault) -> &'static str {
     }
 }
 
-/// The room, if it is one: that of a host whose tellers have told nothing, or what a forfeit makes of such a room.
+/// The room, if it is one: that of a host whose tellers have reported nothing, or such a room after a forfeit.
 fn tested_room(room: PlainRoom) -> Result<PlainRoom, &'static str> {
     if room.forfeit > 2 {
         return Err("forfeit");

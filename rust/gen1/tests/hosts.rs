@@ -442,7 +442,7 @@ fn rows_lead_to_the_same_host() {
     }
 }
 
-/// A message and a notice, whose fields stand where include/gen1.h has them.
+/// A message and a notice, whose fields are where include/gen1.h has them.
 #[test]
 fn what_is_sent_is_bytes() {
     let (mut host, team) = table(HostOptions::default());
@@ -453,7 +453,7 @@ fn what_is_sent_is_bytes() {
     let (message, notice) = (host.message(Side::One), host.notice());
     let (sent, all) = (message.to_bytes(), notice.to_bytes());
     let length = message.log().len();
-    // 172 bytes of the own side, then the number, the mask, the length of the log, the offer, and from byte 184 the log.
+    // 172 bytes of the side's own view, then the number, the mask, the length of the log, the offer, and from byte 184 the log.
     assert_eq!(sent[172..176], 1u32.to_le_bytes());
     assert_eq!(sent[178..180], (length as u16).to_le_bytes());
     assert_eq!(sent[180..184], [2, 0, 0, 0]);

@@ -97,7 +97,7 @@ impl Table {
         self.spectator.follow(&mut LogReader::new(), &log).unwrap();
     }
 
-    /// Submits a side's choice, and tells if that ended a pair.
+    /// Submits a side's choice, and reports the pair's log if that ended one.
     fn submit(&mut self, side: Side, choice: Choice) {
         let number = self.room.number();
         self.room.submit(side, number, choice).unwrap();

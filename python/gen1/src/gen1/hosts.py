@@ -261,8 +261,8 @@ class Host:
 
     def awaits(self, side: Side | int) -> bool:
         """Whether a side's choice for the current pair is missing. It is for
-        the host: a side may be told it only of itself. Raises
-        `BadArgument`, `BadType`.
+        the host: only the side itself may learn it. Raises `BadArgument`,
+        `BadType`.
         """
         return bool(_library.host_awaited(byref(self._held)) & a_side(side))
 
@@ -320,8 +320,8 @@ class Host:
         """Offers a draw, which is agreed on if the other side has offered one
         for this pair. An offer ends with the pair.
 
-        Returns whether the battle has ended. An offer ends no pair, so
-        report it to the other side by itself: `Message.draw` has it. A
+        Returns whether the battle has ended. An offer doesn't end a pair, so
+        report it to the other side separately: `Message.draw` has it. A
         player that received the same message twice would refuse it. Raises
         `HostRefused` with OVER, `BadArgument`, `BadType`.
         """

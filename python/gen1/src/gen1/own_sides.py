@@ -26,7 +26,7 @@ MOST_CHOICES = 9
 
 @dataclass(frozen=True)
 class OwnMember:
-    """A member of the own side. `pp` has the PP of each move. `stats` are its
+    """A member of the side. `pp` has the PP of each move. `stats` are its
     own Attack, Defense, Speed and Special, 5 to 999.
 
     The turns of sleep of a sleeping member are not shown.
@@ -134,7 +134,7 @@ class OwnSide:
 
     @classmethod
     def from_bytes(cls, data: ReadableBuffer) -> OwnSide:
-        """The own side with these bytes. Raises `BadArgument` for a field that
+        """The side with these bytes. Raises `BadArgument` for a field that
         is out of its range, and `BadType`.
         """
         return _made(struct_from(data, OwnSideStruct, "an own side", own_fault))

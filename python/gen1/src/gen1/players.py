@@ -173,7 +173,7 @@ class Player:
             raise BadLog(LogFault(code), fault_place(self.held + given) - len(self.held))
 
     def show(self, own: OwnSide, offered: Iterable[Choice | int]) -> None:
-        """Replaces the own side that the player was last shown, and its
+        """Replaces the view of its side that the player was last shown, and its
         choices, which may be in any order. Raises `BadType`, and
         `BadArgument` for the side of another team, and for no choices.
         """
@@ -234,8 +234,8 @@ class Player:
 
     @property
     def own(self) -> OwnSide:
-        """The own side as it was last shown; without members before the first
-        time.
+        """The player's side as it was last shown; without members before the
+        first time.
         """
         return own_side_from(bytes(self._held.own))
 

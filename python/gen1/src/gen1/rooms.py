@@ -201,7 +201,7 @@ class Room:
 
 
 def _room_in(data: ReadableBuffer) -> RoomStruct:
-    """The room with these bytes: that of a host whose tellers have told nothing, or what a forfeit makes of such a room."""
+    """The room with these bytes: that of a host whose tellers have reported nothing, or such a room after a forfeit."""
     held = struct_from(data, RoomStruct, "a room")
     battle, host = Battle.load(bytes(held.battle)), HostStruct(room=held)
     room, host.tellers[0].side, host.tellers[1].side = host.room, 1, 2

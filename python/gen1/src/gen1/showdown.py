@@ -72,7 +72,7 @@ class ChoiceRefused(Error):
 
 class Hp(Enum):
     """The form in which a member's HP is shown to all but its owner: as it is
-    told, in 48ths, or in hundredths.
+    reported, in 48ths, or in hundredths.
     """
 
     EXACT = "exact"
@@ -243,9 +243,8 @@ class _Kept:
 class Lines(_Kept):
     """Writes the lines of a battle, for each viewer.
 
-    The lines of a side and of spectators have nothing that they are not
-    told. Only `Viewer.OMNISCIENT` and `Viewer.STREAM` have more, and must
-    not be sent.
+    The lines of a side and of spectators have only what they may know. Only
+    `Viewer.OMNISCIENT` and `Viewer.STREAM` have more, and must not be sent.
     """
 
     __slots__ = ("_pair", "_side")
@@ -300,9 +299,9 @@ class Lines(_Kept):
 
         The lines of a side are made from the messages to it, and those of
         spectators from the notices, except for the names of the foe's
-        members that came out, and for `[from]` at a trapping move that goes
-        on, which both sides are shown. Raises `BadArgument` for a pair that
-        does not follow the last one, `BadType`.
+        members that came out, and for `[from]` at a trapping move that
+        continues, which both sides are shown. Raises `BadArgument` for a pair
+        that does not follow the last one, `BadType`.
         """
         if not isinstance(host, Host):
             raise BadType(f"host must be a Host, not {shown(host)}")
@@ -333,8 +332,9 @@ class Lines(_Kept):
 
     def hear(self, log: ReadableBuffer) -> None:
         """Adds the lines of an earlier pair for one viewer, of which only the
-        told log was kept. Its own Disable lacks the move, and a trapping
-        move that continues has no `[from]`. Raises `BadArgument`, `BadType`.
+        log that was sent to it was kept. Its own Disable lacks the move, and a
+        trapping move that continues has no `[from]`. Raises `BadArgument`,
+        `BadType`.
         """
         self._ask("hear", log=octets(log, "log").hex(), side=None, message=None, time=None)
 
@@ -402,9 +402,9 @@ class Seat(_Kept):
         self._pair = number
 
     def hear(self, log: ReadableBuffer) -> None:
-        """Takes in the told log of an earlier pair, for a player that comes
-        back; `receive` then takes in the last message. Raises
-        `BadArgument`, `BadType`.
+        """Takes in the log of an earlier pair that was sent to the player, for
+        a player that comes back; `receive` then takes in the last message.
+        Raises `BadArgument`, `BadType`.
         """
         self._ask("hear", log=octets(log, "log").hex(), side=None, message=None, time=None)
 
@@ -581,8 +581,8 @@ class Follower:
     """
 
     def __init__(self, side: Side | int, members: Members | None = None) -> None:
-        """With the own team its members have their places; without it they are
-        numbered as they came out. Raises `BadArgument`, `BadType`.
+        """With the player's team its members have their places; without it they
+        are numbered as they came out. Raises `BadArgument`, `BadType`.
         """
         self._side = a_side(side)
         self._members = None if members is None else _members(members)
@@ -598,9 +598,8 @@ class Follower:
 
     @property
     def player(self) -> Player:
-        """What the player knows after the log. Without the own team it has a
-        team of the members that came out, of which only what the log has is
-        known.
+        """What the player knows after the log. Without its team it has a team of
+        the members that came out, of which only what the log has is known.
         """
         seen = [Member(species, ["Tackle"], level=level) for species, level in self._read["seen"]]
         own = self._members.team if self._members else Team(seen)
@@ -628,7 +627,7 @@ class Follower:
         """What both sides chose for each update after the first, such as
         `move Body Slam` and `switch Bob`. None where the log doesn't say:
         for a side that had nothing to choose, or whose member did not act.
-        An update of which the log has no end is left out.
+        An update whose end isn't in the log is left out.
         """
         return tuple([(one, two) for one, two in self._read["choices"]])
 
@@ -657,7 +656,7 @@ class Follower:
         seed.
 
         The log must have the requests of the side. Raises `BadArgument`
-        without the own team or a request, or if the guess does not fit;
+        without the player's team or a request, or if the guess does not fit;
         `ProtocolFault`, `BadType`.
         """
         found = self._follow(guess=_members(guess)._listed, seed=list(seed_bytes(seed)))

@@ -1,4 +1,4 @@
-//! A battle that fits a player's knowledge: the own side as it is shown, from the requests and the events between them, and a guess of the
+//! A battle that fits a player's knowledge: its side as it is shown, from the requests and the events between them, and a guess of the
 //! foe's team.
 use super::reader::Reader;
 use super::request::{Asked, Listed, ListedMove, ListedName, Request};
@@ -18,7 +18,7 @@ pub struct Placed {
     pub request: Request,
 }
 
-/// The own side as it is shown to the player, and its choices.
+/// The player's side as it is shown to the player, and its choices.
 pub struct Shown {
     pub own: OwnSide,
     pub choices: Vec<Choice>,
@@ -26,7 +26,7 @@ pub struct Shown {
     pub line: usize,
 }
 
-/// The own side according to the events and requests.
+/// The player's side according to the events and requests.
 struct Own<'a> {
     side: Side,
     team: &'a [Member],
@@ -41,11 +41,11 @@ struct Own<'a> {
     goes_on: Option<Effect>,
     /// Whether Thrash continues.
     thrashes: bool,
-    /// Whether the last event is a use of the own side.
+    /// Whether the last event is a use of a move by the player's side.
     has_just_used: bool,
 }
 
-/// The own side as it is shown after the last event. An error is a line's number and a sentence.
+/// The player's side as it is shown after the last event. An error is a line's number and a sentence.
 pub fn shown(
     read: &Reader,
     player: &Player,
@@ -245,7 +245,7 @@ impl<'a> Own<'a> {
         Ok(places)
     }
 
-    /// The own side and the choices at the last request.
+    /// The player's side and choices at the last request.
     fn now(&self, request: &Request, player: &Player) -> Result<(OwnSide, Vec<Choice>), String> {
         let public = player.public(self.side);
         // Before the first time a player is shown zeros.

@@ -40,8 +40,8 @@ pub struct Follower {
 }
 
 impl Follower {
-    /// A follower of a log of one battle from its beginning, or of a replay page with one. With the own team its members have their places;
-    /// without it they are numbered as they came out.
+    /// A follower of a log of one battle from its beginning, or of a replay page with one. With the player's team its members have their
+    /// places; without it they are numbered as they came out.
     ///
     /// # Errors
     ///
@@ -113,7 +113,7 @@ impl Follower {
     }
 
     /// What both sides chose for each update after the first. `None` where the log doesn't say: for a side that had nothing to choose, or whose
-    /// member did not act. An update of which the log has no end is left out.
+    /// member did not act. An update whose end isn't in the log is left out.
     #[must_use]
     pub fn choices(&self) -> Vec<[Option<Chosen>; 2]> {
         let (mut all, mut now, mut has_fallen) = (Vec::new(), None, false);
@@ -150,8 +150,8 @@ impl Follower {
         }
     }
 
-    /// What the player knows after the log. Without the own team it has a team of the members that came out, of which only what the log has
-    /// is known.
+    /// What the player knows after the log. Without its team it has a team of the members that came out, of which only what the log has is
+    /// known.
     ///
     /// # Errors
     ///
@@ -176,7 +176,7 @@ impl Follower {
     ///
     /// # Errors
     ///
-    /// The own team or a request is missing, or a request or the guess does not fit the log.
+    /// The player's team or a request is missing, or a request or the guess does not fit the log.
     pub fn battle(&self, guess: &Members, seed: [u8; 10]) -> Result<Battle, Fault> {
         let Some((team, members)) = &self.own else {
             return Err(Fault::Guess("expected the own team".into()));

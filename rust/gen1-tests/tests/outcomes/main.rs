@@ -78,7 +78,7 @@ impl Rolls for Bytes {
         byte
     }
 
-    // No number of draws holds every byte for certain. No search of so many fails in practice.
+    // No number of draws holds every byte for certain. No search of this many fails in practice.
     fn until_as(&mut self, test: ByteTest, _look: Look) -> Option<u8> {
         (0..1 << 20)
             .map(|_| self.draw())

@@ -103,7 +103,7 @@ impl Rolls for These {
     }
 }
 
-/// The outcomes of all strings of so many bytes, with the number of strings. `None`: an update may search, or draws more bytes.
+/// The outcomes of all strings of this many bytes, with the number of strings. `None`: an update may search, or draws more bytes.
 fn by_all_strings(it: &Position, length: usize) -> Option<HashMap<Vec<u8>, u128>> {
     let mut counts = HashMap::new();
     for string in 0..1u32 << (8 * length) {
