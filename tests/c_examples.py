@@ -93,12 +93,12 @@ def of_play(folders):
 
 
 def of_comparison(_folders):
-    """A program that has no input, and compares by itself."""
+    """A program that has no input, and does its own comparison."""
     yield Case("status", (), b"", b"", b"")
 
 
 def of_leaks(_folders):
-    """It has no input, and compares by itself what players are shown and sent (include/gen1.h, "players", "hosts")."""
+    """It has no input, and does its own comparison of what players are shown and sent (include/gen1.h, "players", "hosts")."""
     counts = rb"\d+ changes of hidden bits, \d+ of shown bits, \d+ of a foe's bench, \d+ of hosts, 0 wrong\n"
     yield Case("status", (), b"", re.compile(counts), b"")
 
@@ -117,7 +117,7 @@ def of_known(_folders):
 
 
 def of_many(_folders):
-    """It has no input, and compares by itself; all battles end. Body Slam misses with one byte of 256, and Tauros is critical with 55."""
+    """It has no input, and compares results itself; all battles end. Body Slam misses with one byte of 256, and Tauros is critical with 55."""
     playouts, outcomes = (
         rb"\d+ wins of side 1, \d+ of side 2, \d+ ties\n",
         rb"\d+ outcomes, a miss with probability 0\.00390625\n",
@@ -127,7 +127,7 @@ def of_many(_folders):
 
 
 def of_look(_folders):
-    """It has no input, and compares by itself. The battle comes out alike in a room and at a host."""
+    """It has no input, and does its own comparison. The battle has the same result in a room and at a host."""
     alike = rb"in a room.*: outcome \2 in turn (\d+),.*\nat a host: outcome \2 in turn \4,.*\n"
     yield Case("status", (), b"", re.compile(rb"(.*\n)+outcome ([12])\n(.*\n)+" + alike), b"", 0)
 

@@ -17,7 +17,7 @@ from repository import ROOT
 
 PACKAGE = ROOT / "python" / "gen1"
 OLDEST = (3, 10)
-# The modules of pytest 7 that no Python has by itself; and the tests that the other Pythons run.
+# The modules of pytest 7 that aren't part of Python; and the tests that the other Pythons run.
 PYTEST = ("pytest", "_pytest", "pluggy", "iniconfig", "packaging", "attr", "attrs", "exceptiongroup", "tomli", "py")
 QUICK = [
     "tests/test_faults.py",

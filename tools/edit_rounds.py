@@ -91,7 +91,7 @@ def functions_in(folder, edit):
 
 
 def together(waiting):
-    """Of edits, each with its functions, those for one round: no two of the same function."""
+    """The edits for one round, out of edits with their functions: no two edit the same function."""
     taken, chosen = set(), {}
     for edit, functions in waiting.items():
         if not taken & functions:

@@ -32,7 +32,7 @@ class Config:
     formats: str = ""
     # SQLite waits for the disk at each commit. Otherwise a power failure may lose the last commits; a killed process loses none.
     durable: bool = True
-    # After so many seconds without a sign of life, other processes take the rooms of this one.
+    # After this many seconds without a sign of life, other processes take the rooms of this one.
     lease_seconds: float = 15.0
     # The seconds that a side has for a choice, and for all its choices together.
     choice_seconds: float = 90.0
@@ -43,7 +43,7 @@ class Config:
     grace_seconds: float = 30.0
     exact_hp: bool = False
     may_cancel: bool = False
-    # A pair is reported to the audience when so many more have ended.
+    # The audience gets a pair when this many more have ended.
     audience_delay: int = 0
     # Ratings and their history are kept apart for each season.
     season: str = "1"
@@ -54,7 +54,7 @@ class Config:
     # The account of the computer, which accepts each challenge. Empty: none.
     bot: str = "bot"
     bot_level: int = 1
-    # After so many seconds of a search the computer is the foe, in a rated battle; 0: never.
+    # After this many seconds of a search the computer is the foe, in a rated battle; 0: never.
     bot_seconds: float = 30.0
     # Origins that a browser's page may have, besides the server's own.
     origins: tuple[str, ...] = ()

@@ -30,11 +30,11 @@ from gen1_server.store import Store
 LOG = logging.getLogger("gen1_server")
 # The rest of an answer that has to wait.
 Rest: TypeAlias = Coroutine[Any, Any, None] | None
-# A client that has been slowed down for so many seconds without a pause is closed.
+# A client that has been slowed down for this many seconds without a pause is closed.
 PATIENCE = 10.0
 # What a message costs that has a finished battle played again.
 REPLAY = 20.0
-# While so many messages wait to be answered, no more are read.
+# While this many messages wait for a reply, no more are read.
 MOST_WAITING = 8
 _MIDDLE, _LONG, _CODE = Struct(">BBH").pack, Struct(">BBQ").pack, Struct(">H").pack
 # The codes of the end after messages of these kinds.

@@ -86,9 +86,9 @@ class View:
     `side` is None for the audience. `sent` is what the host sends it, and
     `logs` are the log bytes that it received for the start and each pair, of
     which the last is that of `sent`; do not keep the list, as it grows.
-    `sizes` are how many members the teams have. `team` is the own team as
-    JSON, and `due` when the own time runs out; both are empty for the
-    audience. `awaited` says whether the own choice is missing.
+    `sizes` are how many members the teams have. `team` is the side's team as
+    JSON, and `due` when its time runs out; both are empty for the audience.
+    `awaited` says whether its choice is missing.
     """
 
     room: int

@@ -6,7 +6,7 @@ from weakref import WeakValueDictionary
 
 # Full buckets of addresses are forgotten when there are more.
 MOST_ADDRESSES = 10_000
-# A wrong password or token counts as so many logins.
+# A wrong password or token counts as this many logins.
 FAILED = 50.0
 
 

@@ -15,7 +15,7 @@ from gen1_server.records import Waiting
 from gen1_server.rooms import Rooms, now
 from gen1_server.store import Store
 
-# The milliseconds in which other processes can tell an account of a challenge, and take an acceptance.
+# The milliseconds in which other processes can notify an account of a challenge, and take an acceptance.
 PATIENCE = 3000
 NOBODY, NONE = "there is no such player here now", "there is no such challenge"
 # How the code of a rematch begins.
@@ -175,7 +175,7 @@ class Lobby:
             watcher.challenged(it.name, it.format, "" if it.code.startswith(REMATCH) else it.code)
 
     def _waiting(self, seeker: Seeker, code: str, to: int | None, ends: int) -> Waiting:
-        """Somebody who waits, as the database has it."""
+        """An account that waits, as the database has it."""
         follows = int(seeker.watcher is not None and seeker.watcher.follows)
         columns = seeker.account, seeker.name, seeker.format, seeker.team, self._config.season, 0.0, now(), follows, 0
         return Waiting(self._rooms.process, *columns, code, to, ends)

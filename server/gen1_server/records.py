@@ -26,7 +26,7 @@ Key: TypeAlias = tuple[int, str, str]
 
 
 class Waiting(NamedTuple):
-    """Somebody of a process who waits for a foe: by a search, or with a `code`
+    """An account of a process that waits for a foe: by a search, or with a `code`
     by a challenge or its acceptance. Times are milliseconds.
 
     `follows` says whether the client can be led to another process, and `room`
@@ -77,7 +77,7 @@ def add_room(start: Start, owner: int, connection: Any) -> Start:
 
 
 def add_search(new: Waiting, connection: Any) -> bool:
-    """Adds somebody who waits, in place of an earlier search, with the rating.
+    """Adds an account that waits, in place of an earlier search, with the rating.
     Returns whether it did: an account has at most `MOST_CHALLENGES`.
     """
     if new.to is not None:
@@ -125,7 +125,7 @@ def pair(
     """Begins the battles of those of a process who fit somebody that waits.
     Returns them, with the codes of their challenges; those who have a battle
     at another process, with its address, or whose challenge has ended, with
-    None; and the challenges of which accounts are to be told.
+    None; and the challenges that accounts are to be notified of.
 
     `leads` says whether clients of other processes can be led here, and
     `online` who is here. What another process is pairing is passed over, so

@@ -46,7 +46,7 @@ class Request:
 
 
 class OpenRoom:
-    """A match, who sees it, and what waits. One row at a time is committed."""
+    """A match, its viewers, and the rows that wait. One row at a time is committed."""
 
     __slots__ = ("id", "start", "watchers", "waiting", "is_busy", "_match", "_stored", "_grace")
 

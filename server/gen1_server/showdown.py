@@ -184,7 +184,7 @@ class ShowdownConnection(Connection):
             self._search_again()
 
     def _names(self, view: View) -> tuple[str, str]:
-        """The names of the players; the own one as the client wrote it."""
+        """The names of the players; the client's as the client wrote it."""
         one, two = view.names
         if view.side is Side.ONE:
             return self._name, two

@@ -85,7 +85,7 @@ def engine_of(url: str, durable: bool = True) -> Any:
 def lock_of(url: str) -> IO[str] | None:
     """The lock of a SQLite file, which one process may have. Raises `InUse`.
 
-    Of two servers on one file, one that is stopped inside a transaction would
+    If two servers use one file, one that is stopped inside a transaction would
     stop the other.
     """
     if not url.startswith("sqlite"):

@@ -206,7 +206,7 @@ class Measured:
 
 
 def measured(servers, asked):
-    """What servers, as (address, process), do with so many rooms among them."""
+    """What servers, as (address, process), do with this many rooms among them."""
     count = asked.processes
     ready = multiprocessing.Barrier(count + 1)
     of_each = [(servers[it % len(servers)][0], asked.rooms // count, asked, ready) for it in range(count)]
@@ -228,7 +228,7 @@ def measured(servers, asked):
 
 
 def played(accounts, pairs):
-    """A match of so many pairs of random choices."""
+    """A match of a number of pairs of random choices."""
     while True:
         teams = [random_team(random.SystemRandom()) for _ in accounts]
         battle = Battle(*teams, secrets.token_bytes(10), format_named(FORMAT).rules, LIMIT)
@@ -245,7 +245,7 @@ def played(accounts, pairs):
 
 
 def fill(config, rooms, pairs, connection):
-    """Adds open rooms of so many pairs."""
+    """Adds open rooms, each with a number of pairs."""
     owner = records.begin_process(config.name, "", 0, connection)
     for number in range(rooms):
         names = [f"F{number}{it}" for it in "ab"]
@@ -299,7 +299,7 @@ class Figures:
         return sorted(times)[1]
 
     def waited(self, sockets):
-        """The memory of a server with so many sockets, in MB."""
+        """The memory of a server with a number of sockets, in MB."""
         with self.servers() as (it,), clients(idle, [(it.url, sockets // 2)] * 2) as results:
             there = results.get() + results.get()
             time.sleep(5)

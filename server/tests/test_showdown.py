@@ -104,7 +104,7 @@ class Bot:
         return all(state["lines"][-1] == "|deinit" for state in self.rooms.values())
 
     def believe(self, state, fields):
-        """Follows the own active member, and looks at the form of the foe's HP."""
+        """Follows the player's active member, and looks at the form of the foe's HP."""
         if fields[1] == "player" and fields[3] == self.name:
             state["side"] = fields[2]
         if len(fields) < 4 or not fields[2].startswith(("p1a", "p2a")):
@@ -123,7 +123,7 @@ class Bot:
             state["own"][1] = state["own"][1].split(" ")[0]
 
     def compare(self, state):
-        """The request says the same of the own active member as the lines."""
+        """The request says the same of the player's active member as the lines."""
         listed = state["request"]["side"]["pokemon"]
         assert [it["active"] for it in listed] == [True] + [False] * (len(listed) - 1)
         assert state["own"] == [listed[0]["ident"][4:], listed[0]["condition"]], state["lines"][-20:]
@@ -196,7 +196,7 @@ def test_ten_battles(address):
         assert words.index("request") < words.index("start")
         ratings = [line for line in state["lines"] if "'s rating: " in line]
         assert len(ratings) == (2 if room in list(one.rooms)[:RATED] else 0) and words[-1] == "deinit"
-        # Each side sees the same members, the own ones by HP and the foe's by hundredths.
+        # Each side sees the same members, its own by HP and the foe's by hundredths.
         for it in (state, two.rooms[room]):
             assert any(
                 line.endswith("a: Tauros|Tauros|" + ("353/353" if it is state else "100/100")) for line in it["lines"]

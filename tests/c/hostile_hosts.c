@@ -74,7 +74,7 @@ static gen1_host some_host(bool *is_valid) {
     return host;
 }
 
-/* The code that a row of one of the kinds is due at a lawful host that is not closed. */
+/* The expected code of a row of one of the kinds, at a lawful host that is not closed. */
 static uint8_t fault_at(const gen1_host *host, const gen1_row *row) {
     bool has_chosen = host->room.chosen[row->side - 1] != GEN1_DUE;
     if (row->kind == GEN1_ROW_CANCEL && host->may_cancel == 0)
@@ -114,7 +114,7 @@ static void submit(gen1_host *host, const gen1_row *row, uint8_t choice) {
     host->room = next;
 }
 
-/* What a row that is taken makes of a lawful host. */
+/* The expected host after a lawful one has taken a row. */
 static void take(gen1_host *host, const gen1_row *row) {
     uint8_t choices[9];
     switch (row->kind) {
@@ -278,7 +278,7 @@ static void try_host_result(void) {
 
 /* ---- from bytes ---- */
 
-/* Changes one field of a lawful host. Returns the code that it is due. */
+/* Changes one field of a lawful host. Returns the expected code. */
 static uint8_t damage(gen1_host *host) {
     uint8_t at = (uint8_t)draw(2);
     switch (draw(9)) {

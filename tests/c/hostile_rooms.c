@@ -98,7 +98,7 @@ static bool is_submission_code(uint8_t code) {
            code == GEN1_ERROR_CHOSEN || code == GEN1_ERROR_NOT_OFFERED;
 }
 
-/* What an accepted choice makes of a lawful room. */
+/* The expected room after a lawful one has accepted a choice. */
 static bool is_taken(const gen1_room *room, gen1_room from, uint8_t side, uint8_t choice) {
     from.chosen[side - 1] = choice;
     if (from.chosen[0] == GEN1_DUE || from.chosen[1] == GEN1_DUE)

@@ -79,7 +79,7 @@ static sight seen(const gen1_battle *battle, uint8_t side) {
     return it;
 }
 
-/* Which bits of a byte are hidden from a side. A sleep's count in the own status is, if it stays above 0. */
+/* Which bits of a byte are hidden from a side. The count of sleep in the side's own status is hidden, if it stays above 0. */
 
 static uint8_t hidden_of_member(int at, uint8_t byte) { return at == 23 ? 0xff : at == 14 && (byte & 7) != 0 ? 7 : 0; }
 

@@ -251,7 +251,7 @@ def calculations_are_those_of_the_library(browser):
 
 
 def the_best_move_is_first(browser):
-    """Of Tauros' moves Hyper Beam knocks Alakazam out most often, and Blizzard does the least damage."""
+    """Hyper Beam is the move of Tauros that knocks Alakazam out most often, and Blizzard does the least damage."""
     browser.open("#calculator")
     assert [row["move"] for row in browser.run(ROWS, 1)] == ["Hyper Beam", "Body Slam", "Earthquake", "Blizzard"]
     assert browser.text("#calc-line").startswith("Tauros Hyper Beam vs. Alakazam: ")

@@ -336,7 +336,7 @@ check("members in the calculator have the odds of their battle", () => {
         equal([hp, max, stats], [members[active.place - 1].hp, members[active.place - 1].maxHp, active.stats]);
         for (const [place, odds] of engine.oddsOf(battle, at === 0 ? 1 : 2).entries()) {
           const found = moves[place];
-          // What a condition that the calculator has not makes of a move, it doesn't know.
+          // The calculator ignores conditions that it doesn't have.
           if (odds.reason !== found.reason) continue;
           equal([found.damage, found.critical, found.bound, found.hit],
               [odds.damage, odds.critical, odds.bound, odds.hit]);

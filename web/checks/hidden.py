@@ -69,7 +69,7 @@ def member(species, moves, level):
 
 
 def planted(number):
-    """An input with a foe whose members, moves, levels and HP are known to nobody else."""
+    """An input with a foe whose members, moves, levels and HP no other check has."""
     draw = random.Random(number)
     foes, moves, levels = draw.sample(FOES, 3), draw.sample(FOE_MOVES, 6), draw.sample(range(61, 91), 3)
     two = [member(species, moves[2 * at : 2 * at + 2], levels[at]) for at, species in enumerate(foes)]
@@ -109,7 +109,7 @@ def exports(browser):
 def test_exports(browser, asked, lines):
     """The files and the link hold the log as it is reported to side 1, and nothing else."""
     (page, held, log), link = exports(browser)
-    # Of the page, only the battle that it holds differs from the page that everybody has.
+    # Only the battle that the page holds differs from the page that everybody has.
     battle = re.search(r'<script id="battle" type="application/json">(.*?)</script>', page.decode())[1]
     sizes = [len(asked[side]) for side in ("one", "two")]
     assert json.loads(battle) == json.loads(held) == {"log": log.hex(), "sizes": sizes}

@@ -570,7 +570,7 @@ def a_button_counts_hits_critical_hits_and_knock_outs(browser):
 
 
 def the_bar_shows_what_a_hit_takes(browser):
-    """Of Tauros' HP Body Slam takes 95 of 353 at least, and up to 17 more."""
+    """Body Slam takes at least 95 of Tauros' 353 HP, and up to 17 more."""
     begin(browser, "Tauros\n- Body Slam\n- Rest", "Tauros\n- Body Slam", is_open=True)
     bars = "return [...document.querySelectorAll('#play-field .far .bar > span')].map((it) => it.hidden ? 0 : parseFloat(it.style.width) / 100 * 353)"
     for move, wanted in ((17, [353, 95, 17]), (18, [353, 0, 0])):
@@ -644,7 +644,7 @@ def a_member_has_a_card(browser):
     assert not card() and browser.run("return document.activeElement.closest('.far .party') !== null")
     assert len(browser.words("#play-field .far .party .unknown")) == 1
     for selector in ("#play-choices-1 .to-switch", "#play-field .stand:not(.far) .party li:nth-child(2) button"):
-        # What is drawn anew under the pointer is entered once it moves again.
+        # An element that is redrawn under the pointer is entered once the pointer moves again.
         for _ in range(5):
             ActionChains(browser.driver).move_to_element(browser.find(selector)).perform()
             if card():

@@ -151,7 +151,7 @@ export class Calculator {
       const more = both.some(({carried}) => carried) ? both.map(carriedBytes) : [];
       this.code = encoded(joined(...both.map(standingBytes), [0], ...more));
       this.against.show(both[0]);
-      // What is said of the members holds until one of them is another.
+      // The text about the members holds until one of them changes.
       find("calc-from-text", HTMLElement).hidden = namesOf(both) !== this.came;
       setAddress("calculator", {c: this.code});
     } catch (error) {

@@ -1,4 +1,4 @@
-// The card of a member: of the own side its moves, PP and stats, of the foe what was seen of it.
+// The card of a member. For a member of the own side it has moves, PP and stats, for the foe's what was seen of it.
 import {TYPES} from "gen1";
 
 import {effectWords} from "./calculation.js";

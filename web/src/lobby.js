@@ -31,7 +31,7 @@ export class Lobby {
     this.ahead = 0;
     /** @type {Record<string, Format>} */
     this.formats = {};
-    /** @type {Map<string, HTMLElement>} what is said about searches and challenges, by the format of a search or the code of a challenge */
+    /** @type {Map<string, HTMLElement>} the lines about searches and challenges, by the format of a search or the code of a challenge */
     this.calls = new Map();
     /** @type {Map<string, { who: string, format: string, isOwn: boolean }>} the foes of open challenges, by their codes; empty for anybody */
     this.foes = new Map();

@@ -40,7 +40,7 @@ function speciesOptions({tables, gen1}) {
   return Object.entries(tables.species).map(([name, types]) => ({
     name,
     words: types,
-    // Of a line of evolution the last has the highest base stats.
+    // The last species of a line of evolution has the highest base stats.
     weight: baseSum(gen1.base(name)),
     shown: () => [make("span", {class: "facts"}, ...[...new Set(types)].map(badge))],
   }));

@@ -33,9 +33,9 @@ class Online {
     this.play = play;
     this.open = open;
     this.name = "";
-    /** @type {Map<number, RemoteMatch>} the battles that the server tells, by the number of the room */
+    /** @type {Map<number, RemoteMatch>} the battles that the server has sent, by the number of the room */
     this.matches = new Map();
-    /** The room that is to be shown as soon as the server tells it. */
+    /** The room that is to be shown as soon as the server sends it. */
     this.wanted = 0;
     /** Whether the next battle of the account is shown at once, since this page has asked for it. */
     this.isSeeking = false;
@@ -186,7 +186,7 @@ class Online {
     this.lobby.greet(/** @type {any} */ (message));
     const {shown} = this;
     const room = this.wanted || (shown?.isOver ? 0 : shown?.room);
-    // To an account the server tells its battles by itself.
+    // The server sends an account its battles without a request.
     if (room && !this.server.token) this.ask("join", {room});
   }
 

@@ -208,7 +208,7 @@ export class Play {
     this.wait("");
   }
 
-  /** Writes the log anew. */
+  /** Writes the log again. */
   retell() {
     const {game, teller} = this;
     const isInPixels = (/** @type {Side} */ side) => teller !== "all" && side !== teller;
@@ -235,7 +235,7 @@ export class Play {
   }
 
   /**
-   * Shows an earlier position of a battle in covered hands, or the form if there is none. A page that was loaded anew continues its battle.
+   * Shows an earlier position of a battle in covered hands, or the form if there is none. A page that was reloaded continues its battle.
    * @param {number} at how many updates it has
    */
   returnTo(at) {

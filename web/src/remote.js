@@ -1,4 +1,4 @@
-// A battle at a server: all that the server has told a side of it, or the audience.
+// A battle at a server: all that the server has sent to a side, or to the audience.
 import {decoded} from "./bytes.js";
 import {Match, SIDES} from "./match.js";
 
@@ -51,9 +51,9 @@ export class RemoteMatch extends Match {
             .map((side) => engine.gen1.player({side, team: /** @type {any} */ (team), foes: room.sizes[2 - side]}));
     /** The number of the current pair. */
     this.number = 0;
-    /** Whether the own choice is missing. */
+    /** Whether the side's choice is missing. */
     this.isAwaited = false;
-    /** When the own time runs out, by this computer's clock; 0 if it does not. */
+    /** When the side's time runs out, by this computer's clock; 0 if it does not. */
     this.due = 0;
     /** Why the battle ended early, and how the ratings have changed. */
     this.why = "";

@@ -11,7 +11,7 @@ function button(text, click, kind = "small") {
   return make("button", {type: "button", class: kind, click}, text);
 }
 
-/** What stands around the field. */
+/** The elements around the field. */
 export class Table {
   /** @param {Ask} ask @param {() => void} leave returns to the lobby */
   constructor(ask, leave) {
@@ -86,7 +86,7 @@ export class Table {
     this.drawStrip();
   }
 
-  /** Lines with buttons; they are drawn anew only if they change, so that the focus stays. */
+  /** Lines with buttons; they are redrawn only if they change, so that the focus stays. */
   drawStrip() {
     const lines = this.match ? this.lines(this.match) : [];
     const key = lines.map(([text]) => text).join("\n");

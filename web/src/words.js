@@ -33,7 +33,7 @@ export const OUTCOMES = {
 };
 
 /**
- * The sentence of the next event that a narrator tells, with the reason why a move fails, if that is known.
+ * The sentence of the next event by a narrator, with the reason why a move fails, if that is known.
  * @param {import("gen1").Narrator} narrator @param {GameEvent} event
  */
 export function told(narrator, {code, why}) {

@@ -1,4 +1,4 @@
-"""A table of those who wait for a foe, which 0003 makes anew. Nothing in it outlives the servers."""
+"""A table of those who wait for a foe, which 0003 creates again. Nothing in it outlives the servers."""
 
 revision = "0002"
 down_revision = "0001"
