@@ -12,7 +12,7 @@ use gen1_machine::{DamageSource, Side};
 /// Takes `amount` HP from the member of `side` that is out, or all HP that it has (docs/MECHANICS.md, "Landing",
 /// "Residual damage").
 ///
-/// If that takes any, it writes `Damage` with the health after it and the source. It needs one free place in
+/// If any HP are lost, it writes `Damage` with the health after it and the source. It needs one free place in
 /// `events`. Nothing else changes.
 #[inline(always)] // docs/SPEED.md, "Hints on inlining"
 pub fn lose_hp<S: EventSink>(
@@ -33,7 +33,7 @@ pub fn lose_hp<S: EventSink>(
     events.push_untested(Untested::Damage(seen(battle, side), source));
 }
 
-// Whether a loss of this many HP takes any.
+// Whether a loss of this many HP takes any HP.
 fn loses(battle: &Packed, side: Side, amount: u16) -> bool
     ensures stands { Reads battle.now result λ f.
         (nat_lt 0 amount && is_living (member_in side f)) }
@@ -51,7 +51,7 @@ fn hurt(battle: &mut Packed, side: Side, amount: u16)
 /// Gives `amount` HP to the member of `side` that is out, or as many as it lacks (docs/MECHANICS.md, "Recoil, drain
 /// and explosion", "Residual damage").
 ///
-/// If that gives any, it writes `Heal` with the health after it. It needs one free place in `events`. Nothing else
+/// If any HP are gained, it writes `Heal` with the health after it. It needs one free place in `events`. Nothing else
 /// changes.
 pub fn gain_hp<S: EventSink>(battle: &mut Packed, side: Side, amount: u16, events: &mut S)
     requires room { HasRoom S.room 1 events.old }
@@ -65,7 +65,7 @@ pub fn gain_hp<S: EventSink>(battle: &mut Packed, side: Side, amount: u16, event
     events.push_untested(Untested::Heal(seen(battle, side)));
 }
 
-// Whether a gain of this many HP gives any.
+// Whether a gain of this many HP gives any HP.
 fn gains(battle: &Packed, side: Side, amount: u16) -> bool
     ensures stands { Reads battle.now result λ f.
         (nat_lt 0 amount && nat_lt (member_in side f).hp (member_in side f).max) }

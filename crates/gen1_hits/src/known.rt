@@ -29,7 +29,7 @@ pub struct Known {
     pub hits_planned: Option<u8>,
     /// The accuracy byte of the hit test, if there was one (docs/MECHANICS.md, "Kept accuracy").
     pub accuracy_tested: Option<u8>,
-    /// Haze met the foe asleep or frozen, so the foe doesn't act this turn (docs/MECHANICS.md, "Early effects").
+    /// Haze found the foe asleep or frozen, so the foe doesn't act this turn (docs/MECHANICS.md, "Early effects").
     pub skips: bool,
 }
 

@@ -107,7 +107,7 @@ action_parts r s pick =
     gate_or_held s pick ▸ see_if_going_on s pick
     ▸ given (λ p. move_taken_in s pick p.field) (carry_out r s pick)
 
--- When an action ends, in whatever way, the accuracy of its hit test is kept while rage or thrashing is on
+-- However an action ends, the accuracy of its hit test is kept while rage or thrashing is on
 -- (docs/MECHANICS.md, "Kept accuracy").
 abbrev pub accuracy_after : Underway → Option ℕ → ℕ → ℕ
 accuracy_after u tested kept = if u.rage || is_some u.thrash then unwrap_or tested kept else 0

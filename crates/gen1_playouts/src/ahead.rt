@@ -42,7 +42,7 @@ fn hp_left(battle: &Packed, side: Side) -> u64
     sum
 }
 
-// The HP that the members of a side have while they are unhurt.
+// The sum of the maximum HP of a side's members.
 fn hp_unhurt(battle: &Packed, side: Side) -> u64
     ensures stands { (s : State) → Stands battle.now s → result ≡ hp_unhurt side s.field }
     ensures bound { result ≤ 393210 }

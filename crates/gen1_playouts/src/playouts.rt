@@ -1,4 +1,4 @@
-//! Battles played by random choices, to their end or a number of updates long (include/gen1.h, "many battles").
+//! Battles played by random choices, to their end or for a number of updates (include/gen1.h, "many battles").
 ghost use Rattle.std.specs.Prelude.{IfOk, IsOk, false, ◌+◌, ◌<◌, ◌≡◌};
 ghost use Rattle.gen1_machine.specs.State.{State, is_over};
 ghost use Rattle.gen1_layout.specs.Within.{Stands};

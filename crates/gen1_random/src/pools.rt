@@ -36,7 +36,7 @@ impl Pool {
         numbers
     }
 
-    // The number up to which numbers may be in the pool.
+    // The highest number that may be in the pool.
     fn last(self) -> u8
         ensures value { result ≡ last self }
         ensures bound { result ≤ 164 }

@@ -17,7 +17,7 @@ use gen1_tables::{MoveId, Species};
 /// How many sample teams there are.
 pub const SAMPLE_TEAMS: u8 = 12;
 
-/// From what the members of a random team are drawn.
+/// What the members of a random team are drawn from.
 #[derive(Clone, Copy, PartialEq, Eq, Debug, Drop)]
 pub enum DrawnFrom {
     /// The members of the sample teams.
@@ -128,7 +128,7 @@ fn four_moves(random: &mut ChoiceGenerator) -> [u8; 4]
     [first, second, third, fourth]
 }
 
-// A member with a species and moves. The rest is as that of a text which has none of it (docs/TEAM_TEXT.md).
+// A member with a species and moves. Its other values are those of a text that leaves them out (docs/TEAM_TEXT.md).
 fn member(species: u8, moves: &[u8; 4]) -> MemberSpec
     requires species { IsBetween 1 151 species }
     requires moves { All (IsBetween 1 164) moves.now }

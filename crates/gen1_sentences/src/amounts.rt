@@ -98,7 +98,7 @@ pub(crate) fn loss_text(told: Told, health: Health) -> ArrayString<31>
     text
 }
 
-// The HP that are left after a loss; nothing if they are none, or said already.
+// The HP that are left after a loss; nothing if none are left, or if the sentence has them already.
 pub(crate) fn left_text(told: Told, health: Health) -> ArrayString<27>
     ensures { result.bytes ≡ left_words told health }
 {

@@ -6,7 +6,7 @@ ghost use Rattle.gen1_sentences.specs.Narrators.{before, follows, meets, narrato
 
 use gen1_machine::{Event, Health, Side, Who};
 
-/// How a side is spoken of.
+/// How sentences refer to a side.
 #[derive(Clone, Copy, Debug, PartialEq, Eq, Drop)]
 pub enum Person {
     /// "Your Tauros", "You send out Tauros."

@@ -11,7 +11,7 @@ use std::fmt;
 pub enum MemberFault {
     /// No species of the first generation has the name.
     Species,
-    /// There is an item.
+    /// The member has an item.
     Item,
     /// It is the seventh member.
     SeventhMember,

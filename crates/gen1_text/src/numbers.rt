@@ -2,7 +2,7 @@
 ghost use Rattle.std.specs.Prelude.{◌≡◌};
 ghost use Rattle.gen1_text.specs.Words.{number_of};
 
-// The whole number that a text is, if it is at most `most`.
+// The whole number that a text represents, if it is at most `most`.
 pub(crate) fn number_in(text: &[u8], most: u8) -> Option<u8>
     ensures { result ≡ number_of most text.now }
 {

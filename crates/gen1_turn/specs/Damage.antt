@@ -41,7 +41,7 @@ cuts_in foe f = cuts (conditions_in foe f).substitute
 abbrev pub limit_in : Side → Field → ℕ
 limit_in foe f = limit_of (edge_in foe f) (cuts_in foe f)
 
--- A move of s hits, and the machine's r is the shown q but for another last damage, which does the same to the foe.
+-- A move of s hits, and the machine's r is the shown q except for its last damage, which does the same to the foe.
 pub record AlikeDamage (s : Side) (q r : Progress) : Type 0 where
   pub damage : ℕ
   pub changed : r ≡ set_last_damage damage q

@@ -64,7 +64,7 @@ fn action_parts<R: Rolls, S: EventSink>(
     carry_out(battle, side, pick, id, known, random, events)
 }
 
-// When an action ends, in whatever way, the accuracy of its hit test is kept while rage or thrashing is on
+// However an action ends, the accuracy of its hit test is kept while rage or thrashing is on
 // (docs/MECHANICS.md, "Kept accuracy").
 fn keep_accuracy(battle: &mut Packed, side: Side, tested: Option<u8>)
     ensures shown { (g : Frame) (p : Progress) (events : List Event) (stopped : Bool)

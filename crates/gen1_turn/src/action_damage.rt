@@ -36,8 +36,8 @@ fn way_of(effect: Effect) -> Way
     }
 }
 
-// Finds the damage of a move, and whether it hits. Returns whether a fault ended the battle. The last damage may be
-// another one than the machine's that does the same to the foe.
+// Finds the damage of a move, and whether it hits. Returns whether a fault ended the battle. The last damage may differ
+// from the machine's if both do the same to the foe.
 pub(crate) fn damage_of<R: Rolls>(
     battle: &mut Packed,
     side: Side,

@@ -3,7 +3,7 @@
 use gen1_rolls::{ByteTest, Look, Rolls};
 use std::marker::Model;
 
-/// A generator as a second type that draws the same.
+/// A second type for a generator, with the same draws.
 ///
 /// Code that is generic in its generator is compiled once for each type. Side 1's action draws from `.0`, and side
 /// 2's from this type, so the two are separate code. In each of them the side, and with it every address, is a

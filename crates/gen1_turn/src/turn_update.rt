@@ -53,7 +53,7 @@ pub fn turn<R: Rolls, S: EventSink>(
     left
 }
 
-// The end of an update after a turn. One that wasn't cut is not looked at again.
+// The end of an update after a turn. One that wasn't cut is not tested again.
 fn close_turn<S: EventSink>(battle: &mut Packed, cut: bool, actor: Side, events: &mut S)
     requires space { HasRoom S.room 3 events.old }
     ensures shown { DoesAnyway

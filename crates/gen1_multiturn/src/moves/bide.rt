@@ -52,7 +52,7 @@ pub fn bide<R: Rolls, S: EventSink>(
     energy
 }
 
-/// Goes on with the Bide of `side`, if it is on (docs/MECHANICS.md, "Going on").
+/// Continues the Bide of `side`, if it is on (docs/MECHANICS.md, "Going on").
 ///
 /// If it stores, the action ends, and `true` is returned. If it lets out its energy, `known` holds that, and whether
 /// it is a miss. It needs one free place in `events`. Nothing else changes.

@@ -13,8 +13,8 @@ use gen1_tables::Stat;
 /// Builds the Rage of the foe of `side` after damage landed on it (docs/MECHANICS.md, "Going on", "Stage shift").
 ///
 /// If the foe lives and its Rage is on, its Attack is shifted up by 1. `Boost` is written if the stage rises, for
-/// which it needs one free place in `events`. At +6 nothing happens, and a failure isn't reported. Nothing else
-/// changes but what a shift changes.
+/// which it needs one free place in `events`. At +6 nothing happens, and a failure isn't reported. Only what a shift
+/// changes is changed.
 pub fn rage<S: EventSink>(battle: &mut Packed, side: Side, events: &mut S)
     requires room { HasRoom S.room 1 events.old }
     ensures shown { Does (scene S.tells battle events) false

@@ -547,7 +547,7 @@ mod hp {
     /// Takes `amount` HP from the member of `side` that is out, or all HP that it has ([docs/MECHANICS.md, "Landing"](https://hibsuloy.example/gen1/blob/main/docs/MECHANICS.md#landing),
     /// "Residual damage").
     ///
-    /// If that takes any, it writes `Damage` with the health after it and the source. It needs one free place in
+    /// If any HP are lost, it writes `Damage` with the health after it and the source. It needs one free place in
     /// `events`. Nothing else changes.
     #[inline(always)] // docs/SPEED.md, "Hints on inlining"
     pub fn lose_hp<S: EventSink>(
@@ -564,7 +564,7 @@ mod hp {
         events.push_untested(Untested::Damage(seen(battle, side), source));
     }
 
-    // Whether a loss of this many HP takes any.
+    // Whether a loss of this many HP takes any HP.
     fn loses(battle: &Packed, side: Side, amount: u16) -> bool {
         0 < amount && 0 < battle.hp(side)
     }
@@ -577,7 +577,7 @@ mod hp {
     /// Gives `amount` HP to the member of `side` that is out, or as many as it lacks ([docs/MECHANICS.md](https://hibsuloy.example/gen1/blob/main/docs/MECHANICS.md), "Recoil, drain
     /// and explosion", "Residual damage").
     ///
-    /// If that gives any, it writes `Heal` with the health after it. It needs one free place in `events`. Nothing else
+    /// If any HP are gained, it writes `Heal` with the health after it. It needs one free place in `events`. Nothing else
     /// changes.
     pub fn gain_hp<S: EventSink>(battle: &mut Packed, side: Side, amount: u16, events: &mut S) {
         if !gains(battle, side, amount) {
@@ -587,7 +587,7 @@ mod hp {
         events.push_untested(Untested::Heal(seen(battle, side)));
     }
 
-    // Whether a gain of this many HP gives any.
+    // Whether a gain of this many HP gives any HP.
     fn gains(battle: &Packed, side: Side, amount: u16) -> bool {
         0 < amount && battle.hp(side) < battle.max_hp(side)
     }
@@ -655,7 +655,7 @@ mod known {
         pub hits_planned: Option<u8>,
         /// The accuracy byte of the hit test, if there was one ([docs/MECHANICS.md, "Kept accuracy"](https://hibsuloy.example/gen1/blob/main/docs/MECHANICS.md#kept-accuracy)).
         pub accuracy_tested: Option<u8>,
-        /// Haze met the foe asleep or frozen, so the foe doesn't act this turn ([docs/MECHANICS.md, "Early effects"](https://hibsuloy.example/gen1/blob/main/docs/MECHANICS.md#early-effects)).
+        /// Haze found the foe asleep or frozen, so the foe doesn't act this turn ([docs/MECHANICS.md, "Early effects"](https://hibsuloy.example/gen1/blob/main/docs/MECHANICS.md#early-effects)).
         pub skips: bool,
     }
 

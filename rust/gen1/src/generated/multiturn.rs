@@ -473,7 +473,7 @@ mod moves {
             energy
         }
 
-        /// Goes on with the Bide of `side`, if it is on ([docs/MECHANICS.md, "Going on"](https://hibsuloy.example/gen1/blob/main/docs/MECHANICS.md#going-on)).
+        /// Continues the Bide of `side`, if it is on ([docs/MECHANICS.md, "Going on"](https://hibsuloy.example/gen1/blob/main/docs/MECHANICS.md#going-on)).
         ///
         /// If it stores, the action ends, and `true` is returned. If it lets out its energy, `known` holds that, and whether
         /// it is a miss. It needs one free place in `events`. Nothing else changes.
@@ -874,8 +874,8 @@ mod moves {
         /// Builds the Rage of the foe of `side` after damage landed on it ([docs/MECHANICS.md, "Going on"](https://hibsuloy.example/gen1/blob/main/docs/MECHANICS.md#going-on), "Stage shift").
         ///
         /// If the foe lives and its Rage is on, its Attack is shifted up by 1. `Boost` is written if the stage rises, for
-        /// which it needs one free place in `events`. At +6 nothing happens, and a failure isn't reported. Nothing else
-        /// changes but what a shift changes.
+        /// which it needs one free place in `events`. At +6 nothing happens, and a failure isn't reported. Only what a shift
+        /// changes is changed.
         pub fn rage<S: EventSink>(battle: &mut Packed, side: Side, events: &mut S) {
             let foe = side.other();
             if battle.has_fallen(foe) {

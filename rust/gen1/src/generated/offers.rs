@@ -3,7 +3,7 @@
 //!
 //! - `offered_choices`: what each side may choose
 //! - `choice_test`: whether a choice is among these
-//! - `masks`: the same as a number of twelve binary digits, read straight from the bytes
+//! - `masks`: the choices as a number of twelve binary digits, read straight from the bytes
 //! - `bench`: [`Bench`], the members that may come out, kept for the masks of many updates
 //! - `mask_choices`: the choices of such a number: how many, and which is at a place
 //! - `laws`: what holds for all offered choices

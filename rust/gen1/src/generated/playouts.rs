@@ -40,7 +40,7 @@ mod ahead {
         sum
     }
 
-    // The HP that the members of a side have while they are unhurt.
+    // The sum of the maximum HP of a side's members.
     fn hp_unhurt(battle: &Packed, side: Side) -> u64 {
         let mut sum = 0;
         for before in 0..6 {
@@ -90,7 +90,7 @@ mod choice_generator {
 }
 
 mod playouts {
-    //! Battles played by random choices, to their end or a number of updates long (include/gen1.h, "many battles").
+    //! Battles played by random choices, to their end or for a number of updates (include/gen1.h, "many battles").
 
     use crate::generated::playouts::ahead::leader;
     use crate::generated::playouts::choice_generator::ChoiceGenerator;

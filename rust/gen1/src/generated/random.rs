@@ -37,7 +37,7 @@ mod pools {
             numbers
         }
 
-        // The number up to which numbers may be in the pool.
+        // The highest number that may be in the pool.
         fn last(self) -> u8 {
             match self {
                 Pool::Species => 151,
@@ -176,7 +176,7 @@ mod teams {
     /// How many sample teams there are.
     pub const SAMPLE_TEAMS: u8 = 12;
 
-    /// From what the members of a random team are drawn.
+    /// What the members of a random team are drawn from.
     #[derive(Clone, Copy, PartialEq, Eq, Debug)]
     pub enum DrawnFrom {
         /// The members of the sample teams.
@@ -260,7 +260,7 @@ mod teams {
         [first, second, third, fourth]
     }
 
-    // A member with a species and moves. The rest is as that of a text which has none of it (docs/TEAM_TEXT.md).
+    // A member with a species and moves. Its other values are those of a text that leaves them out (docs/TEAM_TEXT.md).
     fn member(species: u8, moves: &[u8; 4]) -> MemberSpec {
         MemberSpec {
             species: species_numbered(species),

@@ -447,7 +447,7 @@ mod fault {
     /// The field of a plain state that is wrong. The order is that of the tests.
     #[derive(Clone, Copy, Debug, PartialEq, Eq)]
     pub enum StateField {
-        /// No field alone.
+        /// No single field.
         Unnamed,
         Limit,
         Turn,

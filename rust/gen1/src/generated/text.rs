@@ -114,7 +114,7 @@ mod fault {
     pub enum MemberFault {
         /// No species of the first generation has the name.
         Species,
-        /// There is an item.
+        /// The member has an item.
         Item,
         /// It is the seventh member.
         SeventhMember,
@@ -468,7 +468,7 @@ mod member {
 mod numbers {
     //! Whole numbers in a text ([docs/TEAM_TEXT.md, "Export text"](https://hibsuloy.example/gen1/blob/main/docs/TEAM_TEXT.md#export-text), "Packed line").
 
-    // The whole number that a text is, if it is at most `most`.
+    // The whole number that a text represents, if it is at most `most`.
     pub(crate) fn number_in(text: &[u8], most: u8) -> Option<u8> {
         if text.is_empty() {
             return None;

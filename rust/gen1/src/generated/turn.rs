@@ -60,7 +60,7 @@ mod action {
         carry_out(battle, side, pick, id, known, random, events)
     }
 
-    // When an action ends, in whatever way, the accuracy of its hit test is kept while rage or thrashing is on
+    // However an action ends, the accuracy of its hit test is kept while rage or thrashing is on
     // (docs/MECHANICS.md, "Kept accuracy").
     fn keep_accuracy(battle: &mut Packed, side: Side, tested: Option<u8>) {
         if keeps_accuracy(battle, side) {
@@ -117,8 +117,8 @@ mod action_damage {
         }
     }
 
-    // Finds the damage of a move, and whether it hits. Returns whether a fault ended the battle. The last damage may be
-    // another one than the machine's that does the same to the foe.
+    // Finds the damage of a move, and whether it hits. Returns whether a fault ended the battle. The last damage may differ
+    // from the machine's if both do the same to the foe.
     pub(crate) fn damage_of<R: Rolls>(
         battle: &mut Packed,
         side: Side,
@@ -312,7 +312,7 @@ mod by_side {
 
     use crate::generated::rolls::{ByteTest, Look, Rolls};
 
-    /// A generator as a second type that draws the same.
+    /// A second type for a generator, with the same draws.
     ///
     /// Code that is generic in its generator is compiled once for each type. Side 1's action draws from `.0`, and side
     /// 2's from this type, so the two are separate code. In each of them the side, and with it every address, is a
@@ -900,7 +900,7 @@ mod turn_update {
         left
     }
 
-    // The end of an update after a turn. One that wasn't cut is not looked at again.
+    // The end of an update after a turn. One that wasn't cut is not tested again.
     fn close_turn<S: EventSink>(battle: &mut Packed, cut: bool, actor: Side, events: &mut S) {
         if cut {
             close(battle, actor, events);
