@@ -91,7 +91,7 @@ fn missing(results: &Results, battles: u64) -> Vec<Due> {
         .collect()
 }
 
-/// Reads the results of a file, and returns it to write at its end. A last line that was not written to its end is taken away.
+/// Reads the results of a file, and returns it to write at its end. An incomplete last line is removed.
 fn opened(path: &Path, league: &League, results: &mut Results) -> Result<(PathBuf, File), Fault> {
     let name = path.display().to_string();
     let mut options = OpenOptions::new();

@@ -105,7 +105,7 @@ fn report(host: &Host, foe: &mut Option<Searcher>) -> Result<(), Fault> {
     }
 }
 
-/// Submits a choice for the current pair. The battle draws on, so that a seed repeats the game.
+/// Submits a choice for the current pair. The battle keeps its numbers to draw, so that a seed repeats the game.
 fn submit(host: &mut Host, side: Side, choice: Choice) -> Result<(), Fault> {
     let reply = host.submit(side, host.number(), choice, None);
     reply.map_err(|why| Fault::search(&why.to_string()))?;

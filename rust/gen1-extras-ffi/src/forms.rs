@@ -63,7 +63,7 @@ impl ThinkForm {
         if self.count == 0 {
             return Ok(Prior::samples());
         }
-        // SAFETY: the caller says so.
+        // SAFETY: the caller guarantees it.
         let (teams, weights) = unsafe {
             (
                 core::slice::from_raw_parts(self.teams, self.count),

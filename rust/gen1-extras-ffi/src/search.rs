@@ -29,7 +29,7 @@ pub unsafe extern "C" fn gen1_search_think(
     text: *mut u8,
     room: usize,
 ) -> usize {
-    // SAFETY: the caller says so.
+    // SAFETY: the caller guarantees it.
     let prior = unsafe { options.prior() };
     let found = on_threads(options.threads, || {
         let player = Player::from_plain(*player).ok_or("the player is of no side")?;
@@ -37,7 +37,7 @@ pub unsafe extern "C" fn gen1_search_think(
         let thought = think(&player, &prior, &options.options()?);
         thought.map_err(|why| why.to_string())
     });
-    // SAFETY: the caller says so.
+    // SAFETY: the caller guarantees it.
     unsafe { put(&texts::thought(found), text, room) }
 }
 
@@ -64,7 +64,7 @@ pub unsafe extern "C" fn gen1_search_solve(
         let stopped = stopped.map_err(|why| why.to_string())?;
         texts::solved(&solver, &battle, stopped)
     });
-    // SAFETY: the caller says so.
+    // SAFETY: the caller guarantees it.
     unsafe { put(&texts::or_error(found), text, room) }
 }
 
@@ -94,7 +94,7 @@ pub unsafe extern "C" fn gen1_search_battle(
     text: *mut u8,
     room: usize,
 ) -> usize {
-    // SAFETY: the caller says so.
+    // SAFETY: the caller guarantees it.
     let names = unsafe { core::slice::from_raw_parts(names, length) };
     let played = || {
         let (league, bots) =
@@ -107,7 +107,7 @@ pub unsafe extern "C" fn gen1_search_battle(
             texts::quoted(league.line([one, two], number, score).trim_end())
         ))
     };
-    // SAFETY: the caller says so.
+    // SAFETY: the caller guarantees it.
     unsafe { put(&texts::or_error(played()), text, room) }
 }
 
@@ -127,7 +127,7 @@ pub unsafe extern "C" fn gen1_search_table(
     text: *mut u8,
     room: usize,
 ) -> usize {
-    // SAFETY: the caller says so.
+    // SAFETY: the caller guarantees it.
     let lines = unsafe { core::slice::from_raw_parts(lines, length) };
     let made = || {
         let lines = core::str::from_utf8(lines).map_err(|why| why.to_string())?;
@@ -140,7 +140,7 @@ pub unsafe extern "C" fn gen1_search_table(
         let table = results.table().replace('\n', "\\n");
         Ok(alloc::format!("{{\"table\":\"{table}\"}}"))
     };
-    // SAFETY: the caller says so.
+    // SAFETY: the caller guarantees it.
     unsafe { put(&texts::or_error(made()), text, room) }
 }
 
@@ -167,7 +167,7 @@ fn on_threads<T>(_: u32, search: impl FnOnce() -> Result<T, String>) -> Result<T
 /// `to` has `room` bytes.
 unsafe fn put(text: &str, to: *mut u8, room: usize) -> usize {
     if text.len() <= room {
-        // SAFETY: the caller says so.
+        // SAFETY: the caller guarantees it.
         unsafe { to.copy_from_nonoverlapping(text.as_ptr(), text.len()) };
     }
     text.len()

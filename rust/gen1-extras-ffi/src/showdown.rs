@@ -1,6 +1,6 @@
-//! Showdown's protocol as calls in JSON: an object that says what is asked, and an object that says what came of it.
+//! Showdown's protocol as calls in JSON: an object with the request, and an object with the result.
 //!
-//! Bytes are hexadecimal texts. Members are a list of objects, as `read_members` writes them. What lasts from call to call has a number.
+//! Bytes are hexadecimal texts. Members are a list of objects, as `read_members` writes them. An object that is kept between calls has a number.
 use gen1::{Battle, LogFault, MemberSpec, Message, Notice, Rules, Side, Team, TeamRefusal};
 use gen1_showdown::reading::Typed;
 use gen1_showdown::{
@@ -126,7 +126,7 @@ enum Ask {
         clock: bool,
         formats: Option<String>,
     },
-    /// A command for a simulator. WebAssembly has no clock and no chance, so there it has the time and 64 bits by chance, as two numbers.
+    /// A command for a simulator. WebAssembly has no clock and no random source, so there it has the time and 64 random bits, as two numbers.
     Take {
         of: u64,
         line: String,
@@ -146,7 +146,7 @@ enum Ask {
     },
 }
 
-/// What lasts from call to call.
+/// An object that is kept between calls.
 enum Object {
     Lines(Box<LineWriter>),
     Seat(Box<Seat>),
@@ -159,7 +159,7 @@ type Held = Arc<Mutex<Object>>;
 /// The objects by their numbers, and the next number.
 static OBJECTS: Mutex<(u64, BTreeMap<u64, Held>)> = Mutex::new((1, BTreeMap::new()));
 
-/// Why a call came to nothing, as an object.
+/// Why a call failed, as an object.
 struct Refused(Value);
 
 impl Refused {
@@ -200,7 +200,7 @@ pub unsafe extern "C" fn gen1_showdown_call(
     length: usize,
     written: &mut usize,
 ) -> *mut u8 {
-    // SAFETY: the caller says so.
+    // SAFETY: the caller guarantees it.
     let ask = unsafe { core::slice::from_raw_parts(ask, length) };
     let text = call(ask).into_bytes().into_boxed_slice();
     *written = text.len();
@@ -215,7 +215,7 @@ pub unsafe extern "C" fn gen1_showdown_call(
 #[unsafe(no_mangle)]
 pub unsafe extern "C" fn gen1_showdown_free(text: *mut u8, length: usize) {
     let text = core::ptr::slice_from_raw_parts_mut(text, length);
-    // SAFETY: the caller says so.
+    // SAFETY: the caller guarantees it.
     drop(unsafe { Box::from_raw(text) });
 }
 
@@ -634,7 +634,7 @@ fn viewer_of(word: &str) -> Result<Viewer, Refused> {
     }
 }
 
-/// The clock, and what is drawn by chance.
+/// The clock and the random source.
 #[cfg(not(target_family = "wasm"))]
 mod host {
     use std::time::{SystemTime, UNIX_EPOCH};
@@ -651,7 +651,7 @@ mod host {
     pub fn set(_: Option<u64>, _: Option<[u32; 2]>) {}
 }
 
-/// The clock, and what is drawn by chance, as the caller of the last `take` has them.
+/// The clock and the random bits, as the caller of the last `take` passed them.
 #[cfg(target_family = "wasm")]
 mod host {
     use std::sync::atomic::{AtomicU64, Ordering::Relaxed};

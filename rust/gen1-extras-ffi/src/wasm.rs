@@ -1,4 +1,4 @@
-//! What a module of WebAssembly needs without std: memory, and an end for what never happens.
+//! What a module of WebAssembly needs without std: memory, and an abort for what never happens.
 //!
 //! All memory of a search is given back at once, by `gen1_search_free`, which a page calls after it has read the result.
 use core::alloc::{GlobalAlloc, Layout};
