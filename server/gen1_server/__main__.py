@@ -69,7 +69,7 @@ def _check(config: Config) -> str:
 
 
 def _run(command: str, config: Config, file: Path | None) -> str:
-    """Does a command; returns what it says in the end."""
+    """Runs a command; returns what is printed at its end."""
     if command == "serve":
         _log()
         keeping.prepare(config)

@@ -96,7 +96,7 @@ LEAST = {"lease_seconds": 1, "message_bytes": 1024, "waiting_bytes": 16384, "hea
 
 
 def configured(file: Path | None, environment: Mapping[str, str] | None = None) -> Config:
-    """The options of a file, over which those of the environment stand.
+    """The options of a file, which those of the environment override.
 
     A variable is named GEN1_SERVER_ and the option in upper case. Raises
     `BadConfig`.

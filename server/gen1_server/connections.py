@@ -1,6 +1,6 @@
 """A socket of a client: what it may send, and what waits for it to read.
 
-aiohttp answers requests, and hands the connection of a websocket over: a
+aiohttp handles requests, and hands the connection of a websocket over: a
 protocol with its request and its tasks would take 20 kB for each socket.
 """
 
@@ -28,18 +28,18 @@ from gen1_server.rooms import Rooms
 from gen1_server.store import Store
 
 LOG = logging.getLogger("gen1_server")
-# The rest of an answer that has to wait.
+# The rest of a reply that has to wait.
 Rest: TypeAlias = Coroutine[Any, Any, None] | None
 # A client that has been slowed down for this many seconds without a pause is closed.
 PATIENCE = 10.0
-# What a message costs that has a finished battle played again.
+# The cost of a message for which a finished battle is played again.
 REPLAY = 20.0
 # While this many messages wait for a reply, no more are read.
 MOST_WAITING = 8
 _MIDDLE, _LONG, _CODE = Struct(">BBH").pack, Struct(">BBQ").pack, Struct(">H").pack
 # The codes of the end after messages of these kinds.
 ENDS = {WSMsgType.CLOSE: WSCloseCode.OK, WSMsgType.BINARY: WSCloseCode.UNSUPPORTED_DATA}
-# The first byte of a whole frame (RFC 6455): text, the end, a ping, and the answer to one.
+# The first byte of a whole frame (RFC 6455): text, the end, a ping, and the reply to one.
 TEXT, CLOSE, PING, PONG = 0x81, 0x88, 0x89, 0x8A
 _SWITCHED = (
     "HTTP/1.1 101 Switching Protocols\r\nUpgrade: websocket\r\nConnection: Upgrade\r\nSec-WebSocket-Accept: {}\r\n\r\n"
@@ -55,7 +55,7 @@ def frame(kind: int, payload: bytes) -> bytes:
 
 
 def handshake(request: web.Request) -> bytes:
-    """The answer to the request for a websocket. Raises `HTTPBadRequest`."""
+    """The response to the request for a websocket. Raises `HTTPBadRequest`."""
     headers = request.headers
     key = headers.get("Sec-WebSocket-Key", "")
     asks = headers.get("Upgrade", "").lower() == "websocket" and "upgrade" in headers.get("Connection", "").lower()
@@ -94,7 +94,7 @@ class Connection(Watcher, asyncio.Protocol):
         config = services.config
         self._bucket = Bucket(config.messages_per_second, config.messages_at_once)
         self._reader = WebSocketReader(self, config.message_bytes, compress=False)  # type: ignore[arg-type]
-        # The messages that wait, the task that answers them, and for how many seconds the client was slowed down without a pause.
+        # The messages that wait, the task that handles them, and for how many seconds the client was slowed down without a pause.
         self._waiting: deque[WSMessage] | None = None
         self._task: asyncio.Task[None] | None = None
         self._late, self._is_lost = 0.0, False
@@ -104,7 +104,7 @@ class Connection(Watcher, asyncio.Protocol):
         """Says what comes first."""
 
     def asked(self, text: str) -> Rest:
-        """Answers a message. Returns the rest of the answer if it has to wait.
+        """Handles a message. Returns the rest of the reply if it has to wait.
         Raises `Refused`.
         """
 
@@ -231,7 +231,7 @@ class Connection(Watcher, asyncio.Protocol):
         self.feed_data(WSMessage(WSMsgType.ERROR, code, None))
 
     def feed_data(self, message: WSMessage, _: int = 0) -> None:
-        """Answers a message, after those before it."""
+        """Handles a message, after those before it."""
         self._heard, self._pinged = True, False
         if self._closed or message.type is WSMsgType.PONG:
             return
@@ -240,13 +240,13 @@ class Connection(Watcher, asyncio.Protocol):
             if len(self._waiting) == MOST_WAITING:
                 self._transport.pause_reading()
         elif rest := self._accept(message):
-            # Few answers need a task.
+            # Few replies need a task.
             self._waiting = deque()
             self._task = asyncio.get_running_loop().create_task(self._finish(rest, self._waiting))
 
     def _accept(self, message: WSMessage) -> Rest:
-        """Counts a message, and answers it unless the client is too fast. Returns
-        the rest of the answer.
+        """Counts a message, and handles it unless the client is too fast. Returns
+        the rest of the reply.
         """
         self._count.inc()
         wait = self._bucket.take()
@@ -257,7 +257,7 @@ class Connection(Watcher, asyncio.Protocol):
         return self._answer_later(wait, message) if wait else self._answer(message)
 
     async def _answer_later(self, wait: float, message: WSMessage) -> None:
-        """Answers a message of a client that is too fast."""
+        """Handles a message of a client that is too fast."""
         # What is not read fills the client's buffers, and so slows it down.
         self._transport.pause_reading()
         await asyncio.sleep(wait)
@@ -265,7 +265,7 @@ class Connection(Watcher, asyncio.Protocol):
             await rest
 
     def _answer(self, message: WSMessage) -> Rest:
-        """Answers a message. Returns the rest of the answer."""
+        """Handles a message. Returns the rest of the reply."""
         if message.type is WSMsgType.TEXT:
             try:
                 return self.asked(message.data)

@@ -137,7 +137,7 @@ class Watcher:
         """Says that somebody challenges the account."""
 
     def failed(self, fault: Refused) -> None:
-        """Says that a challenge that was made, or its acceptance, came to nothing."""
+        """Says that a challenge that was made, or its acceptance, has failed."""
 
     def searches(self, formats: list[str]) -> None:
         """Says in which formats the account waits for a foe, after a change."""
@@ -166,8 +166,8 @@ class Match:
         self._tell()
 
     def after(self, entry: Entry) -> After:
-        """What an entry would make of the host. Raises `HostRefused` if the host
-        would refuse it.
+        """The host after an entry, if it were committed. Raises `HostRefused` if
+        the host would refuse it.
         """
         host = self.host.copy()
         ended = host.apply(entry.row)
@@ -180,9 +180,9 @@ class Match:
         return After(host, ended, (host.result.outcome, reason))
 
     def take(self, entry: Entry, after: After | None = None) -> bool:
-        """Applies an entry that is committed; `after` is what the match has said
-        of it. Returns whether it ended the pair. Raises `HostRefused` for one
-        that the host refuses; nothing has changed.
+        """Applies an entry that is committed; `after` is what the method `after`
+        returned for it. Returns whether it ended the pair. Raises `HostRefused`
+        for one that the host refuses; nothing has changed.
         """
         row = entry.row
         if after is None:

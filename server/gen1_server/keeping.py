@@ -15,7 +15,7 @@ from gen1_server.store import engine_of, first_line, lock_of
 from sqlalchemy.exc import DBAPIError
 
 DAY = 24 * 3600 * 1000
-# Of files with rows, which have both teams, seeds and the secrets of accounts.
+# The mode of files with rows, which have both teams, seeds and the secrets of accounts.
 PRIVATE = 0o600
 
 

@@ -197,8 +197,8 @@ class Lobby:
         return Seeker(self.computer.id, self.computer.name, format, text_of(computers_team(format)))
 
     def _start_of(self, one: Waiting, two: Waiting | None) -> Start | None:
-        """The battle of two who wait, rated without a challenge. Where there is no
-        second one, it is the computer, for a search that is old enough.
+        """The battle of two accounts that wait, rated without a challenge. Without
+        a second one, the foe of a search that is old enough is the computer.
         """
         seconds = self._config.bot_seconds if self.computer and not one.code else 0.0
         if two is None and (not seconds or now() - one.since < 1000 * seconds):

@@ -122,14 +122,14 @@ Led: TypeAlias = list[tuple[Waiting, str | None]]
 def pair(
     owner: int, leads: bool, online: Set[int], now: int, begin: Begin, connection: Any
 ) -> tuple[Begun, Led, list[Waiting]]:
-    """Begins the battles of those of a process who fit somebody that waits.
-    Returns them, with the codes of their challenges; those who have a battle
-    at another process, with its address, or whose challenge has ended, with
-    None; and the challenges that accounts are to be notified of.
+    """Begins the battles of a process's accounts that fit another one that
+    waits. Returns them, with the codes of their challenges; the accounts that
+    have a battle at another process, with its address, or whose challenge has
+    ended, with None; and the challenges that accounts are to be notified of.
 
     `leads` says whether clients of other processes can be led here, and
-    `online` who is here. What another process is pairing is passed over, so
-    that no process waits.
+    `online` which accounts are here. Accounts that another process is pairing
+    are skipped, so that no process waits.
     """
     begun, led, told, waiting = Begun(), Led(), list[Waiting](), list[Waiting]()
     for it, until in _looked_at(now, connection):

@@ -58,7 +58,7 @@ class OpenRoom:
         self.read(stored, grace)
 
     def read(self, stored: StoredRoom, grace: int) -> None:
-        """Sets what the match is made of once somebody needs it: a start opens a
+        """Sets what the match is made of when it is first needed: a start opens a
         thousand rooms, and each takes a millisecond. No time runs out before
         `grace`.
         """
@@ -67,7 +67,7 @@ class OpenRoom:
 
     @property
     def match(self) -> Match:
-        """The battle as it stands."""
+        """The battle as it is now."""
         if self._match is None:
             self._match = replayed(self.start, self._stored.entries)
             self._match.clock.not_before(self._grace)
@@ -308,7 +308,7 @@ class Rooms:
         self._tasks.add(task)
         task.add_done_callback(self._tasks.discard)
 
-    # ---- who sees them ----
+    # ---- viewers ----
 
     def arrive(self, account: int, watcher: Watcher) -> None:
         """Shows a connection the open rooms of its account, and from now on those

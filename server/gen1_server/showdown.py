@@ -26,7 +26,7 @@ from gen1_server.formats import FORMATS, format_named
 CLAUSES = Formats().clauses("gen1ou")[:2]
 MOST_LINES = 8
 PASSED_OVER = "avatar autojoin away back blockchallenges cmd crq ip noreply query status unblockchallenges".split()
-# What a refusal is in Showdown's words, in a room.
+# The text of a refusal in a room, as Showdown's server sends it.
 SAID = {
     "stale": "Sorry, too late to make a different move; the next turn has already started",
     "chosen": "There's nothing to choose",
@@ -70,7 +70,7 @@ class ShowdownConnection(Connection):
 
     async def asked(self, text: str) -> None:
         where, bar, said = text.partition("|")
-        # A refusal is said there.
+        # A refusal is reported there.
         self._where = where if bar and _number(where) is not None else ""
         if not bar:
             raise Refused("message", "a message is ROOM|TEXT")
