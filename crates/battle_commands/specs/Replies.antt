@@ -45,7 +45,7 @@ pub record IsReply (kind : ErrorKind) (out err : Sent) (status : ℕ) : Type 0 w
   pub asked : (kind ≡ DisplayHelp) ⊎ (kind ≡ DisplayVersion) → IsHelp out err status
   pub refused : kind ≢ DisplayHelp → kind ≢ DisplayVersion → IsRefusal out err status
 
--- the reply says this text: on standard output where help or the version is asked for, and else on standard error
+-- the reply is this text: on standard output where help or the version is asked for, and else on standard error
 pub record Says (text : List ℕ) (kind : ErrorKind) (out err : Sent) : Type 0 where
   pub asked : (kind ≡ DisplayHelp) ⊎ (kind ≡ DisplayVersion) → (result : Result (Unit {0}) DeviceFault) × Sends out.held out.holds out.failed out.fails text result
   pub refused : kind ≢ DisplayHelp → kind ≢ DisplayVersion → Tells err text

@@ -56,7 +56,7 @@ pub record IsUnheld (err : Sent) (status : ℕ) : Type 0 where
   pub status_is : status ≡ status_of Memory
   pub line : Tells err (error_line Memory)
 
--- one of both, by the name of the subcommand and what was found after it
+-- one of the two, by the name of the subcommand and what was found after it
 abbrev pub Ends : List ℕ × List Row → (Option (List ℕ) → Option (List ℕ)) → Sent → Sent → ℕ → Type 0
 Ends asked inputs out err status =
     ((matches : ArgMatches) × (rows_of (found_of matches) ≡ asked.1) × IsServed asked.0 matches inputs out err status) ⊎ IsUnheld err status

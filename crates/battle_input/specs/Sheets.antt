@@ -114,7 +114,7 @@ unless_absent key default f (Some d) = inside (Of key) (f d)
 abbrev pub rules_numbered : Data → Result Rules Misfit
 rules_numbered d = or_expected expectations.Rules (option_and_then (λ n. if nat_le n 3 then Some (rules_of_bits n) else None) (number_below 256 d))
 
--- none of both if it is absent
+-- neither if it is absent
 abbrev pub rules_of : Data → Result Rules Misfit
 rules_of d = unless_absent keys.Rules no_rules rules_numbered (get (name_of keys.Rules) d)
 

@@ -42,7 +42,7 @@ abbrev pub TellsAs : Answer → ArrayVec Event → ArrayVec Event → Type 0
 TellsAs (Refused why) old new = new ≡ old
 TellsAs (Accepted events) old new = new.items ≡ events
 
--- after a refused pair a sink is as it was; after an accepted one it has got the events, and nothing else
+-- after a refused pair a sink is as it was; after an accepted one it has received the events, and nothing else
 abbrev pub ToldAs : {S : Type 0} → (S → List Event → Type 0) → Answer → S → S → Type 0
 ToldAs tells (Refused why) old new = new ≡ old
 ToldAs tells (Accepted events) old new = tells new events

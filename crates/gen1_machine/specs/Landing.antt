@@ -32,6 +32,6 @@ land_by target damage None = land_on_hp target sources.Direct damage
 unfoldable pub land_damage : Side → ℕ → Phase
 land_damage target damage = given (λ p. (conditions target p).substitute) (land_by target damage)
 
--- The last damage lands. A damage of 0 changes nothing.
+-- The last damage lands. Damage of 0 changes nothing.
 unfoldable pub land : Side → Phase
 land target = when (λ p. nat_lt 0 (last_damage p)) (given last_damage (land_damage target))

@@ -154,8 +154,8 @@ IsShare (Search test found none) passes whole share =
     ((0 < count_of test) × IsDealt test (λ b. IsShare (found b) passes) whole share)
     ⊎ ((count_of test ≡ 0) × IsShare none passes whole share)
 
--- Shares are probabilities: of some whole there are shares; of each whole there is one; all fields together have the whole; shares of what
--- excludes each other add up; some bytes lead to what has a share above 0, on a stream of any span; and what a stream leads to has one.
+-- Shares are probabilities. Some whole has shares, and each whole at most one for a test. All fields together have the whole. Shares of
+-- fields that exclude each other add up. Some bytes lead to each share above 0, on a stream of any span, and a stream leads only to such.
 pub record AreProbabilities (t : Tree) : Type 0 where
   pub some : (whole : ℕ) × ((0 < whole) × ((passes : Field → Bool) → (n : ℕ) × IsShare t passes whole n))
   pub one : (passes : Field → Bool) (whole m n : ℕ) → IsShare t passes whole m → IsShare t passes whole n → m ≡ n

@@ -48,7 +48,7 @@ taken random numbers = slice_index_or numbers (index_of random numbers) 0
 abbrev pub others : ℕ → List ℕ → List ℕ
 others random numbers = remove numbers (index_of random numbers)
 
--- a member with a species and moves; the rest is as that of a text which has none of it (docs/TEAM_TEXT.md)
+-- a member with a species and moves; its other values are those of a text that leaves them out (docs/TEAM_TEXT.md)
 abbrev pub sheet_of : ℕ × List ℕ → Sheet
 sheet_of row = record {
   species = row.0;

@@ -22,7 +22,7 @@ abbrev pub won_by : Side → Outcome
 won_by One = WinOne
 won_by Two = WinTwo
 
--- how a room ends that this side has forfeited: the other side wins, and nothing is asked
+-- how a room that this side has forfeited ends: the other side wins, and nothing is asked
 abbrev pub lost_by : Side → BattleResult
 lost_by side = record { outcome = won_by (other side); request_one = requests.Pass; request_two = requests.Pass }
 
@@ -36,7 +36,7 @@ pub record Forfeited (r : PlainRoom) (c : Course) (side : Side) : Type 0 where
   pub two : choice_at r.two ≡ Some Pass
   pub told : r.forfeit ≡ side_number side
 
--- what a forfeit makes of a room, by whether its battle is over, and what it returns
+-- the room after a forfeit, by whether its battle is over, and what the forfeit returns
 abbrev pub ForfeitsAs : Bool → Course → Side → PlainRoom → Result BattleResult RoomRefusal → Type 0
 ForfeitsAs true c side new result = result ≡ Err Over
 ForfeitsAs false c side new result = (result ≡ Ok (lost_by side)) × Forfeited new c side

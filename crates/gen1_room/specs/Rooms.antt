@@ -40,7 +40,7 @@ pairs_left s =
     else (if is_replaced s.field.request_one s.field.request_two then 0 else 1) + (s.terms.limit - s.field.turn)
     + (length (on_bench One s.field) + length (on_bench Two s.field))
 
--- A number of pairs that leaves place for those to come. No battle accepts more than its turn limit, plus eleven.
+-- A number of pairs that leaves room for those to come. No battle accepts more than its turn limit, plus eleven.
 abbrev pub Counts : ℕ → State → Type 0
 Counts number s = number + pairs_left s ≤ s.terms.limit + 11
 

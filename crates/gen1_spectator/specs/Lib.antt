@@ -2,7 +2,7 @@
 pub mod Sides
 -- What a view does with log bytes.
 pub mod Following
--- What a view knows that has applied all events of a battle.
+-- The knowledge of a view that has applied all events of a battle.
 pub mod Watching
 -- A view as a plain struct.
 pub mod Plain

@@ -1,4 +1,4 @@
--- What a view knows that has applied all events of a battle from its start (docs/MECHANICS.md, "Spectator's view").
+-- The knowledge of a view that has applied all events of a battle from its start (docs/MECHANICS.md, "Spectator's view").
 use Rattle.std.specs.Prelude.{Err, List, Ok, [], ℕ, ◌++◌, ◌≡◌, ◌∷◌}
 use Rattle.std.specs.List.{flat_map}
 use Rattle.gen1_stats.specs.Members.{IsTeam, Member}

@@ -31,7 +31,7 @@ part_of most part =
     option_and_then (λ number. option_map (λ stat. (stat, number)) (stat_named (after_first (λ b. b == 32) part)))
     (number_of most (before_first (λ b. b == 32) part))
 
--- a spread after parts; of two parts about one stat the last counts
+-- a spread after parts; the last of two parts about one stat counts
 unfoldable pub with_parts : ℕ → Spread → List (List ℕ) → Option Spread
 with_parts most spread [] = Some spread
 with_parts most spread (part ∷ parts) =

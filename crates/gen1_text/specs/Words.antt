@@ -31,6 +31,6 @@ has_inside part (b ∷ line) = starts_with nat_eq (b ∷ line) part || has_insid
 abbrev pub is_number : ℕ → List ℕ → Bool
 is_number most text = nat_lt 0 (length text) && (list_all is_ascii_digit text && nat_le (digits_value 10 text) most)
 
--- the whole number that a text is, if it is at most `most`
+-- the whole number that a text represents, if it is at most `most`
 unfoldable pub number_of : ℕ → List ℕ → Option ℕ
 number_of most text = if is_number most text then Some (digits_value 10 text) else None

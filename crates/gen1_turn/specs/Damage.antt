@@ -22,7 +22,7 @@ way_of effects.SuperFang = ways.Fixed
 way_of effects.OneHitKnockOut = ways.KnockOut
 way_of _ = ways.Usual
 
--- The damage from which on a hit fells a foe, or breaks its Substitute.
+-- The least damage of a hit that fells a foe, or breaks its Substitute.
 abbrev pub edge_of : Option ℕ → ℕ → ℕ
 edge_of (Some left) hp = left + 1
 edge_of None hp = hp

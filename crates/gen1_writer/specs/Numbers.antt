@@ -12,7 +12,7 @@ ev exp = min 252 (root exp)
 abbrev pub ev_at : ℕ → Sheet → ℕ
 ev_at k s = ev (slice_index s.exp k)
 
--- the EVs of HP, Atk, Def, SpA, SpD and Spe; the Special has the same twice
+-- the EVs of HP, Atk, Def, SpA, SpD and Spe; the EV of Special is there twice
 abbrev pub evs_of : Sheet → List ℕ
 evs_of s = ev_at 0 s ∷ ev_at 1 s ∷ ev_at 2 s ∷ ev_at 4 s ∷ ev_at 4 s ∷ ev_at 3 s ∷ []
 

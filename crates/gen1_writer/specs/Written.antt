@@ -8,7 +8,7 @@ use Rattle.gen1_writer.specs.Numbers.{ev_at}
 use Rattle.gen1_writer.specs.declared.fault.WriteFault.{WriteFault}
 use Rattle.gen1_writer.specs.declared.fault.WriteFault.TheVariants.{PpUps, Team}
 
--- whether a move has other than three PP ups
+-- whether a move has a number of PP ups other than three
 abbrev pub has_other_ups : Sheet → Bool
 has_other_ups s = list_any (λ chosen. not (chosen.1 == 3)) s.moves
 
@@ -17,7 +17,7 @@ abbrev pub other_ups_from : ℕ → List Sheet → Option ℕ
 other_ups_from place [] = None
 other_ups_from place (s ∷ sheets) = if has_other_ups s then Some place else other_ups_from (place + 1) sheets
 
--- why members have no text: they are not a team, or a move has other than three PP ups
+-- why members have no text: they are not a team, or a move has a number of PP ups other than three
 abbrev pub write_refusal : List Sheet → Option WriteFault
 write_refusal sheets = option_or (option_map Team (team_refusal sheets)) (option_map PpUps (other_ups_from 1 sheets))
 
@@ -25,7 +25,7 @@ write_refusal sheets = option_or (option_map Team (team_refusal sheets)) (option
 abbrev pub exp_read : ℕ → Sheet → ℕ
 exp_read k s = ev_at k s * ev_at k s
 
--- a member as it is read from what was written of it: only the experience differs
+-- a member as it is read back after it was written: only the experience differs
 abbrev pub as_read : Sheet → Sheet
 as_read s = record s {
   dvs = dv 0 s ∷ dv 1 s ∷ dv 2 s ∷ dv 3 s ∷ [];

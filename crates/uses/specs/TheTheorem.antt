@@ -1,4 +1,4 @@
--- What the calls of a battle return, in the abstract machine's words (docs/PROVED.md).
+-- What the calls of a battle return, in the terms of the abstract machine (docs/PROVED.md).
 use Rattle.std.specs.Prelude.{Err, List, Ok, Result, [], map, ℕ, ◌≡◌, ◌∷◌}
 use Rattle.gen1_stats.specs.Members.{Member}
 use Rattle.gen1_machine.specs.declared.side.Side.TheVariants.{One, Two}

@@ -53,7 +53,7 @@ mod effect {
         CrashOnMiss,
         /// Costs the user a part of the damage.
         Recoil,
-        /// Goes on for some turns, then confuses the user.
+        /// Continues for some turns, then confuses the user.
         Thrash,
         /// Puts the foe to sleep.
         InflictSleep,
@@ -77,7 +77,7 @@ mod effect {
         InflictPoison,
         /// Paralyzes the foe.
         InflictParalysis,
-        /// Goes on until the user leaves. Its Attack rises with each hit that it takes.
+        /// Continues until the user leaves. The user's Attack rises with each hit that it takes.
         Rage,
         /// The effect of a move that no member may have.
         LeftOut,
