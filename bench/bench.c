@@ -178,7 +178,7 @@ static uint64_t replay(bool with_log) {
     return bytes;
 }
 
-/* Plays all battles by choices drawn on the way, as a random player does, and stores nothing. */
+/* Plays all battles by choices drawn during the battle, as a random player does, and stores nothing. */
 __attribute__((noinline)) static uint64_t replay_choosing(void) {
     uint64_t updates = 0;
     for (size_t number = 0; number < game_count; number++) {
@@ -209,7 +209,7 @@ COUNTING static uint8_t chosen_of_mask(const gen1_battle *battle, uint8_t side) 
     return (uint8_t)GEN1_CHOICE_AT(bit);
 }
 
-/* Plays all battles by choices drawn from masks on the way, and stores nothing. */
+/* Plays all battles by choices drawn from masks during the battle, and stores nothing. */
 COUNTING __attribute__((noinline)) static uint64_t replay_masked(void) {
     uint64_t updates = 0;
     for (size_t number = 0; number < game_count; number++) {

@@ -133,7 +133,7 @@ export class Seat implements Kept {
 export class Simulator implements Kept {
   private constructor();
   /**
-   * Handles a line: the messages, each with an empty line at its end, and why the command was passed over, or null. Throws ProtocolError, TeamError; the
+   * Handles a line: the messages, each with an empty line at its end, and why the command was ignored, or null. Throws ProtocolError, TeamError; the
    * simulator is then unchanged.
    */
   take(line: string): { text: string; note: string | null };

@@ -363,7 +363,7 @@ export class Simulator extends Kept {
     });
   }
 
-  /** Handles a line: the messages, and why the command was passed over, or null. */
+  /** Handles a line: the messages, and why the command was ignored, or null. */
   take(line) {
     const given = lineOf(typeof line === "string" ? line.replace(/[\r\n]+$/, "") : line, "line");
     const isStart = /^>(start|reseed)\b/.test(given);

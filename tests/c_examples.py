@@ -334,7 +334,7 @@ def of_room(folders):
 
 
 def of_player(_folders):
-    """The choices of its arguments, then the first offered one; other lines are passed over."""
+    """The choices of its arguments, then the first offered one; other lines are ignored."""
     yield Case(
         "asked thrice",
         ("18",),

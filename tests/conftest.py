@@ -93,7 +93,7 @@ class Checks:
 
 @pytest.fixture
 def checks():
-    """Many checks of one test: `checks.same(name, got, want)`. After the test has run, it fails if one of them has failed."""
+    """Many checks of one test: `checks.same(name, got, want)`. The test fails at its end if one of them has failed."""
     return Checks()
 
 

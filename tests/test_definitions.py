@@ -8,7 +8,7 @@
 The definitions are read from crates/*/specs, beginning with `step`, and turned into Python (tests/definitions); no code of the repository
 is run. Where a recorded battle has its updates, all of them are compared: refusal, result, offered choices, draws, log, all 384 bytes, and
 the view of a spectator. For a run of the program, the printed lines are compared, and which pair was refused and how. In both kinds the
-facts that the log makes public are compared with the state after each update. Lines that are not a battle are passed over.
+facts that the log makes public are compared with the state after each update. Lines that are not a battle are ignored.
 
 A branch of a definition is a clause, a case of an `elim`, a side of an `if`, or a result of the test of a choice between two courses. Each
 has to be entered by a worked example or a recorded update. A mutant changes one branch, constant, comparison or order of a definition. It

@@ -2,13 +2,13 @@
 
 A link has to lead to a file or folder of this repository, and one with `#anchor` to a heading of that document. A reference
 such as [LAYOUT.md](LAYOUT.md), "Loading", or LAYOUT, "Loading", has to name a heading. So has one in a comment of code, such as
-docs/LAYOUT.md, "Loading". Blocks of code in documents and links to the web are passed over.
+docs/LAYOUT.md, "Loading". Blocks of code in documents and links to the web are skipped.
 
 Names are those between backquotes. A path from the top, or from the document's folder, such as `tools/rules` or
 `crates/*/specs`, has to exist, and so have the options of a tool. A file of code that is named without its folder, such as
 `Words.antt`, has to be a file of the repository. A name that begins with gen1_ has to be a crate, or a word of include/gen1.h,
 of rust/, of a package of Python or of a file's name. Names that represent any name (CRATE, NAME), what is built (out/), and files that the document
-tells its reader to write (a comment `file: NAME`) are passed over.
+tells its reader to write (a comment `file: NAME`) are skipped.
 
 A name in the table of docs/DOORS.md has to be public in its language, and a dash has to lead to its reason.
 

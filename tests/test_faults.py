@@ -109,7 +109,7 @@ class Tool:
 
 
 def fault_of(ran, status, line, out, whole):
-    """Why a run is wrong; empty where it is right. Standard output must be `out`, or a prefix of it where it need not be whole."""
+    """Why a run is wrong; empty if it is right. Standard output must be `out`, or a prefix of it if it need not be whole."""
     if ran.status != status:
         return f"status {ran.status}, not {status}; standard error: {ran.err[-200:]!r}"
     if ran.err != line:

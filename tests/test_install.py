@@ -112,7 +112,7 @@ def test_static_library(it):
 
 
 def test_build_text(it, needs):
-    """gen1_build of both libraries returns the same. The text is added to a library without it, and is then not "plain"."""
+    """gen1_build returns one text in both libraries. It is added to a library that lacks it, and returns "unknown" there."""
     needs("objcopy")
     static = build_of(it.lib / "libgen1_c.a", it.work / "build_of")
     code = "import ctypes, sys; it = ctypes.CDLL(sys.argv[1]).gen1_build; it.restype = ctypes.c_char_p; print(it().decode())"

@@ -6,7 +6,7 @@
  *
  * For each battle it compares the return value of gen1_new and, after each update, the return value, log, 384 bytes, result, choices,
  * events, lines and a damage. A string is a battle's bytes with some of them changed, or random bytes. For each string it compares
- * loading it, the same calls on the bytes whether or not they load, and what the log reader makes of them. It prints the first
+ * loading it, the same calls on the bytes whether or not they load, and reading the bytes as a log. It prints the first
  * differences, and then one line of counts. Status: 0 no difference, 1 a difference, 2 a library could not be used.
  */
 #include <dlfcn.h>

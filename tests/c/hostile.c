@@ -5,9 +5,9 @@
  *     cc -I include -I tests/c tests/c/hostile*.c tests/c/lawful.c tests/c/guarded.c crates/gen1_c/out/libgen1_c.a -o hostile
  *     ./hostile CALLS SEED      CALLS of each function
  *
- * The expected code is computed here, by the header. A battle is a lawful one before, during or after play, or any 384 bytes. Of any
- * bytes the code is not checked, but no memory except the battle's may change, and none at all where the code is not 0. Status 0 where
- * every call returned what it has to, 1 where one did not, 2 where the arguments are wrong.
+ * The expected code is computed here, by the header. A battle is a lawful one before, during or after play, or any 384 bytes. For any
+ * bytes the code is not checked, but no memory except the battle's may change, and none at all if the code is not 0. Status 0 if every
+ * call returned what it has to, 1 if one did not, 2 if the arguments are wrong.
  */
 #include "lawful.h"
 

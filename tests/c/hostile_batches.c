@@ -39,7 +39,7 @@ static gen1_battle *some_battles(int number, size_t count, bool *are_valid) {
     return battles;
 }
 
-/* As many, or mostly as many. */
+/* This count, or sometimes another one. */
 static size_t near_count(size_t count) { return one_in(6) ? draw(MANY + 2) : count; }
 
 static void try_offered_many(void) {

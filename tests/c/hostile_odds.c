@@ -154,7 +154,7 @@ static void try_member_stats(void) {
     tell("gen1_member_stats", got == want && is_right, got, want);
 }
 
-/* The expected result of some moves by docs/MECHANICS.md, "Hit test"; of the others either result. */
+/* The expected result of some moves by docs/MECHANICS.md, "Hit test"; for the others either result. */
 static uint8_t due_test(uint8_t move, uint8_t got) {
     switch (move) {
     case GEN1_MOVE_BIDE:

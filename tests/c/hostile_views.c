@@ -208,7 +208,7 @@ static void try_choice_words(void) {
     tell_text("gen1_choice_words", got, due, text, length, room);
 }
 
-/* Words of an offered choice are this choice; of any bytes and any text only the codes are known. */
+/* Words of an offered choice are this choice; for any bytes and any text only the codes are known. */
 static void try_choice_from_words(void) {
     static const uint8_t fitting[] = {'1', '2', '6', ' ', 'p', 'A', 0};
     bool is_valid;

@@ -229,7 +229,7 @@ static gen1_row any_row(const gen1_host *host, uint8_t side) {
 /* The code of a row, at a copy of the host. */
 static uint8_t reply_to(gen1_host host, const gen1_row *row) { return gen1_host_apply(&host, row); }
 
-/* Whether a side is sent the same of two hosts; with side 0, the audience. */
+/* Whether two hosts send a side the same bytes; with side 0, the audience. */
 static bool sent_alike(const gen1_host *host, const gen1_host *other, uint8_t side) {
     gen1_message messages[2];
     gen1_notice notices[2];

@@ -13,7 +13,7 @@
 
 #define STRENGTH GEN1_CHOICE_MOVE(1)
 
-/* What the calls must leave alone is filled with this byte. */
+/* Memory that the calls must leave alone is filled with this byte. */
 enum { FILL = 170 };
 
 static const uint8_t seed[10] = {1, 36, 255, 7, 31, 100, 179, 254, 127, 10};

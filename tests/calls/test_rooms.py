@@ -19,7 +19,7 @@ def shown(side):
 
 
 def known(side):
-    """What a spectator knows of a side, in the form of `shown`."""
+    """A spectator's view of a side, in the form of `shown`."""
     members = [(it.hp, it.status) for it in side.members[: side.count]]
     return members, side.place, list(side.stages), [side.substitute, side.confused, side.light_screen, side.reflect]
 

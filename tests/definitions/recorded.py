@@ -50,7 +50,7 @@ def is_battle(line):
 
 
 def battles_in(places):
-    """All recorded battles of some files and folders; other lines are passed over. LookupError where there is none."""
+    """All recorded battles of some files and folders; other lines are ignored. Raises LookupError if there is none."""
     found = False
     for file in files_in(places):
         short = file.name.removesuffix(".xz").removesuffix(".jsonl")

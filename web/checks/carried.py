@@ -183,7 +183,7 @@ def what_is_hidden_does_not_come_into_the_calculator(browser):
 
 
 def a_replay_comes_into_the_calculator(browser):
-    """The HP are those of the field, also in the spectator's view, which has no stats and moves."""
+    """The HP are those of the field. So they are in the spectator's view, which has no stats or moves."""
     browser.open("#replay")
     browser.click("#replay-example")
     assert browser.run("return document.getElementById('replay-calculate').ariaDisabled") == "false"

@@ -24,7 +24,7 @@ const BEGINNING = ["move", "switch", "cant"];
 const NO_HIT = ["miss", "fail", "immune", "prepare"];
 /** The reasons for a failure that follow from what both sides see. */
 export const SEEN_REASONS = REASONS.slice(REASONS.indexOf("the foe is awake"));
-/** The chance to hit of a move with full accuracy, which is not said. */
+/** The chance to hit of a move with full accuracy, which is not shown. */
 const FULL = 255 / 256;
 
 /** @param {import("gen1").State} state @param {number} side */

@@ -27,7 +27,7 @@ export function keyOf(keys, choice, place) {
   const to = choice - SWITCH + 1;
   return keys[to < place ? to + 3 : to + 2];
 }
-/** The reason of the library that the page says in the words of the foe's status. */
+/** The library's reason in place of which the page names the foe's status. */
 const AILING = "the foe has a status";
 
 /**

@@ -67,7 +67,7 @@ export class Lobby {
   }
 
   /**
-   * The rules of a format. A server that does not say them has both clauses.
+   * The rules of a format. If the server does not say them, both clauses hold.
    * @param {string} format
    */
   rules(format) {

@@ -152,7 +152,7 @@ class Online {
       find("online-why", HTMLElement).textContent = "Enter a name to answer the challenge. A guest needs no password.";
   }
 
-  // ---- what the server says ----
+  // ---- messages of the server ----
 
   /** @param {Message} message */
   said(message) {

@@ -73,7 +73,7 @@ export class Server {
   }
 
   /**
-   * Goes on at another process.
+   * Continues at another process.
    * @param {string} address
    */
   move(address) {

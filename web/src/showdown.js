@@ -92,7 +92,7 @@ class LineReader {
   }
 
   /**
-   * The event of a line; null for a line that is none.
+   * The event of a line; null for a line without one.
    * @param {string} line
    * @returns {any}
    */

@@ -24,7 +24,7 @@ export class Table {
     /** @type {Set<number>} the rooms in which the foe, and the person, want a rematch */
     this.wanting = new Set();
     this.wanted = new Set();
-    /** What is said about the connection. */
+    /** The text about the connection. */
     this.text = "";
     this.title = document.title;
     this.left = make("span");
@@ -123,7 +123,7 @@ export class Table {
     return found;
   }
 
-  /** Shows the time that is left for the own choice. */
+  /** Shows the time that is left for the person's choice. */
   tick() {
     const {match, clock, left} = this;
     clock.hidden = !match?.due || !match.isAwaited || match.isOver;

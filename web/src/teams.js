@@ -129,7 +129,7 @@ export class Teams {
     return name();
   }
 
-  /** Deletes a team of the person's own. */
+  /** Deletes one of the person's teams. */
   remove() {
     const at = this.saved.indexOf(this.team);
     if (at < 0) throw new Problem("A sample team stays; only your own teams can be deleted.");
@@ -201,7 +201,7 @@ export class Teams {
     }
   }
 
-  /** Undoes what a field has changed on the way to a wrong value: 10 on the way to 101. */
+  /** Undoes the changes of a field before it got a wrong value, such as 10 before 101. */
   restore() {
     const {before} = this;
     if (before && JSON.stringify(before) !== JSON.stringify(this.team.members[this.at]))

@@ -451,7 +451,7 @@ def test_playouts_by_weights():
 
 
 def test_weights_that_are_all_alike(battle):
-    """Weights of 1, and of 0 alone, change nothing, also not by their own numbers. Weights of 0 are never chosen."""
+    """Weights of 1, and of 0 alone, change nothing. Weights of 0 are never chosen."""
     plain, raw = battle.playout(9, 500), PlayoutsStruct()
     for weights in (
         {},

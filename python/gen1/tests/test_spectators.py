@@ -26,7 +26,7 @@ OUT = bytes([2, 1, 128, 1, 100, 97, 1, 97, 1, 0, 2, 2, 128, 1, 100, 97, 1, 97, 1
 
 
 def begun(*more):
-    """A spectator of both first members coming out, and then of these events."""
+    """A spectator that has seen both first members come out, and then these events."""
     made = Spectator(TEAM, TEAM)
     made.feed(OUT + b"".join(map(bytes, more)))
     return made.state

@@ -268,7 +268,7 @@ def test_texts_that_are_no_team():
 
 
 def test_teams_to_text_and_back():
-    """The stats, moves and PP are the same: so the battles of both teams are, byte for byte."""
+    """The stats, moves and PP are the same. So both teams have the same battles, byte for byte."""
     dice = random.Random(5)
     for _ in range(300):
         team = random_team(dice)

@@ -15,7 +15,7 @@ import sys
 
 STATS = ["atk", "def", "spa", "spd", "spe", "accuracy", "evasion"]
 STATUS = {"slp", "psn", "tox", "brn", "frz", "par"}
-# Words that poke-env passes over, of those that the first generation has.
+# Words of the first generation that poke-env ignores.
 IGNORED = set(
     """-crit -fail -hint -hitcount -miss -notarget -nothing -ohko -resisted -supereffective askreg chat c c: debug gametype inactive
     inactiveoff init j join l leave n rated start t: title upkeep""".split()

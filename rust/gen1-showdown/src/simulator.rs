@@ -25,7 +25,7 @@ pub struct Options {
 pub struct Reply {
     /// The messages, each with an empty line at its end; often none.
     pub text: String,
-    /// Why the command was passed over.
+    /// Why the command was ignored.
     pub note: Option<String>,
 }
 
@@ -88,7 +88,7 @@ impl Simulator {
         }
     }
 
-    /// Handles a line. One that does not begin with `>` is passed over, and so is an unknown command, with a note.
+    /// Handles a line. One that does not begin with `>` is ignored, and so is an unknown command, with a note.
     ///
     /// # Errors
     ///

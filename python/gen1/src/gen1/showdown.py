@@ -523,7 +523,7 @@ def agree(battle: str, commitments: Sequence[ReadableBuffer], secrets: Sequence[
 @dataclass(frozen=True)
 class Reply:
     """What a simulator returns for a line: messages, each with an empty line
-    at its end, and why the command was passed over, or None.
+    at its end, and why the command was ignored, or None.
     """
 
     text: str
@@ -551,7 +551,7 @@ class Simulator(_Kept):
         super().__init__("new_simulator", hp=shown_as, clock=truth(clock, "clock"), formats=text)
 
     def take(self, line: str) -> Reply:
-        """Handles a line. One that does not begin with `>` is passed over, and
+        """Handles a line. One that does not begin with `>` is ignored, and
         so is an unknown command, with a note.
 
         Raises `ProtocolFault` for a known command that is incomplete or
