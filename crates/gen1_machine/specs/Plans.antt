@@ -34,8 +34,8 @@ HoldsPlan Any moves a = Unit {0}
 HoldsPlan (Plans used e) moves a = IsUsedMove (length moves) used × (effect_of used moves ≡ e) × IsUnderway effects.DamageOnly a.conditions.underway
 HoldsPlan (Doing e) moves a = effect_of a.current_move moves ≡ e
 
--- A valid field inside an update for which each side's plan holds. What is known of the action is valid too, and so are the
--- draws.
+-- A valid field inside an update for which each side's plan holds. The record of the action and the stream of draws are
+-- valid too.
 pub record IsPlanned (terms : Terms) (plan : Side → Plan) (f : Field) (a : Action) (w : Stream) : Type 0 where
   pub field : IsField terms f
   pub tested : IsCount 0 255 a.accuracy_tested
