@@ -111,7 +111,7 @@ def of_text(_folders):
 
 
 def of_known(_folders):
-    """What was shown: HP in 48ths, the members that appeared in their order, a move, and a screen (docs/MECHANICS.md, "Player's view")."""
+    """Shown fields: HP in 48ths, the members that appeared in their order, a move, and a screen (docs/MECHANICS.md, "Player's view")."""
     said = "turn 1\n1 Chansey (out), 48 of 48 HP\nturn 3\n1 Chansey, 48 of 48 HP\n2 Alakazam (out), 48 of 48 HP, Reflect 1, Reflect is up\n"
     yield Case("status", (), b"", said.encode(), b"")
 
@@ -281,7 +281,7 @@ def of_bot(_folders):
 
 
 def choices_of(asked, side):
-    """The recorded choices of a side, where it was asked: Pass is only for a side of which nothing is asked."""
+    """The recorded choices of a side, where it was asked: Pass is only for a side that is asked nothing."""
     return [pair[side] for pair in asked["choices"][1:] if pair[side] != 0]
 
 

@@ -24,7 +24,7 @@ SANITIZED = ("-g", "-O1", "-fsanitize=address,undefined", "-fno-sanitize-recover
 # How often each function is called with arguments out of their ranges, by each compiler's program; together more than 20,000.
 HOSTILE_CALLS = 3000
 HOSTILE = tuple(sorted(map(str, (ROOT / "tests" / "c").glob("hostile*.c")))) + ("tests/c/lawful.c", "tests/c/guarded.c")
-# A library that is wrong on purpose, which the calls must detect.
+# A deliberately wrong library, which the calls must detect.
 WRONG = "tests/c/wrong.c"
 WRONG_TEXT = (ROOT / WRONG).read_text()
 COMPILERS = pytest.mark.parametrize("compiler", ["gcc", "clang"])
@@ -134,7 +134,7 @@ def hostile_objects(work):
 
 @pytest.mark.parametrize("number", range(0, 1 + max(map(int, re.findall(r"WRONG == (\d+)", WRONG_TEXT)))))
 def test_wrong_library(number, hostile_objects, archive, work):
-    """The calls detect each library that is wrong on purpose, and find nothing in number 0, which is right."""
+    """The calls detect each deliberately wrong library, and find nothing in number 0, which is right."""
     program = work / f"wrong_{number}"
     wrapped = [f"-Wl,--wrap={name}" for name in re.findall(r"__wrap_(\w+)\(", WRONG_TEXT)]
     words = ["cc", f"-DWRONG={number}", "-std=c11", "-I", "include", "-I", "tests/c", WRONG, *hostile_objects, archive]

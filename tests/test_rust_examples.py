@@ -102,7 +102,7 @@ def test_referee_on_a_long_file(rows, tmp_path, checks):
 
 
 def one_wrong(number, rows, dice, file, checks):
-    """Three battles, of which the second is wrong at one pair in one key."""
+    """Three battles. The second is wrong at one pair in one key."""
     rows = [rows[0], copy.deepcopy(rows[1]), rows[2]]
     updates = rows[1]["updates"]
     taken = [at for at, it in enumerate(updates) if it["refused"] is None]

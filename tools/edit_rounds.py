@@ -40,7 +40,7 @@ LIMIT = re.compile(r"rattle: no verdict.*")
 
 
 class Tried(NamedTuple):
-    """What came of an edit: 'refused', 'PROVED' or 'NOT APPLIED', and what the prover said of it."""
+    """The result of an edit: 'refused', 'PROVED' or 'NOT APPLIED', and what the prover said of it."""
 
     edit: Edit
     word: str

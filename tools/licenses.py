@@ -107,7 +107,7 @@ def rows(artifact):
 
 
 def text_of(folder):
-    """The license text in the folder of a crate of others; None where there is none."""
+    """The license text in the folder of a third-party crate; None if it has none."""
     if not folder or folder.is_relative_to(ROOT):
         return None
     return next(((folder / name).read_text().strip() for name in TEXTS if (folder / name).is_file()), None)

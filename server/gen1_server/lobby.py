@@ -89,7 +89,7 @@ class Lobby:
         self._told(account.id)
 
     async def challenge(self, to: str, seeker: Seeker) -> str:
-        """Challenges an account, or with an empty name anyone who has the code,
+        """Challenges an account, or with an empty name anyone with the code,
         which is returned. The computer accepts at once. Raises `Refused`.
         """
         self._rooms.room_for(seeker.account)
@@ -159,7 +159,7 @@ class Lobby:
             self._store.run(partial(records.forget, keys, self._rooms.process))
 
     async def _challenge(self, seeker: Seeker, code: str, to: int) -> None:
-        """Challenges an account, or with 0 anyone who has the code. Raises `Refused`."""
+        """Challenges an account, or with 0 anyone with the code. Raises `Refused`."""
         is_here = to in self._rooms.online
         # Where another process has the account, it says so by removing the end.
         ends = now() + PATIENCE if to and not is_here and self._config.address else 0

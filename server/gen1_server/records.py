@@ -31,7 +31,7 @@ class Waiting(NamedTuple):
 
     `follows` says whether the client can be led to another process, and `room`
     is the battle that another process has begun, or 0. `to` is the account
-    that is challenged, or 0 for anyone who has the code; None for others. `ends`
+    that is challenged, or 0 for anyone with the code; None for others. `ends`
     is when an acceptance ends, or a challenge that wasn't shown to the account;
     0: never.
     """

@@ -116,7 +116,7 @@ class Process:
 
 
 class Client:
-    """A connection of protocol 1. `heard` and `said` have all messages."""
+    """A connection of protocol 1. `heard` and `said` have the received and the sent messages."""
 
     def __init__(self, session, url):
         self.session, self.url, self.socket, self.heard, self.said = session, url, None, [], []

@@ -285,7 +285,7 @@ class Figures:
             return measured([(it.url, it.child.pid) for it in made], Asked(*asked))
 
     def started(self):
-        """The seconds in which a server starts that has 1,000 rooms of 50 pairs: all, and of its processor. The median of three."""
+        """The seconds that a server with 1,000 rooms of 50 pairs takes to start: all, and of its processor. The median of three."""
         database = self.database()
         config, times = Config(database=database), []
         keeping.prepare(config)

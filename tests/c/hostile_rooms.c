@@ -12,7 +12,7 @@ static uint8_t request_of(uint8_t result, uint8_t side) {
     return side == GEN1_ONE ? GEN1_RESULT_REQUEST_ONE(result) : GEN1_RESULT_REQUEST_TWO(result);
 }
 
-/* A room before a pair of choices: a side of which nothing is asked has its Pass. */
+/* A room before a pair of choices: a side that is asked nothing has its Pass. */
 static bool is_fresh(const gen1_room *room, uint32_t number) {
     uint8_t result = gen1_result(&room->battle);
     bool is_right = room->number == number;

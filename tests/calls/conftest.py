@@ -1,4 +1,4 @@
-"""What the tests of this folder share: the C library in this process, the examples that call it, and the recorded updates."""
+"""Fixtures that the tests of this folder share: the C library in this process, the examples that call it, and the recorded updates."""
 
 import subprocess
 import sys

@@ -355,7 +355,7 @@ class Compiler:
         return f"(enter({self.branches.case(scope.definition, whole, number, term)}) or {text})"
 
     def applied(self, head, arguments, scope):
-        """A function applied to arguments, of which there may be none."""
+        """A function applied to zero or more arguments."""
         if not isinstance(head, Name):
             return self.applied_term(head, arguments, scope)
         if head.word in scope.names:

@@ -114,7 +114,7 @@ def battles_against_the_computer_go_on(browser):
         assert "Turn" in browser.text("#play-now") and not browser.notice()
 
 
-# A worker that notes when each question was asked and answered, and the longest time in which the page did nothing else.
+# A worker that notes when each request came and its reply went, and the longest time in which the page did nothing else.
 WATCHED = """
 const Own = Worker, asked = {};
 [window.took, window.gap] = [[], 0];

@@ -52,7 +52,7 @@ def stats(browser):
 
 
 def wanted_words(effect):
-    """What is said of an effect with numbers, by docs/TABLES.md, "Effects"; None for others."""
+    """The text for an effect with numbers, by docs/TABLES.md, "Effects"; None for others."""
     if found := re.fullmatch(r"(\w+)Chance\((\d+)\)", effect):
         verb = {"Burn": "burns", "Paralysis": "paralyses", "Poison": "poisons", "Flinch": "flinches"}
         return f"{verb.get(found[1], 'confuses')} at {100 * int(found[2]) / 256:.1f}%"
@@ -313,7 +313,7 @@ def rules_are_checked(browser):
 
 
 def a_team_is_picked_for_a_battle(browser):
-    """From the person's and the sample teams; a team of the computer may be drawn; a text is none of the list."""
+    """A team is from the person's and the sample teams. A team of the computer may be drawn. A text isn't in the list."""
     fresh(browser)
     read(browser, TAUROS)
     browser.fill("#teams-name", "Mine")
@@ -329,7 +329,7 @@ def a_team_is_picked_for_a_battle(browser):
         browser.fill("#play-pick-2", browser.run(value, title))
         assert browser.run("return document.getElementById('play-team-2').value").strip() == text.strip()
         assert browser.words("#play-picked-2 li > span:last-child") == re.findall(r"^([A-Z][^\n]*)\n(?=- )", text, re.M)
-    # The side of a person has no drawn team, and an unknown text is that of nobody.
+    # The side of a person has no drawn team, and an unknown text belongs to no team.
     browser.fill("#play-who-2", "person")
     assert listed(2) == listed(1)
     browser.fill("#play-team-2", "Tauros\n- Surf")

@@ -1,4 +1,4 @@
-"""What bots believe of a battle: two players and a spectator read the simulator's messages (showdown_bot.py), beside the true battle."""
+"""The views that bots have of a battle: two players and a spectator read the simulator's messages (showdown_bot.py), beside the true battle."""
 
 import json
 import os
@@ -127,7 +127,7 @@ class Game:
         return [id_of(it.label) for it in state.members[state.active.place - 1].moves]
 
     def compare(self, client):
-        """What a client believes of both sides is so."""
+        """A client's view of both sides is that of the true battle."""
         state = self.battle.state
         for side in (1, 2):
             names, active, out = self.teams[side - 1].names, state.side(side).active, client.out(f"p{side}")

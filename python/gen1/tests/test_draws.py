@@ -15,7 +15,7 @@ if RECORDED.is_dir():
 @recorded_only
 @pytest.mark.parametrize("name", ["traces", "corners"])
 def test_the_number_of_draws(name):
-    """As many draws as were recorded, and the generator continues from there."""
+    """An update makes as many draws as were recorded, and the generator continues from there."""
     for trace in traces(recorded(f"{name}.jsonl")):
         asked = trace["object"]
         battle = Battle(asked["one"], asked["two"], asked["seed"], asked.get("rules", 0), asked.get("limit", 1000))

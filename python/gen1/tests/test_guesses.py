@@ -71,7 +71,7 @@ def test_conditions_that_were_announced(player):
 
 
 def test_random_battles():
-    """With the true team in the order of appearance the copy shows the side the same, offers it the same, and can be played on."""
+    """A guess of the true team, in the order of appearance: the copy shows and offers the side what the battle does, and can be played."""
     dice, count = random.Random(31), 0
     for _ in range(20):
         teams = random_team(dice), random_team(dice)
@@ -96,7 +96,7 @@ def test_random_battles():
 
 
 def agrees(copy, battle, side, places):
-    """What the side knows of both battles is the same."""
+    """The side has the same knowledge of both battles."""
     state, true = copy.state, battle.state
     assert (
         copy.choices(side) == battle.choices(side)

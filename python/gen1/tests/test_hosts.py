@@ -469,7 +469,7 @@ def refused_json(kinds, values, dice):
 
 
 def test_a_lost_player_is_that_of_all_messages():
-    """What a side that comes back needs: its stored messages, from the first on."""
+    """A side that comes back needs its stored messages, from the first on."""
     for seed in range(10):
         dice = random.Random(seed)
         team, foes = random_team(dice), random_team(dice)

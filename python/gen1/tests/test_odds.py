@@ -494,7 +494,7 @@ def test_playouts_in_slices(battle):
 
 
 def test_playouts_can_be_interrupted():
-    """As by control C, long before 2 ** 32 - 1 are played. In the background of a shell a process ignores it, unless it says otherwise."""
+    """A call is interrupted, as by control C, long before 2 ** 32 - 1 are played. By default a shell's background process ignores that."""
     script = (
         "import signal; signal.signal(signal.SIGINT, signal.default_int_handler)\n"
         "import _thread, threading; from gen1 import *; t = Member('Tauros', ['Body Slam']); b = Battle([t], [t], range(10))\n"

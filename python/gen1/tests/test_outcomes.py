@@ -137,7 +137,7 @@ MISSES, IS_STOPPED = Fraction(1, 256), Fraction(255 * 63, 65536)
     ),
 )
 def test_least_probability(least, left_out):
-    """What is less probable is left out, with its exact weight, and the rest keeps its own."""
+    """Outcomes that are less probable are left out, with their exact weight, and the others keep theirs."""
     battle = facing(("Tauros", "Thunder Wave"), ("Slowbro", "Amnesia"))
     found = battle.outcomes(FIRST, FIRST, least_probability=least)
     assert sum(found.weights) + found.left_out == found.whole

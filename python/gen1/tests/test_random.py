@@ -18,7 +18,7 @@ def fuzz():
 
 
 def test_battles(fuzz):
-    """Of any teams, by choices of which some are refused, alone and in arrays."""
+    """Battles of any teams, by choices some of which are refused, alone and in arrays."""
     assert fuzz.played(battles=100, seed=2) > 1000
 
 

@@ -82,7 +82,7 @@ def test_a_worker_is_killed(alone, tmp_path):
 
 
 def test_dask(alone, tmp_path):
-    """Two of Dask's workers, of which one is killed."""
+    """Two of Dask's workers, one of which is killed."""
     distributed = pytest.importorskip("distributed")
     with distributed.LocalCluster(
         n_workers=2, threads_per_worker=1, dashboard_address=None, silence_logs=50

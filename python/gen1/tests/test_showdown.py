@@ -103,7 +103,7 @@ FOLLOWED = """|player|p1|Alice|
 
 
 def begun(teams, formatid="gen1customgame", hp=None):
-    """A simulator that plays these teams, and what it said."""
+    """A simulator that plays these teams, and its messages."""
     made = Simulator(hp=hp)
     made.take(">start " + json.dumps({"formatid": formatid, "seed": SEED}))
     made.take(">player p1 " + json.dumps({"name": "Alice", "team": teams[0]}))
@@ -260,7 +260,7 @@ def test_a_simulator_begins_as_the_program_does():
 
 
 def views(stream):
-    """What each viewer sees of a stream: the line of the owner, or that of all others."""
+    """The lines of a stream that each viewer sees: that of the owner, or that of all others."""
     seen, lines = {viewer: [] for viewer in (Viewer.ONE, Viewer.TWO, Viewer.SPECTATOR)}, iter(stream.split("\n"))
     for line in lines:
         owner = line.removeprefix("|split|") if line.startswith("|split|") else None
@@ -328,7 +328,7 @@ def without_trap(text):
 
 
 def test_what_one_viewer_is_sent_gives_its_lines():
-    """Without the host: from messages or notices, and for a viewer that comes back from the told logs."""
+    """Without the host: from messages or notices, and for a viewer that comes back from the logs that were sent to it."""
     dice, went_on = random.Random(6), set()
     for _ in range(40):
         teams = [mixed(dice), mixed(dice)]

@@ -255,7 +255,7 @@ def test_random_fields():
 
 
 def test_calls_with_wrong_arguments(battle, team):
-    """Of `with_hp`, `with_status`, `with_stage`, `with_state` and of the state's own methods; nothing changes."""
+    """Wrong arguments of `with_hp`, `with_status`, `with_stage`, `with_state` and of the state's own methods; nothing changes."""
     before, state = battle.bytes, battle.state
     calls = []
     for call in (

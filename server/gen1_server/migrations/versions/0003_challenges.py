@@ -1,7 +1,7 @@
 """A table of those who wait for a foe, so that the processes on a database find each other's.
 
 search          its process, the account with its team and rating, and the room that another process has begun, or 0; the code of
-                a challenge, which is empty for a search; the account that is challenged, 0 for anyone who has the code, and nothing
+                a challenge, which is empty for a search; the account that is challenged, 0 for anyone with the code, and nothing
                 for a search or an acceptance; and when it ends, 0 for never
 """
 
