@@ -11,7 +11,7 @@ use std::fmt;
 pub enum WriteFault {
     /// The members are not a team.
     Team(TeamRefusal),
-    /// A move of this member, counted from 1, has other than three PP ups, and a text has no place for them.
+    /// A move of this member, counted from 1, has a number of PP ups other than three, for which a text has no place.
     PpUps(u8),
 }
 

@@ -15,7 +15,7 @@ use crate::packed::packed_of;
 use arrayvec::ArrayVec;
 use gen1_stats::{MemberSpec, Team};
 
-/// Writes members as export text; or returns why they have none: they are not a team, or a move has other than three PP ups
+/// Writes members as export text; or returns why they have none: they are not a team, or a move doesn't have three PP ups
 /// (docs/TEAM_TEXT.md, "Writing"). The text is read as the same team.
 pub fn team_to_text(specs: &[MemberSpec]) -> Result<ArrayVec<u8, 1356>, WriteFault>
     ensures written { IfOk result (λ text. text.items ≡ text_of specs.now) }
@@ -60,7 +60,7 @@ fn refusal(specs: &[MemberSpec]) -> Option<WriteFault>
     }
 }
 
-// The first member with a move that has other than three PP ups, counted from 1.
+// The first member with a move that doesn't have three PP ups, counted from 1.
 fn other_ups(specs: &[MemberSpec]) -> Option<u8>
     requires { length specs.now ≤ 6 }
     ensures { result ≡ other_ups_from 1 specs.now }

@@ -177,7 +177,7 @@ pub(crate) fn ran_in(
     (status, out.into_inner(), err.into_inner())
 }
 
-/// A folder with one file. Nothing is read of it until that is opened.
+/// A folder with one file, which isn't read until it is opened.
 #[derive(Drop)]
 pub(crate) struct Shelf<'a> {
     name: &'a str,

@@ -47,7 +47,7 @@ static MEMBERS: [(&[u8], &[Written]); 5] = [
             ),
         ],
     ),
-    // names in any dress
+    // names in any form
     (
         b"MR MIME\n- ACIDARMOR",
         &[("Mr. Mime", 100, [15; 4], [63504; 5], &["Acid Armor"])],

@@ -65,7 +65,7 @@ fn the_least_member(rt: HostRuntime) {
     assert_same(&rt, Status::default(), Status::Healthy);
 }
 
-// Of two errors the first is reported (docs/MECHANICS.md, "Teams").
+// The first of two errors is reported (docs/MECHANICS.md, "Teams").
 #[test]
 fn refusals_come_in_order(rt: HostRuntime) -> Result<(), Fail> {
     assert_same(&rt, refusal_of(&[("Strength", 3)])?, None);

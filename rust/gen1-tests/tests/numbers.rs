@@ -221,7 +221,7 @@ IVs: 6 HP / 0 Atk / 20 Def
                 ),
             ],
         ),
-        // names in any dress
+        // names in any form
         (
             b"MR MIME\n- ACIDARMOR",
             &[("Mr. Mime", 100, [15; 4], [63504; 5], &["Acid Armor"])],
@@ -2083,7 +2083,7 @@ mod teams {
         assert_same(&rt, Status::default(), Status::Healthy);
     }
 
-    // Of two errors the first is reported (docs/MECHANICS.md, "Teams").
+    // The first of two errors is reported (docs/MECHANICS.md, "Teams").
     #[test]
     fn refusals_come_in_order() -> Result<(), Fail> { let rt = gen1_tests::testing::HostRuntime;
         assert_same(&rt, refusal_of(&[("Strength", 3)])?, None);

@@ -163,7 +163,7 @@ mod fault {
     pub enum WriteFault {
         /// The members are not a team.
         Team(TeamRefusal),
-        /// A move of this member, counted from 1, has other than three PP ups, and a text has no place for them.
+        /// A move of this member, counted from 1, has a number of PP ups other than three, for which a text has no place.
         PpUps(u8),
     }
 
@@ -363,7 +363,7 @@ mod written {
     use arrayvec::ArrayVec;
     use crate::generated::stats::{MemberSpec, Team};
 
-    /// Writes members as export text; or returns why they have none: they are not a team, or a move has other than three PP ups
+    /// Writes members as export text; or returns why they have none: they are not a team, or a move doesn't have three PP ups
     /// ([docs/TEAM_TEXT.md, "Writing"](https://hibsuloy.example/gen1/blob/main/docs/TEAM_TEXT.md#writing)). The text is read as the same team.
     pub fn team_to_text(specs: &[MemberSpec]) -> Result<ArrayVec<u8, 1356>, WriteFault> {
         if let Some(fault) = refusal(specs) {
@@ -392,7 +392,7 @@ mod written {
         }
     }
 
-    // The first member with a move that has other than three PP ups, counted from 1.
+    // The first member with a move that doesn't have three PP ups, counted from 1.
     fn other_ups(specs: &[MemberSpec]) -> Option<u8> {
         for (index, spec) in specs.iter().enumerate() {
             if has_other_ups(spec) {
