@@ -14,8 +14,6 @@ from rule_files import collected, unreached, without_a_line
 
 
 PLAYER = ROOT / "crates" / "gen1_player"
-# No law is proved of it: recorded battles test it (tests/definitions/players.py).
-WITHOUT_A_LAW = {"asleep_by"}
 
 
 @pytest.fixture(scope="module")
@@ -57,5 +55,4 @@ def test_every_public_field_has_a_law(compared):
     fields = re.findall(r"^    pub (\w+): ", structs, re.MULTILINE)
     laws = (PLAYER / "specs" / "True.antt").read_text().partition("-- What a player holds")[0]
     named = set(re.findall(r"(?:^  pub |\.)(\w+)", re.sub(r"--.*", "", laws), re.MULTILINE))
-    assert WITHOUT_A_LAW <= set(fields) - named
-    compared(len(fields), [f"no law names {field}" for field in fields if field not in named | WITHOUT_A_LAW])
+    compared(len(fields), [f"no law names {field}" for field in fields if field not in named])

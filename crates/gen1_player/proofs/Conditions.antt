@@ -15,7 +15,7 @@ use Rattle.gen1_machine.specs.Moves.{toxic, Move}
 use Rattle.gen1_machine.specs.Rules.{bit_of}
 use Rattle.gen1_machine.specs.Sides.{other}
 use Rattle.gen1_machine.specs.Conditions.{after_haze, with_bad_poison, with_bide, with_recharge, without_seed, without_trapping, ActiveConditions}
-use Rattle.gen1_machine.specs.State.{active_in, changed_active, changed_conditions, changed_member, fallen, has_fallen_in, health_in, member_at, member_in, party, who_in, with_current_move, with_member, with_pp_spent, with_types_of, Active, Field, Party}
+use Rattle.gen1_machine.specs.State.{Active, Field, Party, active_in, changed_active, changed_conditions, changed_member, fallen, has_fallen_in, health_in, member_at, member_in, party, who_in, with_current_move, with_member, with_pp_spent, with_types_of}
 use Rattle.gen1_machine.specs.EarlyEffects.{with_levelled_stats}
 use Rattle.gen1_machine.specs.SwitchingIn.{switch_event, with_sent_out}
 use Rattle.gen1_machine.proofs.Showing.{member-after, BothOut, IsOut}
@@ -24,11 +24,11 @@ use Rattle.gen1_player.specs.declared.public_side.PublicSide.{PublicSide}
 use Rattle.gen1_player.specs.Public.{comes_out, first_public, hears_all, is_cleared, on_announced, on_out, public_side, set_volatile, settled, takes_in, takes_types}
 use Rattle.gen1_player.specs.True.{ConditionsAgree, SideIsTold}
 use Rattle.gen1_player.proofs.Facts.{calm-mild, dull-noise, noise-is, noted, plain_of, sent-place, sent-standing, followed, is_noise, marked, plain, sent, standing, starts-marks, with_cleared, Followed, Marks, Mild, Placid, Plain, Standing, Starts}
-use Rattle.gen1_player.proofs.Stories.{sickened, Outline, Story, Switching}
+use Rattle.gen1_player.proofs.Stories.{Outline, Story, Switching, sickened, slept}
 use Rattle.gen1_machine.specs.Ruling.{ruling_of}
 use Rattle.gen1_player.proofs.ToldEffects.{ruling_of-tells}
-use Rattle.gen1_player.proofs.ToldActions.{says-any}
-use Rattle.gen1_player.proofs.ToldRuns.{story-runs}
+use Rattle.gen1_player.proofs.ToldActions.{act-tells, says-any}
+use Rattle.gen1_player.proofs.ToldEnds.{story-runs}
 use Rattle.gen1_player.proofs.HeardSides.{bide-hears, bides-heard, clear-hears, come_out, comes-heard, end-hears, foe-side, heard, hears-in, hears_all-last, held, known_of, marked-known, move-hears, moves-heard, noise-heard, rest-heard, out-side, prepare-hears, prepares-heard, set-heard, settled-heard, start-hears, starts-begins, switch-hears, types-hears, with_mark, with_types, without_most, Known}
 
 -- One side
@@ -436,9 +436,11 @@ telling = record {
   said = λ s move. Unit {0};
   acted = λ s move. Unit {0};
   knows = λ s move. Unit {0};
+  lulled = λ s marked. Unit {0};
   loosen = λ f es m. record { one = loosened _ _ m.one; two = loosened _ _ m.two };
   tighten = λ f es m a b. record { one = tightened _ _ (none-fallen One f a) m.one; two = tightened _ _ (none-fallen Two f b) m.two };
-  member = λ s change h f es m. both-member s change f (told_by es) m;
+  member = λ s change h r f es m. both-member s change f (told_by es) m;
+  sleeps = λ s turns marked k f es o m. noise-both (events.Status (who_in s (slept s turns marked f)) kinds.Sleep) refl (slept s turns marked f) es (both-member s _ f (told_by es) m);
   active = λ s change h f es m. both-active s change h f (told_by es) m;
   conditions = λ s change h f es m. both-conditions s change (calm-mild change h) f (told_by es) m;
   apart = λ f g es a b m. both-apart f g (told_by es) a b m;
@@ -497,6 +499,7 @@ side-told x t m = record {
 pub conditions_agree : ConditionsAgree
 unfolding hears_all telling
 conditions_agree t one two seed pairs a b =
-    let m = story-runs telling t one two seed pairs a b telling-outline telling-switches (λ pre t. says-any telling-outline (λ s move. tt) (ruling_of t) (ruling_of-tells t))
+    let m = story-runs telling t one two seed pairs a b telling-switches
+    (λ pre. act-tells telling-outline (ruling_of t) (ruling_of-tells t) (says-any telling-outline (λ s move. tt) (λ u marked. tt) (ruling_of t) (ruling_of-tells t)))
     (record { one = record { same = refl; few = a.size.1 }; two = record { same = refl; few = b.size.1 } }) in
     (side-told _ _ m.one, side-told _ _ m.two)

@@ -1,4 +1,6 @@
 -- The story of one member's moves: what it knows of them, with PP, and what was seen of them. Only the use of a move of its own tells more.
+use Rattle.gen1_stats.specs.declared.status.Status.{Status}
+use Rattle.gen1_stats.specs.declared.status.Status.TheVariants.{Asleep}
 use Rattle.std.proofs.Common.{[], ap, arith, false, get_or, get_or-set_same, if◌then◌else◌, inl, inr, length, length-set, map, min, refl, slice_index_or, slice_set, subst, suc, sym, true, true≢false, zero, ◌++◌, ◌+◌, ◌-◌, ◌<◌, ◌==◌, ◌||◌, ◌∙◌, ◌∷◌, ◌≡◌, ◌≢◌, ◌≤◌, ◌⊎◌, Bool, List, None, Option, Some, ℕ}
 use Rattle.std.proofs.lemmas.List.{get_or-set_other, map-set}
 use Rattle.std.proofs.Math.ListN.{get_or-map}
@@ -19,7 +21,7 @@ use Rattle.gen1_machine.specs.LogBytes.{kind_or_0}
 use Rattle.gen1_machine.specs.Moves.{toxic, Move}
 use Rattle.gen1_machine.specs.Sides.{other}
 use Rattle.gen1_machine.specs.Conditions.{after_haze, with_bad_poison, with_bide, with_recharge, without_seed, ActiveConditions}
-use Rattle.gen1_machine.specs.State.{active_in, after_use, changed_active, changed_conditions, changed_member, fallen, health_in, member_at, member_in, party, who_in, with_current_move, with_less_pp, with_member, with_pp_spent, with_types_of, Active, Field, Party}
+use Rattle.gen1_machine.specs.State.{Active, Field, Party, active_in, after_use, changed_active, changed_conditions, changed_member, fallen, health_in, member_at, member_in, party, who_in, with_current_move, with_less_pp, with_member, with_pp_spent, with_status, with_types_of}
 use Rattle.gen1_machine.specs.EarlyEffects.{with_levelled_stats}
 use Rattle.gen1_machine.specs.SwitchingIn.{switch_event}
 use Rattle.gen1_player.specs.declared.public.Public.{Public}
@@ -28,7 +30,7 @@ use Rattle.gen1_player.specs.declared.seen.Seen.{Seen}
 use Rattle.gen1_player.specs.declared.seen.SeenMove.{SeenMove}
 use Rattle.gen1_player.specs.Public.{begins, comes_out, first_public, is_slot, not_seen, not_used, on_out, on_public_side, prepares, public_side, seen_at, settled, starts_bide, takes_in, used_in, used_more, uses_move}
 use Rattle.gen1_player.proofs.Facts.{dull-noise, noise-is, sent, sent-place, with_cleared, Noise, Sparing, Standing}
-use Rattle.gen1_player.proofs.Stories.{sickened, Outline, Story, Switching}
+use Rattle.gen1_player.proofs.Stories.{Outline, Story, Switching, sickened, slept}
 use Rattle.gen1_player.proofs.HeardSides.{bide-hears, clear-hears, end-hears, foe-side, hears-in, hears_all-last, move-hears, prepare-hears, switch-hears}
 use Rattle.gen1_player.proofs.Appearing.{clear-faces, comes-faces, end-faces, face, faces, is_bide, no_face, noise-faces, rest-faces, settled-faces, start-faces, starts-otherwise, suffers-same, Face, Faces}
 use Rattle.gen1_player.proofs.DeedStory.{told_by}
@@ -182,6 +184,10 @@ far-prepare σ w n a p = ap (λ (q : Public). faces (public_side σ q)) (prepare
 pub sparing-moves : (change : Member → Member) → Sparing change → (m : Member) → (change m).moves ≡ m.moves
 sparing-moves change h m = ap (λ b. b.moves) (h m)
 
+pub status-moves : (status : Status) (m : Member) → (with_status status m).moves ≡ m.moves
+unfolding with_status
+status-moves status m = refl
+
 pub fallen-moves : (m : Member) → (fallen m).moves ≡ m.moves
 unfolding fallen
 fallen-moves m = refl
@@ -252,9 +258,12 @@ module _ (σ : Side) (i : ℕ) (G : About) where
     said = λ s move. Against σ s;
     acted = λ s move. Unit {0};
     knows = λ s move. Against σ s ⊎ (bides move.effect ≡ false);
+    lulled = λ s marked. Unit {0};
     loosen = λ f es m. m;
     tighten = λ f es m a b. m;
-    member = λ s change h f es m. counts-member s change (sparing-moves change h) f es m;
+    member = λ s change h r f es m. counts-member s change (sparing-moves change h) f es m;
+    sleeps = λ s turns marked k f es o m. let e : Event = events.Status (who_in s (slept s turns marked f)) kinds.Sleep in
+        counts-told e (λ p. noise-faces e refl σ p) (slept s turns marked f) es (counts-member s (with_status (Asleep turns marked)) (status-moves (Asleep turns marked)) f es m);
     active = λ s change h f es m. counts-active s change (λ a. ap (λ (x : Standing). x.place) (h a)) f es m;
     conditions = λ s change h f es m. counts-conditions s change f es m;
     apart = λ f g es a b m. counts-apart f g es a b m;

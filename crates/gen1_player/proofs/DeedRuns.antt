@@ -41,8 +41,7 @@ use Rattle.gen1_player.proofs.Conditions.{conditions_agree}
 use Rattle.gen1_player.proofs.Facts.{is_dull, Fits, Sizes}
 use Rattle.gen1_player.proofs.Stories.{begun-member, Begun, MayFall, Now}
 use Rattle.gen1_player.proofs.ToldTurns.{replace-falls, send_out-tells, ChoiceFits}
-use Rattle.gen1_player.proofs.ToldEnds.{first-done, Fresh}
-use Rattle.gen1_player.proofs.ToldRuns.{choice-fits, sizes_of}
+use Rattle.gen1_player.proofs.ToldEnds.{first-done, Fresh, choice-fits, sizes_of}
 use Rattle.gen1_player.proofs.Deeds.{even-apart, even-member, Deeds, Does, Even, current_of}
 use Rattle.gen1_player.proofs.DeedStory.{deeding, fallen-tame, tale-apart, tale-dull, tale-member, told_by, Tale}
 use Rattle.gen1_player.proofs.DeedGate.{at-field, at-note, at-stop, at-told, at-weak, dull-tale, tale-past, In, Nothing_more}

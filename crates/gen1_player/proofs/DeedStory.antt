@@ -1,4 +1,6 @@
 -- The story of what active members do.
+use Rattle.gen1_stats.specs.declared.status.Status.TheVariants.{Asleep}
+use Rattle.gen1_stats.specs.declared.status.Status.{Status}
 use Rattle.std.proofs.Common.{[], Bool, List, ap, false, if◌then◌else◌, not, refl, subst, sym, true, true≢false, ℕ, ◌++◌, ◌==◌, ◌∙◌, ◌∷◌, ◌≡◌, ◌≢◌, ◌≤◌}
 use Rattle.gen1_tables.specs.Effects.{bides, recharges}
 use Rattle.gen1_stats.specs.Members.{Member}
@@ -15,14 +17,14 @@ use Rattle.gen1_machine.specs.Moves.{move_at, toxic, Move}
 use Rattle.gen1_machine.specs.Rules.{bit_of}
 use Rattle.gen1_machine.specs.Sides.{other}
 use Rattle.gen1_machine.specs.Conditions.{after_haze, with_bad_poison, with_recharge, without_seed, ActiveConditions}
-use Rattle.gen1_machine.specs.State.{active_in, changed_active, changed_conditions, changed_member, fallen, party, who_in, with_party, with_types_of, Active, Field, Party}
+use Rattle.gen1_machine.specs.State.{Active, Field, Party, active_in, changed_active, changed_conditions, changed_member, fallen, party, who_in, with_party, with_status, with_types_of}
 use Rattle.gen1_machine.specs.EarlyEffects.{with_levelled_stats}
 use Rattle.gen1_machine.proofs.Showing.{BothOut}
 use Rattle.gen1_player.specs.declared.public.Public.{Public}
 use Rattle.gen1_player.specs.declared.public_side.PublicSide.{PublicSide}
 use Rattle.gen1_player.specs.Public.{acting, first_public, gets_status, hears_all, is_afflicted, is_cleared, on_announced, on_out, on_seen, public_side, set_volatile, settled, takes_in, takes_types}
 use Rattle.gen1_player.proofs.Facts.{followed, is_dull, noted, sparing-tame, starts-marks, with_cleared, Dull, Followed, Marks, Placid, Starts, Tame}
-use Rattle.gen1_player.proofs.Stories.{sickened, Story}
+use Rattle.gen1_player.proofs.Stories.{Story, sickened, slept}
 use Rattle.gen1_player.proofs.HeardSides.{clear-hears, end-hears, foe-side, hears-in, hears_all-last, out-side, quiet-side, settled-look, start-hears, starts-begins, types-hears, rest-hears}
 use Rattle.gen1_player.proofs.Deeds.{calm-bland, Bland, core_of, deeds, deeds_of, does-in, dull-fades, dull-quiet, even-active, even-apart, even-conditions, even-fades, even-member, even-party, even-quiet, pending-out, placed-in, with_active, with_conditions, Deeds, Does, Even}
 
@@ -312,6 +314,10 @@ pub fallen-tame : Tame fallen
 unfolding fallen
 fallen-tame m = refl
 
+pub status-tame : (status : Status) → Tame (with_status status)
+unfolding with_status
+status-tame status m = refl
+
 pub seed-bland : Bland without_seed
 unfolding without_seed
 seed-bland c = refl
@@ -319,6 +325,9 @@ seed-bland c = refl
 pub dull-is : (f : Field) (e : Event) → Dull f e → is_dull e ≡ true
 dull-is f (events.Damage w h source) n = ap not n.1
 dull-is f (events.Heal w h) n = refl
+dull-is f (events.Status w kind) n = ap not n.0
+dull-is f (events.Cure w kind) n = refl
+dull-is f (events.Faint w) n = refl
 dull-is f _ n = n
 
 -- Other lemmas are about the moves of the action.
@@ -329,9 +338,11 @@ deeding U l = record {
   said = λ s move. ⊥;
   acted = λ s move. (p : Public) → U p → (public_side s p).last_move ≡ move.number;
   knows = λ s move. (bides move.effect ≡ false) × (recharges move.effect ≡ true → (p : Public) → U p → recharges (move_at (public_side s p).last_move).effect ≡ true);
+  lulled = λ s marked. Unit {0};
   loosen = λ f es m. m;
   tighten = λ f es m a b. m;
-  member = λ s change h f es m. tale-member l s change (sparing-tame change h) f es m;
+  member = λ s change h r f es m. tale-member l s change (sparing-tame change h) f es m;
+  sleeps = λ s turns marked k f es o m. tale-dull l (events.Status (who_in s (slept s turns marked f)) kinds.Sleep) (slept s turns marked f) refl es (tale-member l s (with_status (Asleep turns marked)) (status-tame (Asleep turns marked)) f es m);
   active = λ s change h f es m. tale-active l s change h f es m;
   conditions = λ s change h f es m. tale-conditions l s change (calm-bland change h) f es m;
   apart = λ f g es a b m. tale-apart l f g es a b m;

@@ -69,7 +69,7 @@ and-true a b e h = ap (λ (x : Bool). x && b) e ∙ h
 out-if : (c : Bool) (x y : PublicSide) → c ≡ true → (if c then x else y) ≡ x
 out-if c x y e = ap (λ (d : Bool). if d then x else y) e
 
-comes-is : (species place level : ℕ) (h : Health) (x : PublicSide) → 1 ≤ place → place ≤ 6 → comes_out species place level h x ≡ side_out species place level h x
+pub comes-is : (species place level : ℕ) (h : Health) (x : PublicSide) → 1 ≤ place → place ≤ 6 → comes_out species place level h x ≡ side_out species place level h x
 comes-is species place level h x low high = out-if (nat_le 1 place && nat_le place 6) (side_out species place level h x) x (and-true (nat_le 1 place) (nat_le place 6) (le-leb 1 place low) (le-leb place 6 high))
 
 does-sent : (species place level : ℕ) (h : Health) (x : PublicSide) (t : Party) → 1 ≤ place → place ≤ length t.members → Does x t

@@ -1,8 +1,8 @@
 -- What changes of a field and events leave as it is, and how many members the sides have.
-use Rattle.std.proofs.Common.{ap, slice_set, sym, ◌-◌, Bool, List, None, Option, Some, false, is_some, map, not, refl, true, true≢false, ℕ, ◌≡◌, ◌≤◌}
+use Rattle.std.proofs.Common.{ap, slice_set, sym, ◌-◌, ◌∙◌, Bool, List, None, Option, Some, false, is_some, map, not, refl, true, true≢false, ℕ, ◌≡◌, ◌≤◌}
 use Rattle.gen1_tables.specs.declared.element.Element.{Element}
 use Rattle.gen1_stats.specs.declared.known_move.KnownMove.{KnownMove}
-use Rattle.gen1_stats.specs.Members.{Member}
+use Rattle.gen1_stats.specs.Members.{is_asleep, is_marked, Member}
 use Rattle.gen1_tables.specs.Species.{species_row}
 use Rattle.gen1_tables.specs.Types.{number_of}
 use Rattle.gen1_machine.specs.Health.{Health}
@@ -23,7 +23,7 @@ use Rattle.gen1_machine.specs.declared.picks.DisabledSlot.{DisabledSlot}
 use Rattle.gen1_machine.specs.declared.picks.UsedMove.{UsedMove}
 use Rattle.gen1_machine.specs.Sides.{other}
 use Rattle.gen1_machine.specs.Conditions.{after_haze, less_by, one_more, one_turn_less, stored, with_bide_storing, with_worse_poison, Storing, with_confusion_one_less, with_disable_one_less, with_substitute_hurt, without_trapping, ActiveConditions}
-use Rattle.gen1_machine.specs.State.{level_stages, nobody_out, changed_active, changed_conditions, health_in, member_at, party, Active, Field}
+use Rattle.gen1_machine.specs.State.{level_stages, nobody_out, changed_active, changed_conditions, health_in, member_at, party, status_in, with_status, Active, Field}
 use Rattle.gen1_machine.specs.EarlyEffects.{with_levelled_stats}
 use Rattle.gen1_machine.specs.CurrentStats.{with_penalty_of}
 use Rattle.gen1_machine.specs.SwitchingIn.{with_sent_out}
@@ -226,6 +226,18 @@ traits_of b = record { species = b.species; level = b.level; max = b.max; moves 
 pub sparing-tame : (change : Member → Member) → Sparing change → Tame change
 sparing-tame change h m = ap traits_of (h m)
 
+-- A change after which a member sleeps only if it did before, with the same mark.
+abbrev pub Restful : (Member → Member) → Type 0
+Restful change = (m : Member) → is_asleep (change m).status ≡ true → (is_asleep m.status ≡ true) × (is_marked (change m).status ≡ is_marked m.status)
+
+pub restful-status : (status : Status) → is_asleep status ≡ false → Restful (with_status status)
+unfolding with_status
+restful-status status k m e = absurd (true≢false (sym e ∙ k))
+
+-- The active member of a side does not sleep.
+abbrev pub IsAwake : Side → Field → Type 0
+IsAwake s f = is_asleep (status_in s f) ≡ false
+
 -- Events that tell nothing of what a story follows.
 abbrev pub is_noise : Event → Bool
 is_noise (events.Switch w place level h) = false
@@ -245,6 +257,10 @@ abbrev pub is_poison : Kind → Bool
 is_poison kinds.Poison = true
 is_poison _ = false
 
+abbrev pub is_sleep : Kind → Bool
+is_sleep kinds.Sleep = true
+is_sleep _ = false
+
 -- Events that also tell nothing of the conditions that end with an act.
 abbrev pub is_dull : Event → Bool
 is_dull (events.Cant w why) = false
@@ -257,29 +273,43 @@ is_dull event = is_noise event
 abbrev pub is_still : Event → Bool
 is_still (events.Damage w h source) = false
 is_still (events.Heal w h) = false
+is_still (events.Status w kind) = false
+is_still (events.Cure w kind) = false
+is_still (events.Faint w) = false
 is_still event = is_dull event
 
--- They name the health of the member that is out.
+-- They name the health of the member that is out, which has not fallen asleep, or has woken up.
 abbrev pub Noise : Field → Event → Type 0
 Noise f (events.Damage w h source) = h ≡ health_in w.side f
 Noise f (events.Heal w h) = h ≡ health_in w.side f
+Noise f (events.Status w kind) = is_sleep kind ≡ false
+Noise f (events.Cure w kind) = IsAwake w.side f
+Noise f (events.Faint w) = IsAwake w.side f
 Noise f event = is_noise event ≡ true
 
 abbrev pub Dull : Field → Event → Type 0
 Dull f (events.Damage w h source) = (h ≡ health_in w.side f) × (is_own_damage source ≡ false)
 Dull f (events.Heal w h) = h ≡ health_in w.side f
+Dull f (events.Status w kind) = (is_poison kind ≡ false) × (is_sleep kind ≡ false)
+Dull f (events.Cure w kind) = IsAwake w.side f
+Dull f (events.Faint w) = IsAwake w.side f
 Dull f event = is_dull event ≡ true
 
 pub noise-is : (f : Field) (e : Event) → Noise f e → is_noise e ≡ true
 noise-is f (events.Damage w h source) n = refl
 noise-is f (events.Heal w h) n = refl
+noise-is f (events.Status w kind) n = refl
+noise-is f (events.Cure w kind) n = refl
+noise-is f (events.Faint w) n = refl
 noise-is f _ n = n
 
 pub dull-noise : (f : Field) (e : Event) → Dull f e → Noise f e
 dull-noise f (events.Damage w h source) n = n.0
 dull-noise f (events.Heal w h) n = n
 dull-noise f (events.Cant w why) n = absurd (true≢false (sym n))
-dull-noise f (events.Status w kind) n = refl
+dull-noise f (events.Status w kind) n = n.1
+dull-noise f (events.Cure w kind) n = n
+dull-noise f (events.Faint w) n = n
 dull-noise f (events.Activate w what) n = refl
 dull-noise f (events.Switch w place level h) n = n
 dull-noise f (events.Move w move foe) n = n
@@ -293,6 +323,9 @@ dull-noise f _ n = refl
 pub still-is : (f : Field) (e : Event) → is_still e ≡ true → Dull f e
 still-is f (events.Damage w h source) n = absurd (true≢false (sym n))
 still-is f (events.Heal w h) n = absurd (true≢false (sym n))
+still-is f (events.Status w kind) n = absurd (true≢false (sym n))
+still-is f (events.Cure w kind) n = absurd (true≢false (sym n))
+still-is f (events.Faint w) n = absurd (true≢false (sym n))
 still-is f _ n = n
 
 -- Fields after a change of both sides, or of more than one part

@@ -1,10 +1,8 @@
 -- What an event makes public, by the side that it names.
 pub mod Hearing
--- What becomes of a value to which the events of log bytes are applied.
-pub mod Following
 -- What numbers of HP say.
 pub mod HpForms
--- An event as a side learns it, and the log bytes of one side.
+-- An event as a side learns it, the log bytes of one side, and what becomes of a value to which events are applied.
 pub mod Retellings
 -- What a side is shown of itself: its members by their places, and how many there are.
 pub mod OwnSides
@@ -18,7 +16,6 @@ pub mod ToldEffects
 pub mod ToldActions
 pub mod ToldTurns
 pub mod ToldEnds
-pub mod ToldRuns
 -- What is public agrees with what a spectator sees.
 pub mod Agreeing
 pub mod Placing
@@ -45,6 +42,9 @@ pub mod DeedRuns
 pub mod Counting
 pub mod Spending
 pub mod SpendingTurns
+-- The mark of the sleep clause is on those of whom a sleep by a move of the foe is public.
+pub mod Sleepers
+pub mod Sleeping
 -- Worked examples.
 pub mod WorkedPlayers
 -- A player that was fed log bytes, and the players of two battles that give a side the same.

@@ -1,4 +1,6 @@
 -- After any run, a member that has appeared is the member at its place, and it was seen to use its own moves or Struggle.
+use Rattle.gen1_player.proofs.DeedStory.{status-tame}
+use Rattle.gen1_stats.specs.declared.status.Status.TheVariants.{Asleep}
 use Rattle.std.proofs.Common.{[], Bool, List, ap, if◌then◌else◌, arith, get_or, false, inl, inr, length, length-set, map, nat_le, refl, subst, sym, true, ℕ, true≢false, ◌&&◌, ◌⊎◌, ◌||◌, ◌++◌, ◌-◌, ◌==◌, ◌∙◌, ◌∷◌, ◌≡◌, ◌≢◌, ◌<◌, ◌≤◌}
 use Rattle.std.proofs.lemmas.List.{length-map}
 use Rattle.std.proofs.Math.ListN.{get_or-map}
@@ -23,7 +25,7 @@ use Rattle.gen1_tables.specs.Types.{any}
 use Rattle.gen1_machine.specs.Moves.{move_at, toxic, Move}
 use Rattle.gen1_machine.specs.Sides.{other}
 use Rattle.gen1_machine.specs.Conditions.{after_haze, with_bad_poison, with_bide, with_recharge, without_seed, ActiveConditions}
-use Rattle.gen1_machine.specs.State.{first_state, active_in, changed_active, changed_conditions, changed_member, fallen, health_in, member_at, member_in, party, who_in, with_current_move, with_pp_spent, with_types_of, Active, Field, Party, Terms}
+use Rattle.gen1_machine.specs.State.{Active, Field, Party, Terms, active_in, changed_active, changed_conditions, changed_member, fallen, first_state, health_in, member_at, member_in, party, who_in, with_current_move, with_pp_spent, with_status, with_types_of}
 use Rattle.gen1_machine.specs.EarlyEffects.{with_levelled_stats}
 use Rattle.gen1_machine.specs.Picks.{number_in, used_by}
 use Rattle.gen1_machine.specs.Progress.{active, given, member, Progress}
@@ -38,10 +40,10 @@ use Rattle.gen1_player.specs.declared.public_side.PublicSide.{PublicSide}
 use Rattle.gen1_player.specs.Public.{begins, bide, comes_out, first_public, hears_all, new_uses, not_seen, on_announced, seen_at, on_out, prepares, public_side, settled, starts_bide, takes_in, uses_move}
 use Rattle.gen1_player.specs.True.{events_in, public_of, MembersAgree, OfRuns, SideHasAppeared}
 use Rattle.gen1_player.proofs.Facts.{side_out, dull-noise, noise-is, sent-place, sent, sparing-tame, traits, with_cleared, Noise, Sizes, Standing, Tame, Traits}
-use Rattle.gen1_player.proofs.Stories.{sickened, MayFall, Outline, Story, Switching}
+use Rattle.gen1_player.proofs.Stories.{MayFall, Outline, Story, Switching, sickened, slept}
 use Rattle.gen1_player.proofs.ToldEffects.{ruling_of-tells}
-use Rattle.gen1_player.proofs.ToldActions.{carry_out-tells, spent-tame, Says}
-use Rattle.gen1_player.proofs.ToldRuns.{sizes_of, story-runs}
+use Rattle.gen1_player.proofs.ToldActions.{Says, act-tells, carry_out-tells, spent-tame}
+use Rattle.gen1_player.proofs.ToldEnds.{sizes_of, story-runs}
 use Rattle.gen1_player.proofs.Lenses.{tellable-last, AllTellable, Tellable}
 use Rattle.gen1_player.proofs.HeardSides.{bide-hears, clear-hears, clear-less, end-hears, end-less, less-path, move-less, noise-less, prepare-less, rest-hears, settled-less, start-less, Less, foe-side, hears-in, hears_all-last, move-hears, out-side, prepare-hears, switch-hears}
 use Rattle.gen1_player.proofs.Appearing.{allowed-is, bide-number, is_bide, rest-faces, starts-otherwise, AllShow, Allowed, Face, Faces, Shows, clear-faces, comes-face, comes-faces, comes-shows, end-faces, face, faces, no_face, no_traits, noise-faces, none-show, settled-faces, shows-seen, shows_use, start-faces, suffers-same, used-is-allowed, uses-face, uses-shows}
@@ -445,6 +447,12 @@ module _ {k : Teams} {U : Field → Type 0} (u : Further U) where
   with-member : (s : Side) (change : Member → Member) → Tame change → (f : Field) (es : List Event) → With k U f es → With k U (changed_member s change f) es
   with-member s change h f es m = record { appears = appears-member s change h f (told_by es) m.appears; more = u.member s change f m.more; each = m.each; rest = rest-member s change f (told_by es) m.rest }
 
+  with-slept : (s : Side) (turns : ℕ) (marked : Bool) (f : Field) (es : List Event) → With k U f es
+      → let g : Field = slept s turns marked f in With k U g (es ++ events.Status (who_in s g) kinds.Sleep ∷ [])
+  with-slept s turns marked f es m =
+      let e : Event = events.Status (who_in s (slept s turns marked f)) kinds.Sleep in
+      with-last (slept s turns marked f) es e (λ u p. noise-faces e refl u p) (λ u p. noise-less e refl u p) tt (with-member s (with_status (Asleep turns marked)) (status-tame (Asleep turns marked)) f es m)
+
   with-apart : (f g : Field) (es : List Event) → f.one ≡ g.one → f.two ≡ g.two → With k U f es → With k U g es
   with-apart f g es a b m = record { appears = appears-apart f g (told_by es) a b m.appears; more = u.apart f g a b m.more; each = m.each; rest = rest-apart f g (told_by es) a b m.rest }
 
@@ -534,9 +542,11 @@ appearing k U u = record {
   said = λ s move. ((f : Field) → U f → Usable k s move.number f) × (move.effect ≡ (move_at move.number).effect);
   acted = λ s move. Unit {0};
   knows = λ s move. ((f : Field) → U f → Usable k s move.number f) × (move.effect ≡ (move_at move.number).effect);
+  lulled = λ s marked. Unit {0};
   loosen = λ f es m. m;
   tighten = λ f es m a b. m;
-  member = λ s change h f es m. with-member u s change (sparing-tame change h) f es m;
+  member = λ s change h r f es m. with-member u s change (sparing-tame change h) f es m;
+  sleeps = λ s turns marked l f es o m. with-slept u s turns marked f es m;
   active = λ s change h f es m. with-active u s change (λ a. ap (λ (x : Standing). x.place) (h a)) f es m;
   conditions = λ s change h f es m. with-conditions u s change f es m;
   apart = λ f g es a b m. with-apart u f g es a b m;
@@ -649,7 +659,7 @@ unfolding given appearing
 says k n pre t s pick = record {
   leads = λ p r m.
       let i : ℕ = number_in (used_by pick (active s p).current_move) (member s p).moves in
-      forget k s i n pre _ ((carry_out-tells {v = of_action k s i} {z = n} {pre = pre} (appearing-outline k (Usable k s i) (usable-further k s i)) (ruling_of t) (ruling_of-tells t) s pick (move_taken_in s pick p.field) refl (λ f u. u, refl)).leads p r
+      forget k s i n pre _ ((carry_out-tells {v = of_action k s i} {z = n} {pre = pre} (appearing-outline k (Usable k s i) (usable-further k s i)) (ruling_of t) (ruling_of-tells t) s pick (move_taken_in s pick p.field) refl (λ f u. u, refl) (λ u marked. tt)).leads p r
       (record { begun = m.begun; exact = record { appears = m.exact.appears; more = taken-usable k s pick p.field (told_by (pre ++ p.events)) m.exact.appears; each = m.exact.each; rest = m.exact.rest } }));
 }
 
@@ -698,7 +708,8 @@ ends : OfRuns Ends
 unfolding hears_all appearing
 ends t one two seed pairs a b =
     let k : Teams = record { one = map traits one; two = map traits two } in
-    story-runs (of_battle k) t one two seed pairs a b (appearing-outline k (λ f. Unit {0}) nothing-further) (battle-switches k) (λ pre t. says k (sizes_of one two) pre t) (record {
+    story-runs (of_battle k) t one two seed pairs a b (battle-switches k)
+    (λ pre. act-tells (appearing-outline k (λ f. Unit {0}) nothing-further) (ruling_of t) (ruling_of-tells t) (says k (sizes_of one two) pre t)) (record {
       appears = record { one = first-appeared one a _ refl refl; two = first-appeared two b _ refl refl };
       more = tt;
       each = tt;

@@ -17,9 +17,9 @@ use Rattle.gen1_player.proofs.Facts.{dull-noise, is_noise, noise-is, Sizes, Fits
 use Rattle.gen1_player.proofs.Stories.{sickened, Outline, Sized, Story, Switching}
 use Rattle.gen1_machine.specs.Ruling.{ruling_of}
 use Rattle.gen1_player.proofs.ToldEffects.{ruling_of-tells}
-use Rattle.gen1_player.proofs.ToldActions.{says-any}
+use Rattle.gen1_player.proofs.ToldActions.{act-tells, says-any}
 use Rattle.gen1_player.proofs.ToldTurns.{sent-sized}
-use Rattle.gen1_player.proofs.ToldRuns.{sizes_of, story-runs}
+use Rattle.gen1_player.proofs.ToldEnds.{sizes_of, story-runs}
 use Rattle.gen1_player.proofs.Agreeing.{fitting-agrees, EachFits, EventFits}
 
 record Placed (n : Sizes) (f : Field) (es : List Event) : Type 0 where
@@ -80,9 +80,11 @@ placing n = record {
   said = λ s move. Unit {0};
   acted = λ s move. Unit {0};
   knows = λ s move. Unit {0};
+  lulled = λ s marked. Unit {0};
   loosen = λ f es m. m;
   tighten = λ f es m a b. m;
-  member = λ s change h f es m. placed-member s change f es m;
+  member = λ s change h r f es m. placed-member s change f es m;
+  sleeps = λ s turns marked k f es o m. placed-last n _ es _ tt (placed-member s _ f es m);
   active = λ s change h f es m. placed-active s change f es m;
   conditions = λ s change h f es m. placed-active s _ f es m;
   apart = λ f g es a b m. placed-same f g es a b m;
@@ -125,7 +127,8 @@ pub agrees_with_view : PublicAgreesWithView
 unfolding placing
 agrees_with_view t one two seed pairs a b =
     fitting-agrees one two (events_in (run (first_state t one two seed) pairs)) a.size.1 b.size.1
-    (story-runs (placing (sizes_of one two)) t one two seed pairs a b (placing-outline (sizes_of one two)) (placing-switches (sizes_of one two)) (λ pre t. says-any (placing-outline (sizes_of one two)) (λ s move. tt) (ruling_of t) (ruling_of-tells t)) (record { sized = record { one = refl; two = refl }; each = tt })).each
+    (story-runs (placing (sizes_of one two)) t one two seed pairs a b (placing-switches (sizes_of one two)) (λ pre. act-tells (placing-outline (sizes_of one two)) (ruling_of t) (ruling_of-tells t)
+    (says-any (placing-outline (sizes_of one two)) (λ s move. tt) (λ u marked. tt) (ruling_of t) (ruling_of-tells t))) (record { sized = record { one = refl; two = refl }; each = tt })).each
 
 pub agrees : PublicAgrees
 agrees t one two seed pairs a b =

@@ -175,6 +175,10 @@ acted-any : (σ : Side) (i : ℕ) (G : About) (s : Side) (move : Move) → (coun
 unfolding counting
 acted-any σ i G s move = tt
 
+lulled-any : (σ : Side) (i : ℕ) (G : About) (s : Side) (marked : Bool) → (counting σ i G).lulled s marked
+unfolding counting
+lulled-any σ i G s marked = tt
+
 knows-else : (σ : Side) (i : ℕ) (G : About) (s : Side) (move : Move) → bides move.effect ≡ false → (counting σ i G).knows s move
 unfolding counting
 knows-else σ i G s move h = inr h
@@ -383,14 +387,15 @@ module _ (t : Terms) (z : Sizes) (pre : List Event) (σ : Side) (i : ℕ) (ids :
   -- After the use of any move but Bide
 
   after-new : Leads E E Done (choose (λ p. is_early move.effect) (early_effect σ move move.effect ▸ stop) stay ▸ prelude σ move)
-  after-new = choose-tells _ (early_effect-tells σ move move.effect (acted-any σ i (Either ids j m pp u) σ move) ⊳ stop-tells) stay-tells ⊳ prelude-tells σ move
+  after-new = choose-tells _ (early_effect-tells σ move move.effect (acted-any σ i (Either ids j m pp u) σ move) (λ e. lulled-any σ i (Either ids j m pp u) σ false) ⊳ stop-tells) stay-tells ⊳ prelude-tells σ move
 
   carry-with : {P R : Progress → Type 0} → bides move.effect ≡ false → Leads P R Done (bide_goes_on σ) → Leads R E Done (choose lets_energy_go stay (lead_up σ pick move))
       → Leads P Done Done (carry_out (ruling_of t) σ pick move)
   unfolding carry_out
   carry-with h a b = a ⊳ b
       ⊳ choose-tells _ stay-tells (damage_of-tells σ move move.effect)
-      ⊳ choose-tells _ stay-tells (choose-tells _ (late_effect-tells (ruling_of t) (ruling_of-tells t) σ move move.effect (λ e. (knows-else σ i (Either ids j m pp u) σ move h, e)) ⊳ stop-tells) stay-tells)
+      ⊳ choose-tells _ stay-tells (choose-tells _ (late_effect-tells (ruling_of t) (ruling_of-tells t) σ move move.effect (λ e. (knows-else σ i (Either ids j m pp u) σ move h, e))
+      (λ e. lulled-any σ i (Either ids j m pp u) (other σ) t.rules.sleep_clause) ⊳ stop-tells) stay-tells)
       ⊳ strike-tells (ruling_of t) (ruling_of-tells t) σ move
       (λ e. record { acts = acted-any σ i (Either ids j m pp u) σ move; plain = not-toxic move.number (ap (λ (x : Move). may_poison_by x.effect) (sym same) ∙ e) })
       (λ e. knows-else σ i (Either ids j m pp u) σ move h)
@@ -437,7 +442,8 @@ module _ (t : Terms) (z : Sizes) (pre : List Event) (σ : Side) (i : ℕ) (ids :
   lead-bides : bides move.effect ≡ true → Leads (λ p. K p × Fact (New σ pick move.number) p) O Done (lead_up σ pick move)
   unfolding lead_up
   lead-bides h = charge-kept ⊳ use-bides h
-      ⊳ rests-leads owes-done (choose-tells _ (early_effect-tells σ move move.effect (acted-any σ i (Owes ids j m pp u i move.number) σ move) ⊳ stop-tells) stay-tells)
+      ⊳ rests-leads owes-done (choose-tells _ (early_effect-tells σ move move.effect (acted-any σ i (Owes ids j m pp u i move.number) σ move)
+      (λ e. lulled-any σ i (Owes ids j m pp u i move.number) σ false) ⊳ stop-tells) stay-tells)
       ⊳ rests-leads owes-done (prelude-tells σ move)
 
   starts-told : (turns : ℕ) {S : Progress → Type 0} → bides move.effect ≡ true → Leads O E S (starts σ volatiles.Bide (with_bide turns))
@@ -612,7 +618,7 @@ module _ (t : Terms) {z : Sizes} {pre : List Event} (σ : Side) (i : ℕ) (G : A
       (given (λ p. move_taken_in s pick p.field) (carry_out (ruling_of t) s pick))
   unfolding given counting
   far-carries s a pick = record {
-    leads = λ p r k. (carry_out-tells (counting-outline σ i G) (ruling_of t) (ruling_of-tells t) s pick (move_taken_in s pick p.field) refl a).leads p r k;
+    leads = λ p r k. (carry_out-tells (counting-outline σ i G) (ruling_of t) (ruling_of-tells t) s pick (move_taken_in s pick p.field) refl a (λ u marked. tt)).leads p r k;
   }
 
   pub far-acts : (s : Side) → Against σ s → (pick : Pick) → Leads (Now (counting σ i G) z pre) (MayFall (counting σ i G) z pre) (MayFall (counting σ i G) z pre) (act (ruling_of t) s pick)

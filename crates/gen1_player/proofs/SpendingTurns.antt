@@ -53,8 +53,7 @@ use Rattle.gen1_machine.proofs.RunsEnd.{offered-is}
 use Rattle.gen1_machine.proofs.ValidSteps.{opened-sure}
 use Rattle.gen1_player.specs.Public.{hears_all, not_seen, not_used, public_side, seen_at}
 use Rattle.gen1_player.specs.True.{events_in, move_in, pp_in, public_of, rise, rises, UsesArePaid}
-use Rattle.gen1_player.proofs.ToldEnds.{close-done, first-done, Fresh, Waits}
-use Rattle.gen1_player.proofs.ToldRuns.{choice-fits, sizes_of}
+use Rattle.gen1_player.proofs.ToldEnds.{close-done, first-done, Fresh, Waits, choice-fits, sizes_of}
 use Rattle.gen1_player.proofs.Appearing.{face, no_face, Face}
 use Rattle.gen1_player.proofs.DeedStory.{deeding, Tale}
 use Rattle.gen1_player.proofs.DeedRuns.{asked-lives, faults-over, first-fits, first-ready, going-on, started-of, stays, step-deeds, Goes, Opens as Begins, Ready, Told}

@@ -1,10 +1,10 @@
 -- Stories: facts about a battle's field and the events that it wrote so far. Phases that keep a story true.
-use Rattle.std.proofs.Common.{[], Bool, List, None, Option, Some, ap, false, if◌then◌else◌, length, length-set, not, refl, subst, true, ℕ, ◌==◌, ◌+◌, ◌++◌, ◌-◌, ◌∙◌, ◌∷◌, ◌≡◌, ◌≤◌}
-use Rattle.std.proofs.lemmas.List.{append_assoc}
+use Rattle.std.proofs.Common.{[], Bool, List, None, Option, Some, ap, arith, false, if◌then◌else◌, length, length-set, refl, subst, true, ℕ, ◌==◌, ◌+◌, ◌++◌, ◌-◌, ◌∙◌, ◌∷◌, ◌≡◌, ◌≤◌}
+use Rattle.std.proofs.lemmas.List.{append_assoc, get_or-set_same}
 use Rattle.gen1_rolls.specs.Streams.{byte_at, span, first}
 use Rattle.gen1_stats.specs.declared.status.Status.{Status}
-use Rattle.gen1_stats.specs.declared.status.Status.TheVariants.{Healthy, Poisoned}
-use Rattle.gen1_stats.specs.Members.{Member}
+use Rattle.gen1_stats.specs.declared.status.Status.TheVariants.{Asleep, Healthy, Poisoned}
+use Rattle.gen1_stats.specs.Members.{is_asleep, nobody, Member}
 use Rattle.gen1_machine.specs.declared.side.Side.{Side}
 use Rattle.gen1_machine.specs.declared.side.Side.TheVariants.{One, Two}
 use Rattle.gen1_machine.specs.declared.terms.Outcome.TheVariants as outcomes
@@ -21,19 +21,23 @@ use Rattle.gen1_machine.specs.Sides.{other}
 use Rattle.gen1_machine.specs.Moves.{toxic, Move}
 use Rattle.gen1_tables.specs.Effects.{bides, recharges}
 use Rattle.gen1_machine.specs.Conditions.{with_bad_poison, with_bide, with_recharge, without_seed, ActiveConditions}
-use Rattle.gen1_machine.specs.State.{active_in, changed_active, changed_conditions, changed_member, fallen, has_fallen_in, healed_by, health_in, hurt_by, party, who_in, with_current_move, with_pp_spent, with_last_damage, with_outcome, with_status, with_types_of, Active, Field}
+use Rattle.gen1_machine.specs.State.{active_in, changed_active, changed_conditions, changed_member, fallen, has_fallen_in, healed_by, health_in, hurt_by, member_in, party, who_in, with_current_move, with_pp_spent, with_last_damage, with_outcome, with_status, with_types_of, Active, Field}
 use Rattle.gen1_machine.specs.CurrentStats.{with_penalty_of}
 use Rattle.gen1_machine.specs.Progress.{cure, stop, draw, draw_until, ends, fault, gain_hp, inflict, lasts, lose_hp, note, on_action, on_active, on_conditions, on_field, on_member, set_last_damage, starts, told, Action, Phase, Progress}
 use Rattle.gen1_machine.specs.SwitchingIn.{switch_event}
 use Rattle.gen1_machine.proofs.Showing.{keeps-active, keeps-member, BothOut}
 use Rattle.gen1_machine.proofs.Watching.{choose-tells, stay-tells, stop-leads, ◌⊳◌, Lands, Leads, Runs}
-use Rattle.gen1_player.proofs.Facts.{penalty-placid, still-is, Calm, Dull, Marks, Mild, Noise, Standing, Starts, Placid, Sparing, is_own_damage, is_poison, is_still, with_cleared, sent, Sizes}
+use Rattle.gen1_player.proofs.Facts.{penalty-placid, still-is, Calm, Dull, Marks, Mild, Noise, Standing, Starts, Placid, Restful, Sparing, IsAwake, is_own_damage, is_poison, is_sleep, is_still, restful-status, with_cleared, sent, Sizes}
 
 -- Stories
 
 -- A field in which the foe is poisoned badly, if the move is Toxic.
 abbrev pub sickened : Side → Move → Field → Field
 sickened s move f = if move.number == toxic then changed_conditions (other s) with_bad_poison f else f
+
+-- A field in which a member has fallen asleep.
+abbrev pub slept : Side → ℕ → Bool → Field → Field
+slept s turns marked f = changed_member s (with_status (Asleep turns marked)) f
 
 -- What a story says of a field after a list of events, and why each change and each event keeps it true. `loose` is what it says after
 -- a member fell without an event.
@@ -43,9 +47,12 @@ pub record Story : Type 1 where
   pub said : Side → Move → Type 0  -- that a side may use a move
   pub acted : Side → Move → Type 0  -- that it has used it
   pub knows : Side → Move → Type 0  -- that its active member may use it
+  pub lulled : Side → Bool → Type 0  -- that its active member falls asleep, with this mark
   pub loosen : (f : Field) (es : List Event) → exact f es → loose f es
   pub tighten : (f : Field) (es : List Event) → loose f es → has_fallen_in One f ≡ false → has_fallen_in Two f ≡ false → exact f es
-  pub member : (s : Side) (change : Member → Member) → Sparing change → (f : Field) (es : List Event) → exact f es → exact (changed_member s change f) es
+  pub member : (s : Side) (change : Member → Member) → Sparing change → Restful change → (f : Field) (es : List Event) → exact f es → exact (changed_member s change f) es
+  pub sleeps : (s : Side) (turns : ℕ) (marked : Bool) → lulled s marked → (f : Field) (es : List Event) → BothOut f → exact f es
+      → exact (slept s turns marked f) (es ++ events.Status (who_in s (slept s turns marked f)) kinds.Sleep ∷ [])
   pub active : (s : Side) (change : Active → Active) → Placid change → (f : Field) (es : List Event) → exact f es → exact (changed_active s change f) es
   pub conditions : (s : Side) (change : ActiveConditions → ActiveConditions) → Calm change → (f : Field) (es : List Event)
       → exact f es → exact (changed_conditions s change f) es
@@ -147,6 +154,17 @@ sickened-begun {n} s move f b = by (move.number == toxic)
     by true = begun-conditions (other s) with_bad_poison f b
     by false = b
 
+-- A changed member is found in its place.
+pub member-changed : (s : Side) (change : Member → Member) (f : Field) → BothOut f → member_in s (changed_member s change f) ≡ change (member_in s f)
+unfolding changed_member
+member-changed One change f o = let low = o.one.placed in let high = o.one.within in
+    get_or-set_same f.one.members (f.one.active.place - 1) (change (member_in One f)) nobody (omega (arith, low, high))
+member-changed Two change f o = let low = o.two.placed in let high = o.two.within in
+    get_or-set_same f.two.members (f.two.active.place - 1) (change (member_in Two f)) nobody (omega (arith, low, high))
+
+pub awake-after : (s : Side) (change : Member → Member) (f : Field) → BothOut f → is_asleep (change (member_in s f)).status ≡ false → IsAwake s (changed_member s change f)
+awake-after s change f o e = ap (λ (m : Member). is_asleep m.status) (member-changed s change f o) ∙ e
+
 abbrev pub place_of : Standing → ℕ
 place_of x = x.place
 
@@ -163,14 +181,24 @@ module _ {v : Story} {n : Sizes} {pre : List Event} where
       → Holds v n pre f es → Holds v n pre (changed_conditions s change f) es
   holds-conditions s change h f es m = record { begun = begun-conditions s change f m.begun; exact = v.conditions s change h f (pre ++ es) m.exact }
 
-  pub holds-member : (s : Side) (change : Member → Member) → Sparing change → (f : Field) (es : List Event) → Holds v n pre f es → Holds v n pre (changed_member s change f) es
-  holds-member s change h f es m = record { begun = begun-member s change f m.begun; exact = v.member s change h f (pre ++ es) m.exact }
+  pub holds-member : (s : Side) (change : Member → Member) → Sparing change → Restful change → (f : Field) (es : List Event)
+      → Holds v n pre f es → Holds v n pre (changed_member s change f) es
+  holds-member s change h r f es m = record { begun = begun-member s change f m.begun; exact = v.member s change h r f (pre ++ es) m.exact }
 
-  holds-health : (e : Event) (f : Field) → Dull f e → (es : List Event) → Holds v n pre f es → Holds v n pre f (es ++ e ∷ [])
+  pub holds-health : (e : Event) (f : Field) → Dull f e → (es : List Event) → Holds v n pre f es → Holds v n pre f (es ++ e ∷ [])
   holds-health e f h es m = record { begun = m.begun; exact = at_end v.exact f pre es e (v.noise e f h (pre ++ es) m.exact) }
 
   pub holds-noise : (e : Event) → is_still e ≡ true → (f : Field) (es : List Event) → Holds v n pre f es → Holds v n pre f (es ++ e ∷ [])
   holds-noise e h f es m = holds-health e f (still-is f e h) es m
+
+  pub holds-slept : (s : Side) (turns : ℕ) (marked : Bool) → v.lulled s marked → (f : Field) (es : List Event) → Holds v n pre f es
+      → Holds v n pre (slept s turns marked f) (es ++ events.Status (who_in s (slept s turns marked f)) kinds.Sleep ∷ [])
+  holds-slept s turns marked k f es m =
+      let g : Field = slept s turns marked f in
+      record {
+        begun = begun-member s (with_status (Asleep turns marked)) f m.begun;
+        exact = at_end v.exact g pre es (events.Status (who_in s g) kinds.Sleep) (v.sleeps s turns marked k f (pre ++ es) m.begun.both m.exact);
+      }
 
   pub may-active : (s : Side) (change : Active → Active) → Placid change → (f : Field) (es : List Event) → May v n pre f es → May v n pre (changed_active s change f) es
   may-active s change h f es m = record { begun = begun-active s change f (λ a. ap place_of (h a)) m.begun; loose = v.loose_active s change h f (pre ++ es) m.loose }
@@ -228,9 +256,9 @@ module _ {v : Story} {n : Sizes} {pre : List Event} {S : Progress → Type 0} wh
   unfolding on_conditions
   conditions-tells s change h = field-tells _ (holds-conditions s change h)
 
-  pub member-tells : (s : Side) (change : Member → Member) → Sparing change → Leads (Now v n pre) (Now v n pre) S (on_member s change)
+  pub member-tells : (s : Side) (change : Member → Member) → Sparing change → Restful change → Leads (Now v n pre) (Now v n pre) S (on_member s change)
   unfolding on_member
-  member-tells s change h = field-tells _ (holds-member s change h)
+  member-tells s change h r = field-tells _ (holds-member s change h r)
 
   pub damage-tells : (damage : ℕ) → Leads (Now v n pre) (Now v n pre) S (set_last_damage damage)
   unfolding set_last_damage with_last_damage
@@ -275,29 +303,30 @@ module _ {v : Story} {n : Sizes} {pre : List Event} {S : Progress → Type 0} wh
   unfolding lose_hp hurt_by
   lose-tells s source e amount = choose-tells _
       (told-tells (changed_member s (hurt_by amount)) (λ f. events.Damage (who_in s f) (health_in s f) source)
-      (λ f es m. holds-health _ (changed_member s (hurt_by amount) f) (refl, e) es (holds-member s (hurt_by amount) (λ m. refl) f es m))) stay-tells
+      (λ f es m. holds-health _ (changed_member s (hurt_by amount) f) (refl, e) es (holds-member s (hurt_by amount) (λ m. refl) (λ m e. (e, refl)) f es m))) stay-tells
 
   pub gain-tells : (s : Side) (amount : ℕ) → Leads (Now v n pre) (Now v n pre) S (gain_hp s amount)
   unfolding gain_hp healed_by
   gain-tells s amount = choose-tells _
       (told-tells (changed_member s (healed_by amount)) (λ f. events.Heal (who_in s f) (health_in s f))
-      (λ f es m. holds-health _ (changed_member s (healed_by amount) f) refl es (holds-member s (healed_by amount) (λ m. refl) f es m))) stay-tells
+      (λ f es m. holds-health _ (changed_member s (healed_by amount) f) refl es (holds-member s (healed_by amount) (λ m. refl) (λ m e. (e, refl)) f es m))) stay-tells
 
-  pub status-tells : (s : Side) (status : Status) (kind : Kind) → is_poison kind ≡ false
-      → Leads (Now v n pre) (Now v n pre) S (told (changed_member s (with_status status)) (λ f. events.Status (who_in s f) kind))
-  unfolding with_status
-  status-tells s status kind e = told-noise (changed_member s (with_status status)) (λ f. events.Status (who_in s f) kind) (holds-member s (with_status status) (λ m. refl)) (λ f. ap not e)
-
-  pub inflict-tells : (s : Side) (status : Status) (kind : Kind) → is_poison kind ≡ false → Leads (Now v n pre) (Now v n pre) S (inflict s status kind)
+  pub inflict-tells : (s : Side) (status : Status) (kind : Kind) → is_asleep status ≡ false → (is_poison kind ≡ false) × (is_sleep kind ≡ false)
+      → Leads (Now v n pre) (Now v n pre) S (inflict s status kind)
   unfolding inflict with_status
-  inflict-tells s status kind e = member-tells s (with_status status) (λ m. refl)
-      ⊳ told-noise (changed_active s (with_penalty_of status)) (λ f. events.Status (who_in s f) kind) (holds-active s (with_penalty_of status) (penalty-placid status)) (λ f. ap not e)
+  inflict-tells s status kind a e = member-tells s (with_status status) (λ m. refl) (restful-status status a)
+      ⊳ told-tells (changed_active s (with_penalty_of status)) (λ f. events.Status (who_in s f) kind)
+      (λ f es m. holds-health (events.Status _ kind) (changed_active s (with_penalty_of status) f) e es (holds-active s (with_penalty_of status) (penalty-placid status) f es m))
+
+  pub slept-told : (s : Side) (turns : ℕ) (marked : Bool) → v.lulled s marked
+      → Leads (Now v n pre) (Now v n pre) S (told (changed_member s (with_status (Asleep turns marked))) (λ f. events.Status (who_in s f) kinds.Sleep))
+  slept-told s turns marked k = told-tells (changed_member s (with_status (Asleep turns marked))) (λ f. events.Status (who_in s f) kinds.Sleep) (holds-slept s turns marked k)
 
   -- Poison by a move, before Toxic's is bad.
   pub poison-told : (s : Side) (move : Move) → v.acted s move
       → Leads (Now v n pre) (λ p. Holds v n pre (sickened s move p.field) p.events) S (inflict (other s) Poisoned kinds.Poison)
   unfolding inflict told with_status
-  poison-told s move a = member-tells (other s) (with_status Poisoned) (λ m. refl) ⊳ record {
+  poison-told s move a = member-tells (other s) (with_status Poisoned) (λ m. refl) (restful-status Poisoned refl) ⊳ record {
     leads = λ p r m.
         let change : Active → Active = with_penalty_of Poisoned in
         let f : Field = changed_active (other s) change p.field in
@@ -311,7 +340,9 @@ module _ {v : Story} {n : Sizes} {pre : List Event} {S : Progress → Type 0} wh
 
   pub cure-tells : (s : Side) (kind : Kind) → Leads (Now v n pre) (Now v n pre) S (cure s kind)
   unfolding cure with_status
-  cure-tells s kind = told-noise (changed_member s (with_status Healthy)) (λ f. events.Cure (who_in s f) kind) (holds-member s (with_status Healthy) (λ m. refl)) (λ f. refl)
+  cure-tells s kind = told-tells (changed_member s (with_status Healthy)) (λ f. events.Cure (who_in s f) kind) (λ f es m.
+      holds-health (events.Cure _ kind) (changed_member s (with_status Healthy) f) (awake-after s (with_status Healthy) f m.begun.both refl) es
+      (holds-member s (with_status Healthy) (λ m. refl) (restful-status Healthy refl) f es m))
 
   pub fault-step : (k : ℕ) → Leads (Now v n pre) (Now v n pre) S (on_field (with_outcome (outcomes.Fault k)))
   unfolding with_outcome
@@ -367,4 +398,4 @@ module _ {v : Story} {n : Sizes} {pre : List Event} (o : Outline v) where
   unfolding lose_hp hurt_by
   any-loses s source amount = choose-tells _
       (told-tells (changed_member s (hurt_by amount)) (λ f. events.Damage (who_in s f) (health_in s f) source)
-      (λ f es m. holds-any _ (changed_member s (hurt_by amount) f) refl es (holds-member s (hurt_by amount) (λ m. refl) f es m))) stay-tells
+      (λ f es m. holds-any _ (changed_member s (hurt_by amount) f) refl es (holds-member s (hurt_by amount) (λ m. refl) (λ m e. (e, refl)) f es m))) stay-tells

@@ -36,7 +36,7 @@ use Rattle.std.proofs.Math.Seq.{map-set_same}
 use Rattle.gen1_player.proofs.Facts.{storing-calm, Sizes, Tame, traits}
 use Rattle.gen1_player.proofs.Stories.{mild-tells, takes-tells, Outline, Story, May, Now, MayFall, Tells, at_end, begun-conditions, begun-member, may-active, loosened, draw-tells, until-tells, stop-tells, fault-tells, action-tells, active-tells, conditions-tells, pays-tells, damage-tells, note-tells, starts-tells, ends-tells, lasts-tells, lose-tells, gain-tells}
 use Rattle.gen1_player.proofs.ToldGate.{missed-tells, cant-tells, gate-tells, land-tells, hit_or_miss-tells, note_miss-tells}
-use Rattle.gen1_player.proofs.ToldEffects.{may_poison_by, not-toxic, IsDue, Poisons, RulingTells, now-due, due-field, raise-tells, raise-falls, confuse-tells, early_effect-tells, late_effect-tells, side_effect-tells}
+use Rattle.gen1_player.proofs.ToldEffects.{heals, may_poison_by, not-toxic, IsDue, Poisons, RulingTells, now-due, due-field, raise-tells, raise-falls, confuse-tells, early_effect-tells, late_effect-tells, side_effect-tells}
 
 -- An explosion makes one hit.
 one-explosion : (e : Effect) → explodes e ≡ true → hits_more e ≡ false
@@ -422,28 +422,28 @@ module _ {v : Story} {z : Sizes} {pre : List Event} where
           ⊳ choose-tells _ stay-tells (side_effect-falls r s move move.effect e)
 
 module _ {v : Story} {z : Sizes} {pre : List Event} (o : Outline v) where
-  pub lead_up-tells : (s : Side) (pick : Pick) (move : Move) → v.said s move → Tells v z pre (lead_up s pick move)
+  pub lead_up-tells : (s : Side) (pick : Pick) (move : Move) → v.said s move → (heals move.effect ≡ true → v.lulled s false) → Tells v z pre (lead_up s pick move)
   unfolding lead_up seeing
-  lead_up-tells s pick move k = charge-tells o s pick move k ⊳ use_move-tells o s pick move k
-      ⊳ choose-tells _ (early_effect-tells s move move.effect (o.acts s move) ⊳ stop-tells) stay-tells
+  lead_up-tells s pick move k l = charge-tells o s pick move k ⊳ use_move-tells o s pick move k
+      ⊳ choose-tells _ (early_effect-tells s move move.effect (o.acts s move) l ⊳ stop-tells) stay-tells
       ⊳ prelude-tells s move
 
   -- An action
 
   pub carry_out-tells : (r : Ruling) → RulingTells v z pre r → (s : Side) (pick : Pick) (move : Move) → move.effect ≡ (move_at move.number).effect → v.said s move
-      → Leads (Now v z pre) (MayFall v z pre) (MayFall v z pre) (carry_out r s pick move)
+      → ((u : Side) (marked : Bool) → v.lulled u marked) → Leads (Now v z pre) (MayFall v z pre) (MayFall v z pre) (carry_out r s pick move)
   unfolding carry_out
-  carry_out-tells r h s pick move same k = bide_goes_on-tells o s
-      ⊳ choose-tells _ stay-tells (lead_up-tells s pick move k)
+  carry_out-tells r h s pick move same k l = bide_goes_on-tells o s
+      ⊳ choose-tells _ stay-tells (lead_up-tells s pick move k (λ e. l s false))
       ⊳ choose-tells _ stay-tells (damage_of-tells s move move.effect)
-      ⊳ choose-tells _ stay-tells (choose-tells _ (late_effect-tells r h s move move.effect (λ e. (o.knows s move k, e)) ⊳ stop-tells) stay-tells)
+      ⊳ choose-tells _ stay-tells (choose-tells _ (late_effect-tells r h s move move.effect (λ e. (o.knows s move k, e)) (λ e. l (other s) h.marked) ⊳ stop-tells) stay-tells)
       ⊳ strike-tells r h s move
       (λ e. record { acts = o.acts s move; plain = not-toxic move.number (ap may_poison_by (sym same) ∙ e) }) (λ e. o.knows s move k)
 
-  pub says-any : ((s : Side) (move : Move) → v.said s move) → (r : Ruling) → RulingTells v z pre r → Says v z pre r
+  pub says-any : ((s : Side) (move : Move) → v.said s move) → ((u : Side) (marked : Bool) → v.lulled u marked) → (r : Ruling) → RulingTells v z pre r → Says v z pre r
   unfolding given
-  says-any k r h s pick = record {
-    leads = λ p i m. let move : Move = move_taken_in s pick p.field in (carry_out-tells r h s pick move refl (k s move)).leads p i m;
+  says-any k l r h s pick = record {
+    leads = λ p i m. let move : Move = move_taken_in s pick p.field in (carry_out-tells r h s pick move refl (k s move) l).leads p i m;
   }
 
   parts-tells : (r : Ruling) → RulingTells v z pre r → Says v z pre r → (s : Side) (pick : Pick) → Leads (Now v z pre) (MayFall v z pre) (MayFall v z pre) (action_parts r s pick)

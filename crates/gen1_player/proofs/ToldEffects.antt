@@ -7,6 +7,7 @@ use Rattle.gen1_tables.specs.declared.effect.Stat.{Stat}
 use Rattle.gen1_tables.specs.declared.effect.Stat.TheVariants.{Attack, Speed}
 use Rattle.gen1_tables.specs.declared.effect.Effect.{Effect}
 use Rattle.gen1_tables.specs.declared.effect.Effect.TheVariants as effects
+use Rattle.gen1_rolls.specs.Streams.{low_bits}
 use Rattle.gen1_stats.specs.declared.known_move.KnownMove.{KnownMove}
 use Rattle.gen1_stats.specs.declared.status.Status.{Status}
 use Rattle.gen1_stats.specs.declared.status.Status.TheVariants.{Asleep}
@@ -22,7 +23,7 @@ use Rattle.gen1_machine.specs.Conditions.{with_bad_poison, with_recharge, after_
 use Rattle.gen1_machine.specs.Moves.{move_at, toxic, Move}
 use Rattle.gen1_machine.specs.State.{active_in, who_in, kind_of, changed_active, changed_conditions, with_types_of, Active, Field, Terms}
 use Rattle.gen1_machine.specs.CurrentStats.{at_new_stage, recomputed_at, with_penalty_of}
-use Rattle.gen1_machine.specs.Progress.{choose, Phase, active, note, on_active, on_conditions, on_field, stay, told, Progress}
+use Rattle.gen1_machine.specs.Progress.{choose, Phase, active, inflict, note, on_active, on_conditions, on_field, on_member, stay, told, Progress}
 use Rattle.gen1_machine.specs.StageShift.{note_boost, note_unboost, take_penalty_again, shift_to, raise_from, lower_from, raise_stage, lower_stage}
 use Rattle.gen1_machine.specs.Ruling.{is_sleep_count, sleep_for, fall_asleep, sleep_freely, freeze_freely, sleep_only_one, freeze_only_one, sleeps_under, freezes_under, ruling_of, Ruling}
 use Rattle.gen1_machine.specs.EarlyEffects.{confused_by, confuse, confuse_foe, take_types, convert, set_mist, set_focus_energy, set_light_screen, set_reflect, set_screen, with_levelled_stats, clear_side, cure_kind, set_skips, haze_cures, haze, rest_up, recover, heal, poison_foe, paralyse_foe, seed_foe, pay_for_substitute, make_substitute, splash, early_effect}
@@ -30,11 +31,13 @@ use Rattle.gen1_machine.specs.LateEffects.{ready_to_sleep, put_to_sleep, lower_f
 use Rattle.gen1_machine.specs.SideEffects.{happens_below, by_chance, thaw, may_inflict, may_poison, may_confuse, flinch, kept_away_effect, names_slot, disable_for, disable_slot, disable, must_recharge, side_effect}
 use Rattle.gen1_machine.proofs.Watching.{seeing, Runs, Leads, after-leads, before-leads, ◌⊳◌, choose-tells, if-sees, given-tells, given-sees, stay-tells}
 use Rattle.gen1_player.proofs.Facts.{penalty-placid, is_still, with_cleared, Placid, Sizes}
-use Rattle.gen1_player.proofs.Stories.{Begun, Story, Holds, Now, MayFall, Tells, at_end, begun-active, begun-conditions, may-active, may-noise, draw-tells, until-tells, told-tells, note-tells, active-tells, conditions-tells, starts-tells, stores-tells, lose-tells, gain-tells, status-tells, inflict-tells, cure-tells, poison-told, sickened}
+use Rattle.gen1_player.proofs.Stories.{Begun, Story, Holds, Now, MayFall, Tells, at_end, begun-active, begun-conditions, may-active, may-noise, draw-tells, until-tells, told-tells, note-tells, active-tells, conditions-tells, starts-tells, stores-tells, lose-tells, gain-tells, inflict-tells, cure-tells, holds-slept, poison-told, sickened, slept, slept-told}
 use Rattle.gen1_player.proofs.ToldGate.{fail-tells, fails_if-tells, must_hit-tells}
 
+-- A sleep move puts the mark on its foe, or not.
 pub record RulingTells (v : Story) (n : Sizes) (pre : List Event) (r : Ruling) : Type 0 where
-  pub sleeps : (s : Side) → Tells v n pre (r.sleeps s)
+  pub marked : Bool
+  pub sleeps : (s : Side) → v.lulled (other s) marked → Tells v n pre (r.sleeps s)
   pub freezes : (s : Side) → Tells v n pre (r.freezes s)
 
 -- Effects that may poison in addition to damage. Toxic has none of them.
@@ -43,6 +46,14 @@ abbrev pub may_poison_by : Effect → Bool
 may_poison_by (effects.PoisonChance n) = true
 may_poison_by effects.Twineedle = true
 may_poison_by _ = false
+
+abbrev pub lulls : Effect → Bool
+lulls effects.InflictSleep = true
+lulls _ = false
+
+abbrev pub heals : Effect → Bool
+heals effects.Heal = true
+heals _ = false
 
 pub record Poisons (v : Story) (s : Side) (move : Move) : Type 0 where
   pub acts : v.acted s move
@@ -125,6 +136,12 @@ pub record Due (v : Story) (n : Sizes) (pre : List Event) (change : Field → Fi
 abbrev pub IsDue : Story → Sizes → List Event → (Field → Field) → Progress → Type 0
 IsDue v n pre change p = Due v n pre change p.field p.events
 
+-- Sleep has no penalty.
+pub unpenalised : (s : Side) (turns : ℕ) (marked : Bool) (f : Field) → changed_active s (with_penalty_of (Asleep turns marked)) f ≡ f
+unfolding changed_active with_penalty_of
+unpenalised One turns marked f = refl
+unpenalised Two turns marked f = refl
+
 cleared-begun : {n : Sizes} (s : Side) (f : Field) → Begun n f → Begun n (with_cleared s f)
 unfolding with_levelled_stats
 cleared-begun s f b = begun-conditions s after_haze (changed_active s with_levelled_stats f) (begun-active s with_levelled_stats f (λ a. refl) b)
@@ -191,30 +208,39 @@ module _ {v : Story} {n : Sizes} {pre : List Event} where
 module _ {v : Story} {n : Sizes} {pre : List Event} where
   -- The rulings
 
-  pub sleep_for-tells : (marked : Bool) (s : Side) (b : ℕ) → Tells v n pre (sleep_for marked s b)
-  unfolding sleep_for seeing
-  sleep_for-tells marked s b = inflict-tells s _ _ refl
+  slept-due : {S : Progress → Type 0} (s : Side) (turns : ℕ) (marked : Bool) → v.lulled s marked
+      → Leads (IsDue v n pre (slept s turns marked)) (Now v n pre) S (told (changed_active s (with_penalty_of (Asleep turns marked))) (λ f. events.Status (who_in s f) kinds.Sleep))
+  unfolding told
+  slept-due s turns marked k = record {
+    leads = λ p r m.
+        Runs r (subst (λ (f : Field). Holds v n pre f (p.events ++ events.Status (who_in s f) kinds.Sleep ∷ [])) (sym (unpenalised s turns marked p.field ∙ m.now))
+        (holds-slept s turns marked k m.before p.events m.held));
+  }
 
-  pub fall_asleep-tells : (marked : Bool) (s : Side) → Tells v n pre (fall_asleep marked s)
+  pub sleep_for-tells : (marked : Bool) (s : Side) (b : ℕ) → v.lulled s marked → Tells v n pre (sleep_for marked s b)
+  unfolding sleep_for inflict on_member
+  sleep_for-tells marked s b k = before-leads now-due (due-field (slept s (low_bits 3 b) marked) (λ f. f)) ⊳ slept-due s (low_bits 3 b) marked k
+
+  pub fall_asleep-tells : (marked : Bool) (s : Side) → v.lulled s marked → Tells v n pre (fall_asleep marked s)
   unfolding fall_asleep seeing
-  fall_asleep-tells marked s = until-tells is_sleep_count (sleep_for-tells marked s)
+  fall_asleep-tells marked s k = until-tells is_sleep_count (λ b. sleep_for-tells marked s b k)
 
-  sleeps_under-tells : (clause : Bool) (s : Side) → Tells v n pre (sleeps_under clause s)
+  pub sleeps_under-tells : (clause : Bool) (s : Side) → v.lulled (other s) clause → Tells v n pre (sleeps_under clause s)
   unfolding sleeps_under sleep_only_one sleep_freely seeing
-  sleeps_under-tells true s = fails_if-tells s _ ⊳ fall_asleep-tells true (other s)
-  sleeps_under-tells false s = fall_asleep-tells false (other s)
+  sleeps_under-tells true s k = fails_if-tells s _ ⊳ fall_asleep-tells true (other s) k
+  sleeps_under-tells false s k = fall_asleep-tells false (other s) k
 
   freeze_freely-tells : (s : Side) → Tells v n pre (freeze_freely s)
   unfolding freeze_freely seeing
-  freeze_freely-tells s = conditions-tells (other s) _ (λ c. refl) ⊳ inflict-tells (other s) _ _ refl
+  freeze_freely-tells s = conditions-tells (other s) _ (λ c. refl) ⊳ inflict-tells (other s) _ _ refl (refl, refl)
 
-  freezes_under-tells : (clause : Bool) (s : Side) → Tells v n pre (freezes_under clause s)
+  pub freezes_under-tells : (clause : Bool) (s : Side) → Tells v n pre (freezes_under clause s)
   unfolding freezes_under freeze_only_one seeing
   freezes_under-tells true s = choose-tells _ stay-tells (freeze_freely-tells s)
   freezes_under-tells false s = freeze_freely-tells s
 
-  pub ruling_of-tells : (t : Terms) → RulingTells v n pre (ruling_of t)
-  ruling_of-tells t = record { sleeps = sleeps_under-tells t.rules.sleep_clause; freezes = freezes_under-tells t.rules.freeze_clause }
+  abbrev pub ruling_of-tells : (t : Terms) → RulingTells v n pre (ruling_of t)
+  ruling_of-tells t = record { marked = t.rules.sleep_clause; sleeps = sleeps_under-tells t.rules.sleep_clause; freezes = freezes_under-tells t.rules.freeze_clause }
 
   -- Before damage
 
@@ -280,17 +306,17 @@ module _ {v : Story} {n : Sizes} {pre : List Event} where
   unfolding haze seeing
   haze-tells s = before-leads now-due (clear_side-tells One (λ f. f)) ⊳ clear_side-tells Two (with_cleared One) ⊳ clears-told ⊳ given-tells _ (haze_cures-tells (other s))
 
-  pub rest_up-tells : (s : Side) → Tells v n pre (rest_up s)
+  pub rest_up-tells : (s : Side) → v.lulled s false → Tells v n pre (rest_up s)
   unfolding rest_up seeing
-  rest_up-tells s = status-tells s (Asleep 2 false) kinds.Sleep refl ⊳ given-tells _ (λ m. gain-tells s _)
+  rest_up-tells s k = slept-told s 2 false k ⊳ given-tells _ (λ m. gain-tells s _)
 
   pub recover-tells : (s : Side) → Tells v n pre (recover s)
   unfolding recover seeing
   recover-tells s = given-tells _ (λ m. gain-tells s _)
 
-  pub heal-tells : (s : Side) (move : Move) → Tells v n pre (heal s move)
+  pub heal-tells : (s : Side) (move : Move) → v.lulled s false → Tells v n pre (heal s move)
   unfolding heal seeing
-  heal-tells s move = fails_if-tells s _ ⊳ choose-tells _ (rest_up-tells s) (recover-tells s)
+  heal-tells s move k = fails_if-tells s _ ⊳ choose-tells _ (rest_up-tells s k) (recover-tells s)
 
   -- Toxic's poison is bad.
   bad-told : (s : Side) (move : Move) → Leads (λ p. Holds v n pre (sickened s move p.field) p.events) (Now v n pre) (MayFall v n pre)
@@ -307,7 +333,7 @@ module _ {v : Story} {n : Sizes} {pre : List Event} where
 
   pub paralyse-tells : (s : Side) (move : Move) → Tells v n pre (paralyse_foe s move)
   unfolding paralyse_foe seeing
-  paralyse-tells s move = fails_if-tells s _ ⊳ fails_if-tells s _ ⊳ must_hit-tells s move ⊳ inflict-tells (other s) _ _ refl
+  paralyse-tells s move = fails_if-tells s _ ⊳ fails_if-tells s _ ⊳ must_hit-tells s move ⊳ inflict-tells (other s) _ _ refl (refl, refl)
 
   pub seed-tells : (s : Side) (move : Move) → Tells v n pre (seed_foe s move)
   unfolding seed_foe seeing
@@ -325,21 +351,21 @@ module _ {v : Story} {n : Sizes} {pre : List Event} where
   unfolding splash seeing
   splash-tells s = note-tells _ (λ f. refl)
 
-  pub early_effect-tells : (s : Side) (move : Move) (e : Effect) → v.acted s move → Tells v n pre (early_effect s move e)
+  pub early_effect-tells : (s : Side) (move : Move) (e : Effect) → v.acted s move → (heals e ≡ true → v.lulled s false) → Tells v n pre (early_effect s move e)
   unfolding early_effect seeing
-  early_effect-tells s move effects.Conversion a = convert-tells s
-  early_effect-tells s move effects.Mist a = mist-tells s
-  early_effect-tells s move effects.FocusEnergy a = focus_energy-tells s
-  early_effect-tells s move effects.Screen a = screen-tells s move
-  early_effect-tells s move effects.Haze a = haze-tells s
-  early_effect-tells s move effects.InflictConfusion a = confuse_foe-tells s move
-  early_effect-tells s move effects.Heal a = heal-tells s move
-  early_effect-tells s move effects.InflictPoison a = poison-tells s move a
-  early_effect-tells s move effects.InflictParalysis a = paralyse-tells s move
-  early_effect-tells s move effects.LeechSeed a = seed-tells s move
-  early_effect-tells s move effects.Substitute a = make_substitute-tells s
-  early_effect-tells s move effects.Splash a = splash-tells s
-  early_effect-tells s move _ a = fail-tells s
+  early_effect-tells s move effects.Conversion a k = convert-tells s
+  early_effect-tells s move effects.Mist a k = mist-tells s
+  early_effect-tells s move effects.FocusEnergy a k = focus_energy-tells s
+  early_effect-tells s move effects.Screen a k = screen-tells s move
+  early_effect-tells s move effects.Haze a k = haze-tells s
+  early_effect-tells s move effects.InflictConfusion a k = confuse_foe-tells s move
+  early_effect-tells s move effects.Heal a k = heal-tells s move (k refl)
+  early_effect-tells s move effects.InflictPoison a k = poison-tells s move a
+  early_effect-tells s move effects.InflictParalysis a k = paralyse-tells s move
+  early_effect-tells s move effects.LeechSeed a k = seed-tells s move
+  early_effect-tells s move effects.Substitute a k = make_substitute-tells s
+  early_effect-tells s move effects.Splash a k = splash-tells s
+  early_effect-tells s move _ a k = fail-tells s
 
   -- After the damage step
 
@@ -347,9 +373,9 @@ module _ {v : Story} {n : Sizes} {pre : List Event} where
   unfolding ready_to_sleep seeing
   ready_to_sleep-tells s move = choose-tells _ (conditions-tells (other s) _ (λ c. refl)) (fails_if-tells s _ ⊳ must_hit-tells s move)
 
-  pub put_to_sleep-tells : (r : Ruling) → RulingTells v n pre r → (s : Side) (move : Move) → Tells v n pre (put_to_sleep r s move)
+  pub put_to_sleep-tells : (r : Ruling) (h : RulingTells v n pre r) (s : Side) (move : Move) → v.lulled (other s) h.marked → Tells v n pre (put_to_sleep r s move)
   unfolding put_to_sleep seeing
-  put_to_sleep-tells r h s move = ready_to_sleep-tells s move ⊳ h.sleeps s
+  put_to_sleep-tells r h s move k = ready_to_sleep-tells s move ⊳ h.sleeps s k
 
   pub lower_foes-tells : (s : Side) (move : Move) (stat : Stat) (by : ℕ) → Tells v n pre (lower_foes_stat s move stat by)
   unfolding lower_foes_stat seeing
@@ -363,14 +389,14 @@ module _ {v : Story} {n : Sizes} {pre : List Event} where
   unfolding start_bide seeing
   bide-tells s move k e = draw-tells (bide_for-tells s move k e)
 
-  pub late_effect-tells : (r : Ruling) → RulingTells v n pre r → (s : Side) (move : Move) (e : Effect) → (bides e ≡ true → v.knows s move × (bides move.effect ≡ true))
-      → Tells v n pre (late_effect r s move e)
+  pub late_effect-tells : (r : Ruling) (h : RulingTells v n pre r) (s : Side) (move : Move) (e : Effect) → (bides e ≡ true → v.knows s move × (bides move.effect ≡ true))
+      → (lulls e ≡ true → v.lulled (other s) h.marked) → Tells v n pre (late_effect r s move e)
   unfolding late_effect seeing
-  late_effect-tells r h s move (effects.StatUp stat by) k = raise-tells s s stat by (fail-tells s)
-  late_effect-tells r h s move (effects.StatDown stat by) k = lower_foes-tells s move stat by
-  late_effect-tells r h s move effects.InflictSleep k = put_to_sleep-tells r h s move
-  late_effect-tells r h s move effects.Bide k = let known = k refl in bide-tells s move known.0 known.1
-  late_effect-tells r h s move _ k = stay-tells
+  late_effect-tells r h s move (effects.StatUp stat by) k l = raise-tells s s stat by (fail-tells s)
+  late_effect-tells r h s move (effects.StatDown stat by) k l = lower_foes-tells s move stat by
+  late_effect-tells r h s move effects.InflictSleep k l = put_to_sleep-tells r h s move (l refl)
+  late_effect-tells r h s move effects.Bide k l = let known = k refl in bide-tells s move known.0 known.1
+  late_effect-tells r h s move _ k l = stay-tells
 
   -- Side effects
 
@@ -408,9 +434,9 @@ module _ {v : Story} {n : Sizes} {pre : List Event} where
   unfolding kept_away_effect seeing
   kept_away-tells r h s move (effects.PoisonChance n) a = let k = a refl in may_poison-tells s move k.acts k.plain n
   kept_away-tells r h s move effects.Twineedle a = let k = a refl in may_poison-tells s move k.acts k.plain 52
-  kept_away-tells r h s move (effects.BurnChance n) a = may_inflict-tells s move n (inflict-tells (other s) _ _ refl)
+  kept_away-tells r h s move (effects.BurnChance n) a = may_inflict-tells s move n (inflict-tells (other s) _ _ refl (refl, refl))
   kept_away-tells r h s move effects.FreezeChance a = may_inflict-tells s move 26 (h.freezes s)
-  kept_away-tells r h s move (effects.ParalysisChance n) a = may_inflict-tells s move n (inflict-tells (other s) _ _ refl)
+  kept_away-tells r h s move (effects.ParalysisChance n) a = may_inflict-tells s move n (inflict-tells (other s) _ _ refl (refl, refl))
   kept_away-tells r h s move (effects.FlinchChance n) a = by_chance-tells n (flinches-tells (other s))
   kept_away-tells r h s move (effects.StatDownChance stat) a = by_chance-tells 85 (lower-tells s (other s) stat 1 stay-tells)
   kept_away-tells r h s move _ a = stay-tells

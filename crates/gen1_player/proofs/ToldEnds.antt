@@ -1,26 +1,36 @@
--- A story stays true through the end of an update, and through a whole update.
-use Rattle.std.proofs.Common.{[], Bool, List, ap, arith, false, length, refl, subst, sym, true, true≢false, ◌++◌, ◌∙◌, ◌∷◌, ◌≡◌, ◌≤◌, ◌||◌}
+-- A story stays true through the end of an update, through a whole update, and through a run of a battle.
+use Rattle.std.proofs.Common.{[], Bool, List, ap, arith, false, length, refl, subst, sym, true, true≢false, ◌++◌, ◌∙◌, ◌∷◌, ◌≡◌, ◌≤◌, ◌||◌, flat_map, if◌then◌else◌, ℕ, ◌⊎◌, inl, inr}
 use Rattle.gen1_machine.specs.declared.side.Side.{Side}
 use Rattle.gen1_machine.specs.declared.side.Side.TheVariants.{One, Two}
 use Rattle.gen1_machine.specs.declared.terms.Outcome.{Outcome}
-use Rattle.gen1_machine.specs.declared.terms.Outcome.TheVariants as outcomes
 use Rattle.gen1_machine.specs.declared.terms.Request.{Request}
-use Rattle.gen1_machine.specs.declared.terms.Request.TheVariants as requests
 use Rattle.gen1_machine.specs.declared.event.Event.{Event}
-use Rattle.gen1_machine.specs.declared.event.Event.TheVariants as events
 use Rattle.gen1_machine.specs.declared.choice.Choice.{Choice}
 use Rattle.gen1_machine.specs.Sides.{other}
-use Rattle.gen1_machine.specs.State.{who_in, changed_member, with_outcome, with_requests, with_next_turn, fallen, Field, Party}
+use Rattle.gen1_machine.specs.State.{who_in, changed_member, with_outcome, with_requests, with_next_turn, fallen, Field, Party, first_state, is_over, request_of, underway_in, State, Terms}
 use Rattle.gen1_machine.specs.Progress.{on_field, note, told, has_fallen, Progress}
-use Rattle.gen1_machine.specs.Ruling.{Ruling}
+use Rattle.gen1_machine.specs.Ruling.{Ruling, ruling_of}
 use Rattle.gen1_machine.specs.Falls.{faint_if_fallen, faint_in_order, the_fallen_faint, ask_nothing, battle_ends, end_if_decided, switch_if, ask_for_switches, ask_for_moves, settle, close}
 use Rattle.gen1_machine.specs.SwitchingIn.{send_out, start, switch_event}
-use Rattle.gen1_machine.specs.Step.{update_for, close_update, update}
-use Rattle.gen1_machine.proofs.Showing.{IsOut}
+use Rattle.gen1_machine.specs.Step.{update_for, close_update, update, answered, events_of, is_among, offers, opened, run, run_by, step, step_by, Stepped}
+use Rattle.gen1_machine.proofs.Showing.{BothOut, IsOut}
 use Rattle.gen1_machine.proofs.Watching.{Runs, Rests, Lands, Leads, after-leads, before-leads, ◌⊳◌, choose-tells, choose-sees, given-tells, stay-tells, stop-leads}
-use Rattle.gen1_player.proofs.Facts.{is_still, Sizes, sent, Fits}
-use Rattle.gen1_player.proofs.Stories.{Story, Switching, Sized, Begun, Holds, May, Now, MayFall, at_end, begun-member, holds-noise, may-noise, loosened}
+use Rattle.gen1_player.proofs.Facts.{Fits, IsAwake, Sizes, is_still, sent}
+use Rattle.gen1_player.proofs.Stories.{Begun, Holds, May, MayFall, Now, Sized, Story, Switching, at_end, awake-after, begun-member, holds-noise, loosened, may-noise}
 use Rattle.gen1_player.proofs.ToldTurns.{send_out-at, Goes, ChoiceFits, or-left, or-right, other-out-two, out-one, out-two, sent-sized, send_out-falls, tightened, turn-tells, replace-falls}
+use Rattle.std.proofs.lemmas.Bool.{false≢true}
+use Rattle.std.proofs.lemmas.List.{append-nil, append_assoc}
+use Rattle.gen1_machine.specs.OfferedChoices.{is_committed, moves_offered, offered, offered_for, switches_offered}
+use Rattle.gen1_stats.specs.Members.{IsTeam, Member}
+use Rattle.gen1_machine.proofs.Promised.{among-append, offered-moves}
+use Rattle.gen1_machine.specs.declared.picks.Pick.{Pick}
+use Rattle.gen1_machine.specs.Action.{act}
+use Rattle.gen1_machine.proofs.Runs.{terms_stay}
+use Rattle.gen1_machine.proofs.Fitting.{offered-place}
+use Rattle.gen1_machine.specs.declared.terms.Outcome.TheVariants as outcomes
+use Rattle.gen1_machine.specs.declared.terms.Request.TheVariants as requests
+use Rattle.gen1_machine.specs.declared.event.Event.TheVariants as events
+use Rattle.gen1_machine.specs.declared.choice.Choice.TheVariants as choices
 
 -- After an update a story may be behind by a fall, but not before the next turn.
 pub record Waits (v : Story) (n : Sizes) (pre : List Event) (f : Field) (es : List Event) : Type 0 where
@@ -61,6 +71,10 @@ first-fits : {n : Sizes} (f : Field) → Begun n f → (s : Side) → Fits n s 1
 first-fits f b One = let e = b.sized.one in (omega arith, omega (arith, e, b.both.one.placed, b.both.one.within))
 first-fits f b Two = let e = b.sized.two in (omega arith, omega (arith, e, b.both.two.placed, b.both.two.within))
 
+fallen-awake : (s : Side) (f : Field) → BothOut f → IsAwake s (changed_member s fallen f)
+unfolding fallen
+fallen-awake s f o = awake-after s fallen f o refl
+
 module _ {v : Story} {n : Sizes} {pre : List Event} where
   may-apart : (f g : Field) (es : List Event) → f.one ≡ g.one → f.two ≡ g.two → May v n pre f es → May v n pre g es
   may-apart f g es one two m = record { begun = same-begun f g one two m.begun; loose = v.loose_apart f g (pre ++ es) one two m.loose }
@@ -80,7 +94,10 @@ module _ {v : Story} {n : Sizes} {pre : List Event} where
   unfolding faint_if_fallen told
   faint-falls s = choose-tells _ (record {
     leads = λ p r m.
-        Runs r (may-noise (events.Faint (who_in s (changed_member s fallen p.field))) refl (changed_member s fallen p.field) p.events (fallen-may s p.field p.events m));
+        let g : Field = changed_member s fallen p.field in
+        let event : Event = events.Faint (who_in s g) in
+        let w = fallen-may s p.field p.events m in
+        Runs r (record { begun = w.begun; loose = at_end v.loose g pre p.events event (v.loose_noise event g (fallen-awake s p.field m.begun.both) (pre ++ p.events) w.loose) });
   }) stay-tells
 
   faints-fall : {S : Progress → Type 0} → Leads (MayFall v n pre) (MayFall v n pre) S the_fallen_faint
@@ -252,3 +269,104 @@ module _ {v : Story} {n : Sizes} {pre : List Event} where
       subst (λ (x : Progress). IsWaiting v n pre (close_update r x))
       (sym (ap (λ (x : Request). update_for r x p.field.request_two one two p) a ∙ ap (λ (x : Request). update_for r requests.Pass x one two p) b))
       (close-done r q (fallen-or-not q ((begins-tells w c d).leads p i m)))
+
+-- Runs
+
+-- An offered choice names a place that holds a member
+
+place-fits : (n : Sizes) (s : Side) (f : Field) (place : ℕ) → Sized n f → is_among (choices.Switch place) (switches_offered s f) ≡ true → Fits n s place
+place-fits n One f place z h = let b = offered-place One place f h in let e = z.one in (b.0, omega (arith, b.1, e))
+place-fits n Two f place z h = let b = offered-place Two place f h in let e = z.two in (b.0, omega (arith, b.1, e))
+
+switch-fits : (n : Sizes) (s : Side) (f : Field) (place : ℕ) (request : Request) → Sized n f → is_among (choices.Switch place) (offered_for request s f) ≡ true → Fits n s place
+switch-fits n s f place requests.Pass z h = absurd (false≢true h)
+switch-fits n s f place requests.Switch z h = place-fits n s f place z h
+switch-fits n s f place requests.Move z h = by (is_committed (underway_in s f)) h
+  where
+    among : (is_among (choices.Switch place) (moves_offered s f) ≡ true) ⊎ (is_among (choices.Switch place) (switches_offered s f) ≡ true) → Fits n s place
+    among (inl e) = absurd (false≢true (sym (offered-moves s f place) ∙ e))
+    among (inr e) = place-fits n s f place z e
+
+    by : (b : Bool) → is_among (choices.Switch place) (if b then choices.Move 0 ∷ [] else moves_offered s f ++ switches_offered s f) ≡ true → Fits n s place
+    by true e = absurd (false≢true e)
+    by false e = among (among-append (choices.Switch place) (moves_offered s f) (switches_offered s f) e)
+
+offered-fits : (n : Sizes) (s : Side) (f : Field) (place : ℕ) → Sized n f → is_among (choices.Switch place) (offered s f) ≡ true → Fits n s place
+unfolding offered
+offered-fits n s f place z h = by (is_over f.outcome) h
+  where
+    by : (b : Bool) → is_among (choices.Switch place) (if b then [] else offered_for (request_of s f) s f) ≡ true → Fits n s place
+    by true e = absurd (false≢true e)
+    by false e = switch-fits n s f place (request_of s f) z e
+
+pub choice-fits : (n : Sizes) (s : Side) (f : Field) (c : Choice) → Sized n f → is_among c (offered s f) ≡ true → ChoiceFits n s c
+choice-fits n s f (choices.Switch place) z h = offered-fits n s f place z h
+choice-fits n s f (choices.Move k) z h = tt
+choice-fits n s f choices.Pass z h = tt
+
+-- Between two updates
+
+pub data Ready (v : Story) (n : Sizes) (pre : List Event) (f : Field) : Type 0 where
+  Begins : Waits v n pre f [] → Ready v n pre f
+  Opens : Fresh v n pre f [] → f.request_one ≡ requests.Pass → f.request_two ≡ requests.Pass → 1 ≤ n.one → 1 ≤ n.two → Ready v n pre f
+
+-- The events of an update are those before the next one.
+moved-on : {v : Story} {n : Sizes} (pre : List Event) (f : Field) (es : List Event) → Waits v n pre f es → Waits v n (pre ++ es) f []
+moved-on {v} {n} pre f es w =
+    let same : pre ++ es ≡ (pre ++ es) ++ [] = sym (append-nil (pre ++ es)) in
+    record {
+      may = record { begun = w.may.begun; loose = subst (λ (l : List Event). v.loose f l) same w.may.loose };
+      turn = λ a b. record { begun = (w.turn a b).begun; exact = subst (λ (l : List Event). v.exact f l) same (w.turn a b).exact };
+    }
+
+module _ {v : Story} {n : Sizes} where
+  update-waits : (pre : List Event) (s : State) (one two : Choice) → Goes v n pre (ruling_of s.terms) → Ready v n pre s.field
+      → offers s One one ≡ true → offers s Two two ≡ true → let p : Progress = update (ruling_of s.terms) one two (opened s) in Waits v n pre p.field p.events
+  update-waits pre s one two k (Begins w) a b = update-done (ruling_of s.terms) k one two
+      (choice-fits n One s.field one w.may.begun.sized a) (choice-fits n Two s.field two w.may.begun.sized b) (opened s) refl w
+  update-waits pre s one two k (Opens m x y c d) a b = first-done k.switching (ruling_of s.terms) one two (opened s) refl m x y c d
+
+  answered-ready : (pre : List Event) (s : State) (over a b : Bool) (p : Progress) → Ready v n pre s.field
+      → (a ≡ true → b ≡ true → Waits v n pre p.field p.events)
+      → Ready v n (pre ++ events_of (answered s over a b p).answer) (answered s over a b p).state.field
+  unfolding answered
+  answered-ready pre s true a b p r h = subst (λ (l : List Event). Ready v n l s.field) (sym (append-nil pre)) r
+  answered-ready pre s false false b p r h = subst (λ (l : List Event). Ready v n l s.field) (sym (append-nil pre)) r
+  answered-ready pre s false true false p r h = subst (λ (l : List Event). Ready v n l s.field) (sym (append-nil pre)) r
+  answered-ready pre s false true true p r h = Begins (moved-on pre p.field p.events (h refl refl))
+
+  step-ready : (pre : List Event) (s : State) (one two : Choice) → Goes v n pre (ruling_of s.terms) → Ready v n pre s.field
+      → Ready v n (pre ++ events_of (step s one two).answer) (step s one two).state.field
+  unfolding step step_by
+  step-ready pre s one two k r = answered-ready pre s (is_over s.field.outcome) (offers s One one) (offers s Two two) (update (ruling_of s.terms) one two (opened s)) r
+      (λ a b. update-waits pre s one two k r a b)
+
+  run-ready : (pre : List Event) (s : State) (pairs : List (Choice × Choice)) → ((pre : List Event) → Goes v n pre (ruling_of s.terms)) → Ready v n pre s.field
+      → Ready v n (pre ++ flat_map events_of (run s pairs).answers) (run s pairs).state.field
+  unfolding run_by
+  run-ready pre s [] k r = subst (λ (l : List Event). Ready v n l s.field) (sym (append-nil pre)) r
+  run-ready pre s (pair ∷ pairs) k r =
+      let next : Stepped = step s pair.0 pair.1 in
+      subst (λ (l : List Event). Ready v n l (run next.state pairs).state.field)
+      (append_assoc pre (events_of next.answer) (flat_map events_of (run next.state pairs).answers))
+      (run-ready (pre ++ events_of next.answer) next.state pairs (λ es. subst (λ (t : Terms). Goes v n es (ruling_of t)) (sym (terms_stay s pair.0 pair.1).0) (k es))
+      (step-ready pre s pair.0 pair.1 (k pre) r))
+
+  -- What is left of a story after a run
+
+  ready-loose : (pre : List Event) (f : Field) → Ready v n pre f → v.loose f pre
+  ready-loose pre f (Begins w) = subst (λ (l : List Event). v.loose f l) (append-nil pre) w.may.loose
+  ready-loose pre f (Opens m x y c d) = v.loosen f pre (subst (λ (l : List Event). v.exact f l) (append-nil pre) m.exact)
+
+-- How many members two teams have.
+abbrev pub sizes_of : List Member → List Member → Sizes
+sizes_of one two = record { one = length one; two = length two }
+
+pub story-runs : (v : Story) (t : Terms) (one two : List Member) (seed : List ℕ) (pairs : List (Choice × Choice)) → IsTeam one → IsTeam two
+    → Switching v → ((pre : List Event) (s : Side) (pick : Pick) → Leads (Now v (sizes_of one two) pre) (MayFall v (sizes_of one two) pre) (MayFall v (sizes_of one two) pre) (act (ruling_of t) s pick))
+    → v.exact (first_state t one two seed).field []
+    → v.loose (run (first_state t one two seed) pairs).state.field (flat_map events_of (run (first_state t one two seed) pairs).answers)
+story-runs v t one two seed pairs a b w k start =
+    let s : State = first_state t one two seed in
+    ready-loose (flat_map events_of (run s pairs).answers) (run s pairs).state.field
+    (run-ready [] s pairs (λ pre. record { switching = w; acts = k pre }) (Opens (record { sized = record { one = refl; two = refl }; exact = start }) refl refl a.size.0 b.size.0))

@@ -1,7 +1,8 @@
 -- A story stays true through the gate, the landing and the hit test.
-use Rattle.std.proofs.Common.{Bool, List, None, Option, Some, false, if◌then◌else◌, refl, true, ℕ, ◌≡◌}
+use Rattle.gen1_stats.specs.Members.{Member, is_asleep, is_marked}
+use Rattle.std.proofs.Common.{Bool, List, None, Option, Some, ap, false, if◌then◌else◌, nat_le, refl, sym, true, true≢false, ℕ, ◌-◌, ◌∙◌, ◌≡◌}
 use Rattle.gen1_stats.specs.declared.status.Status.{Status}
-use Rattle.gen1_stats.specs.declared.status.Status.TheVariants.{Asleep}
+use Rattle.gen1_stats.specs.declared.status.Status.TheVariants.{Asleep, Healthy}
 use Rattle.gen1_machine.specs.declared.side.Side.{Side}
 use Rattle.gen1_machine.specs.declared.health.Kind.TheVariants as kinds
 use Rattle.gen1_machine.specs.declared.health.Who.{Who}
@@ -15,25 +16,42 @@ use Rattle.gen1_machine.specs.declared.picks.Pick.{Pick}
 use Rattle.gen1_machine.specs.declared.picks.DisabledSlot.{DisabledSlot}
 use Rattle.gen1_machine.specs.Conditions.{with_confusion_one_less}
 use Rattle.gen1_machine.specs.Sides.{other}
-use Rattle.gen1_machine.specs.State.{who_in, changed_member, with_sleep_one_less}
+use Rattle.gen1_machine.specs.State.{Field, changed_member, member_in, one_turn_less_asleep, who_in, with_sleep_one_less}
 use Rattle.gen1_machine.specs.Moves.{Move}
-use Rattle.gen1_machine.specs.Progress.{set_missed, fail, fails_if, Progress}
+use Rattle.gen1_machine.specs.Progress.{Progress, fail, fails_if, set_missed, status_of, told}
 use Rattle.gen1_machine.specs.Damage.{before_types}
 use Rattle.gen1_machine.specs.HitTest.{miss, set_tested, hits_below, test_by, hit_test, hit_or_miss, note_miss, must_hit}
 use Rattle.gen1_machine.specs.Landing.{set_broke, land_on_substitute, land_on_hp, land_by, land_damage, land}
 use Rattle.gen1_machine.specs.HitOnItself.{land_on_foes_substitute, hurt_itself_by, hurt_itself}
 use Rattle.gen1_machine.specs.Gate.{cant, wake, sleep_on, sleep_test, frozen_test, trapped_test, flinch_test, recharge_test, disable_count, may_hurt_itself, confusion_test, disabled_test, may_be_paralysed, paralysis_test, gate_of_status, gate_of_turn, gate_of_move, gate}
-use Rattle.gen1_machine.proofs.Watching.{seeing, ◌⊳◌, choose-tells, given-tells, stay-tells}
-use Rattle.gen1_player.proofs.Facts.{is_own_damage, is_still, Sparing, Sizes, calm-mild, confusion-calm, substitute-calm, disable-calm}
-use Rattle.gen1_player.proofs.Stories.{Outline, Story, Tells, any-lasts, any-loses, any-note, mild-tells, holds-member, draw-tells, action-tells, told-noise, note-tells, conditions-tells, member-tells, damage-tells, ends-tells, lasts-tells, lose-tells, stop-tells, fault-tells}
+use Rattle.gen1_machine.proofs.Watching.{before-leads, choose-tells, given-sees, given-tells, if-sees, seeing, stay-tells, ◌⊳◌, Leads, Runs}
+use Rattle.gen1_player.proofs.Facts.{is_own_damage, is_still, Restful, Sparing, Sizes, calm-mild, confusion-calm, substitute-calm, disable-calm}
+use Rattle.gen1_player.proofs.Stories.{Outline, Story, Tells, any-lasts, any-loses, any-note, mild-tells, awake-after, holds-health, holds-member, Now, MayFall, draw-tells, action-tells, note-tells, conditions-tells, member-tells, damage-tells, ends-tells, lasts-tells, lose-tells, stop-tells, fault-tells}
 
 miss-noise : (b : Bool) (x y : Who) → is_still (if b then events.Immune x else events.Miss y) ≡ true
 miss-noise true x y = refl
 miss-noise false x y = refl
 
-sleep-tame : Sparing with_sleep_one_less
+pub sleep-tame : Sparing with_sleep_one_less
 unfolding with_sleep_one_less
 sleep-tame m = refl
+
+less-restful : (status : Status) → is_asleep (one_turn_less_asleep status) ≡ true → (is_asleep status ≡ true) × (is_marked (one_turn_less_asleep status) ≡ is_marked status)
+less-restful (Asleep turns marked) = by (nat_le turns 1)
+  where
+    by : (b : Bool) → let less : Status = (if b then Healthy else Asleep (turns - 1) marked) in is_asleep less ≡ true → (is_asleep (Asleep turns marked) ≡ true) × (is_marked less ≡ marked)
+    by true e = absurd (true≢false (sym e))
+    by false e = (refl, refl)
+less-restful _ = λ e. absurd (true≢false (sym e))
+
+pub sleep-restful : Restful with_sleep_one_less
+unfolding with_sleep_one_less
+sleep-restful m e = less-restful m.status e
+
+-- At the end of the count it wakes up.
+wakes-up : (turns : ℕ) (marked : Bool) (m : Member) → m.status ≡ Asleep turns marked → nat_le turns 1 ≡ true → is_asleep (with_sleep_one_less m).status ≡ false
+unfolding with_sleep_one_less
+wakes-up turns marked m e h = ap (λ (x : Status). is_asleep (one_turn_less_asleep x)) e ∙ ap (λ (b : Bool). is_asleep (if b then Healthy else Asleep (turns - 1) marked)) h
 
 module _ {v : Story} {n : Sizes} {pre : List Event} where
   -- Misses and failures
@@ -105,18 +123,29 @@ module _ {v : Story} {n : Sizes} {pre : List Event} (o : Outline v) where
   unfolding cant seeing
   cant-tells s why = any-note o _ (λ f. refl) ⊳ stop-tells
 
-  pub wake-tells : (s : Side) → Tells v n pre (wake s)
+  pub wake-told : {S : Progress → Type 0} (s : Side) (turns : ℕ) (marked : Bool) → nat_le turns 1 ≡ true → Leads (λ p. Now v n pre p × (status_of s p ≡ Asleep turns marked)) (Now v n pre) S
+      (told (changed_member s with_sleep_one_less) (λ f. events.Cure (who_in s f) kinds.Sleep))
+  unfolding told
+  wake-told s turns marked h = record {
+    leads = λ p r m.
+        let g : Field = changed_member s with_sleep_one_less p.field in
+        Runs r (holds-health (events.Cure (who_in s g) kinds.Sleep) g
+        (awake-after s with_sleep_one_less p.field m.0.begun.both (wakes-up turns marked (member_in s p.field) m.1 h)) p.events
+        (holds-member s with_sleep_one_less sleep-tame sleep-restful p.field p.events m.0));
+  }
+
+  pub wake-tells : (s : Side) (turns : ℕ) (marked : Bool) → nat_le turns 1 ≡ true → Leads (λ p. Now v n pre p × (status_of s p ≡ Asleep turns marked)) (Now v n pre) (MayFall v n pre) (wake s)
   unfolding wake
-  wake-tells s = told-noise (changed_member s with_sleep_one_less) (λ f. events.Cure (who_in s f) kinds.Sleep) (holds-member s with_sleep_one_less sleep-tame) (λ f. refl) ⊳ stop-tells
+  wake-tells s turns marked h = wake-told s turns marked h ⊳ stop-tells
 
   pub sleep_on-tells : (s : Side) → Tells v n pre (sleep_on s)
   unfolding sleep_on
-  sleep_on-tells s = member-tells s with_sleep_one_less sleep-tame ⊳ cant-tells s _
+  sleep_on-tells s = member-tells s with_sleep_one_less sleep-tame sleep-restful ⊳ cant-tells s _
 
-  pub sleep-tells : (s : Side) (status : Status) → Tells v n pre (sleep_test s status)
+  pub sleep-tells : (s : Side) (status : Status) → Leads (λ p. Now v n pre p × (status_of s p ≡ status)) (Now v n pre) (MayFall v n pre) (sleep_test s status)
   unfolding sleep_test
-  sleep-tells s (Asleep turns marked) = choose-tells _ (wake-tells s) (sleep_on-tells s)
-  sleep-tells s _ = stay-tells
+  sleep-tells s (Asleep turns marked) = if-sees (nat_le turns 1) (λ h. wake-tells s turns marked h) (λ h. before-leads (λ p m. m.0) (sleep_on-tells s))
+  sleep-tells s _ = before-leads (λ p m. m.0) stay-tells
 
   pub frozen-tells : (s : Side) → Tells v n pre (frozen_test s)
   unfolding frozen_test seeing
@@ -162,7 +191,7 @@ module _ {v : Story} {n : Sizes} {pre : List Event} (o : Outline v) where
 
   pub gate_of_status-tells : (s : Side) → Tells v n pre (gate_of_status s)
   unfolding gate_of_status seeing
-  gate_of_status-tells s = given-tells _ (sleep-tells s) ⊳ frozen-tells s ⊳ trapped-tells s
+  gate_of_status-tells s = given-sees (status_of s) (sleep-tells s) ⊳ frozen-tells s ⊳ trapped-tells s
 
   pub gate_of_turn-tells : (s : Side) → Tells v n pre (gate_of_turn s)
   unfolding gate_of_turn seeing

@@ -1,4 +1,5 @@
 -- A story stays true through a turn, and through replacements.
+use Rattle.gen1_machine.specs.Action.{act}
 use Rattle.std.proofs.Common.{ap, [], Bool, List, arith, false, length, refl, subst, sym, true, true≢false, ℕ, ◌++◌, ◌∷◌, ◌≡◌, ◌≤◌, ◌||◌}
 use Rattle.gen1_stats.specs.declared.status.Status.{Status}
 use Rattle.gen1_stats.specs.declared.status.Status.TheVariants.{Poisoned, Burned}
@@ -21,9 +22,8 @@ use Rattle.gen1_machine.specs.Turn.{Part, Sends, Acts, Suffers, do_part, is_cut,
 use Rattle.gen1_machine.proofs.Showing.{IsOut}
 use Rattle.gen1_machine.proofs.Watching.{seeing, Runs, Lands, Leads, after-leads, before-leads, ◌⊳◌, choose-tells, choose-sees, given-tells, stay-tells}
 use Rattle.gen1_player.proofs.Facts.{is_own_damage, sent-place, worse-calm, Fits, Sizes, sent}
-use Rattle.gen1_player.proofs.Stories.{Outline, Story, Switching, Sized, Begun, Now, MayFall, Tells, at_end, loosened, draw-tells, active-tells, conditions-tells, lose-tells, gain-tells}
-use Rattle.gen1_player.proofs.ToldEffects.{RulingTells}
-use Rattle.gen1_player.proofs.ToldActions.{Says, begin-tells, act-tells}
+use Rattle.gen1_player.proofs.Stories.{Story, Switching, Sized, Begun, Now, MayFall, Tells, at_end, loosened, draw-tells, active-tells, conditions-tells, lose-tells, gain-tells}
+use Rattle.gen1_player.proofs.ToldActions.{begin-tells}
 
 -- A place that holds a member, and a choice that names one
 
@@ -107,12 +107,10 @@ send_out-at s place p r =
     let third : Progress = record p { field = sent s place p.field; events = p.events ++ switch_event s place (sent s place p.field) ∷ [] } in
     ap (λ (b : Bool). elim b as (λ _. Progress) [ true ↦ first | false ↦ elim b as (λ _. Progress) [ true ↦ second | false ↦ third ] ]) r
 
--- What a turn needs to know: that a member may come out, and which moves may be used.
+-- What a turn needs to know: that a member may come out, and act.
 pub record Goes (v : Story) (n : Sizes) (pre : List Event) (r : Ruling) : Type 0 where
-  pub tells : RulingTells v n pre r
   pub switching : Switching v
-  pub says : Says v n pre r
-  pub outline : Outline v
+  pub acts : (s : Side) (pick : Pick) → Leads (Now v n pre) (MayFall v n pre) (MayFall v n pre) (act r s pick)
 
 pub send_out-tells : {v : Story} {n : Sizes} {pre : List Event} {S : Progress → Type 0} → Switching v → (s : Side) (place : ℕ) → Fits n s place
     → Leads (Now v n pre) (Now v n pre) S (send_out s place)
@@ -172,7 +170,7 @@ module _ {v : Story} {n : Sizes} {pre : List Event} where
   do_part-tells : (r : Ruling) → Goes v n pre r → (part : Part) → PartFits n part → Leads (Now v n pre) (MayFall v n pre) (MayFall v n pre) (do_part r part)
   unfolding do_part
   do_part-tells r k (Sends s place) fits = begin-tells s ⊳ after-leads loosened (send_out-tells k.switching s place fits)
-  do_part-tells r k (Acts s pick) fits = begin-tells s ⊳ choose-tells _ (after-leads loosened stay-tells) (act-tells k.outline r k.tells k.says s pick)
+  do_part-tells r k (Acts s pick) fits = begin-tells s ⊳ choose-tells _ (after-leads loosened stay-tells) (k.acts s pick)
   do_part-tells r k (Suffers s) fits = after-leads loosened (residual-tells s)
 
   spent-tells : (s : Side) → Tells v n pre (end_spent_trapping s)

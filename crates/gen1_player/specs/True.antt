@@ -1,12 +1,12 @@
 -- What holds of all that a log makes public, after any run of a battle from its start, and of what a player holds of it.
-use Rattle.std.specs.Prelude.{All, Bool, List, None, [], false, if◌then◌else◌, is_some, map, nat_lt, replicate, true, ℕ, ◌*◌, ◌+◌, ◌-◌, ◌==◌, ◌≡◌, ◌≢◌, ◌≤◌, ◌⊎◌, ◌∷◌}
+use Rattle.std.specs.Prelude.{All, Bool, List, None, [], false, if◌then◌else◌, is_some, map, nat_lt, replicate, true, ℕ, ◌&&◌, ◌*◌, ◌+◌, ◌-◌, ◌==◌, ◌≡◌, ◌≢◌, ◌≤◌, ◌⊎◌, ◌∷◌}
 use Rattle.std.specs.List.{flat_map}
 use Rattle.gen1_tables.specs.declared.effect.Effect.{Effect}
 use Rattle.gen1_tables.specs.Effects.{recharges}
 use Rattle.gen1_tables.specs.Moves.{struggle}
 use Rattle.gen1_tables.specs.Types.{any, number_of}
 use Rattle.gen1_stats.specs.declared.known_move.KnownMove.{KnownMove}
-use Rattle.gen1_stats.specs.Members.{is_living, IsTeam, Member}
+use Rattle.gen1_stats.specs.Members.{is_living, is_marked, IsTeam, Member}
 use Rattle.gen1_machine.specs.declared.choice.Choice.{Choice}
 use Rattle.gen1_machine.specs.declared.event.Event.{Event}
 use Rattle.gen1_machine.specs.declared.side.Side.{Side}
@@ -18,7 +18,8 @@ use Rattle.gen1_machine.specs.Action.{keeps_going}
 use Rattle.gen1_machine.specs.Layout.{outcome_byte}
 use Rattle.gen1_machine.specs.LogBytes.{kind_or_0}
 use Rattle.gen1_machine.specs.Moves.{move_at}
-use Rattle.gen1_machine.specs.Numbers.{side_number}
+use Rattle.gen1_machine.specs.declared.health.Kind.TheVariants as kinds
+use Rattle.gen1_machine.specs.Numbers.{kind_number, side_number}
 use Rattle.gen1_machine.specs.Picks.{number_in}
 use Rattle.gen1_machine.specs.Rules.{bit_of}
 use Rattle.gen1_machine.specs.Sides.{other}
@@ -192,6 +193,21 @@ pub record SideHasAppeared (x : PublicSide) (t : Party) : Type 0 where
 
 abbrev pub MembersAgree : Type 0
 MembersAgree = OfRuns λ one two r. SideHasAppeared (public_of r).one r.state.field.one × SideHasAppeared (public_of r).two r.state.field.two
+
+-- Who put a sleeping member to sleep
+
+-- A member that is shown asleep sleeps by a move of the foe (1) or by Rest (2). The mark of the sleep clause is on it exactly if the clause
+-- is on and a move of the foe put it to sleep.
+pub record IsAsleepBy (clause : Bool) (s : Seen) (m : Member) : Type 0 where
+  pub cause : s.status ≡ kind_number kinds.Sleep → (s.asleep_by ≡ 1) ⊎ (s.asleep_by ≡ 2)
+  pub mark : is_marked m.status ≡ (clause && (s.status == kind_number kinds.Sleep && s.asleep_by == 1))
+
+abbrev pub SideSleeps : Bool → PublicSide → Party → Type 0
+SideSleeps clause x t = (place : ℕ) → (seen_at place x).species ≢ 0 → IsAsleepBy clause (seen_at place x) (member_at place t)
+
+abbrev pub SleepersAgree : Type 0
+SleepersAgree = (t : Terms) (one two : List Member) (seed : List ℕ) (pairs : List (Choice × Choice)) → IsTeam one → IsTeam two
+    → let r : Ran = run (first_state t one two seed) pairs in (s : Side) → SideSleeps t.rules.sleep_clause (public_side s (public_of r)) (party s r.state.field)
 
 -- What a player holds
 

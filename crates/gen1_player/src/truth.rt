@@ -1,5 +1,5 @@
 //! What holds of all that a log makes public (docs/MECHANICS.md, "Player's view"), as functions that do nothing.
-ghost use Rattle.gen1_player.specs.True.{ConditionsAgree, ActivesAgree, MembersAgree, PlayersHoldThePublic, PublicAgrees, PublicAgreesWithView, UsesArePaid};
+ghost use Rattle.gen1_player.specs.True.{ConditionsAgree, ActivesAgree, MembersAgree, PlayersHoldThePublic, PublicAgrees, PublicAgreesWithView, SleepersAgree, UsesArePaid};
 
 /// After any run of a battle of two teams from its start, what its log made public agrees with the battle: active places, stages,
 /// Substitute, confusion, screens, turn, outcome, and HP and kind of status of each member that has appeared.
@@ -36,6 +36,13 @@ pub fn members_agree()
 #[tactic(auto, using(crate::proofs::DeedRuns::actives_agree))]
 pub fn actives_agree()
     ensures { ActivesAgree }
+{}
+
+/// After any run from the start, a member that is shown asleep sleeps by Rest or by a move of the foe; under the sleep clause it has the
+/// mark exactly if by the latter.
+#[tactic(auto, using(crate::proofs::Sleeping::sleepers_agree))]
+pub fn sleepers_agree()
+    ensures { SleepersAgree }
 {}
 
 /// After any run with valid terms and seed bytes, the uses that were counted of a member's move are at most the PP that its slot has

@@ -1,0 +1,317 @@
+-- Who put the members of a side to sleep, as the log tells it, and the mark of the sleep clause.
+use Rattle.gen1_machine.proofs.Showing.{BothOut, IsOut}
+use Rattle.gen1_machine.specs.Sides.{other}
+use Rattle.gen1_machine.specs.State.{Active, Field, Party, changed_active, changed_member, member_at, member_in, party, with_member}
+use Rattle.gen1_machine.specs.declared.event.Event.{Event}
+use Rattle.gen1_machine.specs.declared.health.Kind.{Kind}
+use Rattle.gen1_machine.specs.declared.side.Side.{Side}
+use Rattle.gen1_machine.specs.declared.side.Side.TheVariants.{One, Two}
+use Rattle.gen1_player.proofs.Facts.{IsAwake, Noise, Restful, is_sleep}
+use Rattle.gen1_player.proofs.HeardSides.{quiet-side, same-sides}
+use Rattle.gen1_player.specs.Public.{activates, asleep_after, drops, gets_status, has_fainted, is_afflicted, is_cured, is_kept_by, is_overtaken, not_seen, on_announced, on_out, on_seen, public_side, put_to_sleep_by, recharges_unless, rests_no_more, rises, seen_at, takes_damage, takes_in}
+use Rattle.gen1_player.specs.declared.public.Public.{Public}
+use Rattle.gen1_player.specs.declared.public_side.PublicSide.{PublicSide}
+use Rattle.gen1_player.specs.declared.seen.Seen.{Seen}
+use Rattle.gen1_stats.specs.Members.{Member, is_asleep, is_marked, nobody}
+use Rattle.std.proofs.Common.{Bool, List, ap, arith, false, get_or-set_same, if◌then◌else◌, inl, inr, length, length-set, map, refl, slice_index_or, slice_set, subst, sym, true, true≢false, ℕ, ◌-◌, ◌<◌, ◌==◌, ◌∙◌, ◌≡◌, ◌≢◌, ◌≤◌, ◌⊎◌}
+use Rattle.std.proofs.Math.ListN.{get_or-map}
+use Rattle.std.proofs.Math.Seq.{map-set_same}
+use Rattle.std.proofs.lemmas.Bool.Decides.{eqb_tells}
+use Rattle.std.proofs.lemmas.List.{get_or-set_other, map-set, set_past}
+use Rattle.gen1_machine.specs.declared.event.Event.TheVariants as events
+use Rattle.gen1_machine.specs.declared.health.Kind.TheVariants as kinds
+
+-- Who put members to sleep
+
+-- The place of the active member, and what put each member to sleep.
+pub record Causes : Type 0 where
+  pub place : ℕ
+  pub by : List ℕ
+
+abbrev pub cause : Seen → ℕ
+cause m = m.asleep_by
+
+abbrev pub causes : PublicSide → Causes
+causes x = record { place = x.place; by = map cause x.members }
+
+-- That of the active member, and a change of it.
+abbrev pub now_by : Causes → ℕ
+now_by x = slice_index_or x.by (x.place - 1) 0
+
+abbrev pub with_by : (ℕ → ℕ) → Causes → Causes
+with_by change x = record x { by = slice_set x.by (x.place - 1) (change (now_by x)) }
+
+-- A sleeping member sleeps by a move of the foe, and has the mark if the clause is on, or it sleeps by Rest, without mark.
+abbrev pub IsCause : Bool → ℕ → Bool → Type 0
+IsCause clause by marked = ((by ≡ 1) × (marked ≡ clause)) ⊎ ((by ≡ 2) × (marked ≡ false))
+
+abbrev pub Sleeps : Bool → ℕ → Member → Type 0
+Sleeps clause by m = is_asleep m.status ≡ true → IsCause clause by (is_marked m.status)
+
+pub record Sleepers (clause : Bool) (x : Causes) (t : Party) : Type 0 where
+  pub place : x.place ≡ t.active.place
+  pub six : length x.by ≡ 6
+  pub few : length t.members ≤ 6
+  pub each : (i : ℕ) → Sleeps clause (slice_index_or x.by i 0) (slice_index_or t.members i nobody)
+
+-- Changes of one side
+
+pub below-or : (a b : ℕ) → (a < b) ⊎ (b ≤ a)
+below-or a b = grind arith
+
+pub set-there : {A : Type 0} (P : A → Type 0) (xs : List A) (k : ℕ) (v d : A) → (P (slice_index_or xs k d) → P v) → P (slice_index_or xs k d) → P (slice_index_or (slice_set xs k v) k d)
+set-there {A} P xs k v d h p = by (below-or k (length xs))
+  where
+    by : (k < length xs) ⊎ (length xs ≤ k) → P (slice_index_or (slice_set xs k v) k d)
+    by (inl low) = subst P (sym (get_or-set_same xs k v d low)) (h p)
+    by (inr past) = subst (λ (ys : List A). P (slice_index_or ys k d)) (sym (set_past xs k v past)) p
+
+pub awake-sleeps : (clause : Bool) (by : ℕ) (m : Member) → is_asleep m.status ≡ false → Sleeps clause by m
+awake-sleeps clause by m e h = absurd (true≢false (sym h ∙ e))
+
+-- What holds of an element of a list after a change of one of its elements.
+pub set-each : {A : Type 0} (P : ℕ → A → Type 0) (xs : List A) (k : ℕ) (v d : A) → (k < length xs → P k v) → ((i : ℕ) → P i (slice_index_or xs i d)) → (i : ℕ) → P i (slice_index_or (slice_set xs k v) i d)
+set-each {A} P xs k v d h each i = by (eqb_tells i k) (below-or k (length xs))
+  where
+    by : (((i == k) ≡ true) × (i ≡ k)) ⊎ (((i == k) ≡ false) × (i ≢ k)) → (k < length xs) ⊎ (length xs ≤ k) → P i (slice_index_or (slice_set xs k v) i d)
+    by (inl e) (inl low) = subst (λ (j : ℕ). P j (slice_index_or (slice_set xs k v) j d)) (sym e.1) (subst (P k) (sym (get_or-set_same xs k v d low)) (h low))
+    by (inl e) (inr past) = subst (λ (ys : List A). P i (slice_index_or ys i d)) (sym (set_past xs k v past)) (each i)
+    by (inr e) b = subst (P i) (sym (get_or-set_other xs k i v d e.1)) (each i)
+
+pub sleepers-by : (clause : Bool) (change : ℕ → ℕ) (x : Causes) (t : Party) → (let m : Member = member_at t.active.place t in Sleeps clause (now_by x) m → Sleeps clause (change (now_by x)) m)
+    → Sleepers clause x t → Sleepers clause (with_by change x) t
+sleepers-by clause change x t h k = record {
+  place = k.place;
+  six = length-set x.by (x.place - 1) (change (now_by x)) ∙ k.six;
+  few = k.few;
+  each = set-each (λ i n. Sleeps clause n (slice_index_or t.members i nobody)) x.by (x.place - 1) (change (now_by x)) 0
+      (λ low. subst (λ (i : ℕ). Sleeps clause (change (now_by x)) (slice_index_or t.members (i - 1) nobody)) (sym k.place)
+      (h (subst (λ (i : ℕ). Sleeps clause (now_by x) (slice_index_or t.members (i - 1) nobody)) k.place (k.each (x.place - 1))))) k.each;
+}
+
+pub sleepers-member : (clause : Bool) (m : Member) (x : Causes) (t : Party) → ((by : ℕ) → Sleeps clause by (member_at t.active.place t) → Sleeps clause by m)
+    → Sleepers clause x t → Sleepers clause x (with_member t.active.place m t)
+sleepers-member clause m x t h k = record {
+  place = k.place;
+  six = k.six;
+  few = subst (λ (n : ℕ). n ≤ 6) (sym (length-set t.members (t.active.place - 1) m)) k.few;
+  each = set-each (λ i n. Sleeps clause (slice_index_or x.by i 0) n) t.members (t.active.place - 1) m nobody (λ low. h _ (k.each (t.active.place - 1))) k.each;
+}
+
+-- A member falls asleep.
+pub sleepers-slept : (clause : Bool) (change : ℕ → ℕ) (m : Member) (x : Causes) (t : Party) → IsOut t → Sleeps clause (change (now_by x)) m
+    → Sleepers clause x t → Sleepers clause (with_by change x) (with_member t.active.place m t)
+sleepers-slept clause change m x t o h k = record {
+  place = k.place;
+  six = length-set x.by (x.place - 1) (change (now_by x)) ∙ k.six;
+  few = subst (λ (n : ℕ). n ≤ 6) (sym (length-set t.members (t.active.place - 1) m)) k.few;
+  each = λ i. by i (eqb_tells i (t.active.place - 1));
+}
+  where
+    at : ℕ
+    at = t.active.place - 1
+
+    there : x.place - 1 ≡ at
+    there = ap (λ (i : ℕ). i - 1) k.place
+
+    by : (i : ℕ) → (((i == at) ≡ true) × (i ≡ at)) ⊎ (((i == at) ≡ false) × (i ≢ at))
+        → Sleeps clause (slice_index_or (slice_set x.by (x.place - 1) (change (now_by x))) i 0) (slice_index_or (slice_set t.members at m) i nobody)
+    by i (inl e) =
+        let low = o.placed in
+        let high = o.within in
+        let few = k.few in
+        let six = k.six in
+        let inside : at < length t.members = omega (arith, low, high) in
+        let within : x.place - 1 < length x.by = omega (arith, there, inside, few, six) in
+        subst (λ (j : ℕ). Sleeps clause (slice_index_or (slice_set x.by (x.place - 1) (change (now_by x))) j 0) (slice_index_or (slice_set t.members at m) j nobody)) (sym e.1)
+        (subst (λ (n : ℕ). Sleeps clause n (slice_index_or (slice_set t.members at m) at nobody))
+        (sym (ap (λ (j : ℕ). slice_index_or (slice_set x.by (x.place - 1) (change (now_by x))) j 0) (sym there) ∙ get_or-set_same x.by (x.place - 1) (change (now_by x)) 0 within))
+        (subst (λ (n : Member). Sleeps clause (change (now_by x)) n) (sym (get_or-set_same t.members at m nobody inside)) h))
+    by i (inr e) =
+        subst (λ (n : ℕ). Sleeps clause n (slice_index_or (slice_set t.members at m) i nobody))
+        (sym (get_or-set_other x.by (x.place - 1) i (change (now_by x)) 0 (λ h. e.1 (h ∙ there))))
+        (subst (λ (n : Member). Sleeps clause (slice_index_or x.by i 0) n) (sym (get_or-set_other t.members at i m nobody e.1)) (k.each i))
+
+-- A member comes out, or only what is underway changes.
+pub sleepers-active : (clause : Bool) (x y : Causes) (t : Party) (a : Active) → y.by ≡ x.by → y.place ≡ a.place → Sleepers clause x t → Sleepers clause y (record t { active = a })
+sleepers-active clause x y t a same e k = record {
+  place = e;
+  six = ap length same ∙ k.six;
+  few = k.few;
+  each = λ i. subst (λ (l : List ℕ). Sleeps clause (slice_index_or l i 0) (slice_index_or t.members i nobody)) (sym same) (k.each i);
+}
+
+-- What events change of a side
+
+pub seen-same : (h : Seen → Seen) (x : PublicSide) → ((m : Seen) → cause (h m) ≡ cause m) → causes (on_seen h x) ≡ causes x
+seen-same h x e = ap (λ (l : List ℕ). record (causes x) { by = l }) (map-set_same cause x.members (x.place - 1) (h (seen_at x.place x)) not_seen (e (seen_at x.place x)))
+
+pub seen-by : (h : Seen → Seen) (change : ℕ → ℕ) (x : PublicSide) → ((m : Seen) → cause (h m) ≡ change (cause m)) → causes (on_seen h x) ≡ with_by change (causes x)
+seen-by h change x e = ap (λ (l : List ℕ). record (causes x) { by = l }) (map-set cause x.members (x.place - 1) (h (seen_at x.place x))
+    ∙ ap (slice_set (map cause x.members) (x.place - 1)) (e (seen_at x.place x) ∙ ap change (sym (get_or-map cause x.members (x.place - 1) not_seen))))
+
+-- A side stays as it is, or its active member's cause changes.
+abbrev pub Turns : (ℕ → ℕ) → Side → Side → Public → Public → Type 0
+Turns change s u p q = (causes (public_side u q) ≡ causes (public_side u p)) ⊎ ((causes (public_side u q) ≡ with_by change (causes (public_side u p))) × (u ≡ s))
+
+pub out-turns : (h : PublicSide → PublicSide) (change : ℕ → ℕ) → ((x : PublicSide) → causes (h x) ≡ with_by change (causes x)) → (s u : Side) (p : Public) → Turns change s u p (on_out s h p)
+unfolding on_out
+out-turns h change e One One p = elim (p.one.place == 0) as (λ b. (causes (if b then p.one else h p.one) ≡ causes p.one) ⊎ ((causes (if b then p.one else h p.one) ≡ with_by change (causes p.one)) × (One ≡ One)))
+    [ true ↦ inl refl | false ↦ inr (e p.one, refl) ]
+out-turns h change e One Two p = inl refl
+out-turns h change e Two One p = inl refl
+out-turns h change e Two Two p = elim (p.two.place == 0) as (λ b. (causes (if b then p.two else h p.two) ≡ causes p.two) ⊎ ((causes (if b then p.two else h p.two) ≡ with_by change (causes p.two)) × (Two ≡ Two)))
+    [ true ↦ inl refl | false ↦ inr (e p.two, refl) ]
+
+pub out-same : (h : PublicSide → PublicSide) → ((x : PublicSide) → causes (h x) ≡ causes x) → (s u : Side) (p : Public) → causes (public_side u (on_out s h p)) ≡ causes (public_side u p)
+out-same h e s u p = quiet-side causes s u h p e
+
+abbrev pub forgotten : ℕ → ℕ
+forgotten n = 0
+
+-- An event that a story doesn't follow, of a member that has woken up or fallen.
+pub noise-turns : (e : Event) (f : Field) → Noise f e → (u : Side) (p : Public)
+    → (causes (public_side u (takes_in e p)) ≡ causes (public_side u p)) ⊎ ((causes (public_side u (takes_in e p)) ≡ with_by forgotten (causes (public_side u p))) × IsAwake u f)
+unfolding takes_in
+noise-turns (events.Turn i) f n u p = inl (same-sides causes u (record p { turn = i }) p refl refl)
+noise-turns (events.Switch w place level k) f n u p = absurd (true≢false (sym n))
+noise-turns (events.Move w move foe) f n u p = absurd (true≢false (sym n))
+noise-turns (events.Cant w why) f n u p = inl (out-same (on_announced (is_kept_by why)) (λ x. refl) w.side u p)
+noise-turns (events.Damage w k source) f n u p = inl (out-same (λ x. takes_damage source (on_seen (λ m. record m { hp = k.hp }) x)) (λ x. seen-same (λ m. record m { hp = k.hp }) x (λ m. refl)) w.side u p)
+noise-turns (events.Heal w k) f n u p = inl (out-same (on_seen (λ m. record m { hp = k.hp })) (λ x. seen-same (λ m. record m { hp = k.hp }) x (λ m. refl)) w.side u p)
+noise-turns (events.Status w kind) f n u p = inl (out-same (λ x. on_announced (gets_status kind (public_side (other w.side) p).last_move) (on_seen (is_afflicted kind) x))
+    (λ x. seen-same (is_afflicted kind) x (afflicted-same kind n)) w.side u p)
+  where
+    afflicted-same : (kind : Kind) → is_sleep kind ≡ false → (m : Seen) → asleep_after kind m.asleep_by ≡ m.asleep_by
+    afflicted-same kinds.Sleep e m = absurd (true≢false e)
+    afflicted-same _ e m = refl
+noise-turns (events.Cure w kind) f n u p = by (out-turns (on_seen is_cured) forgotten (λ x. seen-by is_cured forgotten x (λ m. refl)) w.side u p)
+  where
+    by : Turns forgotten w.side u p (on_out w.side (on_seen is_cured) p)
+        → (causes (public_side u (on_out w.side (on_seen is_cured) p)) ≡ causes (public_side u p)) ⊎ ((causes (public_side u (on_out w.side (on_seen is_cured) p)) ≡ with_by forgotten (causes (public_side u p))) × IsAwake u f)
+    by (inl e) = inl e
+    by (inr e) = inr (e.0, subst (λ (s : Side). IsAwake s f) (sym e.1) n)
+noise-turns (events.Faint w) f n u p = by (out-turns (on_seen has_fainted) forgotten (λ x. seen-by has_fainted forgotten x (λ m. refl)) w.side u p)
+  where
+    by : Turns forgotten w.side u p (on_out w.side (on_seen has_fainted) p)
+        → (causes (public_side u (on_out w.side (on_seen has_fainted) p)) ≡ causes (public_side u p)) ⊎ ((causes (public_side u (on_out w.side (on_seen has_fainted) p)) ≡ with_by forgotten (causes (public_side u p))) × IsAwake u f)
+    by (inl e) = inl e
+    by (inr e) = inr (e.0, subst (λ (s : Side). IsAwake s f) (sym e.1) n)
+noise-turns (events.Boost w stat i) f n u p = inl (out-same (rises stat i) (λ x. refl) w.side u p)
+noise-turns (events.Unboost w stat i) f n u p = inl (out-same (drops stat i) (λ x. refl) w.side u p)
+noise-turns events.ClearAll f n u p = absurd (true≢false (sym n))
+noise-turns (events.Start w what) f n u p = absurd (true≢false (sym n))
+noise-turns (events.End w what) f n u p = absurd (true≢false (sym n))
+noise-turns (events.Prepare w move) f n u p = absurd (true≢false (sym n))
+noise-turns (events.Activate w what) f n u p = inl (same-sides causes u (activates w.side what p) p refl refl)
+noise-turns (events.MustRecharge w) f n u p = absurd (true≢false (sym n))
+noise-turns (events.Win s) f n u p = inl (same-sides causes u (takes_in (events.Win s) p) p refl refl)
+noise-turns events.Tie f n u p = inl (same-sides causes u (takes_in events.Tie p) p refl refl)
+noise-turns (events.Fault i) f n u p = inl (same-sides causes u (takes_in (events.Fault i) p) p refl refl)
+noise-turns _ f n u p = inl refl
+
+-- A cause of 3: the member has used Rest, and the foe no move since
+
+abbrev pub Unrested : Side → Public → Public → Type 0
+Unrested u p q = now_by (causes (public_side u q)) ≡ 3 → now_by (causes (public_side u p)) ≡ 3
+
+pub same-unrested : (u : Side) (p q : Public) → causes (public_side u q) ≡ causes (public_side u p) → Unrested u p q
+same-unrested u p q e h = sym (ap now_by e) ∙ h
+
+pub now-changed : (change : ℕ → ℕ) (x : Causes) → (now_by (with_by change x) ≡ change (now_by x)) ⊎ (now_by (with_by change x) ≡ now_by x)
+now-changed change x = by (below-or (x.place - 1) (length x.by))
+  where
+    by : (x.place - 1 < length x.by) ⊎ (length x.by ≤ x.place - 1) → (now_by (with_by change x) ≡ change (now_by x)) ⊎ (now_by (with_by change x) ≡ now_by x)
+    by (inl low) = inl (get_or-set_same x.by (x.place - 1) (change (now_by x)) 0 low)
+    by (inr past) = inr (ap (λ (l : List ℕ). slice_index_or l (x.place - 1) 0) (set_past x.by (x.place - 1) (change (now_by x)) past))
+
+pub with-unrested : (change : ℕ → ℕ) → ((n : ℕ) → change n ≡ 3 → n ≡ 3) → (x : Causes) → now_by (with_by change x) ≡ 3 → now_by x ≡ 3
+with-unrested change h x e = by (now-changed change x)
+  where
+    by : (now_by (with_by change x) ≡ change (now_by x)) ⊎ (now_by (with_by change x) ≡ now_by x) → now_by x ≡ 3
+    by (inl k) = h (now_by x) (sym k ∙ e)
+    by (inr k) = sym k ∙ e
+
+pub turns-unrested : (change : ℕ → ℕ) → ((n : ℕ) → change n ≡ 3 → n ≡ 3) → (s u : Side) (p q : Public) → Turns change s u p q → Unrested u p q
+turns-unrested change h s u p q (inl e) = same-unrested u p q e
+turns-unrested change h s u p q (inr e) = λ k. with-unrested change h (causes (public_side u p)) (sym (ap now_by e.0) ∙ k)
+
+pub forgotten-not : (n : ℕ) → forgotten n ≡ 3 → n ≡ 3
+forgotten-not n e = absurd (omega (arith, e))
+
+pub put-not : (n : ℕ) → put_to_sleep_by n ≡ 3 → n ≡ 3
+put-not n = by (n == 3)
+  where
+    by : (b : Bool) → let k : ℕ = (if b then 2 else 1) in k ≡ 3 → n ≡ 3
+    by true e = absurd (omega (arith, e))
+    by false e = absurd (omega (arith, e))
+
+pub overtaken-not : (n : ℕ) → rests_no_more n ≢ 3
+overtaken-not n = by (eqb_tells n 3)
+  where
+    by : (((n == 3) ≡ true) × (n ≡ 3)) ⊎ (((n == 3) ≡ false) × (n ≢ 3)) → (if n == 3 then 0 else n) ≢ 3
+    by (inl k) = subst (λ (b : Bool). (if b then 0 else n) ≢ 3) (sym k.0) (λ e. omega (arith, e))
+    by (inr k) = subst (λ (b : Bool). (if b then 0 else n) ≢ 3) (sym k.0) k.1
+
+-- Both sides
+
+pub each-side : (s : Side) (P : Side → Type 0) → P s → P (other s) → (u : Side) → P u
+each-side One P a b One = a
+each-side One P a b Two = b
+each-side Two P a b One = b
+each-side Two P a b Two = a
+
+pub own-member : (s : Side) (change : Member → Member) (f : Field) → party s (changed_member s change f) ≡ with_member (party s f).active.place (change (member_in s f)) (party s f)
+unfolding changed_member
+own-member One change f = refl
+own-member Two change f = refl
+
+pub foe-member : (s : Side) (change : Member → Member) (f : Field) → party (other s) (changed_member s change f) ≡ party (other s) f
+unfolding changed_member
+foe-member One change f = refl
+foe-member Two change f = refl
+
+pub out-in : (s : Side) (f : Field) → BothOut f → IsOut (party s f)
+out-in One f o = o.one
+out-in Two f o = o.two
+
+pub restful-sleeps : (clause : Bool) (change : Member → Member) → Restful change → (m : Member) (by : ℕ) → Sleeps clause by m → Sleeps clause by (change m)
+restful-sleeps clause change r m by k e = subst (IsCause clause by) (sym (r m e).1) (k (r m e).0)
+
+pub sides-active : (clause : Bool) (s : Side) (change : Active → Active) → ((a : Active) → (change a).place ≡ a.place) → (f : Field) (p : Public) (u : Side)
+    → Sleepers clause (causes (public_side u p)) (party u f) → Sleepers clause (causes (public_side u p)) (party u (changed_active s change f))
+unfolding changed_active
+sides-active clause One change h f p One m = sleepers-active clause _ _ f.one (change f.one.active) refl (m.place ∙ sym (h f.one.active)) m
+sides-active clause One change h f p Two m = m
+sides-active clause Two change h f p One m = m
+sides-active clause Two change h f p Two m = sleepers-active clause _ _ f.two (change f.two.active) refl (m.place ∙ sym (h f.two.active)) m
+
+pub sides-member : (clause : Bool) (s : Side) (change : Member → Member) → Restful change → (f : Field) (p : Public) (u : Side)
+    → Sleepers clause (causes (public_side u p)) (party u f) → Sleepers clause (causes (public_side u p)) (party u (changed_member s change f))
+unfolding changed_member
+sides-member clause One change r f p One m = sleepers-member clause (change (member_in One f)) _ f.one (restful-sleeps clause change r (member_in One f)) m
+sides-member clause One change r f p Two m = m
+sides-member clause Two change r f p One m = m
+sides-member clause Two change r f p Two m = sleepers-member clause (change (member_in Two f)) _ f.two (restful-sleeps clause change r (member_in Two f)) m
+
+pub sides-apart : (clause : Bool) (f g : Field) (p : Public) → f.one ≡ g.one → f.two ≡ g.two → (u : Side)
+    → Sleepers clause (causes (public_side u p)) (party u f) → Sleepers clause (causes (public_side u p)) (party u g)
+sides-apart clause f g p a b One m = subst (Sleepers clause (causes p.one)) a m
+sides-apart clause f g p a b Two m = subst (Sleepers clause (causes p.two)) b m
+
+pub sides-turned : (clause : Bool) (change : ℕ → ℕ) (s u : Side) (p q : Public) (t : Party) → Turns change s u p q
+    → (u ≡ s → (by : ℕ) → Sleeps clause by (member_at t.active.place t) → Sleeps clause (change by) (member_at t.active.place t))
+    → Sleepers clause (causes (public_side u p)) t → Sleepers clause (causes (public_side u q)) t
+sides-turned clause change s u p q t (inl e) h m = subst (λ (x : Causes). Sleepers clause x t) (sym e) m
+sides-turned clause change s u p q t (inr e) h m = subst (λ (x : Causes). Sleepers clause x t) (sym e.0) (sleepers-by clause change (causes (public_side u p)) t (h e.1 (now_by (causes (public_side u p)))) m)
+
+pub overtaken-sleeps : (clause : Bool) (by : ℕ) (m : Member) → Sleeps clause by m → Sleeps clause (rests_no_more by) m
+overtaken-sleeps clause by m k e = kept (k e)
+  where
+    kept : IsCause clause by (is_marked m.status) → IsCause clause (rests_no_more by) (is_marked m.status)
+    kept (inl x) = inl (ap rests_no_more x.0, x.1)
+    kept (inr x) = inr (ap rests_no_more x.0, x.1)
+
+pub suffers-causes : (b : Bool) (x : PublicSide) → causes (recharges_unless b (on_seen is_overtaken x)) ≡ with_by rests_no_more (causes x)
+suffers-causes true x = seen-by is_overtaken rests_no_more x (λ m. refl)
+suffers-causes false x = seen-by is_overtaken rests_no_more x (λ m. refl)
