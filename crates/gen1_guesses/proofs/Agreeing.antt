@@ -1,6 +1,8 @@
 -- A battle that fits what a player knows after a run agrees with it.
-use Rattle.std.proofs.Common.{Bool, List, ap, arith, cond, false, inl, inr, is_some, length, refl, slice_index_or, subst, sym, true, ℕ, ◌+◌, ◌-◌, ◌<◌, ◌==◌, ◌∙◌, ◌≡◌, ◌≢◌, ◌≤◌, ◌⊎◌}
-use Rattle.std.specs.Prelude.{None, nat_lt}
+use Rattle.gen1_player.proofs.Sleeping.{sleepers_agree}
+use Rattle.gen1_player.specs.Player.{known_at}
+use Rattle.std.proofs.Common.{Bool, List, ap, arith, cond, false, inl, inr, is_some, length, refl, slice_index_or, subst, sym, true, ℕ, ◌+◌, ◌-◌, ◌<◌, ◌==◌, ◌∙◌, ◌≡◌, ◌≢◌, ◌≤◌, ◌⊎◌, suc, zero}
+use Rattle.std.specs.Prelude.{None, nat_lt, if◌then◌else◌}
 use Rattle.std.proofs.lemmas.Bool.{false≢true}
 use Rattle.std.proofs.lemmas.Bool.Decides.{eqb_tells, nat_tests}
 use Rattle.std.proofs.lemmas.List.{get_or_past}
@@ -33,7 +35,7 @@ use Rattle.gen1_player.specs.OwnSide.{own_active, own_side}
 use Rattle.gen1_player.specs.PlainOwnSide.{nobody_out as none_out, plain_out, plain_side}
 use Rattle.gen1_player.specs.Public.{on_public_side, public_side, seen_at}
 use Rattle.gen1_player.specs.Telling.{form_of, meets_all, told_in}
-use Rattle.gen1_player.specs.True.{as_known, current_move_of, IsMoveOf, events_in, first_teller, foe_as_told, is_fault, own_as_known, public_of, team_of, AgreesWith, BothDo, IsTold, SideAgrees, SideDoes, SideHasAppeared, SideIsTold}
+use Rattle.gen1_player.specs.True.{as_known, current_move_of, IsMoveOf, events_in, first_teller, foe_as_told, is_fault, own_as_known, public_of, team_of, AgreesWith, BothDo, IsTold, SideAgrees, SideDoes, SideHasAppeared, SideIsTold, SideSleeps, own_known}
 use Rattle.gen1_player.proofs.Conditions.{conditions_agree}
 use Rattle.gen1_player.proofs.DeedRuns.{actives_agree}
 use Rattle.gen1_player.proofs.HpForms.{tells_hp}
@@ -47,10 +49,10 @@ use Rattle.gen1_guesses.specs.Forks.{AgreesWithFork, ForksAgree, IsFork, IsGuess
 use Rattle.gen1_guesses.specs.Active.{is_on}
 use Rattle.gen1_guesses.specs.Members.{fresh_members, hp_of, member_at as place_in, seen_in}
 use Rattle.gen1_guesses.specs.declared.guess.Guess.{Guess}
-use Rattle.gen1_guesses.proofs.OwnForked.{appeared-alike, does-alike, shows_at, told-alike, view-alike, Alike, own_alike, own_plain, same_shown, slot_of_own, stats_of_own, Shows, shows as shows_own}
-use Rattle.gen1_guesses.proofs.FoeForked.{foe_appeared, foe_does, foe_place, foe_told, foe_view, traps_on, and_same, exact, flag_of, guess_fits, on_is, told_there, Fits, Foe, IsFlag}
+use Rattle.gen1_guesses.proofs.OwnForked.{appeared-alike, does-alike, shows_at, told-alike, view-alike, Alike, own_alike, own_plain, same_shown, slot_of_own, stats_of_own, Shows, shows as shows_own, own_sleeps}
+use Rattle.gen1_guesses.proofs.FoeForked.{foe_appeared, foe_does, foe_place, foe_told, foe_view, traps_on, and_same, exact, flag_of, guess_fits, on_is, told_there, Fits, Foe, IsFlag, foe_sleeps}
 use Rattle.gen1_guesses.proofs.ForkedStates.{fits, has_sides, HasSides, below_or, holds_side, party_valid, started, Holds}
-use Rattle.gen1_guesses.proofs.KnownFoes.{current_known, explained, foe_of_run, foe_plain, as_told, is_teller, numbered, out_told, teller_of, IsNumbered, forks_tell_hp}
+use Rattle.gen1_guesses.proofs.KnownFoes.{current_known, explained, foe_of_run, foe_plain, as_told, is_teller, numbered, out_told, teller_of, IsNumbered, forks_tell_hp, told_causes}
 
 -- One side of what holds of both
 
@@ -87,6 +89,22 @@ known_with : (s : Side) (team : List Member) (t t1 : Teller) (p : Public) (y : P
     → as_known s team t p ≡ as_known s team t1 (with_foe s y p)
 known_with One team t t1 p y e = ap (λ (x : PublicSide). record p { one = own_as_known team p.one; two = x }) (sym e)
 known_with Two team t t1 p y e = ap (λ (x : PublicSide). record p { one = x; two = own_as_known team p.two }) (sym e)
+
+-- An own member that has appeared, as the log showed it.
+own_kept : (team : List Member) (x : PublicSide) (k : ℕ) → k < 6 → (seen_in k x.members).species ≢ 0 → seen_in k (own_as_known team x).members ≡ seen_in k x.members
+own_kept team x k low z = by k low z
+  where
+    shown : (k : ℕ) → (seen_in k x.members).species ≢ 0 → own_known team (k + 1) (seen_in k x.members) ≡ seen_in k x.members
+    shown k z = ap (λ (b : Bool). if b then known_at (k + 1 - 1) team else seen_in k x.members) (is-some (seen_in k x.members).species z)
+
+    by : (k : ℕ) → k < 6 → (seen_in k x.members).species ≢ 0 → seen_in k (own_as_known team x).members ≡ seen_in k x.members
+    by zero l z = shown 0 z
+    by (suc zero) l z = shown 1 z
+    by (suc (suc zero)) l z = shown 2 z
+    by (suc (suc (suc zero))) l z = shown 3 z
+    by (suc (suc (suc (suc zero)))) l z = shown 4 z
+    by (suc (suc (suc (suc (suc zero))))) l z = shown 5 z
+    by (suc (suc (suc (suc (suc (suc k)))))) l z = absurd (omega (arith, l))
 
 -- The whole, of its sides
 whole_view : (s : Side) (p : Public) (y : PublicSide) (f : Field) → SideAgrees (public_side s p) (side_shows (party s f)) → SideAgrees y (side_shows (party (other s) f))
@@ -199,7 +217,7 @@ told_none t w u k a z dead =
 
 module _ (s : Side) (form : ℕ) (few : form ≤ 2) (team : List Member) (t : Teller) (q : Public) (b : State) (valid : IsState b)
     (known : Known s team t q) (view : AgreesWith q (shows b.field)) (told : IsTold q b.field) (does : BothDo q b.field)
-    (members : SideHasAppeared q.one b.field.one × SideHasAppeared q.two b.field.two)
+    (members : SideHasAppeared q.one b.field.one × SideHasAppeared q.two b.field.two) (truth : Bool) (sleeps : (u : Side) → SideSleeps truth (public_side u q) (party u b.field))
     (p : Player) (side : p.side ≡ side_number s) (public : p.public ≡ as_known s team t q) (shown : p.own ≡ plain_side (own_side s b.field))
     (slots : (k : ℕ) → length (seen_in k (public_side (other s) p.public).members).moves ≡ 5)
     (g : Guess) (f : State) (guess : IsGuess g) (may : MayHaveHp s form p g) (fork : IsFork p g f) where
@@ -265,6 +283,12 @@ module _ (s : Side) (form : ℕ) (few : form ≤ 2) (team : List Member) (t : Te
   alike = own_alike g.rules.sleep_clause p.own (public_side s p.public) s f b shows_p own_holds (party_f s) (party_b s) (last_is ∙ own_q.last_move)
       (subst (λ (n : ℕ). IsMoveOf (member_in s b.field) n) (sym last_is) (appeared_of s q b.field members).last_move)
 
+  own_has : SideHasAppeared (public_side s q) (party s f.field)
+  own_has = appeared-alike (public_side s q) (party s f.field) (party s b.field) alike (appeared_of s q b.field members)
+
+  own_seen : (k : ℕ) → k < 6 → (seen_in k (public_side s q).members).species ≢ 0 → seen_in k (public_side s p.public).members ≡ seen_in k (public_side s q).members
+  own_seen k low z = ap (λ (y : PublicSide). seen_in k y.members) own_is ∙ own_kept team (public_side s q) k low z
+
   -- The foe's side
 
   numbered_x : IsNumbered (public_side (other s) p.public)
@@ -275,7 +299,7 @@ module _ (s : Side) (form : ℕ) (few : form ≤ 2) (team : List Member) (t : Te
 
   foe_x : Foe (public_side (other s) p.public)
   foe_x = subst Foe (sym x_is) (foe_of_run t (public_side (other s) q) (party (other s) b.field) b.terms.rules (party_b (other s)) (view_of (other s) q b.field view)
-      (told_of (other s) q b.field told) foe_q (λ k. subst (λ (y : PublicSide). length (seen_in k y.members).moves ≡ 5) x_is (slots k))
+      (told_of (other s) q b.field told) foe_q (told_causes t (public_side (other s) q) known.foe (party (other s) b.field) (sleeps (other s))) (λ k. subst (λ (y : PublicSide). length (seen_in k y.members).moves ≡ 5) x_is (slots k))
       (numbered t (public_side (other s) q) known.foe))
 
   hp_x : (i : ℕ) → i < 6 → (seen_in i (public_side (other s) p.public).members).species ≢ 0 → let m : Member = slice_index_or (party (other s) f.field).members i nobody in
@@ -316,7 +340,7 @@ module _ (s : Side) (form : ℕ) (few : form ≤ 2) (team : List Member) (t : Te
           let dead = fallen_if_told g.rules.sleep_clause (public_side (other s) p.public) (is_on p.own.held) g.team (party (other s) f.field) f.terms.rules p foe_holds (party_f (other s)) form may fitting ((public_side (other s) p.public).place - 1) low named none_x in
           absurd (not_living _ (ap (λ (n : ℕ). (member_at n (party (other s) f.field)).hp) (foe_place g.rules.sleep_clause (public_side (other s) p.public) (is_on p.own.held) (fresh_members g.team) (party (other s) f.field) f.terms.rules p foe_holds (party_f (other s)) foe_x fitting) ∙ dead) living)
 
-  pub whole : AgreesWithFork s form team p f.field
+  pub whole : AgreesWithFork s form team p g.rules.sleep_clause f.field
   whole = record {
     own = same_shown s f b alike (party_f s) (party_b s) (stats_of_own g.rules.sleep_clause p.own (public_side s p.public) s f.field b.field now_f sides.own shows_p) (slot_of_own g.rules.sleep_clause p.own (public_side s p.public) s f.field b.field own_holds shows_p) held_f (sides.turn ∙ turn_p)
         (sides.request ∙ ap (λ (o : OwnSide). o.request) shown)
@@ -332,9 +356,13 @@ module _ (s : Side) (form : ℕ) (few : form ≤ 2) (team : List Member) (t : Te
     conditions = whole_told s q _ f.field (told-alike (public_side s q) _ _ alike (told_of s q b.field told)) (foe_told g.rules.sleep_clause (public_side (other s) p.public) (is_on p.own.held) (fresh_members g.team) (party (other s) f.field) f.terms.rules p foe_holds (party_f (other s)) foe_x fitting seeded_x);
     actives = whole_does s q _ f.field (does-alike (public_side s q) _ _ alike own_q) (foe_does g.rules.sleep_clause (public_side (other s) p.public) (is_on p.own.held) (fresh_members g.team) (party (other s) f.field) f.terms.rules p foe_holds (party_f (other s)) foe_x fitting) does.may_hit_itself;
     own_members = subst (λ (z : PublicSide). SideHasAppeared z (party s f.field)) (sym (own_side_of s q _))
-        (appeared-alike (public_side s q) (party s f.field) (party s b.field) alike (appeared_of s q b.field members));
+        own_has;
     foe_members = subst (λ (z : PublicSide). SideHasAppeared z (party (other s) f.field)) (sym (foe_side_of s q _))
         (foe_appeared g.rules.sleep_clause (public_side (other s) p.public) (is_on p.own.held) (fresh_members g.team) (party (other s) f.field) f.terms.rules p foe_holds (party_f (other s)) foe_x fitting);
+    own_sleepers = subst (λ (z : PublicSide). SideSleeps g.rules.sleep_clause z (party s f.field)) (sym (own_side_of s q _))
+        (own_sleeps g.rules.sleep_clause truth p.own (public_side s p.public) (public_side s q) s f.field b.field shows_p own_holds (party_f s).members.size.1 own_seen (view_of s q b.field view) own_has (sleeps s));
+    foe_sleepers = subst (λ (z : PublicSide). SideSleeps g.rules.sleep_clause z (party (other s) f.field)) (sym (foe_side_of s q _))
+        (foe_sleeps g.rules.sleep_clause (public_side (other s) p.public) (is_on p.own.held) (fresh_members g.team) (party (other s) f.field) f.terms.rules p foe_holds (party_f (other s)) foe_x fitting);
   }
     where
       turn_of : AgreesWith q (shows b.field) → q.turn ≡ b.field.turn
@@ -356,5 +384,5 @@ forks_agree t one two seed pairs terms stream team_one team_two s form p few pla
     let does : BothDo (public_of r) r.state.field = actives_agree t one two seed pairs terms stream team_one team_two
     (no_fault r.state.field.outcome (sym (ap (λ (o : OwnSide). o.outcome) own) ∙ going)) in
     whole s form few team (meets_all (events_in r) (first_teller s form)) (public_of r) r.state valid (met s form team r tellable) view
-    (conditions_agree t one two seed pairs team_one team_two) does (members_agree t one two seed pairs team_one team_two)
+    (conditions_agree t one two seed pairs team_one team_two) does (members_agree t one two seed pairs team_one team_two) t.rules.sleep_clause (sleepers_agree t one two seed pairs team_one team_two)
     p side (holds s form one two r tellable player.foes player.log _ p player.told player.is) own player.slots g f guess may fork

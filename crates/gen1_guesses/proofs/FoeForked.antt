@@ -7,7 +7,7 @@ use Rattle.gen1_tables.specs.declared.effect.Effect.{Effect}
 use Rattle.gen1_tables.specs.declared.effect.Effect.TheVariants as effects
 use Rattle.gen1_tables.specs.Effects.{bides, charges, rages, recharges, thrashes, traps}
 use Rattle.gen1_tables.specs.Moves.{move_row, move_rows, struggle}
-use Rattle.gen1_stats.specs.Members.{nobody, is_living}
+use Rattle.gen1_stats.specs.Members.{nobody, is_living, is_marked}
 use Rattle.gen1_layout.specs.LoadingActive.{effect_of_number}
 use Rattle.gen1_machine.specs.Layout.{condition_bits}
 use Rattle.gen1_machine.specs.LogBytes.{kind_or_0}
@@ -21,7 +21,7 @@ use Rattle.gen1_player.specs.declared.public_side.PublicSide.{PublicSide}
 use Rattle.gen1_player.specs.declared.seen.Seen.{Seen}
 use Rattle.gen1_player.specs.declared.seen.SeenMove.{SeenMove}
 use Rattle.gen1_player.specs.Public.{new_uses, not_seen, not_used, seen_at, may_go_on}
-use Rattle.gen1_player.specs.True.{current_move_of, IsMoveOf, IsSeen, SideAgrees, SideDoes, SideHasAppeared, SideIsTold}
+use Rattle.gen1_player.specs.True.{current_move_of, IsMoveOf, IsSeen, SideAgrees, SideDoes, SideHasAppeared, SideIsTold, IsAsleepBy, SideSleeps}
 use Rattle.gen1_states.specs.Faults.{◌▸◌}
 use Rattle.gen1_states.specs.Plain.{no_member}
 use Rattle.gen1_states.specs.Reading.{member_state}
@@ -33,7 +33,7 @@ use Rattle.gen1_guesses.specs.Members.{member_at as place_in, members_of, seen_i
 use Rattle.gen1_guesses.specs.Tests.{at_index, id_in, knows as knows_move, tested, tested_member, tested_members, tested_use, tested_uses, unless, Tested}
 use Rattle.gen1_guesses.specs.declared.fault.GuessFault.{GuessFault}
 use Rattle.gen1_guesses.specs.declared.fault.GuessFault.TheVariants as faults
-use Rattle.gen1_guesses.proofs.OwnForked.{bits_same, four, is-move, knows_used, shows_at}
+use Rattle.gen1_guesses.proofs.OwnForked.{bits_same, four, is-move, knows_used, shows_at, marked-by}
 use Rattle.gen1_guesses.proofs.ForkedStates.{below_or, current_is, few_moves, Holds}
 use Rattle.gen1_machine.specs.Action.{keeps_going}
 
@@ -95,6 +95,7 @@ pub record Foe (x : PublicSide) : Type 0 where
   pub bides : is_on x.announced.bide ≡ true → bides (effect_of_number x.last_move) ≡ true
   pub charges : is_on x.announced.charging ≡ true → charges (effect_of_number x.last_move) ≡ true
   pub rests : x.announced.recharging ≢ 0 → recharges (move_at x.last_move).effect ≡ true
+  pub causes : (i : ℕ) → (seen_in i x.members).status ≡ 1 → ((seen_in i x.members).asleep_by ≡ 1) ⊎ ((seen_in i x.members).asleep_by ≡ 2)
   pub rages : is_on x.announced.rage ≡ true → rages (effect_of_number x.last_move) ≡ true
   pub slots : (k : ℕ) → length (seen_in k x.members).moves ≡ 5
   pub out : x.place ≢ 0 → (seen_at x.place x).species ≢ 0
@@ -473,6 +474,15 @@ module _ (clause : Bool) (x : PublicSide) (held : Bool) (fresh : List MemberStat
             (λ n. subst (λ (ids : List ℕ). (id_in j (seen_in i x.members) ≡ struggle) ⊎ (four (λ (q : ℕ). q == id_in j (seen_in i x.members)) ids ≡ true)) (sym (moves_there clause x held fresh t h i low))
             (f.uses j (omega (arith, within, five)) n)));
       }
+
+  pub foe_sleeps : SideSleeps clause (exact t x) t
+  foe_sleeps place z =
+      let e = seen_exact (place - 1) z in
+      subst (λ (s : Seen). IsAsleepBy clause s (member_at place t)) (sym e.2) (record {
+        cause = k.causes (place - 1);
+        mark = marked-by clause (seen_in (place - 1) x.members).status (seen_in (place - 1) x.members).asleep_by (is_marked (member_at place t).status)
+            (ap (λ (m : MemberState). m.marked) (told_there clause x held fresh t h (place - 1) e.0 e.1));
+      })
 
   foe_last : IsMoveOf (member_at t.active.place t) x.last_move
   foe_last = is-move (member_at t.active.place t) (few_moves rules t v.members t.active.place) x.last_move last_use

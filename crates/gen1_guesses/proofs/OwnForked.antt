@@ -8,7 +8,7 @@ use Rattle.gen1_tables.specs.Effects.{recharges}
 use Rattle.gen1_tables.specs.Moves.{move_row, move_rows, struggle}
 use Rattle.gen1_tables.specs.Types.{any, number_of}
 use Rattle.gen1_stats.specs.declared.known_move.KnownMove.{KnownMove}
-use Rattle.gen1_stats.specs.Members.{nobody, Member}
+use Rattle.gen1_stats.specs.Members.{nobody, Member, is_marked}
 use Rattle.gen1_machine.specs.Conditions.{ActiveConditions}
 use Rattle.gen1_machine.specs.Moves.{move_at}
 use Rattle.gen1_machine.specs.Layout.{condition_bits, number_of_bits, disabled_slot, outcome_byte, request_byte, used_byte}
@@ -22,7 +22,7 @@ use Rattle.gen1_player.specs.OwnSide.{own_conditions, own_member, OwnConditions,
 use Rattle.gen1_player.specs.PlainOwnSide.{plain_member, is_present, nobody_out, plain_out, plain_side, shown_bits}
 use Rattle.gen1_player.specs.declared.seen.Seen.{Seen}
 use Rattle.gen1_player.specs.Public.{new_uses, seen_at}
-use Rattle.gen1_player.specs.True.{current_move_of, knows, IsMoveOf, IsSeen, SideAgrees, SideDoes, SideHasAppeared, SideIsTold}
+use Rattle.gen1_player.specs.True.{current_move_of, knows, IsMoveOf, IsSeen, SideAgrees, SideDoes, SideHasAppeared, SideIsTold, IsAsleepBy, SideSleeps}
 use Rattle.gen1_tables.specs.declared.effect.Stat.TheVariants.{Attack, Defense, Special, Speed}
 use Rattle.gen1_machine.specs.declared.side.Side.{Side}
 use Rattle.gen1_machine.specs.CurrentStats.{now}
@@ -46,7 +46,7 @@ use Rattle.gen1_states.specs.declared.plain.SideState.{SideState}
 use Rattle.gen1_states.proofs.Between.{not_zero, packs_of}
 use Rattle.gen1_guesses.specs.Active.{used_slot}
 use Rattle.gen1_guesses.specs.Forks.{own_part}
-use Rattle.gen1_guesses.specs.Members.{member_at as place_in, own_member as own_state, own_members, seen_in}
+use Rattle.gen1_guesses.specs.Members.{member_at as place_in, own_member as own_state, own_members, seen_in, mark_of}
 use Rattle.gen1_guesses.proofs.ForkedStates.{words, below_or, current_is, few_moves, past_six, Holds}
 
 -- Conditions with the same number
@@ -466,6 +466,42 @@ own_alike clause o x s f b w h vf vb last own =
       few_first = few_t;
       few_second = few_u;
     }
+
+-- Sleep
+
+pub marked-by : (clause : Bool) (status by : ℕ) (b : Bool) → bit_of b ≡ mark_of clause status by → b ≡ (clause && (status == 1 && by == 1))
+marked-by clause status by b e = same (clause && (status == 1 && by == 1)) b e
+  where
+    same : (c b : Bool) → bit_of b ≡ (if c then 1 else 0) → b ≡ c
+    same true true e = refl
+    same false false e = refl
+    same true false e = absurd (omega (arith, e))
+    same false true e = absurd (omega (arith, e))
+
+-- A member with the mark that belongs to what is known of its sleep.
+pub sleeps-marked : (clause truth : Bool) (s : Seen) (m n : Member) → IsAsleepBy truth s m → (member_state n).marked ≡ mark_of clause s.status s.asleep_by → IsAsleepBy clause s n
+sleeps-marked clause truth s m n h e = record { cause = h.cause; mark = marked-by clause s.status s.asleep_by (is_marked n.status) e }
+
+pub own_sleeps : (clause truth : Bool) (o : OwnSide) (x y : PublicSide) (s : Side) (f b : Field) → Shows o s b → Holds (party s f) (own_part clause o x) → length (party s f).members ≤ 6
+    → ((k : ℕ) → k < 6 → (seen_in k y.members).species ≢ 0 → seen_in k x.members ≡ seen_in k y.members)
+    → SideAgrees y (side_shows (party s b)) → SideHasAppeared y (party s f) → SideSleeps truth y (party s b) → SideSleeps clause y (party s f)
+unfolding own_part
+own_sleeps clause truth o x y s f b w h few same view has sleeps place z = by (below_or (place - 1) 6)
+  where
+    t : Party
+    t = party s f
+
+    by : (place - 1 < 6) ⊎ (6 ≤ place - 1) → IsAsleepBy clause (seen_at place y) (member_at place t)
+    by (inr past) = absurd (z ((has.each place z).species ∙ ap (λ (m : Member). m.species) (past_six t few place (omega (arith, past)))))
+    by (inl low) =
+        let k : ℕ = place - 1 in
+        let back : k + 1 - 1 ≡ k = omega arith in
+        let shown : (slice_index_or o.members k not_shown_member).status ≡ (seen_at place y).status =
+        ap (λ (m : OwnMember). m.status) (w.members k low) ∙ ap (λ (i : ℕ). kind_or_0 (shown (slice_index_or (party s b).members i nobody)).kind) back
+        ∙ sym (ap (λ (m : Shown). kind_or_0 m.kind) (shows_at (party s b) place)) ∙ sym (view.members place z).1 in
+        sleeps-marked clause truth (seen_at place y) (member_at place (party s b)) (member_at place t) (sleeps place z)
+        (ap (λ (i : ℕ). (member_state (slice_index_or t.members i nobody)).marked) (sym back) ∙ ap (λ (m : MemberState). m.marked) (h.members k low ∙ own_at clause o x k low)
+        ∙ ap (λ (n : ℕ). mark_of clause n (seen_in k x.members).asleep_by) shown ∙ ap (λ (m : Seen). mark_of clause (seen_at place y).status m.asleep_by) (same k low z))
 
 -- The same is shown
 

@@ -34,7 +34,7 @@ use Rattle.gen1_player.specs.OwnSide.{own_side}
 use Rattle.gen1_player.specs.PlainOwnSide.{plain_side}
 use Rattle.gen1_player.specs.Player.{IsPlayer}
 use Rattle.gen1_player.specs.Telling.{form_of, told_all, told_in, IsTeller}
-use Rattle.gen1_player.specs.True.{as_known, events_in, first_teller, team_of, AgreesWith, BothDo, IsTold, SideHasAppeared}
+use Rattle.gen1_player.specs.True.{as_known, events_in, first_teller, team_of, AgreesWith, BothDo, IsTold, SideHasAppeared, SideSleeps}
 use Rattle.gen1_states.specs.Bytes.{bytes_of}
 use Rattle.gen1_states.specs.Completed.{completed}
 
@@ -149,8 +149,9 @@ MayHaveHp s form p g = (k : ℕ) → let m : Seen = seen_in k (public_side (othe
 -- The whole
 
 -- The player is shown this side of the battle as its own. What it holds as public is what a side knows (`PlayersHoldThePublic`) of something
--- that agrees with the battle, as the log of a run does (`PublicAgrees`, `ConditionsAgree`, `ActivesAgree`, `MembersAgree`).
-pub record AgreesWithFork (s : Side) (form : ℕ) (team : List Member) (p : Player) (f : Field) : Type 0 where
+-- that agrees with the battle, as the log of a run does (`PublicAgrees`, `ConditionsAgree`, `ActivesAgree`, `MembersAgree`, `SleepersAgree`)
+-- by the rules of the guess.
+pub record AgreesWithFork (s : Side) (form : ℕ) (team : List Member) (p : Player) (clause : Bool) (f : Field) : Type 0 where
   pub own : plain_side (own_side s f) ≡ p.own
   pub teller : Teller
   pub is_teller : IsTeller s teller
@@ -162,10 +163,12 @@ pub record AgreesWithFork (s : Side) (form : ℕ) (team : List Member) (p : Play
   pub actives : BothDo public f
   pub own_members : SideHasAppeared (public_side s public) (party s f)
   pub foe_members : SideHasAppeared (public_side (other s) public) (party (other s) f)
+  pub own_sleepers : SideSleeps clause (public_side s public) (party s f)
+  pub foe_sleepers : SideSleeps clause (public_side (other s) public) (party (other s) f)
 
 -- After any run of a battle of two teams from its start, of a player and any guess that fits.
 abbrev pub ForksAgree : Type 0
 ForksAgree = (t : Terms) (one two : List Member) (seed : List ℕ) (pairs : List (Choice × Choice))
     → IsTerms t → IsStream (Link seed) → IsTeam one → IsTeam two
     → (s : Side) (form : ℕ) (p : Player) → form ≤ 2 → HasPlayer s form one two (run (first_state t one two seed) pairs) p
-    → (g : Guess) (f : State) → IsGuess g → MayHaveHp s form p g → IsFork p g f → AgreesWithFork s form (team_of s one two) p f.field
+    → (g : Guess) (f : State) → IsGuess g → MayHaveHp s form p g → IsFork p g f → AgreesWithFork s form (team_of s one two) p g.rules.sleep_clause f.field

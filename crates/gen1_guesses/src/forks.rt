@@ -169,8 +169,8 @@ pub fn forks_tell_hp()
 {}
 
 /// Take the player of a side after any run from the start, and any guess that fits, whose maximum HP allow the numbers that the player
-/// learned. In the battle that fits, the side is shown the same of itself, and what the player holds as public agrees with it, as
-/// `public_agrees`, `conditions_agree`, `actives_agree` and `members_agree` say of a run.
+/// learned. In the battle that fits, the side is shown the same of itself, and what the player holds as public agrees with it, as the
+/// five `.._agree` of gen1_player say of a run by the guess's rules.
 pub fn forks_agree()
     ensures { ForksAgree }
 {}
