@@ -1600,7 +1600,7 @@ uint8_t gen1_player_feed(gen1_player *player, const uint8_t *told, size_t count)
 /* Writes a side of a battle, as it is shown to its own player. Returns 0, or GEN1_ERROR_SIDE; then nothing has changed. */
 uint8_t gen1_get_own_side(const gen1_battle *battle, uint8_t side, gen1_own_side *own);
 
-/* Replaces the view of its own side that a player was last shown, and the mask of its choices. */
+/* Replaces what a player was last shown of its side, and the mask of its choices. */
 void gen1_player_show(gen1_player *player, const gen1_own_side *own, uint16_t offered);
 
 /* A guess of what a player can't know. */

@@ -188,7 +188,7 @@ member_ok {g = g} {f = f} s h =
     let v = party_in g f s h.storable in
     All-get_or (IsMemberUnder g.terms.rules) (party s f).members ((active_in s f).place - 1) nobody (omega (arith, v.place.0, v.place.1)) v.members.each
 
--- Steps of a member and of a side, for a change that is given by its result
+-- Writes of a member, of an active block and of its conditions, for a change that is given by its result
 
 pub member_written : {g : Setting} {p : Parts} {f : Field} (s : Side) (place : ℕ) (change : Member → Member) (new : Member) (w : List ℕ) → Within g p f
     → place ≡ (active_in s f).place → change (member_in s f) ≡ new → refill 24 (member_of s place p) w ≡ member_block new

@@ -193,7 +193,7 @@ member-part Two (suc (suc (suc (suc (suc zero))))) xs low high = refl
 member-part Two (suc (suc (suc (suc (suc (suc zero)))))) xs low high = refl
 member-part Two (suc (suc (suc (suc (suc (suc (suc k))))))) xs low high = absurd (omega arith)
 
--- What writes change of the parts of a battle, which are those of its bytes
+-- The parts of a battle in its bytes, and the parts after a write
 
 module _ (p : Parts) (long : length (joined p) ≡ 384) (same : parts_of (joined p) ≡ p) where
   pub header-leaves : (w : List ℕ) → parts_of (rewritten 0 24 w (joined p)) ≡ record p { header = refill 24 p.header w }

@@ -77,7 +77,7 @@ impl Player {
         self.inner.feed(told)
     }
 
-    /// Replaces the view of its side that the player was last shown, and its choices.
+    /// Replaces what the player was last shown of its side, and its choices.
     pub fn show(&mut self, own: &OwnSide, offered: OfferedMask) {
         self.inner.show(own, offered.bits());
     }

@@ -173,7 +173,7 @@ class Player:
             raise BadLog(LogFault(code), fault_place(self.held + given) - len(self.held))
 
     def show(self, own: OwnSide, offered: Iterable[Choice | int]) -> None:
-        """Replaces the view of its side that the player was last shown, and its
+        """Replaces what the player was last shown of its side, and its
         choices, which may be in any order. Raises `BadType`, and
         `BadArgument` for the side of another team, and for no choices.
         """
