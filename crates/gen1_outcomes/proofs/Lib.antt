@@ -1,8 +1,7 @@
 -- Lemmas.
 pub mod Apart
-pub mod Joining
-pub mod Leaving
 pub mod Lists
+pub mod Logs
 pub mod Offered
 pub mod Parts
 pub mod Paths
@@ -13,3 +12,4 @@ pub mod Shares
 pub mod Sums
 pub mod Table
 pub mod Walking
+pub mod Walks

@@ -1,6 +1,6 @@
 -- A pair that is accepted was offered.
-use Rattle.std.proofs.Common.{◌≡◌, Bool, true, false, Err, Ok, Result, Some, ap, refl, subst, sym, ◌∙◌, ℕ}
-use Rattle.gen1_rolls.specs.Streams.{Stream}
+use Rattle.std.proofs.Common.{◌≡◌, Bool, List, true, false, Err, Ok, Result, Some, ap, refl, subst, sym, ◌∙◌, ℕ}
+use Rattle.gen1_rolls.specs.Steady.{draws_of, stream_of}
 use Rattle.gen1_machine.specs.declared.choice.Choice.{Choice}
 use Rattle.gen1_machine.specs.declared.side.Side.TheVariants.{One, Two}
 use Rattle.gen1_machine.specs.Choices.{choice_at}
@@ -14,7 +14,13 @@ use Rattle.gen1_engine.specs.declared.result.Refusal.TheVariants as refusals
 use Rattle.gen1_layout.specs.Shows.{Telling}
 use Rattle.gen1_engine.specs.Replay.{both, choices_at}
 use Rattle.gen1_engine.specs.Update.{Answers, AnswersAs, AreOffered, Tests}
-use Rattle.gen1_outcomes.specs.Following.{CanFollow, Follows}
+use Rattle.gen1_outcomes.specs.declared.log.Entry.{Entry}
+use Rattle.gen1_outcomes.specs.declared.nodes.Nodes.{Nodes}
+use Rattle.gen1_outcomes.specs.declared.script.Script.{Script}
+use Rattle.gen1_outcomes.specs.Following.{CanFollow, Leads}
+use Rattle.gen1_outcomes.specs.Logs.{Agrees, IsLogged, NotesAll}
+use Rattle.gen1_outcomes.specs.Nodes.{Noting}
+use Rattle.gen1_outcomes.specs.Script.{scripted}
 
 pub accepted_offered : (s : State) (one two : Choice) (old new : Parts) (result : BattleResult) → Answers s one two old new (Ok result) → AreOffered s one two
 unfolding step step_by answered
@@ -61,11 +67,32 @@ follows_as s a b one two parts events e f h =
     subst (λ (x : Choice). AreOffered s x two → CanFollow s x two parts events) e
     (subst (λ (y : Choice). AreOffered s a y → CanFollow s a y parts events) f h)
 
-pub follows_by : (s : State) (a b one two : Choice) (stream : Stream) (parts : Parts) (events : Telling) → a ≡ one → b ≡ two
-    → (AreOffered s a b → Follows s a b stream parts events) → AreOffered s one two → Follows s one two stream parts events
-follows_by s a b one two stream parts events e f h =
-    subst (λ (x : Choice). AreOffered s x two → Follows s x two stream parts events) e
-    (subst (λ (y : Choice). AreOffered s a y → Follows s a y stream parts events) f h)
+pub leads_by : (s : State) (a b one two : Choice) (log : List Entry) (parts : Parts) (events : Telling) → a ≡ one → b ≡ two
+    → (AreOffered s a b → Leads s a b log parts events) → AreOffered s one two → Leads s one two log parts events
+leads_by s a b one two log parts events e f h =
+    subst (λ (x : Choice). AreOffered s x two → Leads s x two log parts events) e
+    (subst (λ (y : Choice). AreOffered s a y → Leads s a y log parts events) f h)
+
+-- A way that was played can follow: its script's draws agree with its log.
+pub can_follow : (script : Script) (old : Noting) (new : Nodes) (way : IsLogged script old new) (s : State) (one two : Choice) (parts : Parts) (events : Telling)
+    → Leads s one two way.log parts events → CanFollow s one two parts events
+can_follow script old new way s one two parts events leads =
+    record { log = way.log; bytes = draws_of scripted script; agrees = way.own; leads = leads }
+
+-- A way under other names of its script and of what was noted before it and after it.
+abbrev pub way_as : (script script' : Script) (old old' : Noting) (new new' : Nodes) (P : List Entry → Type 0) → script ≡ script' → old ≡ old' → new ≡ new'
+    → (way : IsLogged script old new) × P way.log → (way : IsLogged script' old' new') × P way.log
+way_as script script' old old' new new' P e f h x = (
+  record {
+    log = x.0.log;
+    own = subst (λ (y : Script). Agrees x.0.log (stream_of scripted y)) e x.0.own;
+    left = x.0.left;
+    noted =
+        subst (λ (n : Nodes). NotesAll x.0.log old' (record { left = x.0.left; nodes = n })) h
+        (subst (λ (y : Noting). NotesAll x.0.log y (record { left = x.0.left; nodes = new })) f x.0.noted);
+  },
+  x.1,
+)
 
 some_same : (a b : Choice × Choice) → Some a ≡ Some b → a ≡ b
 some_same a b e = cc

@@ -13,6 +13,7 @@ use Rattle.gen1_outcomes.specs.declared.successor.Successor.{Successor}
 use Rattle.gen1_outcomes.specs.Chances.{IsBelow}
 use Rattle.gen1_outcomes.specs.Listing.{AreThose, battle_at, weight_of}
 use Rattle.gen1_outcomes.specs.Shares.{Adds, AreProbable, CountsEach, EachIsProbable, GetsShare, Grows, IsLeft, KeepsShares, StayProbable, TakesEach, weight_at, weight_before}
+use Rattle.gen1_outcomes.specs.Merging.{LeavesOut}
 use Rattle.gen1_outcomes.proofs.Parts.{both_positive, grown, grown_first, least_grown, most_grown, scaled, still_least, still_most}
 
 same_or : (m n : ℕ) → (m ≡ n) ⊎ (m ≢ n)
@@ -309,3 +310,17 @@ finished_left least t xs (Ok o) are is left whole ways =
     (subst (λ (w : ℕ). t.left_out * 4294967296 ≤ t.ways * (least * w)) (sym whole)
     (subst (λ (l : ℕ). t.left_out * 4294967296 ≤ t.ways * (l * t.whole)) is are.left)))
 finished_left least t xs (Err why) are is left whole ways = tt
+
+-- What a list leaves out.
+pub leaves_then : (a b c : Tally) → LeavesOut a b → LeavesOut b c → LeavesOut a c
+leaves_then a b c f g = record { least = g.least ∙ f.least; none = λ l z. g.none (f.least ∙ l) (f.none l z) }
+
+pub on_ok_leaves : (a b c : Tally) (r : Result (Unit {0}) OutcomesFault) → LeavesOut a b → OnOk r (LeavesOut b c) → OnOk r (LeavesOut a c)
+on_ok_leaves a b c (Ok done) f g = leaves_then a b c f g
+on_ok_leaves a b c (Err fault) f g = tt
+
+-- The result of a list with a least probability of 0.
+pub finished_all : (old new : Tally) (r : Result Outcomes OutcomesFault) → LeavesOut old new → old.least ≡ 0 → old.left_out ≡ 0 → IfOk r (λ o. o.left_out ≡ new.left_out)
+    → IfOk r (λ o. o.left_out ≡ 0)
+finished_all old new (Ok o) f l z e = e ∙ f.none l z
+finished_all old new (Err fault) f l z e = tt

@@ -3,6 +3,8 @@ use Rattle.std.proofs.Common.{◌≡◌, ◌≢◌, ℕ, Bool, Some, false, not,
 use Rattle.std.proofs.Math.Nat.{mul_assoc, mul_comm}
 use Rattle.std.proofs.lemmas.List.{get_or_default, length-set}
 use Rattle.gen1_rolls.specs.declared.look.Look.TheVariants.{Below}
+use Rattle.gen1_layout.specs.Parts.{Parts}
+use Rattle.gen1_layout.specs.Shows.{Telling}
 use Rattle.gen1_outcomes.specs.declared.byte_set.ByteSet.{ByteSet}
 use Rattle.gen1_outcomes.specs.declared.nodes.Chance.{Chance}
 use Rattle.gen1_outcomes.specs.declared.nodes.Node.{Node}
@@ -10,7 +12,7 @@ use Rattle.gen1_outcomes.specs.declared.nodes.Nodes.{Nodes}
 use Rattle.gen1_outcomes.specs.declared.plain.PlainWalk.{PlainWalk}
 use Rattle.gen1_outcomes.specs.Bytes.{has, size}
 use Rattle.gen1_outcomes.specs.Classes.{alike_in}
-use Rattle.gen1_outcomes.specs.Following.{PlaysNext, Walk}
+use Rattle.gen1_outcomes.specs.Following.{PlaysNext, PlaysWay, Walk}
 use Rattle.gen1_outcomes.specs.Nodes.{AllDone, AreBytes, AreLeft, AreOn, AreToCome, Covers, GoesOn, IsChance, IsDone, LeadsOn}
 use Rattle.gen1_outcomes.specs.Plain.{ArePlain, IsWay}
 
@@ -46,12 +48,13 @@ way_is nodes next chance walk false is leads done going over count draws =
     record { nodes = nodes; chance = is; next = inr (record { over = over refl; done = done refl }) }
 
 -- The same of a walk whose type guarantees it.
-pub goes_past : (nodes next : Nodes) (c : Chance) (old : Walk) (on : Bool) → IsChance nodes c → old.over ≡ false → (on ≡ true → LeadsOn nodes next)
-    → (on ≡ false → AllDone nodes) → PlaysNext (Some c) old (record old { nodes = next; over = not on })
-goes_past nodes next c old true is going leads done =
-    (nodes, is, record { start = refl; one = refl; two = refl; options = refl; going = going; next = inl (refl, leads refl) })
-goes_past nodes next c old false is going leads done =
-    (nodes, is, record { start = refl; one = refl; two = refl; options = refl; going = going; next = inr (refl, done refl) })
+pub goes_past : (nodes next : Nodes) (c : Chance) (old : Walk) (on : Bool) (parts : Parts) (events : Telling) → IsChance nodes c → old.over ≡ false
+    → (on ≡ true → LeadsOn nodes next) → (on ≡ false → AllDone nodes) → PlaysWay old nodes parts events
+    → PlaysNext (Some c) old (record old { nodes = next; over = not on }) parts events
+goes_past nodes next c old true parts events is going leads done plays =
+    (nodes, is, record { start = refl; one = refl; two = refl; options = refl; going = going; next = inl (refl, leads refl) }, plays)
+goes_past nodes next c old false parts events is going leads done plays =
+    (nodes, is, record { start = refl; one = refl; two = refl; options = refl; going = going; next = inr (refl, done refl) }, plays)
 
 -- Halves are in the same proportion.
 pub halved : (n t w c : ℕ) → n * t ≡ w * c → n % 2 ≡ 0 → w % 2 ≡ 0 → n / 2 * t ≡ w / 2 * c

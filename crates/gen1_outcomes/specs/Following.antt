@@ -1,8 +1,8 @@
 -- What can follow from a pair of choices: what the machine makes of it, with some stream of bytes for its draws
 -- (docs/MECHANICS.md, "Link numbers", "Falls and requests").
-use Rattle.std.specs.Prelude.{Bool, None, Option, Some, false, true, ℕ, ◌≡◌, ◌≢◌, ◌⊎◌}
+use Rattle.std.specs.Prelude.{Bool, List, None, Option, Some, false, true, ℕ, ◌≡◌, ◌≢◌, ◌⊎◌}
 use Rattle.gen1_rolls.specs.Draws.{Drawing}
-use Rattle.gen1_rolls.specs.Streams.{Drawn, IsStream, Stream}
+use Rattle.gen1_rolls.specs.Streams.{Drawn, Stream}
 use Rattle.gen1_machine.specs.declared.choice.Choice.{Choice}
 use Rattle.gen1_machine.specs.declared.terms.Request.TheVariants.{Move}
 use Rattle.gen1_machine.specs.State.{State}
@@ -13,11 +13,15 @@ use Rattle.gen1_machine.specs.Step.{close_update}
 use Rattle.gen1_layout.specs.Parts.{Parts}
 use Rattle.gen1_layout.specs.Shows.{Telling}
 use Rattle.gen1_layout.specs.Operations.{Scene}
-use Rattle.gen1_layout.specs.Within.{Within, setting_of}
+use Rattle.gen1_layout.specs.Within.{Stands, Within, setting_of}
+use Rattle.gen1_engine.specs.Update.{AreOffered}
+use Rattle.gen1_outcomes.specs.declared.log.Entry.{Entry}
 use Rattle.gen1_outcomes.specs.declared.nodes.Chance.{Chance}
 use Rattle.gen1_outcomes.specs.declared.nodes.Nodes.{Nodes}
 use Rattle.gen1_outcomes.specs.declared.options.OutcomeOptions.{OutcomeOptions}
-use Rattle.gen1_outcomes.specs.Nodes.{AllDone, IsChance, LeadsOn}
+use Rattle.gen1_outcomes.specs.Logs.{Agrees, IsLogged}
+use Rattle.gen1_outcomes.specs.Nodes.{AllDone, IsChance, IsPathOf, LeadsOn}
+use Rattle.gen1_outcomes.specs.Script.{script_of}
 use Rattle.gen1_switching.specs.Updates.{Steps, UpdatesDrawing, drawing_on}
 
 -- A walk through the ways of an update of a battle by a pair of choices: which of them are listed, the draws of the next one, and whether
@@ -49,11 +53,6 @@ pub record GoesPast (nodes : Nodes) (old new : Walk) : Type 0 where
   pub going : old.over ≡ false
   pub next : ((new.over ≡ false) × LeadsOn nodes new.nodes) ⊎ ((new.over ≡ true) × AllDone nodes)
 
--- A walk plays a way of this probability; or all were played, and nothing happens.
-abbrev pub PlaysNext : Option Chance → Walk → Walk → Type 0
-PlaysNext (Some c) old new = (nodes : Nodes) × IsChance nodes c × GoesPast nodes old new
-PlaysNext None old new = (old.over ≡ true) × (new ≡ old)
-
 -- A turn, and its close, with the draws of a stream from a place on.
 abbrev pub turn_on : State → Choice → Choice → Stream → ℕ → Progress
 turn_on s one two stream n = close_update (ruling_of s.terms) (turn (ruling_of s.terms) one two (drawing_on stream n s))
@@ -75,7 +74,25 @@ pub record Follows (s : State) (one two : Choice) (stream : Stream) (parts : Par
   pub by_turn : s.field.request_one ≡ Move → AreOf s parts events (turn_on s one two stream 0)
   pub by_step : s.field.request_one ≢ Move → Steps s one two parts events
 
--- They follow with the draws of some stream: of bytes, of which any 280 in a row hold every one.
-abbrev pub CanFollow : State → Choice → Choice → Parts → Telling → Type 0
-CanFollow s one two parts events =
-    (bytes : ℕ → ℕ) × (IsStream (Drawn bytes 280) × Follows s one two (Drawn bytes 280) parts events)
+-- They follow with the draws of each stream that agrees with a log.
+abbrev pub Leads : State → Choice → Choice → List Entry → Parts → Telling → Type 0
+Leads s one two log parts events = (stream : Stream) → Agrees log stream → Follows s one two stream parts events
+
+-- They follow with the draws of each stream that agrees with some log, and a stream does: of bytes, of which any 280 in a row hold every one.
+pub record CanFollow (s : State) (one two : Choice) (parts : Parts) (events : Telling) : Type 0 where
+  pub log : List Entry
+  pub bytes : ℕ → ℕ
+  pub agrees : Agrees log (Drawn bytes 280)
+  pub leads : Leads s one two log parts events
+
+-- The next way of a walk was played, and these are the nodes after it: it leads to a battle and events on each stream that agrees with its log.
+pub record PlaysWay (w : Walk) (nodes : Nodes) (parts : Parts) (events : Telling) : Type 0 where
+  pub path : List ℕ
+  pub is_path : IsPathOf w.nodes path
+  pub way : IsLogged (script_of path) (record { left = 0; nodes = w.nodes }) nodes
+  pub leads : (s : State) → Stands w.start s → AreOffered s w.one w.two → Leads s w.one w.two way.log parts events
+
+-- A walk plays a way of this probability; or all were played, and nothing happens.
+abbrev pub PlaysNext : Option Chance → Walk → Walk → Parts → Telling → Type 0
+PlaysNext (Some c) old new parts events = (nodes : Nodes) × IsChance nodes c × GoesPast nodes old new × PlaysWay old nodes parts events
+PlaysNext None old new parts events = (old.over ≡ true) × (new ≡ old)

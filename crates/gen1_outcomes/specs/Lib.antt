@@ -7,6 +7,7 @@ pub mod Chances
 pub mod Beginning
 pub mod Following
 pub mod Listing
+pub mod Logs
 pub mod Middles
 pub mod Merging
 pub mod Shares

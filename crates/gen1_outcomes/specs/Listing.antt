@@ -1,7 +1,6 @@
 -- A list of the battles that can follow from a pair of choices, with their weights.
 use Rattle.std.specs.Prelude.{List, take, slice_index, slice_index_or, ℕ, ◌*◌, ◌+◌, ◌<◌, ◌≡◌, ◌≤◌, ◌⊎◌}
 use Rattle.std.specs.List.{sum_by}
-use Rattle.gen1_rolls.specs.Steady.{stream_of}
 use Rattle.gen1_machine.specs.declared.choice.Choice.{Choice}
 use Rattle.gen1_machine.specs.State.{State}
 use Rattle.gen1_layout.specs.Parts.{Parts}
@@ -13,8 +12,9 @@ use Rattle.gen1_outcomes.specs.declared.outcomes.Outcomes.{Outcomes}
 use Rattle.gen1_outcomes.specs.declared.successor.Successor.{Successor}
 use Rattle.gen1_layout.specs.Within.{Stands}
 use Rattle.gen1_engine.specs.Update.{AreOffered}
-use Rattle.gen1_outcomes.specs.Following.{CanFollow, Follows, Walk}
-use Rattle.gen1_outcomes.specs.Script.{script_of, scripted}
+use Rattle.gen1_outcomes.specs.Following.{CanFollow, Leads, Walk}
+use Rattle.gen1_outcomes.specs.Logs.{IsLogged}
+use Rattle.gen1_outcomes.specs.Script.{script_of}
 
 abbrev pub weight_of : Successor → ℕ
 weight_of x = x.low + x.high * 18446744073709551616
@@ -31,14 +31,16 @@ battle_at xs k past = (slice_index_or xs k past).battle
 abbrev pub untold : Telling
 untold = λ _. Unit {0}
 
--- A battle follows with the bytes of a way, which are noted by these options after those of a first part.
+-- A battle follows on each stream that agrees with the log of a way, whose bytes are noted by these options after those of a first part.
 pub record IsPlayed (s : State) (one two : Choice) (form : OutcomeOptions) (parts : Parts) : Type 0 where
   pub nodes : Nodes
   pub options : nodes.options ≡ form
   pub first : ℕ
   pub path : List ℕ
   pub bytes : (k : ℕ) → (past : Node) → k < nodes.len → first + k < 24 → slice_index path (first + k) ≡ (slice_index_or nodes.list k past).byte
-  pub follows : Follows s one two (stream_of scripted (script_of path)) parts untold
+  pub after : Nodes
+  pub way : IsLogged (script_of path) (record { left = first; nodes = nodes }) after
+  pub leads : Leads s one two way.log parts untold
 
 -- A battle can follow, by a way that is noted by these options.
 abbrev pub FollowsBy : State → Choice → Choice → OutcomeOptions → Parts → Type 0

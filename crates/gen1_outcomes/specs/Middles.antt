@@ -1,6 +1,6 @@
 -- Positions between the two actions of a turn, when they agree, and what a way to one is played with (docs/MECHANICS.md, "Order of a turn", "Link numbers").
-use Rattle.std.specs.Prelude.{List, slice_index, slice_index_or, ℕ, ◌+◌, ◌<◌, ◌≡◌, ◌≢◌, ◌⊎◌}
-use Rattle.gen1_rolls.specs.Steady.{steady, stream_of}
+use Rattle.std.specs.Prelude.{List, [], slice_index, slice_index_or, ℕ, ◌+◌, ◌<◌, ◌≡◌, ◌≢◌, ◌⊎◌}
+use Rattle.gen1_rolls.specs.Streams.{Stream}
 use Rattle.gen1_machine.specs.declared.choice.Choice.TheVariants as choices
 use Rattle.gen1_machine.specs.declared.side.Side.TheVariants.{One, Two}
 use Rattle.gen1_machine.specs.declared.terms.Request.TheVariants.{Move}
@@ -14,12 +14,12 @@ use Rattle.gen1_engine.specs.Update.{AreOffered}
 use Rattle.gen1_switching.specs.Updates.{Plays, drawing_on}
 use Rattle.gen1_outcomes.specs.declared.nodes.Node.{Node}
 use Rattle.gen1_outcomes.specs.declared.nodes.Nodes.{Nodes}
-use Rattle.gen1_outcomes.specs.declared.script.Script.{Script}
 use Rattle.gen1_outcomes.specs.Beginning.{Begins, unflinched}
-use Rattle.gen1_outcomes.specs.Following.{Follows, Walk}
+use Rattle.gen1_outcomes.specs.Following.{Leads, Walk}
 use Rattle.gen1_outcomes.specs.Listing.{untold}
-use Rattle.gen1_outcomes.specs.Nodes.{IsTooLarge}
-use Rattle.gen1_outcomes.specs.Script.{script_of, scripted, source_of}
+use Rattle.gen1_outcomes.specs.Nodes.{IsPathOf, IsTooLarge}
+use Rattle.gen1_outcomes.specs.Logs.{Agrees, IsLogged, logged}
+use Rattle.gen1_outcomes.specs.Script.{script_of}
 use Rattle.gen1_outcomes.specs.declared.middles.Middle.{Middle}
 use Rattle.gen1_outcomes.specs.declared.middles.Middles.{Middles}
 use Rattle.gen1_outcomes.specs.Chances.{IsSum}
@@ -60,10 +60,6 @@ pub record IsPut (added : Middle) (old new : Middles) : Type 0 where
 abbrev pub IsAdded : Middle → Middles → Middles → Type 0
 IsAdded added old new = Joins added old new ⊎ IsPut added old new
 
--- A path has the bytes of these draws first.
-abbrev pub IsPathOf : Nodes → List ℕ → Type 0
-IsPathOf nodes path = (k : ℕ) → (past : Node) → k < nodes.len → slice_index path k ≡ (slice_index_or nodes.list k past).byte
-
 -- A path has the bytes of a way to a position first, and then those of these draws.
 pub record LeadsTo (middle : Middle) (nodes : Nodes) (path : List ℕ) : Type 0 where
   pub first : (k : ℕ) → k < middle.draws → slice_index path k ≡ slice_index middle.path k
@@ -74,20 +70,23 @@ pub record LeadsTo (middle : Middle) (nodes : Nodes) (path : List ℕ) : Type 0 
 abbrev pub IsTooLong : Middle → Nodes → Type 0
 IsTooLong middle nodes = (24 < middle.draws + nodes.len) ⊎ IsTooLarge nodes
 
--- The parts follow from the pair of a walk, with the draws of such a path.
-pub record PlaysOn (w : Walk) (middle : Middle) (nodes : Nodes) (parts : Parts) : Type 0 where
+-- The parts follow from the pair of a walk, on each stream that agrees with the log of a way with such a path.
+pub record PlaysOn (w : Walk) (middle : Middle) (nodes after : Nodes) (parts : Parts) : Type 0 where
   pub path : List ℕ
-  pub leads : LeadsTo middle nodes path
-  pub follows : (s : State) → Stands w.start s → AreOffered s w.one w.two → Follows s w.one w.two (stream_of scripted (script_of path)) parts untold
+  pub leads_to : LeadsTo middle nodes path
+  pub way : IsLogged (script_of path) (record { left = middle.draws; nodes = nodes }) after
+  pub leads : (s : State) → Stands w.start s → AreOffered s w.one w.two → Leads s w.one w.two way.log parts untold
 
--- A position is where a walk's turn of two moves is before its second action, with the draws of a path for these draws.
-pub record Reaches (w : Walk) (nodes : Nodes) (middle : Middle) : Type 0 where
+-- A position is where a walk's turn of two moves is before its second action, on each stream that agrees with the log of a way with a path for
+-- these draws.
+pub record Reaches (w : Walk) (nodes after : Nodes) (middle : Middle) : Type 0 where
   pub path : List ℕ
   pub is_path : IsPathOf nodes path
   pub parts : Parts
   pub bytes : middle.bytes ≡ joined parts
-  pub left : Script
+  pub way : IsLogged (script_of path) (record { left = 0; nodes = nodes }) after
   pub begins : (s : State) → (j k : ℕ) → Stands w.start s → Plays s Move w.one w.two → w.one ≡ choices.Move j → w.two ≡ choices.Move k
-      → let p = drawing_on (stream_of scripted (script_of path)) 0 s in
-      Begins (steady scripted) (source_of path) (setting_of s) parts left middle.rest (pick_in j One (unflinched p).field) (pick_in k Two (unflinched p).field) p
-      (turn (ruling_of s.terms) w.one w.two p)
+      → (stream : Stream) → Agrees way.log stream
+      → let p = drawing_on stream 0 s in
+      Begins logged (record { origin = []; stream = stream }) (setting_of s) parts way.log middle.rest (pick_in j One (unflinched p).field)
+      (pick_in k Two (unflinched p).field) p (turn (ruling_of s.terms) w.one w.two p)

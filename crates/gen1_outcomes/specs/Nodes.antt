@@ -1,5 +1,5 @@
 -- The draws of a way, and how one way leads to the next.
-use Rattle.std.specs.Prelude.{Bool, length, true, ℕ, slice_index_or, ◌+◌, ◌-◌, ◌*◌, ◌/◌, ◌^◌, ◌<◌, ◌≡◌, ◌≢◌, ◌≤◌, ◌⊎◌, if◌then◌else◌}
+use Rattle.std.specs.Prelude.{Bool, List, length, true, ℕ, slice_index, slice_index_or, ◌+◌, ◌-◌, ◌*◌, ◌/◌, ◌^◌, ◌<◌, ◌≡◌, ◌≢◌, ◌≤◌, ◌⊎◌, if◌then◌else◌}
 use Rattle.gen1_rolls.specs.declared.look.Look.{Look}
 use Rattle.gen1_rolls.specs.declared.look.Look.TheVariants.{Factor}
 use Rattle.gen1_outcomes.specs.declared.byte_set.ByteSet.{ByteSet}
@@ -117,6 +117,10 @@ pub record Adds (drawn : ℕ) (seen : Look) (may : ByteSet) (old new : Nodes) : 
   pub weight : (class : ByteSet) → IsClass old.options.damage_classes seen drawn may class → (past : Node) → (slice_index_or new.list old.len past).count ≡ size class
   pub covers : Covers may old new
 
+-- A path has the bytes of these draws first.
+abbrev pub IsPathOf : Nodes → List ℕ → Type 0
+IsPathOf nodes path = (k : ℕ) → (past : Node) → k < nodes.len → slice_index path k ≡ (slice_index_or nodes.list k past).byte
+
 -- A branch is left out only if its probability is below the least one.
 abbrev pub IsLeftOut : Nodes → Type 0
 IsLeftOut nodes = (c : Chance) × IsChance nodes c × IsBelow nodes.options.least c
@@ -143,16 +147,22 @@ pub record IsMarked (old new : Nodes) : Type 0 where
 abbrev pub Notes : ℕ → Look → ByteSet → Nodes → Nodes → Type 0
 Notes drawn seen may old new = Adds drawn seen may old new ⊎ ((new ≡ old) × IsLeftOut old) ⊎ IsMarked old new
 
--- The next draw is after those of the way, or it is one of them or its branch is left out.
-abbrev pub IsNew : Nodes → Type 0
-IsNew nodes = nodes.len ≤ nodes.at
+-- Where draws are noted: how many of a first part of the update are still to come, and the draws after it.
+pub record Noting : Type 0 where
+  pub left : ℕ
+  pub nodes : Nodes
 
-abbrev pub IsAt : Nodes → Type 0
-IsAt nodes = (nodes.at < nodes.len) ⊎ IsLeftOut nodes
+-- The next draw is after those of the way, and is to be noted; or it is one of them or of the first part, or its branch is left out.
+pub record IsFresh (noting : Noting) : Type 0 where
+  pub first : noting.left ≡ 0
+  pub after : noting.nodes.len ≤ noting.nodes.at
+
+abbrev pub IsSettled : Noting → Type 0
+IsSettled noting = (noting.left ≢ 0) ⊎ (noting.nodes.at < noting.nodes.len) ⊎ IsLeftOut noting.nodes
 
 -- A draw after a first part of the update, of which some are still to come, is noted. One of the first part is only counted.
-pub record NotesAfter (drawn : ℕ) (seen : Look) (may : ByteSet) (left : ℕ) (old : Nodes) (left' : ℕ) (new : Nodes) : Type 0 where
-  pub counted : left ≢ 0 → (left' + 1 ≡ left) × (new ≡ old)
-  pub still : left ≡ 0 → left' ≡ 0
-  pub passed : left ≡ 0 → old.at < old.len → new ≡ record old { at = old.at + 1 }
-  pub noted : left ≡ 0 → old.len ≤ old.at → Notes drawn seen may old new
+pub record NotesAfter (drawn : ℕ) (seen : Look) (may : ByteSet) (old new : Noting) : Type 0 where
+  pub counted : old.left ≢ 0 → (new.left + 1 ≡ old.left) × (new.nodes ≡ old.nodes)
+  pub still : old.left ≡ 0 → new.left ≡ 0
+  pub passed : old.left ≡ 0 → old.nodes.at < old.nodes.len → new.nodes ≡ record old.nodes { at = old.nodes.at + 1 }
+  pub noted : old.left ≡ 0 → old.nodes.len ≤ old.nodes.at → Notes drawn seen may old.nodes new.nodes

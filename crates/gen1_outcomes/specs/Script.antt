@@ -1,7 +1,6 @@
 -- A generator whose first bytes are given (docs/MECHANICS.md, "Link numbers").
 use Rattle.std.specs.Prelude.{List, ℕ, ◌+◌, nat_lt, slice_index, if◌then◌else◌}
-use Rattle.gen1_rolls.specs.Draws.{Source}
-use Rattle.gen1_rolls.specs.Steady.{Generator, own_source}
+use Rattle.gen1_rolls.specs.Steady.{Generator}
 use Rattle.gen1_rolls.specs.Sweep.{one_up}
 use Rattle.gen1_outcomes.specs.declared.script.Script.{Script}
 
@@ -20,7 +19,3 @@ after_draw s = if nat_lt s.at 24 then record s { at = s.at + 1 } else record s {
 -- How it draws: any 280 draws in a row hold every byte, since after 24 it counts up.
 abbrev pub scripted : Generator Script
 scripted = record { byte = next_byte; next = after_draw; width = 280 }
-
--- The draws of a path's generator from its first on.
-abbrev pub source_of : List ℕ → Source Script
-source_of path = own_source scripted (script_of path)

@@ -5,6 +5,7 @@
 //! - `classes`: classes of damage
 //! - `alike`: the bytes that a look sees alike, or that are in a class of damage
 //! - `script`: a generator whose first bytes are given
+//! - `log`: what was asked of a generator, for proofs only
 //! - `options`: [`OutcomeOptions`], how outcomes are listed
 //! - `nodes`: the draws of a way, each with the bytes that are still to be tried
 //! - `explorer`: a generator that takes an update through all its ways, one after the other
@@ -27,6 +28,7 @@ mod chances;
 mod classes;
 mod explorer;
 mod fault;
+mod log;
 mod merging;
 mod middles;
 mod nodes;

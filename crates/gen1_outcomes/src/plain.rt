@@ -16,8 +16,9 @@ use crate::explorer::{After, Explorer};
 use crate::fault::OutcomesFault;
 use crate::nodes::{Chance, Node, Nodes};
 use crate::options::OutcomeOptions;
+use crate::playing::play;
 use crate::script::DEPTH;
-use crate::ways::{copy_of, play_way};
+use crate::ways::copy_of;
 use gen1_events::EventSink;
 use gen1_layout::Packed;
 use gen1_machine::Choice;
@@ -151,13 +152,9 @@ pub fn next<S: EventSink>(
     }
     *battle = copy_of(&walk.battle);
     let path = nodes.path();
-    play_way(
-        battle,
-        one,
-        two,
-        Explorer::new(path, After::of(&mut nodes)),
-        events,
-    );
+    let explorer = Explorer::new(path, After::of(&mut nodes));
+    explorer.draws_a_stream();
+    play(battle, one, two, explorer, events);
     match nodes.chance() {
         Some(chance) => {
             walk.over = u8::from(!nodes.advance());

@@ -2,19 +2,17 @@
 ghost use Rattle.std.specs.Prelude.{IfErr, IfNone, IfOk, IfSome, IsOk, IsOkUnless, Some, [], ◌≡◌};
 ghost use Rattle.gen1_machine.specs.State.{State};
 ghost use Rattle.gen1_layout.specs.Within.{Stands};
-ghost use Rattle.gen1_layout.specs.Words.{AddsAtMost, HasRoom, Reads};
+ghost use Rattle.gen1_layout.specs.Words.{HasRoom, Reads};
 ghost use Rattle.gen1_engine.specs.Update.{AreOffered, Tests};
 ghost use Rattle.gen1_outcomes.specs.Beginning.{have_two_actions};
-ghost use Rattle.gen1_rolls.specs.Steady.{stream_of};
 ghost use Rattle.gen1_outcomes.specs.declared.fault.OutcomesFault.TheVariants.{Size};
-ghost use Rattle.gen1_outcomes.specs.Following.{CanFollow, Follows, IsBegun, PlaysNext};
+ghost use Rattle.gen1_outcomes.specs.Following.{CanFollow, IsBegun, PlaysNext};
 ghost use Rattle.gen1_outcomes.specs.Listing.{FollowsBy};
 ghost use Rattle.gen1_outcomes.specs.Nodes.{IsChance, IsTooLarge};
 ghost use Rattle.gen1_outcomes.specs.Middles.{IsTooLong, PlaysOn, Reaches};
-ghost use Rattle.gen1_outcomes.specs.Script.{scripted};
 
 use crate::beginning::{begin, have_two_actions};
-use crate::explorer::{After, Explorer, Notes};
+use crate::explorer::{After, Explorer};
 use crate::fault::OutcomesFault;
 use crate::middles::Middle;
 use crate::nodes::{Chance, Nodes};
@@ -101,7 +99,8 @@ impl Ways {
         ensures follows { (s : State) → Stands self.old.start s
             → AreOffered s self.old.one self.old.two → IfOk result (λ way. IfSome way (λ _.
             CanFollow s self.old.one self.old.two battle.new (S.tells events.new))) }
-        ensures next { IfOk result (λ way. PlaysNext way self.old self.new) }
+        ensures next { IfOk result (λ way.
+            PlaysNext way self.old self.new battle.new (S.tells events.new)) }
         ensures size { IsOkUnless result Size }
         ensures large { IfErr result (λ _. IsTooLarge self.new.nodes) }
     {
@@ -110,11 +109,13 @@ impl Ways {
         }
         *battle = copy_of(&self.start);
         let path = self.nodes.path();
-        play_way(
+        let explorer = Explorer::new(path, After::of(&mut self.nodes));
+        explorer.draws_a_stream();
+        play(
             battle,
             copied(&self.one),
             copied(&self.two),
-            Explorer::new(path, After::of(&mut self.nodes)),
+            explorer,
             events,
         );
         match self.nodes.chance() {
@@ -135,7 +136,8 @@ impl Ways {
         ensures draws { IfSome result (λ middle. middle.draws ≡ nodes.new.len) }
         ensures chance { IfSome result (λ middle. IsChance nodes.new middle.chance) }
         ensures one { IfSome result (λ middle. middle.ways ≡ 1) }
-        ensures reaches { IfSome result (λ middle. Reaches self.now nodes.old middle) }
+        ensures reaches { IfSome result (λ middle.
+            Reaches self.now nodes.old nodes.new middle) }
         ensures large { IfNone result (IsTooLarge nodes.new) }
     {
         let mut battle = copy_of(&self.start);
@@ -145,8 +147,6 @@ impl Ways {
         let two = copied(&self.two);
         explorer.draws_a_stream();
         let rest = begin(&mut battle, one, two, &mut explorer);
-        // No draw changes them, which no contract of a generator says.
-        nodes.options = self.options;
         match nodes.chance() {
             Some(chance) => Some(Middle::new(&battle, rest, nodes, chance)),
             None => None,
@@ -177,7 +177,7 @@ impl Ways {
     ) -> Result<Chance, OutcomesFault>
         requires options { nodes.old.options ≡ self.now.options }
         ensures options { nodes.new.options ≡ self.now.options }
-        ensures plays { PlaysOn self.now middle.now nodes.old battle.new }
+        ensures plays { PlaysOn self.now middle.now nodes.old nodes.new battle.new }
         ensures follows { (s : State) → Stands self.now.start s
             → AreOffered s self.now.one self.now.two
             → FollowsBy s self.now.one self.now.two self.now.options battle.new }
@@ -194,9 +194,8 @@ impl Ways {
         let explorer = Explorer::new(path, notes);
         let one = copied(&self.one);
         let two = copied(&self.two);
-        play_way(battle, one, two, explorer, &mut Silent);
-        // No draw changes them, which no contract of a generator says.
-        nodes.options = self.options;
+        explorer.draws_a_stream();
+        play(battle, one, two, explorer, &mut Silent);
         middle.chance_with(nodes)
     }
 
@@ -220,26 +219,6 @@ impl Ways {
     {
         self.options
     }
-}
-
-/// Plays an update by two offered choices in the way that the explorer is at.
-pub(crate) fn play_way<N: Notes + Drop, S: EventSink>(
-    battle: &mut Packed,
-    one: Choice,
-    two: Choice,
-    explorer: Explorer<N>,
-    events: &mut S,
-)
-    requires empty { S.tells events.old [] }
-    requires room { HasRoom S.room 51 events.old }
-    ensures plays { (s : State) → Stands battle.old s → AreOffered s one two
-        → Follows s one two (stream_of scripted explorer) battle.new (S.tells events.new) }
-    ensures follows { (s : State) → Stands battle.old s → AreOffered s one two
-        → CanFollow s one two battle.new (S.tells events.new) }
-    ensures room { AddsAtMost S.room 51 events.old events.new }
-{
-    explorer.draws_a_stream();
-    play(battle, one, two, explorer, events);
 }
 
 /// A copy of the battle.

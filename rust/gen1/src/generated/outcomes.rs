@@ -6,6 +6,7 @@
 //! - `classes`: classes of damage
 //! - `alike`: the bytes that a look sees alike, or that are in a class of damage
 //! - `script`: a generator whose first bytes are given
+//! - `log`: what was asked of a generator, for proofs only
 //! - `options`: [`OutcomeOptions`], how outcomes are listed
 //! - `nodes`: the draws of a way, each with the bytes that are still to be tried
 //! - `explorer`: a generator that takes an update through all its ways, one after the other
@@ -406,14 +407,14 @@ mod explorer {
     //! A generator that takes an update through all its ways, one after the other ([docs/MECHANICS.md, "Link numbers"](https://hibsuloy.example/gen1/blob/main/docs/MECHANICS.md#link-numbers)).
 
     use crate::generated::outcomes::byte_set::ByteSet;
+    use crate::generated::outcomes::log::{Entry, Log};
     use crate::generated::outcomes::nodes::Nodes;
     use crate::generated::outcomes::script::{DEPTH, Script};
     use crate::generated::rolls::{ByteTest, Look, Rolls};
 
     /// What draws are noted in. Nothing but [`After`] is; a type parameter lets the explorer hold a reference.
     pub(crate) trait Notes {
-        // The next draw is one that no way had before, or it need not be noted.
-        // What becomes of it when a draw has this byte, of those that it may have.
+        // What is noted so far, and the reference to it.
         /// Whether the next draw is one that no way had before.
         fn is_new(&self) -> bool;
 
@@ -450,12 +451,11 @@ mod explorer {
         }
     }
 
-    /// A script that notes the draws that are taken from it.
-    ///
-    /// For contracts it is its script. What it notes changes no byte that it draws.
+    /// A script that notes the draws that are taken from it. Its log has them too.
     pub(crate) struct Explorer<N> {
         script: Script,
         notes: N,
+        log: Log,
     }
 
     impl<N: Notes> Explorer<N> {
@@ -464,6 +464,7 @@ mod explorer {
             Explorer {
                 script: Script::new(path),
                 notes,
+                log: Log::new(),
             }
         }
 
@@ -476,30 +477,31 @@ mod explorer {
     impl<N: Notes> Rolls for Explorer<N> {
         // A draw of which all is looked at.
         fn draw(&mut self) -> u8 {
-            draw_noted(&mut self.script, &mut self.notes, Look::Remainder(256))
+            self.draw_as(Look::Remainder(256))
         }
 
         fn draw_as(&mut self, look: Look) -> u8 {
-            draw_noted(&mut self.script, &mut self.notes, look)
+            draw_noted(&mut self.script, &mut self.notes, &mut self.log, look)
         }
 
         fn until_as(&mut self, test: ByteTest, look: Look) -> Option<u8> {
-            search_noted(&mut self.script, &mut self.notes, test, look)
+            search_noted(&mut self.script, &mut self.notes, &mut self.log, test, look)
         }
     }
 
-    // Draws a byte, and notes it with its look. Like `Rolls`, it promises of the byte only what the look sees, so a caller is proved only
-    // if it passes the look that it was given.
-    fn draw_noted<N: Notes>(script: &mut Script, notes: &mut N, look: Look) -> u8 {
+    // Draws a byte, and notes and logs it with its look.
+    fn draw_noted<N: Notes>(script: &mut Script, notes: &mut N, log: &mut Log, look: Look) -> u8 {
         let byte = script.draw();
         notes.note(byte, look, &ByteSet::all());
+        *log = log.then(&Entry::Draw(look, byte));
         byte
     }
 
-    // Searches a byte, and notes it with its look and the bytes that pass the test.
+    // Searches a byte, and notes and logs it with its look and its test.
     fn search_noted<N: Notes>(
         script: &mut Script,
         notes: &mut N,
+        log: &mut Log,
         test: ByteTest,
         look: Look,
     ) -> Option<u8> {
@@ -507,9 +509,13 @@ mod explorer {
         match script.until_as(test, look) {
             Some(byte) => {
                 notes.note(byte, look, &bytes);
+                *log = log.then(&Entry::Found(test, look, byte));
                 Some(byte)
             }
-            None => None,
+            None => {
+                *log = log.then(&Entry::Missed(test));
+                None
+            }
         }
     }
 
@@ -568,6 +574,41 @@ mod fault {
     }
 
     impl Error for OutcomesFault {}
+}
+
+mod log {
+    //! What was asked of a generator, one question after the other. Only proofs read it: it takes no memory, and its methods do
+    //! nothing when they run ([docs/MECHANICS.md, "Link numbers"](https://hibsuloy.example/gen1/blob/main/docs/MECHANICS.md#link-numbers)).
+
+    use crate::generated::rolls::{ByteTest, Look};
+
+    /// A draw or a search, and the byte that was returned.
+    #[derive(Clone, Copy, PartialEq, Eq, Debug)]
+    pub(crate) enum Entry {
+        /// A draw, of which the look was seen.
+        Draw(Look, u8),
+        /// A search, of which the look was seen.
+        Found(ByteTest, Look, u8),
+        /// A search that no byte passes.
+        Missed(ByteTest),
+    }
+
+    /// The questions so far.
+    pub(crate) struct Log {
+    }
+
+    impl Log {
+        /// No question yet.
+        pub(crate) fn new() -> Log {
+            Log {}
+        }
+
+        /// One question more.
+        #[inline(always)]
+        pub(crate) fn then(&self, _entry: &Entry) -> Log {
+            Log {}
+        }
+    }
 }
 
 mod merging {
@@ -1545,8 +1586,9 @@ pub mod plain {
     use crate::generated::outcomes::fault::OutcomesFault;
     use crate::generated::outcomes::nodes::{Chance, Node, Nodes};
     use crate::generated::outcomes::options::OutcomeOptions;
+    use crate::generated::outcomes::playing::play;
     use crate::generated::outcomes::script::DEPTH;
-    use crate::generated::outcomes::ways::{copy_of, play_way};
+    use crate::generated::outcomes::ways::copy_of;
     use crate::generated::events::EventSink;
     use crate::generated::layout::Packed;
     use crate::generated::machine::Choice;
@@ -1658,13 +1700,9 @@ pub mod plain {
         }
         *battle = copy_of(&walk.battle);
         let path = nodes.path();
-        play_way(
-            battle,
-            one,
-            two,
-            Explorer::new(path, After::of(&mut nodes)),
-            events,
-        );
+        let explorer = Explorer::new(path, After::of(&mut nodes));
+        explorer.draws_a_stream();
+        play(battle, one, two, explorer, events);
         match nodes.chance() {
             Some(chance) => {
                 walk.over = u8::from(!nodes.advance());
@@ -1939,7 +1977,7 @@ mod ways {
     //! Each way of an update apart ([docs/MECHANICS.md, "Link numbers"](https://hibsuloy.example/gen1/blob/main/docs/MECHANICS.md#link-numbers)).
 
     use crate::generated::outcomes::beginning::{begin, have_two_actions};
-    use crate::generated::outcomes::explorer::{After, Explorer, Notes};
+    use crate::generated::outcomes::explorer::{After, Explorer};
     use crate::generated::outcomes::fault::OutcomesFault;
     use crate::generated::outcomes::middles::Middle;
     use crate::generated::outcomes::nodes::{Chance, Nodes};
@@ -2010,11 +2048,13 @@ mod ways {
             }
             *battle = copy_of(&self.start);
             let path = self.nodes.path();
-            play_way(
+            let explorer = Explorer::new(path, After::of(&mut self.nodes));
+            explorer.draws_a_stream();
+            play(
                 battle,
                 copied(&self.one),
                 copied(&self.two),
-                Explorer::new(path, After::of(&mut self.nodes)),
+                explorer,
                 events,
             );
             match self.nodes.chance() {
@@ -2037,8 +2077,6 @@ mod ways {
             let two = copied(&self.two);
             explorer.draws_a_stream();
             let rest = begin(&mut battle, one, two, &mut explorer);
-            // No draw changes them, which no contract of a generator says.
-            nodes.options = self.options;
             match nodes.chance() {
                 Some(chance) => Some(Middle::new(&battle, rest, nodes, chance)),
                 None => None,
@@ -2072,9 +2110,8 @@ mod ways {
             let explorer = Explorer::new(path, notes);
             let one = copied(&self.one);
             let two = copied(&self.two);
-            play_way(battle, one, two, explorer, &mut Silent);
-            // No draw changes them, which no contract of a generator says.
-            nodes.options = self.options;
+            explorer.draws_a_stream();
+            play(battle, one, two, explorer, &mut Silent);
             middle.chance_with(nodes)
         }
 
@@ -2092,18 +2129,6 @@ mod ways {
         pub(crate) fn options(&self) -> OutcomeOptions {
             self.options
         }
-    }
-
-    /// Plays an update by two offered choices in the way that the explorer is at.
-    pub(crate) fn play_way<N: Notes , S: EventSink>(
-        battle: &mut Packed,
-        one: Choice,
-        two: Choice,
-        explorer: Explorer<N>,
-        events: &mut S,
-    ) {
-        explorer.draws_a_stream();
-        play(battle, one, two, explorer, events);
     }
 
     /// A copy of the battle.

@@ -1,7 +1,6 @@
 use Rattle.std.proofs.Common.{arith, refl, ◌∙◌}
-use Rattle.gen1_outcomes.proofs.Leaving.{on_ok_leaves}
 use Rattle.gen1_outcomes.proofs.Lists.{on_ok_those}
-use Rattle.gen1_outcomes.proofs.Shares.{on_ok_first, on_ok_more, takes_or}
+use Rattle.gen1_outcomes.proofs.Shares.{on_ok_first, on_ok_leaves, on_ok_more, takes_or}
 use Rattle.gen1_outcomes.proofs.Table.{on_ok_indexed, on_ok_kept, on_ok_same}
 use Rattle.gen1_outcomes.proofs.merging.add.Goals as goal
 

@@ -1,7 +1,6 @@
 use Rattle.std.proofs.Common.{arith, refl, ◌∙◌}
-use Rattle.gen1_outcomes.proofs.Leaving.{leaves_then, on_ok_leaves}
 use Rattle.gen1_outcomes.proofs.Lists.{on_ok_then, still_then, still_those}
-use Rattle.gen1_outcomes.proofs.Shares.{on_ok_stay, stay_then}
+use Rattle.gen1_outcomes.proofs.Shares.{leaves_then, on_ok_leaves, on_ok_stay, stay_then}
 use Rattle.gen1_outcomes.proofs.Table.{indexed_kept, on_ok_then_indexed}
 use Rattle.gen1_outcomes.proofs.outcomes.add_in_parts.Goals as goal
 

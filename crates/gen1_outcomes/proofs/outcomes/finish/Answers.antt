@@ -1,8 +1,7 @@
 use Rattle.std.proofs.Common.{arith, refl, subst, sym, ◌∙◌, ℕ}
 use Rattle.gen1_outcomes.specs.Merging.{IsIndexed}
-use Rattle.gen1_outcomes.proofs.Leaving.{leaves_then}
 use Rattle.gen1_outcomes.proofs.Lists.{still_more}
-use Rattle.gen1_outcomes.proofs.Shares.{counts_more, stay_more}
+use Rattle.gen1_outcomes.proofs.Shares.{counts_more, leaves_then, stay_more}
 use Rattle.gen1_outcomes.proofs.outcomes.finish.Goals as goal
 
 pub walk-init : goal.walk-init

@@ -1,7 +1,6 @@
 use Rattle.std.proofs.Common.{arith, refl}
-use Rattle.gen1_outcomes.proofs.Leaving.{leaves_then}
 use Rattle.gen1_outcomes.proofs.Lists.{still_then}
-use Rattle.gen1_outcomes.proofs.Shares.{stay_then}
+use Rattle.gen1_outcomes.proofs.Shares.{leaves_then, stay_then}
 use Rattle.gen1_outcomes.proofs.outcomes.go_on_from.Goals as goal
 
 pub places-init : goal.places-init

@@ -1,8 +1,7 @@
 use Rattle.std.proofs.Common.{ap, arith, refl, ◌∙◌}
 use Rattle.gen1_outcomes.specs.declared.options.OutcomeOptions.{OutcomeOptions}
-use Rattle.gen1_outcomes.proofs.Leaving.{finished_all}
 use Rattle.gen1_outcomes.proofs.Lists.{finished_follows}
-use Rattle.gen1_outcomes.proofs.Shares.{finished_left, finished_probable, none_probable}
+use Rattle.gen1_outcomes.proofs.Shares.{finished_all, finished_left, finished_probable, none_probable}
 use Rattle.gen1_outcomes.proofs.Table.{finished_once, none_indexed}
 use Rattle.gen1_outcomes.proofs.outcomes.list_ways.Goals as goal
 

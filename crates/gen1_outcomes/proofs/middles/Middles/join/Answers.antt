@@ -1,5 +1,5 @@
 use Rattle.std.proofs.Common.{arith, refl}
-use Rattle.gen1_outcomes.proofs.Joining.{joins}
+use Rattle.gen1_outcomes.proofs.Lists.{joins}
 use Rattle.gen1_outcomes.proofs.middles.Middles.join.Goals as goal
 
 pub returns-clause-joined : goal.returns-clause-joined

@@ -1,6 +1,4 @@
-use Rattle.std.proofs.Common.{◌≡◌, subst}
-use Rattle.gen1_rolls.specs.Steady.{steady, stream_of}
-use Rattle.gen1_rolls.proofs.Standing.{stands_at_itself}
+use Rattle.std.proofs.Common.{List, [], ap, subst, sym, ◌∙◌, ◌≡◌}
 use Rattle.gen1_machine.specs.declared.choice.Choice.TheVariants as choices
 use Rattle.gen1_machine.specs.declared.side.Side.TheVariants.{One, Two}
 use Rattle.gen1_machine.specs.declared.terms.Request.TheVariants.{Move}
@@ -9,28 +7,55 @@ use Rattle.gen1_machine.specs.Ruling.{ruling_of}
 use Rattle.gen1_machine.specs.Turn.{turn}
 use Rattle.gen1_layout.specs.Within.{Stands, setting_of}
 use Rattle.gen1_switching.specs.Updates.{Plays, drawing_on}
+use Rattle.gen1_outcomes.specs.declared.log.Entry.{Entry}
+use Rattle.gen1_outcomes.specs.declared.nodes.Nodes.{Nodes}
 use Rattle.gen1_outcomes.specs.Beginning.{Begins, unflinched}
 use Rattle.gen1_outcomes.specs.Following.{Walk}
-use Rattle.gen1_outcomes.specs.Script.{script_of, scripted, source_of}
+use Rattle.gen1_outcomes.specs.Logs.{logged, place_at}
+use Rattle.gen1_outcomes.specs.Nodes.{Noting}
+use Rattle.gen1_outcomes.proofs.Logs.{logged_by, notes_keep, noting_is, same_place}
+use Rattle.gen1_outcomes.proofs.Offered.{way_as}
 use Rattle.gen1_outcomes.proofs.ways.Ways.begin.Goals as goal
 
 pub returns-in-Some-clause-reaches : goal.returns-in-Some-clause-reaches
 returns-in-Some-clause-reaches c =
     let path = c.path-path.result in
+    let start = c.new-explorer.result in
+    let last = c.begin-rest.new.random in
+    let same = same_place _ _ start last c.begin-rest.ensures.steps ∙ c.new-explorer.ensures.same_reference ∙ c.of.ensures.same_reference in
+    let way =
+    way_as _ _ _ _ _ _ (λ (log : List Entry). Unit {0}) c.new-explorer.ensures.script
+    (c.new-explorer.ensures.noting ∙ noting_is _ 0 _ c.args.nodes.now c.of.ensures.left c.of.ensures.nodes) (sym (c.nodes-1.given.1 (sym same)))
+    (logged_by _ _ start last c.new-explorer.ensures.log c.draws_a_stream.ensures c.begin-rest.ensures.steps, tt)
+    in
     record {
       path = path;
       is_path = c.path-path.ensures;
       parts = c.begin-rest.new.battle;
       bytes = c.new.ensures.bytes;
-      left = c.begin-rest.new.random;
-      begins = λ s j k stands plays ej ek.
-          let p = drawing_on (stream_of scripted (script_of path)) 0 s in
-          let is = rw c.new-explorer.ensures at c.draws_a_stream.ensures in
-          let begun = rw (c.copy_of-battle.ensures, c.copied-one.ensures, c.copied-two.ensures, c.new-explorer.ensures) at c.begin-rest.ensures.begins in
+      way = way.0;
+      begins = λ s j k stands plays ej ek stream agrees.
+          let p = drawing_on stream 0 s in
+          let begun = rw (c.copy_of-battle.ensures, c.copied-one.ensures, c.copied-two.ensures) at c.begin-rest.ensures.begins in
           subst (λ (w : Walk). Stands w.start s → Plays s Move w.one w.two → w.one ≡ choices.Move j → w.two ≡ choices.Move k
-          → Begins (steady scripted) (source_of path) (setting_of s) c.begin-rest.new.battle c.begin-rest.new.random c.new.result.rest
+          → Begins logged (record { origin = []; stream = stream }) (setting_of s) c.begin-rest.new.battle last.log.entries c.new.result.rest
           (pick_in j One (unflinched p).field) (pick_in k Two (unflinched p).field) p (turn (ruling_of s.terms) w.one w.two p)) c.self.view_is
           (λ at going first second. rw c.new.ensures.rest
-          (begun s j k at going first second (record { source = source_of path; agrees = tt }) 0 is (stands_at_itself scripted (script_of path))))
+          (let b = begun s j k at going first second (record { source = record { origin = start; stream = stream }; agrees = agrees }) 0 agrees.is
+          (ap (λ (l : List Entry). place_at l stream 0) c.new-explorer.ensures.log) in
+          record { here = b.here; within = b.within; stands = b.stands; drawn = b.drawn; first = b.first; goes_on = b.goes_on }))
           stands plays ej ek;
     }
+
+pub returns-in-Some-clause-options : goal.returns-in-Some-clause-options
+returns-in-Some-clause-options c = let way = (returns-in-Some-clause-reaches c).way in notes_keep way.log _ _ way.noted ∙ c.requires.options
+
+pub returns-in-None-clause-options : goal.returns-in-None-clause-options
+returns-in-None-clause-options c =
+    let start = c.new-explorer.result in
+    let last = c.begin-rest.new.random in
+    let way = logged_by _ _ start last c.new-explorer.ensures.log c.draws_a_stream.ensures c.begin-rest.ensures.steps in
+    let same = same_place _ _ start last c.begin-rest.ensures.steps ∙ c.new-explorer.ensures.same_reference ∙ c.of.ensures.same_reference in
+    ap (λ (x : Nodes). x.options) (c.nodes-1.given.1 (sym same)) ∙ notes_keep way.log _ _ way.noted
+    ∙ ap (λ (x : Noting). x.nodes.options) (c.new-explorer.ensures.noting ∙ noting_is _ 0 _ c.args.nodes.now c.of.ensures.left c.of.ensures.nodes)
+    ∙ c.requires.options

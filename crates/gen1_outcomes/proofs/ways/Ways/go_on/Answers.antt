@@ -1,50 +1,61 @@
-use Rattle.std.proofs.Common.{◌+◌, ◌-◌, ◌≡◌, ap, arith, slice_index, subst, sym, ◌∙◌}
-use Rattle.gen1_rolls.specs.Steady.{stream_of}
+use Rattle.std.proofs.Common.{◌+◌, ◌-◌, ◌≡◌, List, ap, arith, slice_index, subst, sym, ◌∙◌}
 use Rattle.gen1_layout.specs.Parts.{Parts}
 use Rattle.gen1_layout.specs.Within.{Stands}
+use Rattle.gen1_machine.specs.State.{State}
 use Rattle.gen1_engine.specs.Update.{AreOffered}
-use Rattle.gen1_outcomes.specs.declared.script.Script.{Script}
-use Rattle.gen1_outcomes.specs.Following.{CanFollow, Follows, Walk}
+use Rattle.gen1_outcomes.specs.declared.log.Entry.{Entry}
+use Rattle.gen1_outcomes.specs.Following.{Leads, Walk}
 use Rattle.gen1_outcomes.specs.Listing.{untold}
-use Rattle.gen1_outcomes.specs.Script.{scripted}
-use Rattle.gen1_outcomes.proofs.Offered.{follows_as, follows_by}
+use Rattle.gen1_outcomes.proofs.Logs.{leads_of, logged_by, notes_keep, same_place}
+use Rattle.gen1_outcomes.proofs.Offered.{can_follow, leads_by, way_as}
 use Rattle.gen1_outcomes.proofs.ways.Ways.go_on.Goals as goal
 
 pub returns-clause-plays : goal.returns-clause-plays
 returns-clause-plays c =
+    let inside = c.self.inside in
+    let parts = c.play.new.battle in
+    let start = c.new-explorer.result in
+    let last = c.play.result in
+    let same = same_place _ _ start last c.play.ensures.steps ∙ c.new-explorer.ensures.same_reference in
+    let way =
+    way_as _ _ _ _ _ _ (λ (log : List Entry). (s : State) → Stands c.args.self.now.start s → AreOffered s c.args.self.now.one c.args.self.now.two
+    → Leads s c.args.self.now.one c.args.self.now.two log parts untold)
+    c.new-explorer.ensures.script c.new-explorer.ensures.noting (sym (c.nodes-1.given.1 (sym same))) (
+      logged_by _ _ start last c.new-explorer.ensures.log c.draws_a_stream.ensures c.play.ensures.steps,
+      λ s.
+          subst (λ (w : Walk). Stands w.start s → AreOffered s w.one w.two → Leads s w.one w.two last.log.entries parts untold) c.self.view_is (λ h.
+          leads_by s c.copied-one.result c.copied-two.result inside.one inside.two last.log.entries parts untold c.copied-one.ensures c.copied-two.ensures (λ o.
+          let played = c.play.ensures.played s (subst (λ (p : Parts). Stands p s) (sym c.copy_of.ensures) h) o in
+          leads_of _ _ start last s c.copied-one.result c.copied-two.result parts untold c.new-explorer.ensures.log played.by_turn (λ apart. (played.by_step apart).0))),
+    )
+    in
     record {
       path = c.path_to-path.result;
-      leads = record {
+      leads_to = record {
         first = c.path_to-path.ensures.first;
         further = λ k past lt few.
             let back : c.args.middle.now.draws + k - c.args.middle.now.draws ≡ k = omega arith in
             c.path_to-path.ensures.further (c.args.middle.now.draws + k) (omega arith) few ∙ ap (slice_index c.path.result) back ∙ c.path.ensures k past lt;
       };
-      follows = λ s h o.
-          subst (λ (w : Walk). Stands w.start s → AreOffered s w.one w.two → Follows s w.one w.two (stream_of scripted (record { path = c.path_to-path.result; at = 0; number = 0 })) c.play_way.new.battle untold)
-          c.self.view_is
-          (λ stands offered.
-          follows_by s c.copied-one.result c.copied-two.result c.self.inside.one c.self.inside.two
-          (stream_of scripted (record { path = c.path_to-path.result; at = 0; number = 0 })) c.play_way.new.battle untold c.copied-one.ensures c.copied-two.ensures
-          (subst (λ (e : Script). AreOffered s c.copied-one.result c.copied-two.result → Follows s c.copied-one.result c.copied-two.result (stream_of scripted e) c.play_way.new.battle untold)
-          c.new-explorer.ensures (c.play_way.ensures.plays s (subst (λ (p : Parts). Stands p s) (sym c.copy_of.ensures) stands))) offered)
-          h o;
+      way = way.0;
+      leads = way.1;
     }
+
+pub returns-clause-options : goal.returns-clause-options
+returns-clause-options c = let way = (returns-clause-plays c).way in notes_keep way.log _ _ way.noted ∙ c.requires.options
 
 pub returns-clause-follows : goal.returns-clause-follows
 returns-clause-follows c s h o =
     let played = returns-clause-plays c in (
-      subst (λ (w : Walk). Stands w.start s → AreOffered s w.one w.two → CanFollow s w.one w.two c.play_way.new.battle untold) c.self.view_is
-          (λ stands offered.
-          follows_as s c.copied-one.result c.copied-two.result c.self.inside.one c.self.inside.two c.play_way.new.battle untold c.copied-one.ensures c.copied-two.ensures
-          (c.play_way.ensures.follows s (subst (λ (p : Parts). Stands p s) (sym c.copy_of.ensures) stands)) offered)
-          h o,
+      can_follow _ _ _ played.way s _ _ _ _ (played.leads s h o),
       record {
         nodes = c.args.nodes.now;
         options = c.requires.options;
         first = c.args.middle.now.draws;
         path = played.path;
-        bytes = played.leads.further;
-        follows = played.follows s h o;
+        bytes = played.leads_to.further;
+        after = _;
+        way = played.way;
+        leads = played.leads s h o;
       },
     )

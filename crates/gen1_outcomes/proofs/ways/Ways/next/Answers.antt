@@ -1,24 +1,40 @@
-use Rattle.std.proofs.Common.{Some, not, subst, sym}
+use Rattle.std.proofs.Common.{List, Some, not, subst, sym, ◌∙◌}
 use Rattle.gen1_layout.specs.Parts.{Parts}
 use Rattle.gen1_layout.specs.Within.{Stands}
+use Rattle.gen1_machine.specs.State.{State}
 use Rattle.gen1_engine.specs.Update.{AreOffered}
-use Rattle.gen1_outcomes.specs.Following.{CanFollow, PlaysNext, Walk}
-use Rattle.gen1_outcomes.proofs.Offered.{follows_as}
+use Rattle.gen1_outcomes.specs.declared.log.Entry.{Entry}
+use Rattle.gen1_outcomes.specs.Following.{Leads, PlaysNext, Walk}
+use Rattle.gen1_outcomes.proofs.Logs.{leads_of, logged_by, noting_is, same_place}
+use Rattle.gen1_outcomes.proofs.Offered.{can_follow, leads_by, way_as}
 use Rattle.gen1_outcomes.proofs.Walking.{goes_past}
 use Rattle.gen1_outcomes.proofs.ways.Ways.next.Goals as goal
-
-pub returns-in-Some-clause-follows : goal.returns-in-Some-clause-follows
-returns-in-Some-clause-follows g c s h o =
-    subst (λ (w : Walk). Stands w.start s → AreOffered s w.one w.two → CanFollow s w.one w.two c.play_way.new.battle (g.S.EventSink.tells c.play_way.new.events))
-    c.self.view_is (λ stands offered.
-    follows_as s c.copied.result c.copied-2.result c.self.inside.one c.self.inside.two c.play_way.new.battle
-    (g.S.EventSink.tells c.play_way.new.events) c.copied.ensures c.copied-2.ensures
-    (c.play_way.ensures.follows s (subst (λ (p : Parts). Stands p s) (sym c.copy_of.ensures) stands)) offered)
-    h o
 
 pub returns-in-Some-clause-next : goal.returns-in-Some-clause-next
 returns-in-Some-clause-next g c =
     let inside = c.self.inside in
     let old : Walk = record { start = inside.start; one = inside.one; two = inside.two; options = inside.options; nodes = inside.nodes; over = inside.over } in
-    subst (λ (w : Walk). PlaysNext (Some c.in-Some.chance) w (record old { nodes = c.advance.new.self; over = not c.advance.result })) c.self.view_is
-    (goes_past _ c.advance.new.self c.in-Some.chance old c.advance.result c.in-Some.ensures.some c.if-self.false c.advance.ensures.on c.advance.ensures.done)
+    let parts = c.play.new.battle in
+    let events = g.S.EventSink.tells c.play.new.events in
+    let start = c.new-explorer.result in
+    let last = c.play.result in
+    let same = same_place _ _ start last c.play.ensures.steps ∙ c.new-explorer.ensures.same_reference ∙ c.of.ensures.same_reference in
+    let way =
+    way_as _ _ _ _ _ _ (λ (log : List Entry). (s : State) → Stands inside.start s → AreOffered s inside.one inside.two → Leads s inside.one inside.two log parts events)
+    c.new-explorer.ensures.script (c.new-explorer.ensures.noting ∙ noting_is _ 0 _ inside.nodes c.of.ensures.left c.of.ensures.nodes)
+    (sym (c.self-1.given.1 (sym same))) (
+      logged_by _ _ start last c.new-explorer.ensures.log c.draws_a_stream.ensures c.play.ensures.steps,
+      λ s h.
+          leads_by s c.copied.result c.copied-2.result inside.one inside.two last.log.entries parts events c.copied.ensures c.copied-2.ensures (λ o.
+          let played = c.play.ensures.played s (subst (λ (p : Parts). Stands p s) (sym c.copy_of.ensures) h) o in
+          leads_of _ _ start last s c.copied.result c.copied-2.result parts events c.new-explorer.ensures.log played.by_turn (λ apart. (played.by_step apart).0)),
+    )
+    in
+    subst (λ (w : Walk). PlaysNext (Some c.in-Some.chance) w (record old { nodes = c.advance.new.self; over = not c.advance.result }) parts events) c.self.view_is
+    (goes_past _ c.advance.new.self c.in-Some.chance old c.advance.result parts events c.in-Some.ensures.some c.if-self.false c.advance.ensures.on c.advance.ensures.done
+    (record { path = c.path-path.result; is_path = c.path-path.ensures; way = way.0; leads = way.1 }))
+
+pub returns-in-Some-clause-follows : goal.returns-in-Some-clause-follows
+returns-in-Some-clause-follows g c s h o =
+    let plays = (returns-in-Some-clause-next g c).3 in
+    can_follow _ _ _ plays.way s _ _ _ _ (plays.leads s h o)
