@@ -21,7 +21,7 @@ use Rattle.gen1_player.specs.declared.public_side.PublicSide.{PublicSide}
 use Rattle.gen1_player.specs.declared.seen.Seen.{Seen}
 use Rattle.gen1_player.specs.declared.seen.SeenMove.{SeenMove}
 use Rattle.gen1_player.specs.Public.{new_uses, not_seen, not_used, seen_at, may_go_on}
-use Rattle.gen1_player.specs.True.{current_move_of, IsMoveOf, IsSeen, SideAgrees, SideDoes, SideHasAppeared, SideIsTold, IsAsleepBy, SideSleeps}
+use Rattle.gen1_player.specs.True.{current_move_of, IsMoveOf, IsSeen, SideAgrees, SideDoes, SideHasAppeared, SideIsTold, IsAsleepBy, SideSleeps, HasCause}
 use Rattle.gen1_states.specs.Faults.{◌▸◌}
 use Rattle.gen1_states.specs.Plain.{no_member}
 use Rattle.gen1_states.specs.Reading.{member_state}
@@ -95,7 +95,7 @@ pub record Foe (x : PublicSide) : Type 0 where
   pub bides : is_on x.announced.bide ≡ true → bides (effect_of_number x.last_move) ≡ true
   pub charges : is_on x.announced.charging ≡ true → charges (effect_of_number x.last_move) ≡ true
   pub rests : x.announced.recharging ≢ 0 → recharges (move_at x.last_move).effect ≡ true
-  pub causes : (i : ℕ) → (seen_in i x.members).status ≡ 1 → ((seen_in i x.members).asleep_by ≡ 1) ⊎ ((seen_in i x.members).asleep_by ≡ 2)
+  pub causes : (i : ℕ) → HasCause (seen_in i x.members)
   pub rages : is_on x.announced.rage ≡ true → rages (effect_of_number x.last_move) ≡ true
   pub slots : (k : ℕ) → length (seen_in k x.members).moves ≡ 5
   pub out : x.place ≢ 0 → (seen_at x.place x).species ≢ 0
@@ -176,6 +176,10 @@ module _ (clause : Bool) (x : PublicSide) (held : Bool) (fresh : List MemberStat
       by : (b : Bool) → (if b then slice_index_or fresh k no_member else told clause (seen_in k x.members) (slice_index_or fresh k no_member)).moves ≡ (slice_index_or fresh k no_member).moves
       by true = refl
       by false = refl
+
+-- What put a member to sleep doesn't depend on its HP.
+told_cause : (s : Seen) (hp most : ℕ) → HasCause s → HasCause (record s { hp = hp; max = most })
+told_cause s hp most h = record { asleep = h.asleep; awake = h.awake }
 
 -- What the tests of a guess say
 
@@ -479,7 +483,7 @@ module _ (clause : Bool) (x : PublicSide) (held : Bool) (fresh : List MemberStat
   foe_sleeps place z =
       let e = seen_exact (place - 1) z in
       subst (λ (s : Seen). IsAsleepBy clause s (member_at place t)) (sym e.2) (record {
-        cause = k.causes (place - 1);
+        cause = told_cause (seen_in (place - 1) x.members) _ _ (k.causes (place - 1));
         mark = marked-by clause (seen_in (place - 1) x.members).status (seen_in (place - 1) x.members).asleep_by (is_marked (member_at place t).status)
             (ap (λ (m : MemberState). m.marked) (told_there clause x held fresh t h (place - 1) e.0 e.1));
       })

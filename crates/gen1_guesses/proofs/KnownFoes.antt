@@ -19,7 +19,7 @@ use Rattle.gen1_player.specs.declared.public_side.PublicSide.{PublicSide}
 use Rattle.gen1_player.specs.declared.seen.Seen.{Seen}
 use Rattle.gen1_player.specs.declared.teller.Teller.{Teller}
 use Rattle.gen1_player.specs.Public.{not_seen, seen_at}
-use Rattle.gen1_player.specs.True.{foe_as_told, foe_known, with_hp_told, current_move_of, SideAgrees, SideDoes, SideIsTold, SideSleeps}
+use Rattle.gen1_player.specs.True.{foe_as_told, foe_known, with_hp_told, current_move_of, SideAgrees, SideDoes, SideIsTold, SideSleeps, HasCause}
 use Rattle.gen1_player.proofs.Lenses.{is-some, is-zero, left, taken}
 use Rattle.gen1_player.proofs.Slots.{kept-slot}
 use Rattle.gen1_player.proofs.ToldPublic.{FoeKept}
@@ -383,28 +383,25 @@ module _ (t : Teller) (w : PublicSide) (k : FoeKept t.places w.place w.members) 
           )
 
   -- What put a member to sleep, as the log shows it
-  pub told_causes : {truth : Bool} (u : Party) → SideSleeps truth w u → (i : ℕ) → (seen_in i (foe_as_told t w).members).status ≡ 1
-      → ((seen_in i (foe_as_told t w).members).asleep_by ≡ 1) ⊎ ((seen_in i (foe_as_told t w).members).asleep_by ≡ 2)
+  pub told_causes : {truth : Bool} (u : Party) → SideSleeps truth w u → (i : ℕ) → HasCause (seen_in i (foe_as_told t w).members)
   told_causes u sleeps i = by (below_or i 6)
     where
       p : ℕ
       p = get_or t.places i 0
 
-      nobody_sleeps : seen_in i (foe_as_told t w).members ≡ not_seen → (seen_in i (foe_as_told t w).members).status ≡ 1
-          → ((seen_in i (foe_as_told t w).members).asleep_by ≡ 1) ⊎ ((seen_in i (foe_as_told t w).members).asleep_by ≡ 2)
-      nobody_sleeps e h = absurd (let none : 0 ≡ 1 = sym (ap (λ (s : Seen). s.status) e) ∙ h in omega (arith, none))
+      nobody_sleeps : seen_in i (foe_as_told t w).members ≡ not_seen → HasCause (seen_in i (foe_as_told t w).members)
+      nobody_sleeps e = subst HasCause (sym e) (record { asleep = λ h. absurd (omega (arith, h)); awake = λ h. (λ z. omega (arith, z), λ z. omega (arith, z)) })
 
-      by : (i < 6) ⊎ (6 ≤ i) → (seen_in i (foe_as_told t w).members).status ≡ 1
-          → ((seen_in i (foe_as_told t w).members).asleep_by ≡ 1) ⊎ ((seen_in i (foe_as_told t w).members).asleep_by ≡ 2)
+      known : (((p == 0) ≡ true) × (p ≡ 0)) ⊎ (((p == 0) ≡ false) × (p ≢ 0)) → i < 6 → HasCause (seen_in i (foe_as_told t w).members)
+      known (inl e) low = nobody_sleeps (free i low e.1)
+      known (inr e) low =
+          let is : seen_in i (foe_as_told t w).members ≡ with_hp_told t (seen_at p w) = seen_told i low ∙ left (p == 0) not_seen (with_hp_told t (seen_at p w)) e.0 in
+          let c = (sleeps p (k.appeared i e.1)).cause in
+          subst HasCause (sym is) (record { asleep = c.asleep; awake = c.awake })
+
+      by : (i < 6) ⊎ (6 ≤ i) → HasCause (seen_in i (foe_as_told t w).members)
       by (inr past) = nobody_sleeps (get_or_past (foe_as_told t w).members i not_seen (let six = numbered.six in omega (arith, past, six)))
-      by (inl low) = known (eqb_tells p 0)
-        where
-          known : (((p == 0) ≡ true) × (p ≡ 0)) ⊎ (((p == 0) ≡ false) × (p ≢ 0)) → (seen_in i (foe_as_told t w).members).status ≡ 1
-              → ((seen_in i (foe_as_told t w).members).asleep_by ≡ 1) ⊎ ((seen_in i (foe_as_told t w).members).asleep_by ≡ 2)
-          known (inl e) = nobody_sleeps (free i low e.1)
-          known (inr e) =
-              let is : seen_in i (foe_as_told t w).members ≡ with_hp_told t (seen_at p w) = seen_told i low ∙ left (p == 0) not_seen (with_hp_told t (seen_at p w)) e.0 in
-              subst (λ (s : Seen). s.status ≡ 1 → (s.asleep_by ≡ 1) ⊎ (s.asleep_by ≡ 2)) (sym is) (sleeps p (k.appeared i e.1)).cause
+      by (inl low) = known (eqb_tells p 0) low
 
 -- The teller of a battle in which the places are these numbers.
 
@@ -545,7 +542,7 @@ pub explained : (test : Effect → Bool) (t : Party) (last : ℕ) → last ≡ c
 explained test t last e few h = ap (λ (n : ℕ). test (effect_of_number n)) e ∙ ap test (sym (effect_is (current_move_of t) few)) ∙ h
 
 pub foe_of_run : (t : Teller) (w : PublicSide) (u : Party) (rules : Rules) → IsParty rules u → SideAgrees w (side_shows u) → SideIsTold w u → SideDoes w u
-    → ((i : ℕ) → (seen_in i (foe_as_told t w).members).status ≡ 1 → ((seen_in i (foe_as_told t w).members).asleep_by ≡ 1) ⊎ ((seen_in i (foe_as_told t w).members).asleep_by ≡ 2))
+    → ((i : ℕ) → HasCause (seen_in i (foe_as_told t w).members))
     → ((k : ℕ) → length (seen_in k (foe_as_told t w).members).moves ≡ 5) → IsNumbered (foe_as_told t w) → Foe (foe_as_told t w)
 foe_of_run t w u rules v a b d causes slots n =
     let few = current_known rules u v in

@@ -437,9 +437,11 @@ telling = record {
   acted = λ s move. Unit {0};
   knows = λ s move. Unit {0};
   lulled = λ s marked. Unit {0};
+  upright = λ s. Unit {0};
   loosen = λ f es m. record { one = loosened _ _ m.one; two = loosened _ _ m.two };
   tighten = λ f es m a b. record { one = tightened _ _ (none-fallen One f a) m.one; two = tightened _ _ (none-fallen Two f b) m.two };
-  member = λ s change h r f es m. both-member s change f (told_by es) m;
+  member = λ s change h r f es w m. both-member s change f (told_by es) m;
+  cures = λ s change kind h f es o a m. let g : Field = changed_member s change f in noise-both (events.Cure (who_in s g) kind) refl g es (both-member s change f (told_by es) m);
   sleeps = λ s turns marked k f es o m. noise-both (events.Status (who_in s (slept s turns marked f)) kinds.Sleep) refl (slept s turns marked f) es (both-member s _ f (told_by es) m);
   active = λ s change h f es m. both-active s change h f (told_by es) m;
   conditions = λ s change h f es m. both-conditions s change (calm-mild change h) f (told_by es) m;
@@ -452,13 +454,13 @@ telling = record {
   clears = clears-both;
   moves = λ s move k f es o m. moves-both s move f es m;
   prepares = λ s move k f es o m. prepares-both s move f es m;
-  explodes = λ s f es o m. exploded s f (told_by es) o m;
+  explodes = λ s u f es o m. exploded s f (told_by es) o m;
   stores = λ s move k e turns f es o m. stores-both s turns f es m;
   rests = λ s move k e f es o m. rests-both s f es m;
   loose_active = λ s change h f es m. either-active s change h f (told_by es) m;
   loose_apart = λ f g es a b m. either-apart f g (told_by es) a b m;
   loose_noise = λ e f h es m. noise-either e (noise-is f e (dull-noise f e h)) f es m;
-  loose_falls = λ s f es o m. either-falls s f (told_by es) o m;
+  loose_falls = λ s f es o m. let g : Field = changed_member s fallen f in noise-either (events.Faint (who_in s g)) refl g es (either-falls s f (told_by es) o m);
 }
 
 telling-outline : Outline telling
@@ -500,6 +502,6 @@ pub conditions_agree : ConditionsAgree
 unfolding hears_all telling
 conditions_agree t one two seed pairs a b =
     let m = story-runs telling t one two seed pairs a b telling-switches
-    (λ pre. act-tells telling-outline (ruling_of t) (ruling_of-tells t) (says-any telling-outline (λ s move. tt) (λ u marked. tt) (ruling_of t) (ruling_of-tells t)))
+    (λ pre. act-tells telling-outline (ruling_of t) (ruling_of-tells t) (says-any telling-outline (λ s move. tt) (λ u marked. tt) (λ u. tt) (ruling_of t) (ruling_of-tells t)))
     (record { one = record { same = refl; few = a.size.1 }; two = record { same = refl; few = b.size.1 } }) in
     (side-told _ _ m.one, side-told _ _ m.two)

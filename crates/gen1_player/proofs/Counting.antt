@@ -259,9 +259,12 @@ module _ (σ : Side) (i : ℕ) (G : About) where
     acted = λ s move. Unit {0};
     knows = λ s move. Against σ s ⊎ (bides move.effect ≡ false);
     lulled = λ s marked. Unit {0};
+    upright = λ s. Unit {0};
     loosen = λ f es m. m;
     tighten = λ f es m a b. m;
-    member = λ s change h r f es m. counts-member s change (sparing-moves change h) f es m;
+    member = λ s change h r f es w m. counts-member s change (sparing-moves change h) f es m;
+    cures = λ s change kind h f es o a m. let g : Field = changed_member s change f in let e : Event = events.Cure (who_in s g) kind in
+        counts-told e (λ p. noise-faces e refl σ p) g es (counts-member s change (sparing-moves change h) f es m);
     sleeps = λ s turns marked k f es o m. let e : Event = events.Status (who_in s (slept s turns marked f)) kinds.Sleep in
         counts-told e (λ p. noise-faces e refl σ p) (slept s turns marked f) es (counts-member s (with_status (Asleep turns marked)) (status-moves (Asleep turns marked)) f es m);
     active = λ s change h f es m. counts-active s change (λ a. ap (λ (x : Standing). x.place) (h a)) f es m;
@@ -276,12 +279,12 @@ module _ (σ : Side) (i : ℕ) (G : About) where
     clears = λ f es o m. counts-clear f es m;
     moves = λ s move a f es o m. counts-told _ (far-move σ (who_in s f) (who_in (other s) f) move.number a) f es m;
     prepares = λ s move a f es o m. counts-told _ (far-prepare σ (who_in s f) move.number a) f es m;
-    explodes = λ s f es o m. counts-conditions s without_seed _ es (counts-member s fallen fallen-moves f es m);
+    explodes = λ s u f es o m. counts-conditions s without_seed _ es (counts-member s fallen fallen-moves f es m);
     rests = λ s move k e f es o m. counts-told _ (λ p. rest-faces (who_in s (changed_conditions s with_recharge f)) σ p) _ es (counts-conditions s with_recharge f es m);
     loose_active = λ s change h f es m. counts-active s change (λ a. ap (λ (x : Standing). x.place) (h a)) f es m;
     loose_apart = λ f g es a b m. counts-apart f g es a b m;
     loose_noise = λ e f h es m. counts-noise e f (dull-noise f e h) es m;
-    loose_falls = λ s f es o m. counts-member s fallen fallen-moves f es m;
+    loose_falls = λ s f es o m. let g : Field = changed_member s fallen f in let e : Event = events.Faint (who_in s g) in counts-told e (λ p. noise-faces e refl σ p) g es (counts-member s fallen fallen-moves f es m);
   }
 
   pub counting-outline : Outline counting

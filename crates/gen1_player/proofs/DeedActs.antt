@@ -38,21 +38,14 @@ use Rattle.gen1_player.specs.declared.public.Public.{Public}
 use Rattle.gen1_player.specs.declared.public_side.PublicSide.{PublicSide}
 use Rattle.gen1_player.specs.Public.{broken_off_if, ends_recharging, is_overtaken, on_out, on_seen, public_side, recharges_unless, settled_by, strikes, suffers_move, takes_damage, takes_in, uses_move}
 use Rattle.gen1_player.proofs.Facts.{Sizes}
+pub use Rattle.gen1_player.proofs.Stories.{with-keeps}
 use Rattle.gen1_player.proofs.HeardSides.{foe-side, move-hears, out-side}
 use Rattle.gen1_player.proofs.ToldActions.{spent-tame}
 use Rattle.gen1_player.proofs.Deeds.{core, current-kept, current_of, deeds, deeds_of, does-in, even-fades, fades-side, pending-out, with_conditions, Core, Deeds, Does, Even, Fades}
 use Rattle.gen1_player.proofs.DeedStory.{told_by, Lasts, Tale}
 use Rattle.gen1_player.proofs.DeedGate.{acted-tale, confusion-deeds, disabled-deeds, light-cant, paralysis-deeds, status-deeds, turn-deeds, In, Near, Nothing_more, Opens, Over}
 
--- Two facts at once, and another fact at a stop
-
-pub with-keeps : {P Q S : Progress → Type 0} {K : Field → Action → Stream → Type 0} {f : Phase} → Leads P Q S f → Keeps K f
-    → Leads (λ p. P p × K p.field p.action p.stream) (λ p. Q p × K p.field p.action p.stream) S f
-with-keeps {P} {Q} {S} {K} {f} h k = record { leads = λ p r m. both (f p) (h.leads p r m.0) (k.kept p m.1) }
-  where
-    both : (q : Progress) → Lands Q S q → K q.field q.action q.stream → Lands (λ p. Q p × K p.field p.action p.stream) S q
-    both q (Runs r x) y = Runs r (x, y)
-    both q (Rests r x) y = Rests r x
+-- Another fact at a stop
 
 pub rests-leads : {P Q S T : Progress → Type 0} {f : Phase} → ((p : Progress) → S p → T p) → Leads P Q S f → Leads P Q T f
 rests-leads {P} {Q} {S} {T} {f} h k = record { leads = λ p r m. by (f p) (k.leads p r m) }

@@ -45,7 +45,7 @@ use Rattle.gen1_player.proofs.ToldEffects.{early_effect-tells, late_effect-tells
 use Rattle.gen1_player.proofs.ToldActions.{damage_of-tells, prelude-tells, spent-tame, strike-tells}
 use Rattle.gen1_player.proofs.Appearing.{bide-number}
 use Rattle.gen1_player.proofs.Deeds.{calm-bland, core, current-kept, current_of, deeds, deeds_of, even-active, even-conditions, pending-out, with_conditions, Deeds, Does, Even}
-use Rattle.gen1_player.proofs.DeedStory.{deeding, does-marked, told_by, Tale}
+use Rattle.gen1_player.proofs.DeedStory.{Lasts, Tale, deeding, does-marked, told_by}
 use Rattle.gen1_player.proofs.DeedGate.{acted-tale, at-conditions, at-draw, at-field, at-member, at-note, at-stop, at-told, at-weak, dull-tale, out-tale, tale-past, In, Near, Nothing_more, Opens, Over, Past}
 use Rattle.gen1_player.proofs.DeedActs.{bide-power, due-uses, ending-due, gate_or_held-deeds, is-bide, nothing-lasts, off-due, off-ending, reach-if, rests-leads, tie-of, used-lasts, uses-spent, uses-tale, with-keeps, foe_of, own_of, taken_up, Due, Ending, IdleIsQuiet, Off, Ready, Tie, UsedBy, Uses}
 
@@ -317,6 +317,10 @@ acted-use : (s : Side) (move : Move) → (after_use s move).acted s move
 unfolding deeding UsedBy
 acted-use s move p u = u
 
+upright-deeds : (U : Public → Type 0) (l : Lasts U) (s : Side) → (deeding U l).upright s
+unfolding deeding
+upright-deeds U l s = tt
+
 lulled-use : (s : Side) (move : Move) (u : Side) (marked : Bool) → (after_use s move).lulled u marked
 unfolding deeding
 lulled-use s move u marked = tt
@@ -365,7 +369,7 @@ module _ (t : Terms) {n : Sizes} {pre : List Event} (b : Bool) (s : Side) (pick 
       ⊳ watching.choose-sees lets_energy_go (record { leads = λ p r m. absurd (true≢false (sym m.1 ∙ m.0.1)) }) (before-leads (λ p m. m.0.0) lead-deeds)
       ⊳ rests-leads (used-over b s move) (choose-tells _ stay-tells (damage_of-tells s move move.effect))
       ⊳ rests-leads (used-over b s move) (choose-tells _ stay-tells (choose-tells _ (late_effect-tells (ruling_of t) (ruling_of-tells t) s move move.effect (λ e. (knows-used s move same h, e)) (λ e. lulled-use s move (other s) t.rules.sleep_clause) ⊳ stop-tells) stay-tells))
-      ⊳ after-leads (used-over b s move) (rests-leads (used-over b s move) (strike-tells (ruling_of t) (ruling_of-tells t) s move
+      ⊳ after-leads (used-over b s move) (rests-leads (used-over b s move) (strike-tells (ruling_of t) (ruling_of-tells t) s move (upright-deeds _ _ s)
       (λ e. record { acts = acted-use s move; plain = not-toxic move.number (ap (λ (m : Move). may_poison_by m.effect) (sym same) ∙ e) }) (λ e. knows-used s move same h)))
 
 -- Bide
@@ -469,7 +473,7 @@ module _ (t : Terms) {n : Sizes} {pre : List Event} (b : Bool) (s : Side) (pick 
   carry-bide : Leads (Readies n pre b s pick move) (In n pre (Over b s)) (In n pre (Over b s)) (carry_out (ruling_of t) s pick move)
   unfolding carry_out
   carry-bide = bide-goes ⊳ bide-leads ⊳ choose-tells _ stay-tells (bide-damage move.effect h) ⊳ bide-late
-      ⊳ after-leads (plain-over b s) (rests-leads (plain-over b s) (strike-tells (ruling_of t) (ruling_of-tells t) s move (λ c. absurd (true≢false (sym c ∙ of-bide move h may_poison_by)))
+      ⊳ after-leads (plain-over b s) (rests-leads (plain-over b s) (strike-tells (ruling_of t) (ruling_of-tells t) s move (upright-deeds _ _ s) (λ c. absurd (true≢false (sym c ∙ of-bide move h may_poison_by)))
       (λ c. absurd (true≢false (sym c ∙ of-bide move h recharges)))))
 
 carry-deeds : (t : Terms) {n : Sizes} {pre : List Event} (b : Bool) (s : Side) (pick : Pick) (move : Move) → move ≡ move_at move.number

@@ -326,8 +326,8 @@ pub dull-is : (f : Field) (e : Event) → Dull f e → is_dull e ≡ true
 dull-is f (events.Damage w h source) n = ap not n.1
 dull-is f (events.Heal w h) n = refl
 dull-is f (events.Status w kind) n = ap not n.0
-dull-is f (events.Cure w kind) n = refl
-dull-is f (events.Faint w) n = refl
+dull-is f (events.Cure w kind) n = absurd n
+dull-is f (events.Faint w) n = absurd n
 dull-is f _ n = n
 
 -- Other lemmas are about the moves of the action.
@@ -339,9 +339,11 @@ deeding U l = record {
   acted = λ s move. (p : Public) → U p → (public_side s p).last_move ≡ move.number;
   knows = λ s move. (bides move.effect ≡ false) × (recharges move.effect ≡ true → (p : Public) → U p → recharges (move_at (public_side s p).last_move).effect ≡ true);
   lulled = λ s marked. Unit {0};
+  upright = λ s. Unit {0};
   loosen = λ f es m. m;
   tighten = λ f es m a b. m;
-  member = λ s change h r f es m. tale-member l s change (sparing-tame change h) f es m;
+  member = λ s change h r f es w m. tale-member l s change (sparing-tame change h) f es m;
+  cures = λ s change kind h f es o a m. let g : Field = changed_member s change f in tale-dull l (events.Cure (who_in s g) kind) g refl es (tale-member l s change (sparing-tame change h) f es m);
   sleeps = λ s turns marked k f es o m. tale-dull l (events.Status (who_in s (slept s turns marked f)) kinds.Sleep) (slept s turns marked f) refl es (tale-member l s (with_status (Asleep turns marked)) (status-tame (Asleep turns marked)) f es m);
   active = λ s change h f es m. tale-active l s change h f es m;
   conditions = λ s change h f es m. tale-conditions l s change (calm-bland change h) f es m;
@@ -354,11 +356,11 @@ deeding U l = record {
   clears = λ f es o m. tale-clears l f es o m;
   moves = λ s move k f es o m. absurd k;
   prepares = λ s move k f es o m. absurd k;
-  explodes = λ s f es o m. tale-conditions l s without_seed seed-bland (changed_member s fallen f) es (tale-member l s fallen fallen-tame f es m);
+  explodes = λ s u f es o m. tale-conditions l s without_seed seed-bland (changed_member s fallen f) es (tale-member l s fallen fallen-tame f es m);
   stores = λ s move k e turns f es o m. absurd (true≢false (sym e ∙ k.0));
   rests = λ s move k e f es o m. tale-rests l s (k.1 e) f es o m;
   loose_active = λ s change h f es m. tale-active l s change h f es m;
   loose_apart = λ f g es a b m. tale-apart l f g es a b m;
   loose_noise = λ e f h es m. tale-dull l e f (dull-is f e h) es m;
-  loose_falls = λ s f es o m. tale-member l s fallen fallen-tame f es m;
+  loose_falls = λ s f es o m. let g : Field = changed_member s fallen f in tale-dull l (events.Faint (who_in s g)) g refl es (tale-member l s fallen fallen-tame f es m);
 }

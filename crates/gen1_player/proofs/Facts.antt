@@ -23,7 +23,7 @@ use Rattle.gen1_machine.specs.declared.picks.DisabledSlot.{DisabledSlot}
 use Rattle.gen1_machine.specs.declared.picks.UsedMove.{UsedMove}
 use Rattle.gen1_machine.specs.Sides.{other}
 use Rattle.gen1_machine.specs.Conditions.{after_haze, less_by, one_more, one_turn_less, stored, with_bide_storing, with_worse_poison, Storing, with_confusion_one_less, with_disable_one_less, with_substitute_hurt, without_trapping, ActiveConditions}
-use Rattle.gen1_machine.specs.State.{level_stages, nobody_out, changed_active, changed_conditions, health_in, member_at, party, status_in, with_status, Active, Field}
+use Rattle.gen1_machine.specs.State.{Active, Field, changed_active, changed_conditions, health_in, level_stages, member_at, member_in, nobody_out, party, status_in, with_status}
 use Rattle.gen1_machine.specs.EarlyEffects.{with_levelled_stats}
 use Rattle.gen1_machine.specs.CurrentStats.{with_penalty_of}
 use Rattle.gen1_machine.specs.SwitchingIn.{with_sent_out}
@@ -238,6 +238,10 @@ restful-status status k m e = absurd (true≢false (sym e ∙ k))
 abbrev pub IsAwake : Side → Field → Type 0
 IsAwake s f = is_asleep (status_in s f) ≡ false
 
+-- The active member of a side goes on to sleep if it does.
+abbrev pub SleepsOn : Side → (Member → Member) → Field → Type 0
+SleepsOn s change f = is_asleep (status_in s f) ≡ true → is_asleep (change (member_in s f)).status ≡ true
+
 -- Events that tell nothing of what a story follows.
 abbrev pub is_noise : Event → Bool
 is_noise (events.Switch w place level h) = false
@@ -278,29 +282,29 @@ is_still (events.Cure w kind) = false
 is_still (events.Faint w) = false
 is_still event = is_dull event
 
--- They name the health of the member that is out, which has not fallen asleep, or has woken up.
+-- They name the health of the member that is out, which does not fall asleep, wake up or fall.
 abbrev pub Noise : Field → Event → Type 0
 Noise f (events.Damage w h source) = h ≡ health_in w.side f
 Noise f (events.Heal w h) = h ≡ health_in w.side f
 Noise f (events.Status w kind) = is_sleep kind ≡ false
-Noise f (events.Cure w kind) = IsAwake w.side f
-Noise f (events.Faint w) = IsAwake w.side f
+Noise f (events.Cure w kind) = ⊥
+Noise f (events.Faint w) = ⊥
 Noise f event = is_noise event ≡ true
 
 abbrev pub Dull : Field → Event → Type 0
 Dull f (events.Damage w h source) = (h ≡ health_in w.side f) × (is_own_damage source ≡ false)
 Dull f (events.Heal w h) = h ≡ health_in w.side f
 Dull f (events.Status w kind) = (is_poison kind ≡ false) × (is_sleep kind ≡ false)
-Dull f (events.Cure w kind) = IsAwake w.side f
-Dull f (events.Faint w) = IsAwake w.side f
+Dull f (events.Cure w kind) = ⊥
+Dull f (events.Faint w) = ⊥
 Dull f event = is_dull event ≡ true
 
 pub noise-is : (f : Field) (e : Event) → Noise f e → is_noise e ≡ true
 noise-is f (events.Damage w h source) n = refl
 noise-is f (events.Heal w h) n = refl
 noise-is f (events.Status w kind) n = refl
-noise-is f (events.Cure w kind) n = refl
-noise-is f (events.Faint w) n = refl
+noise-is f (events.Cure w kind) n = absurd n
+noise-is f (events.Faint w) n = absurd n
 noise-is f _ n = n
 
 pub dull-noise : (f : Field) (e : Event) → Dull f e → Noise f e

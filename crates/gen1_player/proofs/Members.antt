@@ -39,7 +39,7 @@ use Rattle.gen1_player.specs.declared.public.Public.{Public}
 use Rattle.gen1_player.specs.declared.public_side.PublicSide.{PublicSide}
 use Rattle.gen1_player.specs.Public.{begins, bide, comes_out, first_public, hears_all, new_uses, not_seen, on_announced, seen_at, on_out, prepares, public_side, settled, starts_bide, takes_in, uses_move}
 use Rattle.gen1_player.specs.True.{events_in, public_of, MembersAgree, OfRuns, SideHasAppeared}
-use Rattle.gen1_player.proofs.Facts.{side_out, dull-noise, noise-is, sent-place, sent, sparing-tame, traits, with_cleared, Noise, Sizes, Standing, Tame, Traits}
+use Rattle.gen1_player.proofs.Facts.{Noise, Sizes, Standing, Tame, Traits, dull-noise, is_noise, noise-is, sent, sent-place, side_out, sparing-tame, traits, with_cleared}
 use Rattle.gen1_player.proofs.Stories.{MayFall, Outline, Story, Switching, sickened, slept}
 use Rattle.gen1_player.proofs.ToldEffects.{ruling_of-tells}
 use Rattle.gen1_player.proofs.ToldActions.{Says, act-tells, carry_out-tells, spent-tame}
@@ -447,11 +447,13 @@ module _ {k : Teams} {U : Field → Type 0} (u : Further U) where
   with-member : (s : Side) (change : Member → Member) → Tame change → (f : Field) (es : List Event) → With k U f es → With k U (changed_member s change f) es
   with-member s change h f es m = record { appears = appears-member s change h f (told_by es) m.appears; more = u.member s change f m.more; each = m.each; rest = rest-member s change f (told_by es) m.rest }
 
-  with-slept : (s : Side) (turns : ℕ) (marked : Bool) (f : Field) (es : List Event) → With k U f es
-      → let g : Field = slept s turns marked f in With k U g (es ++ events.Status (who_in s g) kinds.Sleep ∷ [])
-  with-slept s turns marked f es m =
-      let e : Event = events.Status (who_in s (slept s turns marked f)) kinds.Sleep in
-      with-last (slept s turns marked f) es e (λ u p. noise-faces e refl u p) (λ u p. noise-less e refl u p) tt (with-member s (with_status (Asleep turns marked)) (status-tame (Asleep turns marked)) f es m)
+  -- A change of a member that its event tells nothing of
+  with-changed : (s : Side) (change : Member → Member) → Tame change → (event : Who → Event) → ((w : Who) → is_noise (event w) ≡ true) → ((w : Who) (p : Public) → Tellable (event w) p)
+      → (f : Field) (es : List Event) → With k U f es → let g : Field = changed_member s change f in With k U g (es ++ event (who_in s g) ∷ [])
+  with-changed s change h event n t f es m =
+      let g : Field = changed_member s change f in
+      let e : Event = event (who_in s g) in
+      with-last g es e (λ u p. noise-faces e (n (who_in s g)) u p) (λ u p. noise-less e (n (who_in s g)) u p) (t (who_in s g) (told_by es)) (with-member s change h f es m)
 
   with-apart : (f g : Field) (es : List Event) → f.one ≡ g.one → f.two ≡ g.two → With k U f es → With k U g es
   with-apart f g es a b m = record { appears = appears-apart f g (told_by es) a b m.appears; more = u.apart f g a b m.more; each = m.each; rest = rest-apart f g (told_by es) a b m.rest }
@@ -543,10 +545,12 @@ appearing k U u = record {
   acted = λ s move. Unit {0};
   knows = λ s move. ((f : Field) → U f → Usable k s move.number f) × (move.effect ≡ (move_at move.number).effect);
   lulled = λ s marked. Unit {0};
+  upright = λ s. Unit {0};
   loosen = λ f es m. m;
   tighten = λ f es m a b. m;
-  member = λ s change h r f es m. with-member u s change (sparing-tame change h) f es m;
-  sleeps = λ s turns marked l f es o m. with-slept u s turns marked f es m;
+  member = λ s change h r f es w m. with-member u s change (sparing-tame change h) f es m;
+  cures = λ s change kind h f es o a m. with-changed u s change (sparing-tame change h) (λ w. events.Cure w kind) (λ w. refl) (λ w p. tt) f es m;
+  sleeps = λ s turns marked l f es o m. with-changed u s (with_status (Asleep turns marked)) (status-tame (Asleep turns marked)) (λ w. events.Status w kinds.Sleep) (λ w. refl) (λ w p. tt) f es m;
   active = λ s change h f es m. with-active u s change (λ a. ap (λ (x : Standing). x.place) (h a)) f es m;
   conditions = λ s change h f es m. with-conditions u s change f es m;
   apart = λ f g es a b m. with-apart u f g es a b m;
@@ -559,12 +563,12 @@ appearing k U u = record {
   clears = λ f es o m. with-clear u f es m;
   moves = λ s move h f es o m. with-move u s move h.0 f es o m;
   prepares = λ s move h f es o m. with-prepare u s move h.0 f es o m;
-  explodes = λ s f es o m. with-conditions u s without_seed _ es (with-member u s fallen fallen-tame f es m);
+  explodes = λ s a f es o m. with-conditions u s without_seed _ es (with-member u s fallen fallen-tame f es m);
   rests = λ s move h e f es o m. with-rest u s move h.0 (ap recharges (sym h.1) ∙ e) f es m;
   loose_active = λ s change h f es m. with-active u s change (λ a. ap (λ (x : Standing). x.place) (h a)) f es m;
   loose_apart = λ f g es a b m. with-apart u f g es a b m;
   loose_noise = λ e f h es m. with-noise u e f (dull-noise f e h) es m;
-  loose_falls = λ s f es o m. with-member u s fallen fallen-tame f es m;
+  loose_falls = λ s f es o m. with-changed u s fallen fallen-tame (λ w. events.Faint w) (λ w. refl) (λ w p. tt) f es m;
 }
 
 appearing-outline : (k : Teams) (U : Field → Type 0) (u : Further U) → Outline (appearing k U u)
@@ -659,7 +663,7 @@ unfolding given appearing
 says k n pre t s pick = record {
   leads = λ p r m.
       let i : ℕ = number_in (used_by pick (active s p).current_move) (member s p).moves in
-      forget k s i n pre _ ((carry_out-tells {v = of_action k s i} {z = n} {pre = pre} (appearing-outline k (Usable k s i) (usable-further k s i)) (ruling_of t) (ruling_of-tells t) s pick (move_taken_in s pick p.field) refl (λ f u. u, refl) (λ u marked. tt)).leads p r
+      forget k s i n pre _ ((carry_out-tells {v = of_action k s i} {z = n} {pre = pre} (appearing-outline k (Usable k s i) (usable-further k s i)) (ruling_of t) (ruling_of-tells t) s pick (move_taken_in s pick p.field) refl (λ f u. u, refl) (λ u marked. tt) tt).leads p r
       (record { begun = m.begun; exact = record { appears = m.exact.appears; more = taken-usable k s pick p.field (told_by (pre ++ p.events)) m.exact.appears; each = m.exact.each; rest = m.exact.rest } }));
 }
 

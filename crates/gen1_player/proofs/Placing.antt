@@ -81,9 +81,11 @@ placing n = record {
   acted = λ s move. Unit {0};
   knows = λ s move. Unit {0};
   lulled = λ s marked. Unit {0};
+  upright = λ s. Unit {0};
   loosen = λ f es m. m;
   tighten = λ f es m a b. m;
-  member = λ s change h r f es m. placed-member s change f es m;
+  member = λ s change h r f es w m. placed-member s change f es m;
+  cures = λ s change kind h f es o a m. placed-last n _ es _ tt (placed-member s change f es m);
   sleeps = λ s turns marked k f es o m. placed-last n _ es _ tt (placed-member s _ f es m);
   active = λ s change h f es m. placed-active s change f es m;
   conditions = λ s change h f es m. placed-active s _ f es m;
@@ -96,13 +98,13 @@ placing n = record {
   clears = λ f es o m. placed-last n _ es _ tt (placed-active Two _ _ es (placed-active Two _ _ es (placed-active One _ _ es (placed-active One _ f es m))));
   moves = λ s move k f es o m. placed-last n f es _ tt m;
   prepares = λ s move k f es o m. placed-last n f es _ tt m;
-  explodes = λ s f es o m. placed-active s _ _ es (placed-member s _ f es m);
+  explodes = λ s u f es o m. placed-active s _ _ es (placed-member s _ f es m);
   stores = λ s move k e turns f es o m. placed-last n _ es _ tt (placed-active s _ f es m);
   rests = λ s move k e f es o m. placed-last n _ es _ tt (placed-active s _ f es m);
   loose_active = λ s change h f es m. placed-active s change f es m;
   loose_apart = λ f g es a b m. placed-same f g es a b m;
   loose_noise = λ e f h es m. placed-last n f es e (noise-fits n e (noise-is f e (dull-noise f e h))) m;
-  loose_falls = λ s f es o m. placed-member s _ f es m;
+  loose_falls = λ s f es o m. placed-last n _ es _ tt (placed-member s _ f es m);
 }
 
 placing-outline : (n : Sizes) → Outline (placing n)
@@ -128,7 +130,7 @@ unfolding placing
 agrees_with_view t one two seed pairs a b =
     fitting-agrees one two (events_in (run (first_state t one two seed) pairs)) a.size.1 b.size.1
     (story-runs (placing (sizes_of one two)) t one two seed pairs a b (placing-switches (sizes_of one two)) (λ pre. act-tells (placing-outline (sizes_of one two)) (ruling_of t) (ruling_of-tells t)
-    (says-any (placing-outline (sizes_of one two)) (λ s move. tt) (λ u marked. tt) (ruling_of t) (ruling_of-tells t))) (record { sized = record { one = refl; two = refl }; each = tt })).each
+    (says-any (placing-outline (sizes_of one two)) (λ s move. tt) (λ u marked. tt) (λ u. tt) (ruling_of t) (ruling_of-tells t))) (record { sized = record { one = refl; two = refl }; each = tt })).each
 
 pub agrees : PublicAgrees
 agrees t one two seed pairs a b =

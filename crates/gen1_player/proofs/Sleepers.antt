@@ -1,13 +1,15 @@
 -- Who put the members of a side to sleep, as the log tells it, and the mark of the sleep clause.
+use Rattle.gen1_stats.specs.declared.status.Status.TheVariants.{Asleep}
+use Rattle.gen1_player.proofs.Stories.{slept}
 use Rattle.gen1_machine.proofs.Showing.{BothOut, IsOut}
 use Rattle.gen1_machine.specs.Sides.{other}
-use Rattle.gen1_machine.specs.State.{Active, Field, Party, changed_active, changed_member, member_at, member_in, party, with_member}
+use Rattle.gen1_machine.specs.State.{Active, Field, Party, changed_active, changed_member, member_at, member_in, party, who_in, with_member, with_status}
 use Rattle.gen1_machine.specs.declared.event.Event.{Event}
 use Rattle.gen1_machine.specs.declared.health.Kind.{Kind}
 use Rattle.gen1_machine.specs.declared.side.Side.{Side}
 use Rattle.gen1_machine.specs.declared.side.Side.TheVariants.{One, Two}
-use Rattle.gen1_player.proofs.Facts.{IsAwake, Noise, Restful, is_sleep}
-use Rattle.gen1_player.proofs.HeardSides.{quiet-side, same-sides}
+use Rattle.gen1_player.proofs.Facts.{Noise, Restful, SleepsOn, is_sleep}
+use Rattle.gen1_player.proofs.HeardSides.{foe-side, out-side, quiet-side, same-sides}
 use Rattle.gen1_player.specs.Public.{activates, asleep_after, drops, gets_status, has_fainted, is_afflicted, is_cured, is_kept_by, is_overtaken, not_seen, on_announced, on_out, on_seen, public_side, put_to_sleep_by, recharges_unless, rests_no_more, rises, seen_at, takes_damage, takes_in}
 use Rattle.gen1_player.specs.declared.public.Public.{Public}
 use Rattle.gen1_player.specs.declared.public_side.PublicSide.{PublicSide}
@@ -45,8 +47,10 @@ with_by change x = record x { by = slice_set x.by (x.place - 1) (change (now_by 
 abbrev pub IsCause : Bool → ℕ → Bool → Type 0
 IsCause clause by marked = ((by ≡ 1) × (marked ≡ clause)) ⊎ ((by ≡ 2) × (marked ≡ false))
 
-abbrev pub Sleeps : Bool → ℕ → Member → Type 0
-Sleeps clause by m = is_asleep m.status ≡ true → IsCause clause by (is_marked m.status)
+-- Nothing is said of who put a member to sleep that is awake.
+pub record Sleeps (clause : Bool) (by : ℕ) (m : Member) : Type 0 where
+  pub asleep : is_asleep m.status ≡ true → IsCause clause by (is_marked m.status)
+  pub awake : is_asleep m.status ≡ false → (by ≢ 1) × (by ≢ 2)
 
 pub record Sleepers (clause : Bool) (x : Causes) (t : Party) : Type 0 where
   pub place : x.place ≡ t.active.place
@@ -66,8 +70,8 @@ set-there {A} P xs k v d h p = by (below-or k (length xs))
     by (inl low) = subst P (sym (get_or-set_same xs k v d low)) (h p)
     by (inr past) = subst (λ (ys : List A). P (slice_index_or ys k d)) (sym (set_past xs k v past)) p
 
-pub awake-sleeps : (clause : Bool) (by : ℕ) (m : Member) → is_asleep m.status ≡ false → Sleeps clause by m
-awake-sleeps clause by m e h = absurd (true≢false (sym h ∙ e))
+pub awake-sleeps : (clause : Bool) (by : ℕ) (m : Member) → is_asleep m.status ≡ false → (by ≢ 1) × (by ≢ 2) → Sleeps clause by m
+awake-sleeps clause by m e k = record { asleep = λ h. absurd (true≢false (sym h ∙ e)); awake = λ h. k }
 
 -- What holds of an element of a list after a change of one of its elements.
 pub set-each : {A : Type 0} (P : ℕ → A → Type 0) (xs : List A) (k : ℕ) (v d : A) → (k < length xs → P k v) → ((i : ℕ) → P i (slice_index_or xs i d)) → (i : ℕ) → P i (slice_index_or (slice_set xs k v) i d)
@@ -98,7 +102,7 @@ sleepers-member clause m x t h k = record {
   each = set-each (λ i n. Sleeps clause (slice_index_or x.by i 0) n) t.members (t.active.place - 1) m nobody (λ low. h _ (k.each (t.active.place - 1))) k.each;
 }
 
--- A member falls asleep.
+-- A member falls asleep, or wakes up.
 pub sleepers-slept : (clause : Bool) (change : ℕ → ℕ) (m : Member) (x : Causes) (t : Party) → IsOut t → Sleeps clause (change (now_by x)) m
     → Sleepers clause x t → Sleepers clause (with_by change x) (with_member t.active.place m t)
 sleepers-slept clause change m x t o h k = record {
@@ -169,46 +173,35 @@ out-same h e s u p = quiet-side causes s u h p e
 abbrev pub forgotten : ℕ → ℕ
 forgotten n = 0
 
--- An event that a story doesn't follow, of a member that has woken up or fallen.
-pub noise-turns : (e : Event) (f : Field) → Noise f e → (u : Side) (p : Public)
-    → (causes (public_side u (takes_in e p)) ≡ causes (public_side u p)) ⊎ ((causes (public_side u (takes_in e p)) ≡ with_by forgotten (causes (public_side u p))) × IsAwake u f)
+-- An event that a story doesn't follow.
+pub noise-same : (e : Event) (f : Field) → Noise f e → (u : Side) (p : Public) → causes (public_side u (takes_in e p)) ≡ causes (public_side u p)
 unfolding takes_in
-noise-turns (events.Turn i) f n u p = inl (same-sides causes u (record p { turn = i }) p refl refl)
-noise-turns (events.Switch w place level k) f n u p = absurd (true≢false (sym n))
-noise-turns (events.Move w move foe) f n u p = absurd (true≢false (sym n))
-noise-turns (events.Cant w why) f n u p = inl (out-same (on_announced (is_kept_by why)) (λ x. refl) w.side u p)
-noise-turns (events.Damage w k source) f n u p = inl (out-same (λ x. takes_damage source (on_seen (λ m. record m { hp = k.hp }) x)) (λ x. seen-same (λ m. record m { hp = k.hp }) x (λ m. refl)) w.side u p)
-noise-turns (events.Heal w k) f n u p = inl (out-same (on_seen (λ m. record m { hp = k.hp })) (λ x. seen-same (λ m. record m { hp = k.hp }) x (λ m. refl)) w.side u p)
-noise-turns (events.Status w kind) f n u p = inl (out-same (λ x. on_announced (gets_status kind (public_side (other w.side) p).last_move) (on_seen (is_afflicted kind) x))
-    (λ x. seen-same (is_afflicted kind) x (afflicted-same kind n)) w.side u p)
+noise-same (events.Turn i) f n u p = same-sides causes u (record p { turn = i }) p refl refl
+noise-same (events.Switch w place level k) f n u p = absurd (true≢false (sym n))
+noise-same (events.Move w move foe) f n u p = absurd (true≢false (sym n))
+noise-same (events.Cant w why) f n u p = out-same (on_announced (is_kept_by why)) (λ x. refl) w.side u p
+noise-same (events.Damage w k source) f n u p = out-same (λ x. takes_damage source (on_seen (λ m. record m { hp = k.hp }) x)) (λ x. seen-same (λ m. record m { hp = k.hp }) x (λ m. refl)) w.side u p
+noise-same (events.Heal w k) f n u p = out-same (on_seen (λ m. record m { hp = k.hp })) (λ x. seen-same (λ m. record m { hp = k.hp }) x (λ m. refl)) w.side u p
+noise-same (events.Status w kind) f n u p = out-same (λ x. on_announced (gets_status kind (public_side (other w.side) p).last_move) (on_seen (is_afflicted kind) x))
+    (λ x. seen-same (is_afflicted kind) x (afflicted-same kind n)) w.side u p
   where
     afflicted-same : (kind : Kind) → is_sleep kind ≡ false → (m : Seen) → asleep_after kind m.asleep_by ≡ m.asleep_by
     afflicted-same kinds.Sleep e m = absurd (true≢false e)
     afflicted-same _ e m = refl
-noise-turns (events.Cure w kind) f n u p = by (out-turns (on_seen is_cured) forgotten (λ x. seen-by is_cured forgotten x (λ m. refl)) w.side u p)
-  where
-    by : Turns forgotten w.side u p (on_out w.side (on_seen is_cured) p)
-        → (causes (public_side u (on_out w.side (on_seen is_cured) p)) ≡ causes (public_side u p)) ⊎ ((causes (public_side u (on_out w.side (on_seen is_cured) p)) ≡ with_by forgotten (causes (public_side u p))) × IsAwake u f)
-    by (inl e) = inl e
-    by (inr e) = inr (e.0, subst (λ (s : Side). IsAwake s f) (sym e.1) n)
-noise-turns (events.Faint w) f n u p = by (out-turns (on_seen has_fainted) forgotten (λ x. seen-by has_fainted forgotten x (λ m. refl)) w.side u p)
-  where
-    by : Turns forgotten w.side u p (on_out w.side (on_seen has_fainted) p)
-        → (causes (public_side u (on_out w.side (on_seen has_fainted) p)) ≡ causes (public_side u p)) ⊎ ((causes (public_side u (on_out w.side (on_seen has_fainted) p)) ≡ with_by forgotten (causes (public_side u p))) × IsAwake u f)
-    by (inl e) = inl e
-    by (inr e) = inr (e.0, subst (λ (s : Side). IsAwake s f) (sym e.1) n)
-noise-turns (events.Boost w stat i) f n u p = inl (out-same (rises stat i) (λ x. refl) w.side u p)
-noise-turns (events.Unboost w stat i) f n u p = inl (out-same (drops stat i) (λ x. refl) w.side u p)
-noise-turns events.ClearAll f n u p = absurd (true≢false (sym n))
-noise-turns (events.Start w what) f n u p = absurd (true≢false (sym n))
-noise-turns (events.End w what) f n u p = absurd (true≢false (sym n))
-noise-turns (events.Prepare w move) f n u p = absurd (true≢false (sym n))
-noise-turns (events.Activate w what) f n u p = inl (same-sides causes u (activates w.side what p) p refl refl)
-noise-turns (events.MustRecharge w) f n u p = absurd (true≢false (sym n))
-noise-turns (events.Win s) f n u p = inl (same-sides causes u (takes_in (events.Win s) p) p refl refl)
-noise-turns events.Tie f n u p = inl (same-sides causes u (takes_in events.Tie p) p refl refl)
-noise-turns (events.Fault i) f n u p = inl (same-sides causes u (takes_in (events.Fault i) p) p refl refl)
-noise-turns _ f n u p = inl refl
+noise-same (events.Cure w kind) f n u p = absurd n
+noise-same (events.Faint w) f n u p = absurd n
+noise-same (events.Boost w stat i) f n u p = out-same (rises stat i) (λ x. refl) w.side u p
+noise-same (events.Unboost w stat i) f n u p = out-same (drops stat i) (λ x. refl) w.side u p
+noise-same events.ClearAll f n u p = absurd (true≢false (sym n))
+noise-same (events.Start w what) f n u p = absurd (true≢false (sym n))
+noise-same (events.End w what) f n u p = absurd (true≢false (sym n))
+noise-same (events.Prepare w move) f n u p = absurd (true≢false (sym n))
+noise-same (events.Activate w what) f n u p = same-sides causes u (activates w.side what p) p refl refl
+noise-same (events.MustRecharge w) f n u p = absurd (true≢false (sym n))
+noise-same (events.Win s) f n u p = same-sides causes u (takes_in (events.Win s) p) p refl refl
+noise-same events.Tie f n u p = same-sides causes u (takes_in events.Tie p) p refl refl
+noise-same (events.Fault i) f n u p = same-sides causes u (takes_in (events.Fault i) p) p refl refl
+noise-same _ f n u p = refl
 
 -- A cause of 3: the member has used Rest, and the foe no move since
 
@@ -275,8 +268,16 @@ pub out-in : (s : Side) (f : Field) → BothOut f → IsOut (party s f)
 out-in One f o = o.one
 out-in Two f o = o.two
 
-pub restful-sleeps : (clause : Bool) (change : Member → Member) → Restful change → (m : Member) (by : ℕ) → Sleeps clause by m → Sleeps clause by (change m)
-restful-sleeps clause change r m by k e = subst (IsCause clause by) (sym (r m e).1) (k (r m e).0)
+pub restful-sleeps : (clause : Bool) (change : Member → Member) → Restful change → (m : Member) → (is_asleep m.status ≡ true → is_asleep (change m).status ≡ true) → (by : ℕ)
+    → Sleeps clause by m → Sleeps clause by (change m)
+restful-sleeps clause change r m w by k = record {
+  asleep = λ e. subst (IsCause clause by) (sym (r m e).1) (k.asleep (r m e).0);
+  awake = λ e. k.awake (still (is_asleep m.status) refl e);
+}
+  where
+    still : (b : Bool) → is_asleep m.status ≡ b → is_asleep (change m).status ≡ false → b ≡ false
+    still true h e = absurd (true≢false (sym (w h) ∙ e))
+    still false h e = refl
 
 pub sides-active : (clause : Bool) (s : Side) (change : Active → Active) → ((a : Active) → (change a).place ≡ a.place) → (f : Field) (p : Public) (u : Side)
     → Sleepers clause (causes (public_side u p)) (party u f) → Sleepers clause (causes (public_side u p)) (party u (changed_active s change f))
@@ -286,13 +287,13 @@ sides-active clause One change h f p Two m = m
 sides-active clause Two change h f p One m = m
 sides-active clause Two change h f p Two m = sleepers-active clause _ _ f.two (change f.two.active) refl (m.place ∙ sym (h f.two.active)) m
 
-pub sides-member : (clause : Bool) (s : Side) (change : Member → Member) → Restful change → (f : Field) (p : Public) (u : Side)
+pub sides-member : (clause : Bool) (s : Side) (change : Member → Member) → Restful change → (f : Field) → SleepsOn s change f → (p : Public) (u : Side)
     → Sleepers clause (causes (public_side u p)) (party u f) → Sleepers clause (causes (public_side u p)) (party u (changed_member s change f))
 unfolding changed_member
-sides-member clause One change r f p One m = sleepers-member clause (change (member_in One f)) _ f.one (restful-sleeps clause change r (member_in One f)) m
-sides-member clause One change r f p Two m = m
-sides-member clause Two change r f p One m = m
-sides-member clause Two change r f p Two m = sleepers-member clause (change (member_in Two f)) _ f.two (restful-sleeps clause change r (member_in Two f)) m
+sides-member clause One change r f w p One m = sleepers-member clause (change (member_in One f)) _ f.one (restful-sleeps clause change r (member_in One f) w) m
+sides-member clause One change r f w p Two m = m
+sides-member clause Two change r f w p One m = m
+sides-member clause Two change r f w p Two m = sleepers-member clause (change (member_in Two f)) _ f.two (restful-sleeps clause change r (member_in Two f) w) m
 
 pub sides-apart : (clause : Bool) (f g : Field) (p : Public) → f.one ≡ g.one → f.two ≡ g.two → (u : Side)
     → Sleepers clause (causes (public_side u p)) (party u f) → Sleepers clause (causes (public_side u p)) (party u g)
@@ -306,12 +307,88 @@ sides-turned clause change s u p q t (inl e) h m = subst (λ (x : Causes). Sleep
 sides-turned clause change s u p q t (inr e) h m = subst (λ (x : Causes). Sleepers clause x t) (sym e.0) (sleepers-by clause change (causes (public_side u p)) t (h e.1 (now_by (causes (public_side u p)))) m)
 
 pub overtaken-sleeps : (clause : Bool) (by : ℕ) (m : Member) → Sleeps clause by m → Sleeps clause (rests_no_more by) m
-overtaken-sleeps clause by m k e = kept (k e)
+overtaken-sleeps clause by m k = record { asleep = λ e. kept (k.asleep e); awake = λ e. apart (k.awake e) }
   where
     kept : IsCause clause by (is_marked m.status) → IsCause clause (rests_no_more by) (is_marked m.status)
     kept (inl x) = inl (ap rests_no_more x.0, x.1)
     kept (inr x) = inr (ap rests_no_more x.0, x.1)
 
+    apart : (by ≢ 1) × (by ≢ 2) → (rests_no_more by ≢ 1) × (rests_no_more by ≢ 2)
+    apart x = split (by == 3)
+      where
+        split : (b : Bool) → ((if b then 0 else by) ≢ 1) × ((if b then 0 else by) ≢ 2)
+        split true = (λ e. omega (arith, e), λ e. omega (arith, e))
+        split false = x
+
 pub suffers-causes : (b : Bool) (x : PublicSide) → causes (recharges_unless b (on_seen is_overtaken x)) ≡ with_by rests_no_more (causes x)
 suffers-causes true x = seen-by is_overtaken rests_no_more x (λ m. refl)
 suffers-causes false x = seen-by is_overtaken rests_no_more x (λ m. refl)
+
+-- A member falls asleep.
+
+pub afflicted : (s : Side) (g : Field) (p : Public) → 1 ≤ (public_side s p).place
+    → causes (public_side s (takes_in (events.Status (who_in s g) kinds.Sleep) p)) ≡ with_by put_to_sleep_by (causes (public_side s p))
+unfolding takes_in
+afflicted s g p low = ap causes (out-side s (λ x. on_announced (gets_status kinds.Sleep (public_side (other s) p).last_move) (on_seen (is_afflicted kinds.Sleep) x)) p low)
+    ∙ seen-by (is_afflicted kinds.Sleep) put_to_sleep_by (public_side s p) (λ m. refl)
+
+pub afflicted-foe : (s : Side) (g : Field) (p : Public) → causes (public_side (other s) (takes_in (events.Status (who_in s g) kinds.Sleep) p)) ≡ causes (public_side (other s) p)
+unfolding takes_in
+afflicted-foe s g p = ap causes (foe-side s (λ x. on_announced (gets_status kinds.Sleep (public_side (other s) p).last_move) (on_seen (is_afflicted kinds.Sleep) x)) p)
+
+pub placed-at : (s : Side) (clause : Bool) (f : Field) (x : Causes) → BothOut f → Sleepers clause x (party s f) → 1 ≤ x.place
+placed-at s clause f x o m = let low = (out-in s f o).placed in let e = m.place in omega (arith, low, e)
+
+-- A member and its cause change at once.
+pub sides-changed : (clause : Bool) (s : Side) (change : Member → Member) (turn : ℕ → ℕ) (f : Field) (p q : Public) → BothOut f
+    → causes (public_side s q) ≡ with_by turn (causes (public_side s p)) → causes (public_side (other s) q) ≡ causes (public_side (other s) p)
+    → Sleeps clause (turn (now_by (causes (public_side s p)))) (change (member_in s f)) → ((u : Side) → Sleepers clause (causes (public_side u p)) (party u f))
+    → (u : Side) → Sleepers clause (causes (public_side u q)) (party u (changed_member s change f))
+sides-changed clause s change turn f p q o own foe c m =
+    let g : Field = changed_member s change f in
+    each-side s (λ u. Sleepers clause (causes (public_side u q)) (party u g))
+    (subst (Sleepers clause (causes (public_side s q))) (sym (own-member s change f))
+    (subst (λ (x : Causes). Sleepers clause x (with_member (party s f).active.place (change (member_in s f)) (party s f))) (sym own)
+    (sleepers-slept clause turn (change (member_in s f)) (causes (public_side s p)) (party s f) (out-in s f o) c (m s))))
+    (subst (Sleepers clause (causes (public_side (other s) q))) (sym (foe-member s change f))
+    (subst (λ (x : Causes). Sleepers clause x (party (other s) f)) (sym foe) (m (other s))))
+
+pub cause-sleeps : (clause : Bool) (turns : ℕ) (marked : Bool) (by : ℕ) (m : Member) → IsCause clause by marked → Sleeps clause by (with_status (Asleep turns marked) m)
+unfolding with_status
+cause-sleeps clause turns marked by m c = record { asleep = λ e. c; awake = λ e. absurd (true≢false e) }
+
+pub sides-slept : (clause : Bool) (s : Side) (turns : ℕ) (marked : Bool) (f : Field) (p : Public) → BothOut f → IsCause clause (put_to_sleep_by (now_by (causes (public_side s p)))) marked
+    → ((u : Side) → Sleepers clause (causes (public_side u p)) (party u f))
+    → let g : Field = slept s turns marked f in (u : Side) → Sleepers clause (causes (public_side u (takes_in (events.Status (who_in s g) kinds.Sleep) p))) (party u g)
+sides-slept clause s turns marked f p o c m =
+    let g : Field = slept s turns marked f in
+    sides-changed clause s (with_status (Asleep turns marked)) put_to_sleep_by f p (takes_in (events.Status (who_in s g) kinds.Sleep) p) o (afflicted s g p (placed-at s clause f _ o (m s))) (afflicted-foe s g p)
+    (cause-sleeps clause turns marked _ (member_in s f) c) m
+
+-- It wakes up, or falls.
+pub ended : (s : Side) (h : Seen → Seen) → ((m : Seen) → cause (h m) ≡ 0) → (p : Public) → 1 ≤ (public_side s p).place
+    → causes (public_side s (on_out s (on_seen h) p)) ≡ with_by forgotten (causes (public_side s p))
+ended s h e p low = ap causes (out-side s (on_seen h) p low) ∙ seen-by h forgotten (public_side s p) e
+
+pub cure-ends : (s : Side) (g : Field) (kind : Kind) (p : Public) → takes_in (events.Cure (who_in s g) kind) p ≡ on_out s (on_seen is_cured) p
+unfolding takes_in
+cure-ends s g kind p = refl
+
+pub faint-ends : (s : Side) (g : Field) (p : Public) → takes_in (events.Faint (who_in s g)) p ≡ on_out s (on_seen has_fainted) p
+unfolding takes_in
+faint-ends s g p = refl
+
+pub sides-ended : (clause : Bool) (s : Side) (change : Member → Member) (h : Seen → Seen) → ((m : Seen) → cause (h m) ≡ 0) → (f : Field) (p : Public) → BothOut f → is_asleep (change (member_in s f)).status ≡ false
+    → ((u : Side) → Sleepers clause (causes (public_side u p)) (party u f))
+    → (u : Side) → Sleepers clause (causes (public_side u (on_out s (on_seen h) p))) (party u (changed_member s change f))
+sides-ended clause s change h e f p o a m = sides-changed clause s change forgotten f p (on_out s (on_seen h) p) o (ended s h e p (placed-at s clause f _ o (m s))) (ap causes (foe-side s (on_seen h) p))
+    (awake-sleeps clause 0 (change (member_in s f)) a (λ z. omega (arith, z), λ z. omega (arith, z))) m
+
+pub ended-unrested : (s : Side) (h : Seen → Seen) → ((m : Seen) → cause (h m) ≡ 0) → (p : Public) (u : Side) → Unrested u p (on_out s (on_seen h) p)
+ended-unrested s h e p u = turns-unrested forgotten forgotten-not s u p _ (out-turns (on_seen h) forgotten (λ x. seen-by h forgotten x e) s u p)
+
+pub slept-unrested : (s : Side) (g : Field) (p : Public) (u : Side) → Unrested u p (takes_in (events.Status (who_in s g) kinds.Sleep) p)
+unfolding takes_in
+slept-unrested s g p u = turns-unrested put_to_sleep_by put-not s u p _
+    (out-turns (λ x. on_announced (gets_status kinds.Sleep (public_side (other s) p).last_move) (on_seen (is_afflicted kinds.Sleep) x)) put_to_sleep_by
+    (λ x. seen-by (is_afflicted kinds.Sleep) put_to_sleep_by x (λ m. refl)) s u p)

@@ -11,7 +11,7 @@ use Rattle.gen1_machine.specs.Moves.{Move, move_at, rest, toxic}
 use Rattle.gen1_machine.specs.Progress.{Progress, choose, fail, fails_if, given, note, on_action, status_of, stay, stop, told, ◌▸◌}
 use Rattle.gen1_machine.specs.Ruling.{ruling_of}
 use Rattle.gen1_machine.specs.Sides.{other}
-use Rattle.gen1_machine.specs.State.{Active, Field, Party, Terms, active_in, changed_active, changed_conditions, changed_member, fallen, first_state, health_in, kind_of, member_at, member_in, party, who_in, with_current_move, with_member, with_pp_spent, with_sleep_one_less, with_status, with_types_of}
+use Rattle.gen1_machine.specs.State.{Active, Field, Party, Terms, active_in, changed_active, changed_conditions, changed_member, fallen, first_state, health_in, kind_of, member_at, member_in, party, who_in, with_current_move, with_pp_spent, with_status, with_types_of}
 use Rattle.gen1_machine.specs.Step.{Ran, run}
 use Rattle.gen1_machine.specs.SwitchingIn.{switch_event, with_sent_out}
 use Rattle.gen1_machine.specs.View.{Shown, shown, shown_at, shows, side_shows}
@@ -26,17 +26,17 @@ use Rattle.gen1_player.proofs.DeedActs.{rests-leads}
 use Rattle.gen1_player.proofs.DeedMoves.{of-bide}
 use Rattle.gen1_player.proofs.DeedStory.{told_by}
 use Rattle.gen1_player.proofs.DeedTurns.{comes-is}
-use Rattle.gen1_player.proofs.Facts.{IsAwake, Noise, Restful, Sizes, Standing, dull-noise, sent, sent-place, with_cleared}
+use Rattle.gen1_player.proofs.Facts.{IsAwake, Noise, Restful, Sizes, SleepsOn, Standing, dull-noise, sent, sent-place, with_cleared}
 use Rattle.gen1_player.proofs.HeardSides.{bide-hears, clear-hears, end-hears, foe-side, hears-in, hears_all-last, move-hears, out-side, prepare-hears, rest-hears, settled-look, start-hears, starts-begins, switch-hears, types-hears}
 use Rattle.gen1_player.proofs.Placing.{agrees}
-use Rattle.gen1_player.proofs.Sleepers.{Causes, IsCause, Sleepers, Sleeps, Unrested, awake-sleeps, below-or, cause, causes, each-side, foe-member, forgotten, forgotten-not, noise-turns, now_by, out-in, out-same, out-turns, overtaken-not, overtaken-sleeps, own-member, put-not, same-unrested, seen-by, set-there, sides-active, sides-apart, sides-member, sides-turned, sleepers-active, sleepers-by, sleepers-slept, suffers-causes, turns-unrested, with-unrested, with_by}
-use Rattle.gen1_player.proofs.Stories.{MayFall, Now, Outline, Story, Switching, any-note, at_end, begun-member, gain-tells, loosened, member-tells, note-tells, sickened, slept, stop-tells}
+use Rattle.gen1_player.proofs.Sleepers.{Causes, IsCause, Sleepers, Sleeps, Unrested, awake-sleeps, below-or, cause, causes, cure-ends, ended-unrested, faint-ends, noise-same, now_by, out-in, out-same, out-turns, overtaken-not, overtaken-sleeps, placed-at, same-unrested, seen-by, set-there, sides-active, sides-apart, sides-ended, sides-member, sides-slept, sides-turned, sleepers-active, slept-unrested, suffers-causes, with_by}
+use Rattle.gen1_player.proofs.Stories.{MayFall, Now, Outline, Story, Switching, any-note, at_end, begun-member, gain-tells, loosened, note-tells, sickened, slept, stop-tells}
 use Rattle.gen1_player.proofs.ToldActions.{bide_goes_on-tells, charge-tells, current-tells, damage_of-tells, lead_up-tells, prelude-tells, resume-lands, see_if-tells, spend-tells, strike-tells}
 use Rattle.gen1_player.proofs.ToldEffects.{early_effect-tells, heals, late_effect-tells, lulls, may_poison_by, not-toxic, recover-tells, ruling_of-tells}
-use Rattle.gen1_player.proofs.ToldGate.{frozen-tells, gate_of_move-tells, gate_of_turn-tells, sleep-restful, sleep-tame, trapped-tells, wake-told}
+use Rattle.gen1_player.proofs.ToldGate.{frozen-tells, gate_of_move-tells, gate_of_turn-tells, less-tells, trapped-tells, wake-told}
 use Rattle.gen1_player.proofs.ToldEnds.{story-runs}
 use Rattle.gen1_player.proofs.ToldTurns.{or-left}
-use Rattle.gen1_player.specs.Public.{bide, comes_out, ends_recharging, first_public, gets_status, hears_all, is_afflicted, is_cleared, may_rest, new_uses, not_seen, on_announced, on_out, on_public_side, on_seen, prepares, public_side, put_to_sleep_by, rests_no_more, seen_at, set_volatile, settled, starts_bide, suffers_move, takes_in, takes_types, uses_again, uses_move}
+use Rattle.gen1_player.specs.Public.{bide, comes_out, ends_recharging, first_public, has_fainted, hears_all, is_cleared, is_cured, may_rest, new_uses, not_seen, on_announced, on_out, on_public_side, on_seen, prepares, public_side, put_to_sleep_by, rests_no_more, seen_at, set_volatile, settled, starts_bide, suffers_move, takes_in, takes_types, uses_again, uses_move}
 use Rattle.gen1_player.specs.True.{AgreesWith, IsAsleepBy, SleepersAgree, events_in, public_of}
 use Rattle.gen1_player.specs.declared.public.Public.{Public}
 use Rattle.gen1_player.specs.declared.public_side.PublicSide.{PublicSide}
@@ -44,9 +44,9 @@ use Rattle.gen1_player.specs.declared.seen.Seen.{Seen}
 use Rattle.gen1_stats.specs.Members.{IsTeam, Member, is_asleep, is_marked, nobody}
 use Rattle.gen1_stats.specs.declared.status.Status.{Status}
 use Rattle.gen1_stats.specs.declared.status.Status.TheVariants.{Asleep, Burned, Frozen, Healthy, Paralysed, Poisoned}
-use Rattle.gen1_tables.specs.Effects.{bides, recharges}
+use Rattle.gen1_tables.specs.Effects.{bides}
 use Rattle.gen1_tables.specs.declared.effect.Effect.{Effect}
-use Rattle.std.proofs.Common.{Bool, List, [], ap, arith, false, get_or-set_same, if◌then◌else◌, inl, inr, length, nat_le, not, refl, slice_index_or, subst, sym, true, true≢false, ℕ, ◌&&◌, ◌++◌, ◌-◌, ◌<◌, ◌==◌, ◌∙◌, ◌∷◌, ◌≡◌, ◌≢◌, ◌≤◌, ◌⊎◌}
+use Rattle.std.proofs.Common.{Bool, List, [], ap, arith, false, get_or-set_same, if◌then◌else◌, inl, inr, length, nat_le, not, refl, slice_index_or, subst, suc, sym, true, true≢false, zero, ℕ, ◌&&◌, ◌++◌, ◌-◌, ◌<◌, ◌==◌, ◌∙◌, ◌∷◌, ◌≡◌, ◌≢◌, ◌≤◌, ◌⊎◌}
 use Rattle.std.proofs.Math.ListN.{get_or-map}
 use Rattle.std.proofs.Math.Seq.{map-set_same}
 use Rattle.std.proofs.lemmas.Bool.Decides.{eqb_tells}
@@ -62,6 +62,7 @@ use Rattle.gen1_machine.specs.declared.event.CantReason.TheVariants as reasons
 record Lasting (U : Field → Public → Type 0) : Type 0 where
   active : (s : Side) (change : Active → Active) → ((a : Active) → (change a).place ≡ a.place) → (f : Field) (p : Public) → U f p → U (changed_active s change f) p
   member : (s : Side) (change : Member → Member) → Restful change → (f : Field) (p : Public) → U f p → U (changed_member s change f) p
+  ends : (s : Side) (change : Member → Member) (f : Field) (p : Public) → is_asleep (change (member_in s f)).status ≡ false → U f p → U (changed_member s change f) p
   apart : (f g : Field) (p : Public) → f.one ≡ g.one → f.two ≡ g.two → U f p → U g p
   heard : (f : Field) (p q : Public) → ((u : Side) → Unrested u p q) → U f p → U f q
 
@@ -81,8 +82,8 @@ module _ {clause : Bool} {U : Field → Public → Type 0} (l : Lasting U) where
   unfolding changed_conditions
   slept-conditions s change f es m = slept-active s (λ a. record a { conditions = change a.conditions }) (λ a. refl) f es m
 
-  slept-member : (s : Side) (change : Member → Member) → Restful change → (f : Field) (es : List Event) → Slept clause U f es → Slept clause U (changed_member s change f) es
-  slept-member s change r f es m = slept-field f (changed_member s change f) es (sides-member clause s change r f (told_by es)) (l.member s change r f (told_by es)) m
+  slept-member : (s : Side) (change : Member → Member) → Restful change → (f : Field) (es : List Event) → SleepsOn s change f → Slept clause U f es → Slept clause U (changed_member s change f) es
+  slept-member s change r f es w m = slept-field f (changed_member s change f) es (sides-member clause s change r f w (told_by es)) (l.member s change r f (told_by es)) m
 
   slept-apart : (f g : Field) (es : List Event) → f.one ≡ g.one → f.two ≡ g.two → Slept clause U f es → Slept clause U g es
   slept-apart f g es a b m = slept-field f g es (sides-apart clause f g (told_by es) a b) (l.apart f g (told_by es) a b) m
@@ -112,18 +113,7 @@ module _ {clause : Bool} {U : Field → Public → Type 0} (l : Lasting U) where
   slept-noise : (e : Event) (f : Field) → Noise f e → (es : List Event) → Slept clause U f es → Slept clause U f (es ++ e ∷ [])
   slept-noise e f n es m =
       let p : Public = settled e (told_by es) in
-      slept-next f f es e (λ w k u. by u p (noise-turns e f n u p) (k u)) (l.heard f p (takes_in e p) (λ u. rested u p (noise-turns e f n u p))) m
-    where
-      by : (u : Side) (p : Public) → (causes (public_side u (takes_in e p)) ≡ causes (public_side u p)) ⊎ ((causes (public_side u (takes_in e p)) ≡ with_by forgotten (causes (public_side u p))) × IsAwake u f)
-          → Sleepers clause (causes (public_side u p)) (party u f) → Sleepers clause (causes (public_side u (takes_in e p))) (party u f)
-      by u p (inl x) k = subst (λ (x : Causes). Sleepers clause x (party u f)) (sym x) k
-      by u p (inr x) k = subst (λ (x : Causes). Sleepers clause x (party u f)) (sym x.0)
-          (sleepers-by clause forgotten (causes (public_side u p)) (party u f) (λ j. awake-sleeps clause 0 (member_in u f) x.1) k)
-
-      rested : (u : Side) (p : Public) → (causes (public_side u (takes_in e p)) ≡ causes (public_side u p)) ⊎ ((causes (public_side u (takes_in e p)) ≡ with_by forgotten (causes (public_side u p))) × IsAwake u f)
-          → Unrested u p (takes_in e p)
-      rested u p (inl x) = same-unrested u p (takes_in e p) x
-      rested u p (inr x) = λ k. with-unrested forgotten forgotten-not (causes (public_side u p)) (sym (ap now_by x.0) ∙ k)
+      slept-next f f es e (λ w k u. subst (λ (x : Causes). Sleepers clause x (party u f)) (sym (noise-same e f n u p)) (k u)) (l.heard f p (takes_in e p) (λ u. same-unrested u p (takes_in e p) (noise-same e f n u p))) m
 
   slept-sickened : (s : Side) (move : Move) (f : Field) (es : List Event) → Slept clause U f es → Slept clause U (sickened s move f) es
   slept-sickened s move f es m = by (move.number == toxic)
@@ -145,6 +135,10 @@ module _ {clause : Bool} {U : Field → Public → Type 0} (l : Lasting U) where
   slept-converts s f es m = slept-quiet _ (λ u p. ap (λ (q : Public). causes (public_side u q)) (types-hears _ p) ∙ out-same (takes_types (public_side (other s) p)) (λ x. refl) s u p) _ es
       (slept-active s (with_types_of (active_in (other s) f)) (λ a. refl) f es m)
 
+fallen-up : (m : Member) → is_asleep (fallen m).status ≡ false
+unfolding fallen
+fallen-up m = refl
+
 fallen-restful : Restful fallen
 unfolding fallen
 fallen-restful m e = absurd (true≢false (sym e))
@@ -153,50 +147,26 @@ spent-restful : (used : UsedMove) → Restful (with_pp_spent used)
 unfolding with_pp_spent
 spent-restful used m e = (e, refl)
 
--- A member falls asleep.
-
-afflicted : (s : Side) (g : Field) (p : Public) → 1 ≤ (public_side s p).place
-    → causes (public_side s (takes_in (events.Status (who_in s g) kinds.Sleep) p)) ≡ with_by put_to_sleep_by (causes (public_side s p))
-unfolding takes_in
-afflicted s g p low = ap causes (out-side s (λ x. on_announced (gets_status kinds.Sleep (public_side (other s) p).last_move) (on_seen (is_afflicted kinds.Sleep) x)) p low)
-    ∙ seen-by (is_afflicted kinds.Sleep) put_to_sleep_by (public_side s p) (λ m. refl)
-
-afflicted-foe : (s : Side) (g : Field) (p : Public) → causes (public_side (other s) (takes_in (events.Status (who_in s g) kinds.Sleep) p)) ≡ causes (public_side (other s) p)
-unfolding takes_in
-afflicted-foe s g p = ap causes (foe-side s (λ x. on_announced (gets_status kinds.Sleep (public_side (other s) p).last_move) (on_seen (is_afflicted kinds.Sleep) x)) p)
-
-placed-at : (s : Side) (clause : Bool) (f : Field) (x : Causes) → BothOut f → Sleepers clause x (party s f) → 1 ≤ x.place
-placed-at s clause f x o m = let low = (out-in s f o).placed in let e = m.place in omega (arith, low, e)
-
-sides-slept : (clause : Bool) (s : Side) (turns : ℕ) (marked : Bool) (f : Field) (p : Public) → BothOut f → IsCause clause (put_to_sleep_by (now_by (causes (public_side s p)))) marked
-    → ((u : Side) → Sleepers clause (causes (public_side u p)) (party u f))
-    → let g : Field = slept s turns marked f in (u : Side) → Sleepers clause (causes (public_side u (takes_in (events.Status (who_in s g) kinds.Sleep) p))) (party u g)
-unfolding with_status
-sides-slept clause s turns marked f p o c m =
-    let g : Field = slept s turns marked f in
-    let q : Public = takes_in (events.Status (who_in s g) kinds.Sleep) p in
-    each-side s (λ u. Sleepers clause (causes (public_side u q)) (party u g))
-    (subst (Sleepers clause (causes (public_side s q))) (sym (own-member s (with_status (Asleep turns marked)) f))
-    (subst (λ (x : Causes). Sleepers clause x (with_member (party s f).active.place (with_status (Asleep turns marked) (member_in s f)) (party s f))) (sym (afflicted s g p (placed-at s clause f _ o (m s))))
-    (sleepers-slept clause put_to_sleep_by (with_status (Asleep turns marked) (member_in s f)) (causes (public_side s p)) (party s f) (out-in s f o) (λ e. c) (m s))))
-    (subst (Sleepers clause (causes (public_side (other s) q))) (sym (foe-member s (with_status (Asleep turns marked)) f))
-    (subst (λ (x : Causes). Sleepers clause x (party (other s) f)) (sym (afflicted-foe s g p)) (m (other s))))
-
-slept-unrested : (s : Side) (g : Field) (p : Public) (u : Side) → Unrested u p (takes_in (events.Status (who_in s g) kinds.Sleep) p)
-unfolding takes_in
-slept-unrested s g p u = turns-unrested put_to_sleep_by put-not s u p _
-    (out-turns (λ x. on_announced (gets_status kinds.Sleep (public_side (other s) p).last_move) (on_seen (is_afflicted kinds.Sleep) x)) put_to_sleep_by
-    (λ x. seen-by (is_afflicted kinds.Sleep) put_to_sleep_by x (λ m. refl)) s u p)
+spent-sleeps : (used : UsedMove) (s : Side) (f : Field) → SleepsOn s (with_pp_spent used) f
+unfolding with_pp_spent
+spent-sleeps used s f e = e
 
 -- A member acts.
 
 abbrev Acts_awake : (Field → Public → Type 0) → Side → Type 0
 Acts_awake U s = (f : Field) (p : Public) → U f p → IsAwake s f × ((q : Public) → U f q)
 
+rest-neither : (n : ℕ) → (may_rest n ≢ 1) × (may_rest n ≢ 2)
+rest-neither n = by (n == rest)
+  where
+    by : (b : Bool) → let k : ℕ = (if b then 3 else 0) in (k ≢ 1) × (k ≢ 2)
+    by true = (λ e. omega (arith, e), λ e. omega (arith, e))
+    by false = (λ e. omega (arith, e), λ e. omega (arith, e))
+
 acted-side : (clause : Bool) (act : PublicSide → PublicSide) (n : ℕ) → ((x : PublicSide) → causes (act x) ≡ with_by (λ k. may_rest n) (causes x)) → (s : Side) (f : Field) (p : Public) → IsAwake s f → (u : Side)
     → Sleepers clause (causes (public_side u p)) (party u f) → Sleepers clause (causes (public_side u (on_out s act p))) (party u f)
 acted-side clause act n e s f p a u m = sides-turned clause (λ k. may_rest n) s u p (on_out s act p) (party u f) (out-turns act (λ k. may_rest n) e s u p)
-    (λ h by k. awake-sleeps clause (may_rest n) (member_in u f) (subst (λ (t : Side). IsAwake t f) (sym h) a)) m
+    (λ h by k. awake-sleeps clause (may_rest n) (member_in u f) (subst (λ (t : Side). IsAwake t f) (sym h) a) (rest-neither n)) m
 
 uses-causes : (n : ℕ) (x : PublicSide) → causes (uses_move n x) ≡ with_by (λ k. may_rest n) (causes x)
 uses-causes n x = seen-by (uses_again (new_uses n x) n) (λ k. may_rest n) (record x { last_move = n }) (λ m. refl)
@@ -225,9 +195,11 @@ sleeping clause U l = record {
   acted = λ s move. Unit {0};
   knows = λ s move. bides move.effect ≡ true → Acts_awake U s;
   lulled = λ s marked. (f : Field) (p : Public) → U f p → IsCause clause (put_to_sleep_by (now_by (causes (public_side s p)))) marked × ((turns : ℕ) → U (slept s turns marked f) p);
+  upright = λ s. (f : Field) (p : Public) → U f p → IsAwake s f;
   loosen = λ f es m. m;
   tighten = λ f es m a b. m;
-  member = λ s change h r f es m. slept-member l s change r f es m;
+  member = λ s change h r f es w m. slept-member l s change r f es w m;
+  cures = λ s change kind h f es o a m. by_end s change is_cured (λ k. refl) (λ g. events.Cure (who_in s g) kind) (λ g p. cure-ends s g kind p) f es o a m;
   sleeps = λ s turns marked k f es o m. by_sleep s turns marked k f es o m;
   active = λ s change h f es m. slept-active l s change (λ a. ap (λ (x : Standing). x.place) (h a)) f es m;
   conditions = λ s change h f es m. slept-conditions l s change f es m;
@@ -242,14 +214,14 @@ sleeping clause U l = record {
   clears = λ f es o m. slept-clears l f es m;
   moves = λ s move k f es o m. by_move s move.number k f es m;
   prepares = λ s move k f es o m. by_prepare s move.number k f es m;
-  explodes = λ s f es o m. slept-conditions l s without_seed _ es (slept-member l s fallen fallen-restful f es m);
+  explodes = λ s u f es o m. slept-conditions l s without_seed _ es (slept-member l s fallen fallen-restful f es (λ e. absurd (true≢false (sym e ∙ u f _ m.more))) m);
   stores = λ s move k e turns f es o m. by_bide s (k e) turns f es m;
   rests = λ s move k e f es o m. slept-quiet l _ (λ u p. ap (λ (q : Public). causes (public_side u q)) (rest-hears _ p) ∙ out-same (on_announced (λ a. record a { recharging = 1 })) (λ x. refl) s u p) _ es
       (slept-conditions l s with_recharge f es m);
   loose_active = λ s change h f es m. slept-active l s change (λ a. ap (λ (x : Standing). x.place) (h a)) f es m;
   loose_apart = λ f g es a b m. slept-apart l f g es a b m;
   loose_noise = λ e f h es m. slept-noise l e f (dull-noise f e h) es m;
-  loose_falls = λ s f es o m. slept-member l s fallen fallen-restful f es m;
+  loose_falls = λ s f es o m. by_end s fallen has_fainted (λ k. refl) (λ g. events.Faint (who_in s g)) (λ g p. faint-ends s g p) f es o (fallen-up (member_in s f)) m;
 }
   where
     by_sleep : (s : Side) (turns : ℕ) (marked : Bool) → ((f : Field) (p : Public) → U f p → IsCause clause (put_to_sleep_by (now_by (causes (public_side s p)))) marked × ((turns : ℕ) → U (slept s turns marked f) p))
@@ -260,6 +232,15 @@ sleeping clause U l = record {
         let e : Event = events.Status (who_in s g) kinds.Sleep in
         let p : Public = settled e (told_by es) in
         slept-next l f g es e (λ w x. sides-slept clause s turns marked f p o (k f p w).0 x) (λ w. l.heard g p (takes_in e p) (slept-unrested s g p) ((k f p w).1 turns)) m
+
+    by_end : (s : Side) (change : Member → Member) (h : Seen → Seen) → ((m : Seen) → cause (h m) ≡ 0) → (event : Field → Event) → ((g : Field) (p : Public) → takes_in (event g) p ≡ on_out s (on_seen h) p)
+        → (f : Field) (es : List Event) → BothOut f → is_asleep (change (member_in s f)).status ≡ false → Slept clause U f es → let g : Field = changed_member s change f in Slept clause U g (es ++ event g ∷ [])
+    by_end s change h z event is f es o a m =
+        let g : Field = changed_member s change f in
+        let p : Public = settled (event g) (told_by es) in
+        slept-next l f g es (event g)
+        (λ w x u. subst (λ (q : Public). Sleepers clause (causes (public_side u q)) (party u g)) (sym (is g p)) (sides-ended clause s change h z f p o a x u))
+        (λ w. subst (U g) (sym (is g p)) (l.heard g p (on_out s (on_seen h) p) (ended-unrested s h z p) (l.ends s change f p a w))) m
 
     by_move : (s : Side) (n : ℕ) → Acts_awake U s → (f : Field) (es : List Event) → Slept clause U f es → Slept clause U f (es ++ events.Move (who_in s f) n (who_in (other s) f) ∷ [])
     by_move s n k f es m =
@@ -289,20 +270,20 @@ outline : (clause : Bool) {U : Field → Public → Type 0} (l : Lasting U) → 
 unfolding sleeping with_current_move
 outline clause l = record {
   takes = λ s used f es m. slept-active l s (with_current_move used) (λ a. refl) f es m;
-  spends = λ s move k used f es m. slept-member l s (with_pp_spent used) (spent-restful used) f es m;
+  spends = λ s move k used f es m. slept-member l s (with_pp_spent used) (spent-restful used) f es (spent-sleeps used s f) m;
   mild = λ s change h f es m. slept-conditions l s change f es m;
   noise = λ e f h es m. slept-noise l e f h es m;
   acts = λ s move. tt;
   knows = λ s move k e. k;
 }
 
--- Its facts: none; before its move is used, that the active member is awake; afterwards, that the foe's has not used Rest since.
+-- Its facts: none; that the active member is awake; and, after it has used its move, that the foe's has not used Rest since.
 
 abbrev Any_fact : Field → Public → Type 0
 Any_fact f p = Unit {0}
 
 any-lasts : Lasting Any_fact
-any-lasts = record { active = λ s change h f p m. tt; member = λ s change r f p m. tt; apart = λ f g p a b m. tt; heard = λ f p q h m. tt }
+any-lasts = record { active = λ s change h f p m. tt; member = λ s change r f p m. tt; ends = λ s change f p a m. tt; apart = λ f g p a b m. tt; heard = λ f p q h m. tt }
 
 abbrev Up : Side → Field → Public → Type 0
 Up s f p = IsAwake s f
@@ -332,23 +313,37 @@ up-apart : (s : Side) (f g : Field) (p : Public) → f.one ≡ g.one → f.two �
 up-apart One f g p a b k = subst (λ (t : Party). is_asleep (member_at t.active.place t).status ≡ false) a k
 up-apart Two f g p a b k = subst (λ (t : Party). is_asleep (member_at t.active.place t).status ≡ false) b k
 
+up-ends : (s t : Side) (change : Member → Member) (f : Field) → is_asleep (change (member_in t f)).status ≡ false → IsAwake s f → IsAwake s (changed_member t change f)
+unfolding changed_member
+up-ends One One change f k a = set-there (λ (m : Member). is_asleep m.status ≡ false) f.one.members (f.one.active.place - 1) (change (member_in One f)) nobody (λ h. k) a
+up-ends One Two change f k a = a
+up-ends Two One change f k a = a
+up-ends Two Two change f k a = set-there (λ (m : Member). is_asleep m.status ≡ false) f.two.members (f.two.active.place - 1) (change (member_in Two f)) nobody (λ h. k) a
+
+up-foe : (s : Side) (change : Member → Member) (f : Field) → IsAwake s f → IsAwake s (changed_member (other s) change f)
+unfolding changed_member
+up-foe One change f a = a
+up-foe Two change f a = a
+
 up-lasts : (s : Side) → Lasting (Up s)
 up-lasts s = record {
   active = up-active s;
   member = λ t change r f p a. up-member s t change r f a;
+  ends = λ t change f p k a. up-ends s t change f k a;
   apart = up-apart s;
   heard = λ f p q h a. a;
 }
 
 abbrev Overtaken : Side → Field → Public → Type 0
-Overtaken s f p = now_by (causes (public_side (other s) p)) ≢ 3
+Overtaken s f p = IsAwake s f × (now_by (causes (public_side (other s) p)) ≢ 3)
 
 overtaken-lasts : (s : Side) → Lasting (Overtaken s)
-overtaken-lasts s = record {
-  active = λ t change h f p k. k;
-  member = λ t change r f p k. k;
-  apart = λ f g p a b k. k;
-  heard = λ f p q h k e. k (h (other s) e);
+overtaken-lasts s = let u = up-lasts s in record {
+  active = λ t change h f p k. (u.active t change h f p k.0, k.1);
+  member = λ t change r f p k. (u.member t change r f p k.0, k.1);
+  ends = λ t change f p a k. (u.ends t change f p a k.0, k.1);
+  apart = λ f g p a b k. (u.apart f g p a b k.0, k.1);
+  heard = λ f p q h k. (k.0, λ e. k.1 (h (other s) e));
 }
 
 abbrev Any : Bool → Story
@@ -425,7 +420,7 @@ module _ (clause : Bool) {n : Sizes} {pre : List Event} (s : Side) where
   unfolding sleep_test wake sleep_on cant
   asleep-or-up (Asleep turns marked) = if-sees (nat_le turns 1)
       (λ h. wake-told (outline _ any-lasts) s turns marked h ⊳ stop-leads loosened)
-      (λ h. before-leads (λ p m. m.0) (member-tells s with_sleep_one_less sleep-tame sleep-restful) ⊳ any-note (outline _ any-lasts) _ (λ f. refl) ⊳ stop-leads loosened)
+      (λ h. less-tells (outline _ any-lasts) s turns marked h ⊳ any-note (outline _ any-lasts) _ (λ f. refl) ⊳ stop-leads loosened)
   asleep-or-up _ = after-leads (λ p m. now-up _ s p m.0 (ap is_asleep m.1)) stay-tells
 
   gate-up : (pick : Pick) → Leads (Now (Any clause) n pre) (Now (Before clause s) n pre) (MayFall (Any clause) n pre) (gate s pick)
@@ -502,7 +497,7 @@ module _ (clause : Bool) {n : Sizes} {pre : List Event} (s : Side) where
             begun = m.begun;
             exact = at_end (Slept clause (Overtaken s)) f pre p.events e (record {
               sides = sides.sides;
-              more = subst (λ (z : Public). now_by (causes (public_side (other s) z)) ≢ 3) is w.1;
+              more = (m.exact.more, subst (λ (z : Public). now_by (causes (public_side (other s) z)) ≢ 3) is w.1);
             });
           };
           own = subst (λ (l : List Event). now_by (causes (public_side s (told_by l))) ≡ may_rest k) (append_assoc pre p.events (e ∷ []))
@@ -564,10 +559,6 @@ put-one n z = by (eqb_tells n 3)
     by (inl e) = absurd (z e.1)
     by (inr e) = ap (λ (b : Bool). let k : ℕ = (if b then 2 else 1) in k) e.0
 
-rests-not : (e : Effect) → recharges e ≡ true → bides e ≡ true → ⊥
-rests-not effects.Bide r b = true≢false (sym r)
-rests-not _ r b = true≢false (sym b)
-
 module _ (clause : Bool) (s : Side) (move : Move) where
   after-knows : bides move.effect ≡ false → (After clause s).knows s move
   unfolding sleeping
@@ -575,48 +566,52 @@ module _ (clause : Bool) (s : Side) (move : Move) where
 
   after-lulled : (After clause s).lulled (other s) clause
   unfolding sleeping
-  after-lulled f p u = (inl (put-one _ u, refl), λ turns. u)
+  after-lulled f p u = (inl (put-one _ u.1, refl), λ turns. (up-foe s _ f u.0, u.1))
 
   before-knows : (Before clause s).knows s move
   unfolding sleeping
   before-knows e f p u = (u, λ q. u)
 
-  any-acted : (Any clause).acted s move
+  before-acted : (Before clause s).acted s move
   unfolding sleeping
-  any-acted = tt
+  before-acted = tt
 
-  any-knows : recharges move.effect ≡ true → (Any clause).knows s move
+  before-upright : (Before clause s).upright s
   unfolding sleeping
-  any-knows r b = absurd (rests-not move.effect r b)
+  before-upright f p u = u
+
+after-up : (clause : Bool) (s : Side) {n : Sizes} {pre : List Event} (q : Progress) → Now (After clause s) n pre q → Now (Before clause s) n pre q
+unfolding sleeping
+after-up clause s q m = record { begun = m.begun; exact = record { sides = m.exact.sides; more = m.exact.more.0 } }
 
 -- An action lets energy go, or has used its move.
-abbrev Mids : Bool → Sizes → List Event → Story → Progress → Type 0
-Mids clause n pre v p = (Now (Any clause) n pre p × (lets_energy_go p ≡ true)) ⊎ Now v n pre p
+abbrev Mids : Bool → Side → Sizes → List Event → Story → Progress → Type 0
+Mids clause s n pre v p = (Now (Before clause s) n pre p × (lets_energy_go p ≡ true)) ⊎ Now v n pre p
 
 module _ (t : Terms) {n : Sizes} {pre : List Event} (s : Side) (pick : Pick) (move : Move) (same : move ≡ move_at move.number) where
-  mid-not : (v : Story) (p : Progress) → lets_energy_go p ≡ false → Mids t.rules.sleep_clause n pre v p → Now v n pre p
+  mid-not : (v : Story) (p : Progress) → lets_energy_go p ≡ false → Mids t.rules.sleep_clause s n pre v p → Now v n pre p
   mid-not v p e (inl m) = absurd (true≢false (sym m.1 ∙ e))
   mid-not v p e (inr m) = m
 
-  mid-any : {U : Field → Public → Type 0} (l : Lasting U) (p : Progress) → Mids t.rules.sleep_clause n pre (sleeping t.rules.sleep_clause U l) p → Now (Any t.rules.sleep_clause) n pre p
-  mid-any l p (inl m) = m.0
-  mid-any l p (inr m) = now-any _ l p m
+  mid-up : {U : Field → Public → Type 0} (l : Lasting U) → ((q : Progress) → Now (sleeping t.rules.sleep_clause U l) n pre q → Now (Before t.rules.sleep_clause s) n pre q) → (p : Progress) → Mids t.rules.sleep_clause s n pre (sleeping t.rules.sleep_clause U l) p → Now (Before t.rules.sleep_clause s) n pre p
+  mid-up l w p (inl m) = m.0
+  mid-up l w p (inr m) = w p m
 
-  carry-with : {U : Field → Public → Type 0} (l : Lasting U) → (bides move.effect ≡ true → (sleeping t.rules.sleep_clause U l).knows s move)
+  carry-with : {U : Field → Public → Type 0} (l : Lasting U) → ((q : Progress) → Now (sleeping t.rules.sleep_clause U l) n pre q → Now (Before t.rules.sleep_clause s) n pre q) → (bides move.effect ≡ true → (sleeping t.rules.sleep_clause U l).knows s move)
       → (lulls move.effect ≡ true → (sleeping t.rules.sleep_clause U l).lulled (other s) t.rules.sleep_clause)
       → Leads (Now (Before t.rules.sleep_clause s) n pre) (Now (sleeping t.rules.sleep_clause U l) n pre) (MayFall (Any t.rules.sleep_clause) n pre) (lead_up s pick move)
       → Leads (Now (Before t.rules.sleep_clause s) n pre) (MayFall (Any t.rules.sleep_clause) n pre) (MayFall (Any t.rules.sleep_clause) n pre) (carry_out (ruling_of t) s pick move)
   unfolding carry_out
-  carry-with {U} l k d lead = rests-leads (may-any _ (up-lasts s)) (bide_goes_on-tells (outline _ (up-lasts s)) s)
-      ⊳ choose-sees {Q = Mids t.rules.sleep_clause n pre (sleeping t.rules.sleep_clause U l)} lets_energy_go (after-leads (λ p m. inl (now-any _ (up-lasts s) p m.0, m.1)) stay-tells) (before-leads (λ p m. m.0) (after-leads (λ p m. inr m) lead))
-      ⊳ choose-sees {Q = Mids t.rules.sleep_clause n pre (sleeping t.rules.sleep_clause U l)} (lands_at_once move) (before-leads (λ p m. m.0) stay-tells)
+  carry-with {U} l w k d lead = rests-leads (may-any _ (up-lasts s)) (bide_goes_on-tells (outline _ (up-lasts s)) s)
+      ⊳ choose-sees {Q = Mids t.rules.sleep_clause s n pre (sleeping t.rules.sleep_clause U l)} lets_energy_go (after-leads (λ p m. inl (m.0, m.1)) stay-tells) (before-leads (λ p m. m.0) (after-leads (λ p m. inr m) lead))
+      ⊳ choose-sees {Q = Mids t.rules.sleep_clause s n pre (sleeping t.rules.sleep_clause U l)} (lands_at_once move) (before-leads (λ p m. m.0) stay-tells)
       (before-leads (λ p m. mid-not (sleeping t.rules.sleep_clause U l) p (or-left (lets_energy_go p) _ m.1) m.0)
       (after-leads (λ p m. inr m) (rests-leads (may-any _ l) (damage_of-tells s move move.effect))))
-      ⊳ choose-sees lets_energy_go (before-leads (λ p m. mid-any l p m.0) stay-tells)
+      ⊳ choose-sees lets_energy_go (before-leads (λ p m. mid-up l w p m.0) stay-tells)
       (before-leads (λ p m. mid-not (sleeping t.rules.sleep_clause U l) p m.1 m.0)
-      (after-leads (now-any _ l) (rests-leads (may-any _ l) (choose-tells _ (late_effect-tells (ruling_of t) (ruling_of-tells t) s move move.effect (λ e. (k e, e)) d ⊳ stop-tells) stay-tells))))
-      ⊳ strike-tells (ruling_of t) (ruling_of-tells t) s move
-      (λ e. record { acts = any-acted t.rules.sleep_clause s move; plain = not-toxic move.number (ap (λ (m : Move). may_poison_by m.effect) (sym same) ∙ e) }) (any-knows t.rules.sleep_clause s move)
+      (after-leads w (rests-leads (may-any _ l) (choose-tells _ (late_effect-tells (ruling_of t) (ruling_of-tells t) s move move.effect (λ e. (k e, e)) d ⊳ stop-tells) stay-tells))))
+      ⊳ after-leads (may-any _ (up-lasts s)) (rests-leads (may-any _ (up-lasts s)) (strike-tells (ruling_of t) (ruling_of-tells t) s move (before-upright t.rules.sleep_clause s move)
+      (λ e. record { acts = before-acted t.rules.sleep_clause s move; plain = not-toxic move.number (ap (λ (m : Move). may_poison_by m.effect) (sym same) ∙ e) }) (λ e. before-knows t.rules.sleep_clause s move)))
 
   lead-plain : bides move.effect ≡ false
       → Leads (Now (Before t.rules.sleep_clause s) n pre) (Now (After t.rules.sleep_clause s) n pre) (MayFall (Any t.rules.sleep_clause) n pre) (lead_up s pick move)
@@ -633,8 +628,8 @@ module _ (t : Terms) {n : Sizes} {pre : List Event} (s : Side) (pick : Pick) (mo
     where
       by : (b : Bool) → bides move.effect ≡ b
           → Leads (Now (Before t.rules.sleep_clause s) n pre) (MayFall (Any t.rules.sleep_clause) n pre) (MayFall (Any t.rules.sleep_clause) n pre) (carry_out (ruling_of t) s pick move)
-      by false h = carry-with (overtaken-lasts s) (λ e. after-knows t.rules.sleep_clause s move h) (λ e. after-lulled t.rules.sleep_clause s move) (lead-plain h)
-      by true h = carry-with (up-lasts s) (λ e. before-knows t.rules.sleep_clause s move) (λ e. absurd (true≢false (sym e ∙ of-bide move h lulls)))
+      by false h = carry-with (overtaken-lasts s) (after-up t.rules.sleep_clause s) (λ e. after-knows t.rules.sleep_clause s move h) (λ e. after-lulled t.rules.sleep_clause s move) (lead-plain h)
+      by true h = carry-with (up-lasts s) (λ q k. k) (λ e. before-knows t.rules.sleep_clause s move) (λ e. absurd (true≢false (sym e ∙ of-bide move h lulls)))
           (rests-leads (may-any _ (up-lasts s)) (lead_up-tells (outline _ (up-lasts s)) s pick move (up t.rules.sleep_clause s move) (λ e. absurd (true≢false (sym e ∙ of-bide move h heals)))))
 
 module _ (t : Terms) {n : Sizes} {pre : List Event} (s : Side) (pick : Pick) where
@@ -657,12 +652,22 @@ module _ (t : Terms) {n : Sizes} {pre : List Event} (s : Side) (pick : Pick) whe
 
 -- What is left of it
 
+zeros : (i : ℕ) → slice_index_or (causes first_public.one).by i 0 ≡ 0
+zeros zero = refl
+zeros (suc zero) = refl
+zeros (suc (suc zero)) = refl
+zeros (suc (suc (suc zero))) = refl
+zeros (suc (suc (suc (suc zero)))) = refl
+zeros (suc (suc (suc (suc (suc zero))))) = refl
+zeros (suc (suc (suc (suc (suc (suc i)))))) = refl
+
 first-sleepers : (clause : Bool) (team : List Member) → IsTeam team → (t : Party) → t.members ≡ team → t.active.place ≡ 0 → Sleepers clause (causes first_public.one) t
 first-sleepers clause team h t e z = record {
   place = sym z;
   six = refl;
   few = let few = h.size.1 in subst (λ (l : List Member). length l ≤ 6) (sym e) few;
-  each = λ i. awake-sleeps clause _ (slice_index_or t.members i nobody) (subst (λ (l : List Member). is_asleep (slice_index_or l i nobody).status ≡ false) (sym e) (by i (below-or i (length team))));
+  each = λ i. subst (λ (k : ℕ). Sleeps clause k (slice_index_or t.members i nobody)) (sym (zeros i)) (awake-sleeps clause 0 (slice_index_or t.members i nobody)
+      (subst (λ (l : List Member). is_asleep (slice_index_or l i nobody).status ≡ false) (sym e) (by i (below-or i (length team)))) (λ k. omega (arith, k), λ k. omega (arith, k)));
 }
   where
     by : (i : ℕ) → (i < length team) ⊎ (length team ≤ i) → is_asleep (slice_index_or team i nobody).status ≡ false
@@ -691,7 +696,7 @@ and-true true = refl
 and-true false = refl
 
 shown-cause : (clause : Bool) (s : Seen) (m : Member) → s.status ≡ kind_or_0 (kind_of m.status) → Sleeps clause s.asleep_by m → IsAsleepBy clause s m
-shown-cause clause s m e h = let x = by m.status e h in record { cause = x.0; mark = x.1 }
+shown-cause clause s m e h = shown m.status refl e h.asleep h.awake
   where
     never : (k : ℕ) → s.status ≡ k → k ≢ 1 → (s.status == 1) ≡ false
     never k e z = other_than (eqb_tells s.status 1)
@@ -700,24 +705,30 @@ shown-cause clause s m e h = let x = by m.status e h in record { cause = x.0; ma
         other_than (inl i) = absurd (z (sym e ∙ i.1))
         other_than (inr i) = i.0
 
-    unmarked : (k : ℕ) → s.status ≡ k → k ≢ 1 → false ≡ (clause && (s.status == 1 && s.asleep_by == 1))
-    unmarked k e z = sym (ap (λ (b : Bool). clause && (b && s.asleep_by == 1)) (never k e z) ∙ and-false clause)
+    stays-up : (k : ℕ) → s.status ≡ k → k ≢ 1 → (s.asleep_by ≢ 1) × (s.asleep_by ≢ 2) → is_marked m.status ≡ false → IsAsleepBy clause s m
+    stays-up k e z up none = record {
+      cause = record { asleep = λ j. absurd (z (sym e ∙ j)); awake = λ j. up };
+      mark = none ∙ sym (ap (λ (b : Bool). clause && (b && s.asleep_by == 1)) (never k e z) ∙ and-false clause);
+    }
 
-    not-asleep : (k : ℕ) (m : Bool) → m ≡ false → s.status ≡ k → k ≢ 1 → (s.status ≡ 1 → (s.asleep_by ≡ 1) ⊎ (s.asleep_by ≡ 2)) × (m ≡ (clause && (s.status == 1 && s.asleep_by == 1)))
-    not-asleep k m i e z = (λ j. absurd (z (sym e ∙ j)), i ∙ unmarked k e z)
+    slept-by : s.status ≡ 1 → IsCause clause s.asleep_by (is_marked m.status) → IsAsleepBy clause s m
+    slept-by e (inl c) = record {
+      cause = record { asleep = λ j. inl c.0; awake = λ j. absurd (j e) };
+      mark = c.1 ∙ sym (ap (λ (k : ℕ). clause && (k == 1 && s.asleep_by == 1)) e ∙ ap (λ (k : ℕ). clause && (k == 1)) c.0 ∙ and-true clause);
+    }
+    slept-by e (inr c) = record {
+      cause = record { asleep = λ j. inr c.0; awake = λ j. absurd (j e) };
+      mark = c.1 ∙ sym (ap (λ (k : ℕ). clause && (k == 1 && s.asleep_by == 1)) e ∙ ap (λ (k : ℕ). clause && (k == 1)) c.0 ∙ and-false clause);
+    }
 
-    slept-by : (mark : Bool) → s.status ≡ 1 → IsCause clause s.asleep_by mark → (s.status ≡ 1 → (s.asleep_by ≡ 1) ⊎ (s.asleep_by ≡ 2)) × (mark ≡ (clause && (s.status == 1 && s.asleep_by == 1)))
-    slept-by mark e (inl c) = (λ j. inl c.0, c.1 ∙ sym (ap (λ (k : ℕ). clause && (k == 1 && s.asleep_by == 1)) e ∙ ap (λ (k : ℕ). clause && (k == 1)) c.0 ∙ and-true clause))
-    slept-by mark e (inr c) = (λ j. inr c.0, c.1 ∙ sym (ap (λ (k : ℕ). clause && (k == 1 && s.asleep_by == 1)) e ∙ ap (λ (k : ℕ). clause && (k == 1)) c.0 ∙ and-false clause))
-
-    by : (status : Status) → s.status ≡ kind_or_0 (kind_of status) → (is_asleep status ≡ true → IsCause clause s.asleep_by (is_marked status))
-        → (s.status ≡ 1 → (s.asleep_by ≡ 1) ⊎ (s.asleep_by ≡ 2)) × (is_marked status ≡ (clause && (s.status == 1 && s.asleep_by == 1)))
-    by (Asleep turns marked) e h = slept-by marked e (h refl)
-    by Healthy e h = not-asleep 0 false refl e (λ i. omega (arith, i))
-    by Poisoned e h = not-asleep 2 false refl e (λ i. omega (arith, i))
-    by Burned e h = not-asleep 3 false refl e (λ i. omega (arith, i))
-    by Frozen e h = not-asleep 4 false refl e (λ i. omega (arith, i))
-    by Paralysed e h = not-asleep 5 false refl e (λ i. omega (arith, i))
+    shown : (status : Status) → m.status ≡ status → s.status ≡ kind_or_0 (kind_of status) → (is_asleep status ≡ true → IsCause clause s.asleep_by (is_marked m.status))
+        → (is_asleep status ≡ false → (s.asleep_by ≢ 1) × (s.asleep_by ≢ 2)) → IsAsleepBy clause s m
+    shown (Asleep turns marked) i e a b = slept-by e (a refl)
+    shown Healthy i e a b = stays-up 0 e (λ k. omega (arith, k)) (b refl) (ap is_marked i)
+    shown Poisoned i e a b = stays-up 2 e (λ k. omega (arith, k)) (b refl) (ap is_marked i)
+    shown Burned i e a b = stays-up 3 e (λ k. omega (arith, k)) (b refl) (ap is_marked i)
+    shown Frozen i e a b = stays-up 4 e (λ k. omega (arith, k)) (b refl) (ap is_marked i)
+    shown Paralysed i e a b = stays-up 5 e (λ k. omega (arith, k)) (b refl) (ap is_marked i)
 
 pub sleepers_agree : SleepersAgree
 sleepers_agree t one two seed pairs a b s place z =

@@ -175,6 +175,10 @@ acted-any : (σ : Side) (i : ℕ) (G : About) (s : Side) (move : Move) → (coun
 unfolding counting
 acted-any σ i G s move = tt
 
+upright-any : (σ : Side) (i : ℕ) (G : About) (s : Side) → (counting σ i G).upright s
+unfolding counting
+upright-any σ i G s = tt
+
 lulled-any : (σ : Side) (i : ℕ) (G : About) (s : Side) (marked : Bool) → (counting σ i G).lulled s marked
 unfolding counting
 lulled-any σ i G s marked = tt
@@ -396,7 +400,7 @@ module _ (t : Terms) (z : Sizes) (pre : List Event) (σ : Side) (i : ℕ) (ids :
       ⊳ choose-tells _ stay-tells (damage_of-tells σ move move.effect)
       ⊳ choose-tells _ stay-tells (choose-tells _ (late_effect-tells (ruling_of t) (ruling_of-tells t) σ move move.effect (λ e. (knows-else σ i (Either ids j m pp u) σ move h, e))
       (λ e. lulled-any σ i (Either ids j m pp u) (other σ) t.rules.sleep_clause) ⊳ stop-tells) stay-tells)
-      ⊳ strike-tells (ruling_of t) (ruling_of-tells t) σ move
+      ⊳ strike-tells (ruling_of t) (ruling_of-tells t) σ move (upright-any σ i (Either ids j m pp u) σ)
       (λ e. record { acts = acted-any σ i (Either ids j m pp u) σ move; plain = not-toxic move.number (ap (λ (x : Move). may_poison_by x.effect) (sym same) ∙ e) })
       (λ e. knows-else σ i (Either ids j m pp u) σ move h)
 
@@ -475,7 +479,7 @@ module _ (t : Terms) (z : Sizes) (pre : List Event) (σ : Side) (i : ℕ) (ids :
       (before-leads (λ p k. mids-owe p (or-left p.action.letting_go _ k.1) k.0) (after-leads (λ p k. inr k) (rests-leads owes-done (damage_of-tells σ move move.effect))))
       ⊳ choose-sees lets_energy_go (before-leads (λ p k. mids-now p k.0) stay-tells)
       (before-leads (λ p k. mids-owe p k.1 k.0) (choose-tells _ (late-bides move.effect h h ⊳ stop-tells) (after-leads owes-now stay-tells)))
-      ⊳ strike-tells (ruling_of t) (ruling_of-tells t) σ move (λ c. absurd (true≢false (sym c ∙ of-bide move h may_poison_by))) (λ c. absurd (true≢false (sym c ∙ of-bide move h recharges)))
+      ⊳ strike-tells (ruling_of t) (ruling_of-tells t) σ move (upright-any σ i _ σ) (λ c. absurd (true≢false (sym c ∙ of-bide move h may_poison_by))) (λ c. absurd (true≢false (sym c ∙ of-bide move h recharges)))
 
   carry-counts : Leads (λ p. K p × Fact (New σ pick move.number) p) Done Done (carry_out (ruling_of t) σ pick move)
   carry-counts = by (bides move.effect) refl
@@ -618,7 +622,7 @@ module _ (t : Terms) {z : Sizes} {pre : List Event} (σ : Side) (i : ℕ) (G : A
       (given (λ p. move_taken_in s pick p.field) (carry_out (ruling_of t) s pick))
   unfolding given counting
   far-carries s a pick = record {
-    leads = λ p r k. (carry_out-tells (counting-outline σ i G) (ruling_of t) (ruling_of-tells t) s pick (move_taken_in s pick p.field) refl a (λ u marked. tt)).leads p r k;
+    leads = λ p r k. (carry_out-tells (counting-outline σ i G) (ruling_of t) (ruling_of-tells t) s pick (move_taken_in s pick p.field) refl a (λ u marked. tt) tt).leads p r k;
   }
 
   pub far-acts : (s : Side) → Against σ s → (pick : Pick) → Leads (Now (counting σ i G) z pre) (MayFall (counting σ i G) z pre) (MayFall (counting σ i G) z pre) (act (ruling_of t) s pick)

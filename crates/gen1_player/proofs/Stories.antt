@@ -1,7 +1,8 @@
 -- Stories: facts about a battle's field and the events that it wrote so far. Phases that keep a story true.
-use Rattle.std.proofs.Common.{[], Bool, List, None, Option, Some, ap, arith, false, if◌then◌else◌, length, length-set, refl, subst, true, ℕ, ◌==◌, ◌+◌, ◌++◌, ◌-◌, ◌∙◌, ◌∷◌, ◌≡◌, ◌≤◌}
+use Rattle.gen1_machine.proofs.Keeps.{Keeps}
+use Rattle.std.proofs.Common.{Bool, List, None, Option, Some, [], ap, arith, false, if◌then◌else◌, length, length-set, refl, subst, sym, true, true≢false, ℕ, ◌++◌, ◌+◌, ◌-◌, ◌==◌, ◌∙◌, ◌∷◌, ◌≡◌, ◌≤◌}
 use Rattle.std.proofs.lemmas.List.{append_assoc, get_or-set_same}
-use Rattle.gen1_rolls.specs.Streams.{byte_at, span, first}
+use Rattle.gen1_rolls.specs.Streams.{Stream, byte_at, first, span}
 use Rattle.gen1_stats.specs.declared.status.Status.{Status}
 use Rattle.gen1_stats.specs.declared.status.Status.TheVariants.{Asleep, Healthy, Poisoned}
 use Rattle.gen1_stats.specs.Members.{is_asleep, nobody, Member}
@@ -26,8 +27,8 @@ use Rattle.gen1_machine.specs.CurrentStats.{with_penalty_of}
 use Rattle.gen1_machine.specs.Progress.{cure, stop, draw, draw_until, ends, fault, gain_hp, inflict, lasts, lose_hp, note, on_action, on_active, on_conditions, on_field, on_member, set_last_damage, starts, told, Action, Phase, Progress}
 use Rattle.gen1_machine.specs.SwitchingIn.{switch_event}
 use Rattle.gen1_machine.proofs.Showing.{keeps-active, keeps-member, BothOut}
-use Rattle.gen1_machine.proofs.Watching.{choose-tells, stay-tells, stop-leads, ◌⊳◌, Lands, Leads, Runs}
-use Rattle.gen1_player.proofs.Facts.{penalty-placid, still-is, Calm, Dull, Marks, Mild, Noise, Standing, Starts, Placid, Restful, Sparing, IsAwake, is_own_damage, is_poison, is_sleep, is_still, restful-status, with_cleared, sent, Sizes}
+use Rattle.gen1_machine.proofs.Watching.{Lands, Leads, Rests, Runs, choose-tells, stay-tells, stop-leads, ◌⊳◌}
+use Rattle.gen1_player.proofs.Facts.{penalty-placid, still-is, Calm, Dull, Marks, Mild, Noise, Standing, Starts, Placid, Restful, SleepsOn, Sparing, IsAwake, is_own_damage, is_poison, is_sleep, is_still, restful-status, with_cleared, sent, Sizes}
 
 -- Stories
 
@@ -50,7 +51,10 @@ pub record Story : Type 1 where
   pub lulled : Side → Bool → Type 0  -- that its active member falls asleep, with this mark
   pub loosen : (f : Field) (es : List Event) → exact f es → loose f es
   pub tighten : (f : Field) (es : List Event) → loose f es → has_fallen_in One f ≡ false → has_fallen_in Two f ≡ false → exact f es
-  pub member : (s : Side) (change : Member → Member) → Sparing change → Restful change → (f : Field) (es : List Event) → exact f es → exact (changed_member s change f) es
+  pub upright : Side → Type 0  -- that its active member is awake
+  pub member : (s : Side) (change : Member → Member) → Sparing change → Restful change → (f : Field) (es : List Event) → SleepsOn s change f → exact f es → exact (changed_member s change f) es
+  pub cures : (s : Side) (change : Member → Member) (kind : Kind) → Sparing change → (f : Field) (es : List Event) → BothOut f → is_asleep (change (member_in s f)).status ≡ false → exact f es
+      → exact (changed_member s change f) (es ++ events.Cure (who_in s (changed_member s change f)) kind ∷ [])
   pub sleeps : (s : Side) (turns : ℕ) (marked : Bool) → lulled s marked → (f : Field) (es : List Event) → BothOut f → exact f es
       → exact (slept s turns marked f) (es ++ events.Status (who_in s (slept s turns marked f)) kinds.Sleep ∷ [])
   pub active : (s : Side) (change : Active → Active) → Placid change → (f : Field) (es : List Event) → exact f es → exact (changed_active s change f) es
@@ -71,7 +75,7 @@ pub record Story : Type 1 where
       → exact f (es ++ events.Move (who_in s f) move.number (who_in (other s) f) ∷ [])
   pub prepares : (s : Side) (move : Move) → said s move → (f : Field) (es : List Event) → BothOut f → exact f es
       → exact f (es ++ events.Prepare (who_in s f) move.number ∷ [])
-  pub explodes : (s : Side) (f : Field) (es : List Event) → BothOut f → exact f es → loose (changed_conditions s without_seed (changed_member s fallen f)) es
+  pub explodes : (s : Side) → upright s → (f : Field) (es : List Event) → BothOut f → exact f es → loose (changed_conditions s without_seed (changed_member s fallen f)) es
   pub stores : (s : Side) (move : Move) → knows s move → bides move.effect ≡ true → (turns : ℕ) (f : Field) (es : List Event) → BothOut f → exact f es
       → exact (changed_conditions s (with_bide turns) f) (es ++ events.Start (who_in s (changed_conditions s (with_bide turns) f)) volatiles.Bide ∷ [])
   pub rests : (s : Side) (move : Move) → knows s move → recharges move.effect ≡ true → (f : Field) (es : List Event) → BothOut f → exact f es
@@ -79,7 +83,8 @@ pub record Story : Type 1 where
   pub loose_active : (s : Side) (change : Active → Active) → Placid change → (f : Field) (es : List Event) → loose f es → loose (changed_active s change f) es
   pub loose_apart : (f g : Field) (es : List Event) → f.one ≡ g.one → f.two ≡ g.two → loose f es → loose g es
   pub loose_noise : (e : Event) (f : Field) → Dull f e → (es : List Event) → loose f es → loose f (es ++ e ∷ [])
-  pub loose_falls : (s : Side) (f : Field) (es : List Event) → BothOut f → loose f es → loose (changed_member s fallen f) es
+  pub loose_falls : (s : Side) (f : Field) (es : List Event) → BothOut f → loose f es
+      → loose (changed_member s fallen f) (es ++ events.Faint (who_in s (changed_member s fallen f)) ∷ [])
 
 -- A story that doesn't follow what an act ends.
 pub record Outline (v : Story) : Type 0 where
@@ -124,6 +129,16 @@ MayFall v n pre p = May v n pre p.field p.events
 
 abbrev pub Tells : Story → Sizes → List Event → Phase → Type 0
 Tells v n pre f = Leads (Now v n pre) (Now v n pre) (MayFall v n pre) f
+
+-- Two facts at once
+
+pub with-keeps : {P Q S : Progress → Type 0} {K : Field → Action → Stream → Type 0} {f : Phase} → Leads P Q S f → Keeps K f
+    → Leads (λ p. P p × K p.field p.action p.stream) (λ p. Q p × K p.field p.action p.stream) S f
+with-keeps {P} {Q} {S} {K} {f} h k = record { leads = λ p r m. both (f p) (h.leads p r m.0) (k.kept p m.1) }
+  where
+    both : (q : Progress) → Lands Q S q → K q.field q.action q.stream → Lands (λ p. Q p × K p.field p.action p.stream) S q
+    both q (Runs r x) y = Runs r (x, y)
+    both q (Rests r x) y = Rests r x
 
 -- What stays begun
 
@@ -182,8 +197,17 @@ module _ {v : Story} {n : Sizes} {pre : List Event} where
   holds-conditions s change h f es m = record { begun = begun-conditions s change f m.begun; exact = v.conditions s change h f (pre ++ es) m.exact }
 
   pub holds-member : (s : Side) (change : Member → Member) → Sparing change → Restful change → (f : Field) (es : List Event)
-      → Holds v n pre f es → Holds v n pre (changed_member s change f) es
-  holds-member s change h r f es m = record { begun = begun-member s change f m.begun; exact = v.member s change h r f (pre ++ es) m.exact }
+      → SleepsOn s change f → Holds v n pre f es → Holds v n pre (changed_member s change f) es
+  holds-member s change h r f es w m = record { begun = begun-member s change f m.begun; exact = v.member s change h r f (pre ++ es) w m.exact }
+
+  pub holds-cured : (s : Side) (change : Member → Member) (kind : Kind) → Sparing change → (f : Field) (es : List Event) → is_asleep (change (member_in s f)).status ≡ false → Holds v n pre f es
+      → Holds v n pre (changed_member s change f) (es ++ events.Cure (who_in s (changed_member s change f)) kind ∷ [])
+  holds-cured s change kind h f es a m =
+      let g : Field = changed_member s change f in
+      record {
+        begun = begun-member s change f m.begun;
+        exact = at_end v.exact g pre es (events.Cure (who_in s g) kind) (v.cures s change kind h f (pre ++ es) m.begun.both a m.exact);
+      }
 
   pub holds-health : (e : Event) (f : Field) → Dull f e → (es : List Event) → Holds v n pre f es → Holds v n pre f (es ++ e ∷ [])
   holds-health e f h es m = record { begun = m.begun; exact = at_end v.exact f pre es e (v.noise e f h (pre ++ es) m.exact) }
@@ -256,9 +280,10 @@ module _ {v : Story} {n : Sizes} {pre : List Event} {S : Progress → Type 0} wh
   unfolding on_conditions
   conditions-tells s change h = field-tells _ (holds-conditions s change h)
 
-  pub member-tells : (s : Side) (change : Member → Member) → Sparing change → Restful change → Leads (Now v n pre) (Now v n pre) S (on_member s change)
-  unfolding on_member
-  member-tells s change h r = field-tells _ (holds-member s change h r)
+  pub member-tells : {P : Progress → Type 0} (s : Side) (change : Member → Member) → Sparing change → Restful change
+      → ((p : Progress) → P p → Now v n pre p × SleepsOn s change p.field) → Leads P (Now v n pre) S (on_member s change)
+  unfolding on_member on_field
+  member-tells s change h r w = record { leads = λ p i m. Runs i (holds-member s change h r p.field p.events (w p m).1 (w p m).0) }
 
   pub damage-tells : (damage : ℕ) → Leads (Now v n pre) (Now v n pre) S (set_last_damage damage)
   unfolding set_last_damage with_last_damage
@@ -303,18 +328,18 @@ module _ {v : Story} {n : Sizes} {pre : List Event} {S : Progress → Type 0} wh
   unfolding lose_hp hurt_by
   lose-tells s source e amount = choose-tells _
       (told-tells (changed_member s (hurt_by amount)) (λ f. events.Damage (who_in s f) (health_in s f) source)
-      (λ f es m. holds-health _ (changed_member s (hurt_by amount) f) (refl, e) es (holds-member s (hurt_by amount) (λ m. refl) (λ m e. (e, refl)) f es m))) stay-tells
+      (λ f es m. holds-health _ (changed_member s (hurt_by amount) f) (refl, e) es (holds-member s (hurt_by amount) (λ m. refl) (λ m e. (e, refl)) f es (λ e. e) m))) stay-tells
 
   pub gain-tells : (s : Side) (amount : ℕ) → Leads (Now v n pre) (Now v n pre) S (gain_hp s amount)
   unfolding gain_hp healed_by
   gain-tells s amount = choose-tells _
       (told-tells (changed_member s (healed_by amount)) (λ f. events.Heal (who_in s f) (health_in s f))
-      (λ f es m. holds-health _ (changed_member s (healed_by amount) f) refl es (holds-member s (healed_by amount) (λ m. refl) (λ m e. (e, refl)) f es m))) stay-tells
+      (λ f es m. holds-health _ (changed_member s (healed_by amount) f) refl es (holds-member s (healed_by amount) (λ m. refl) (λ m e. (e, refl)) f es (λ e. e) m))) stay-tells
 
   pub inflict-tells : (s : Side) (status : Status) (kind : Kind) → is_asleep status ≡ false → (is_poison kind ≡ false) × (is_sleep kind ≡ false)
-      → Leads (Now v n pre) (Now v n pre) S (inflict s status kind)
+      → Leads (λ p. Now v n pre p × IsAwake s p.field) (Now v n pre) S (inflict s status kind)
   unfolding inflict with_status
-  inflict-tells s status kind a e = member-tells s (with_status status) (λ m. refl) (restful-status status a)
+  inflict-tells s status kind a e = member-tells s (with_status status) (λ m. refl) (restful-status status a) (λ p m. (m.0, λ h. absurd (true≢false (sym h ∙ m.1))))
       ⊳ told-tells (changed_active s (with_penalty_of status)) (λ f. events.Status (who_in s f) kind)
       (λ f es m. holds-health (events.Status _ kind) (changed_active s (with_penalty_of status) f) e es (holds-active s (with_penalty_of status) (penalty-placid status) f es m))
 
@@ -324,9 +349,9 @@ module _ {v : Story} {n : Sizes} {pre : List Event} {S : Progress → Type 0} wh
 
   -- Poison by a move, before Toxic's is bad.
   pub poison-told : (s : Side) (move : Move) → v.acted s move
-      → Leads (Now v n pre) (λ p. Holds v n pre (sickened s move p.field) p.events) S (inflict (other s) Poisoned kinds.Poison)
+      → Leads (λ p. Now v n pre p × IsAwake (other s) p.field) (λ p. Holds v n pre (sickened s move p.field) p.events) S (inflict (other s) Poisoned kinds.Poison)
   unfolding inflict told with_status
-  poison-told s move a = member-tells (other s) (with_status Poisoned) (λ m. refl) (restful-status Poisoned refl) ⊳ record {
+  poison-told s move a = member-tells (other s) (with_status Poisoned) (λ m. refl) (restful-status Poisoned refl) (λ p m. (m.0, λ h. absurd (true≢false (sym h ∙ m.1)))) ⊳ record {
     leads = λ p r m.
         let change : Active → Active = with_penalty_of Poisoned in
         let f : Field = changed_active (other s) change p.field in
@@ -340,9 +365,7 @@ module _ {v : Story} {n : Sizes} {pre : List Event} {S : Progress → Type 0} wh
 
   pub cure-tells : (s : Side) (kind : Kind) → Leads (Now v n pre) (Now v n pre) S (cure s kind)
   unfolding cure with_status
-  cure-tells s kind = told-tells (changed_member s (with_status Healthy)) (λ f. events.Cure (who_in s f) kind) (λ f es m.
-      holds-health (events.Cure _ kind) (changed_member s (with_status Healthy) f) (awake-after s (with_status Healthy) f m.begun.both refl) es
-      (holds-member s (with_status Healthy) (λ m. refl) (restful-status Healthy refl) f es m))
+  cure-tells s kind = told-tells (changed_member s (with_status Healthy)) (λ f. events.Cure (who_in s f) kind) (λ f es m. holds-cured s (with_status Healthy) kind (λ m. refl) f es refl m)
 
   pub fault-step : (k : ℕ) → Leads (Now v n pre) (Now v n pre) S (on_field (with_outcome (outcomes.Fault k)))
   unfolding with_outcome
@@ -398,4 +421,4 @@ module _ {v : Story} {n : Sizes} {pre : List Event} (o : Outline v) where
   unfolding lose_hp hurt_by
   any-loses s source amount = choose-tells _
       (told-tells (changed_member s (hurt_by amount)) (λ f. events.Damage (who_in s f) (health_in s f) source)
-      (λ f es m. holds-any _ (changed_member s (hurt_by amount) f) refl es (holds-member s (hurt_by amount) (λ m. refl) (λ m e. (e, refl)) f es m))) stay-tells
+      (λ f es m. holds-any _ (changed_member s (hurt_by amount) f) refl es (holds-member s (hurt_by amount) (λ m. refl) (λ m e. (e, refl)) f es (λ e. e) m))) stay-tells

@@ -329,21 +329,21 @@ module _ {v : Story} {z : Sizes} {pre : List Event} where
 
   -- An explosion makes its user fall without an event
 
-  explosion-ends : {S : Progress → Type 0} (s : Side)
+  explosion-ends : {S : Progress → Type 0} (s : Side) → v.upright s
       → Leads (IsDue v z pre (changed_member s fallen)) (MayFall v z pre) S (on_field (changed_conditions s without_seed))
   unfolding on_field
-  explosion-ends s = record {
+  explosion-ends s u = record {
     leads = λ p r m.
         let f = m.before in
         Runs r (subst (λ (x : Field). May v z pre (changed_conditions s without_seed x) p.events) (sym m.now) (record {
           begun = begun-conditions s without_seed (changed_member s fallen f) (begun-member s fallen f m.held.begun);
-          loose = v.explodes s f (pre ++ p.events) m.held.begun.both m.held.exact;
+          loose = v.explodes s u f (pre ++ p.events) m.held.begun.both m.held.exact;
         }));
   }
 
-  explode-tells : (s : Side) → Leads (Now v z pre) (MayFall v z pre) (MayFall v z pre) (explode s)
+  explode-tells : (s : Side) → v.upright s → Leads (Now v z pre) (MayFall v z pre) (MayFall v z pre) (explode s)
   unfolding explode on_member on_conditions
-  explode-tells s = before-leads now-due (due-field (changed_member s fallen) (λ f. f)) ⊳ explosion-ends s
+  explode-tells s u = before-leads now-due (due-field (changed_member s fallen) (λ f. f)) ⊳ explosion-ends s u
 
   -- The rage of a member that was hit by an explosion builds after the fall.
   build_rage-falls : (t : Side) → Leads (MayFall v z pre) (MayFall v z pre) (MayFall v z pre) (build_rage t)
@@ -364,20 +364,20 @@ module _ {v : Story} {z : Sizes} {pre : List Event} where
   hit_effect-tells s move effects.Explode h = absurd (true≢false h)
   hit_effect-tells s move _ h = stay-tells
 
-  hit_effect-falls : (s : Side) (move : Move) (e : Effect) → explodes e ≡ true → Leads (Now v z pre) (MayFall v z pre) (MayFall v z pre) (hit_effect s move e)
+  hit_effect-falls : (s : Side) (move : Move) (e : Effect) → v.upright s → explodes e ≡ true → Leads (Now v z pre) (MayFall v z pre) (MayFall v z pre) (hit_effect s move e)
   unfolding hit_effect
-  hit_effect-falls s move effects.Explode h = explode-tells s
-  hit_effect-falls s move _ h = absurd (true≢false (sym h))
+  hit_effect-falls s move effects.Explode u h = explode-tells s u
+  hit_effect-falls s move _ u h = absurd (true≢false (sym h))
 
   hit_once-tells : (s : Side) (move : Move) → explodes move.effect ≡ false → Tells v z pre (hit_once s move)
   unfolding hit_once seeing
   hit_once-tells s move h = land-tells (other s) ⊳ choose-tells _ (note-tells _ (λ f. refl)) stay-tells ⊳ count_hit-tells
       ⊳ choose-tells _ stay-tells (hit_effect-tells s move move.effect h) ⊳ choose-tells _ stay-tells (build_rage-tells (other s))
 
-  hit_once-falls : (s : Side) (move : Move) → explodes move.effect ≡ true → Leads (Now v z pre) (MayFall v z pre) (MayFall v z pre) (hit_once s move)
+  hit_once-falls : (s : Side) (move : Move) → v.upright s → explodes move.effect ≡ true → Leads (Now v z pre) (MayFall v z pre) (MayFall v z pre) (hit_once s move)
   unfolding hit_once seeing
-  hit_once-falls s move h = land-tells (other s) ⊳ choose-tells _ (note-tells _ (λ f. refl)) stay-tells ⊳ count_hit-tells
-      ⊳ choose-tells _ (after-leads loosened stay-tells) (hit_effect-falls s move move.effect h) ⊳ choose-tells _ stay-tells (build_rage-falls (other s))
+  hit_once-falls s move u h = land-tells (other s) ⊳ choose-tells _ (note-tells _ (λ f. refl)) stay-tells ⊳ count_hit-tells
+      ⊳ choose-tells _ (after-leads loosened stay-tells) (hit_effect-falls s move move.effect u h) ⊳ choose-tells _ stay-tells (build_rage-falls (other s))
 
   hit_again-tells : (k : ℕ) (s : Side) (move : Move) → explodes move.effect ≡ false → Tells v z pre (hit_again k s move)
   unfolding hit_again
@@ -392,17 +392,17 @@ module _ {v : Story} {z : Sizes} {pre : List Event} where
   unfolding hits
   hits-tells s move h = first_hit-tells s move ⊳ hit_once-tells s move h ⊳ choose-tells _ (other_hits-tells s move h) stay-tells
 
-  hits-falls : (s : Side) (move : Move) → explodes move.effect ≡ true → Leads (Now v z pre) (MayFall v z pre) (MayFall v z pre) (hits s move)
+  hits-falls : (s : Side) (move : Move) → v.upright s → explodes move.effect ≡ true → Leads (Now v z pre) (MayFall v z pre) (MayFall v z pre) (hits s move)
   unfolding hits
-  hits-falls s move h = first_hit-tells s move ⊳ hit_once-falls s move h
+  hits-falls s move u h = first_hit-tells s move ⊳ hit_once-falls s move u h
       ⊳ if-sees (hits_more move.effect) (λ e. absurd (true≢false (sym e ∙ one-explosion move.effect h))) (λ e. stay-tells)
 
   -- A miss
 
-  missed_move-tells : (s : Side) (move : Move) → Tells v z pre (missed_move s move)
+  missed_move-tells : (s : Side) (move : Move) → v.upright s → Tells v z pre (missed_move s move)
   unfolding missed_move
-  missed_move-tells s move = note_miss-tells s move ⊳ choose-tells _ (crash-tells s) stay-tells
-      ⊳ choose-tells _ (explode-tells s) (after-leads loosened stay-tells) ⊳ stop-leads (λ p m. m)
+  missed_move-tells s move u = note_miss-tells s move ⊳ choose-tells _ (crash-tells s) stay-tells
+      ⊳ choose-tells _ (explode-tells s u) (after-leads loosened stay-tells) ⊳ stop-leads (λ p m. m)
 
   -- A move that explodes has no side effect.
   side_effect-falls : (r : Ruling) (s : Side) (move : Move) (e : Effect) → explodes e ≡ true → Leads (MayFall v z pre) (MayFall v z pre) (MayFall v z pre) (side_effect r s move e)
@@ -410,15 +410,15 @@ module _ {v : Story} {z : Sizes} {pre : List Event} where
   side_effect-falls r s move effects.Explode h = choose-tells _ stay-tells stay-tells
   side_effect-falls r s move _ h = absurd (true≢false (sym h))
 
-  pub strike-tells : (r : Ruling) → RulingTells v z pre r → (s : Side) (move : Move) → (may_poison_by move.effect ≡ true → Poisons v s move)
+  pub strike-tells : (r : Ruling) → RulingTells v z pre r → (s : Side) (move : Move) → v.upright s → (may_poison_by move.effect ≡ true → Poisons v s move)
       → (recharges move.effect ≡ true → v.knows s move) → Leads (Now v z pre) (MayFall v z pre) (MayFall v z pre) (strike r s move)
   unfolding strike
-  strike-tells r h s move a k = by (explodes move.effect) refl
+  strike-tells r h s move u a k = by (explodes move.effect) refl
     where
       by : (b : Bool) → explodes move.effect ≡ b → Leads (Now v z pre) (MayFall v z pre) (MayFall v z pre) (strike r s move)
-      by false e = choose-tells _ (missed_move-tells s move) stay-tells ⊳ hits-tells s move e
+      by false e = choose-tells _ (missed_move-tells s move u) stay-tells ⊳ hits-tells s move e
           ⊳ after-leads loosened (choose-tells _ stay-tells (side_effect-tells r h s move move.effect a (λ x. record { knows = k x; effect = x })))
-      by true e = choose-tells _ (missed_move-tells s move) stay-tells ⊳ hits-falls s move e
+      by true e = choose-tells _ (missed_move-tells s move u) stay-tells ⊳ hits-falls s move u e
           ⊳ choose-tells _ stay-tells (side_effect-falls r s move move.effect e)
 
 module _ {v : Story} {z : Sizes} {pre : List Event} (o : Outline v) where
@@ -431,19 +431,19 @@ module _ {v : Story} {z : Sizes} {pre : List Event} (o : Outline v) where
   -- An action
 
   pub carry_out-tells : (r : Ruling) → RulingTells v z pre r → (s : Side) (pick : Pick) (move : Move) → move.effect ≡ (move_at move.number).effect → v.said s move
-      → ((u : Side) (marked : Bool) → v.lulled u marked) → Leads (Now v z pre) (MayFall v z pre) (MayFall v z pre) (carry_out r s pick move)
+      → ((u : Side) (marked : Bool) → v.lulled u marked) → v.upright s → Leads (Now v z pre) (MayFall v z pre) (MayFall v z pre) (carry_out r s pick move)
   unfolding carry_out
-  carry_out-tells r h s pick move same k l = bide_goes_on-tells o s
+  carry_out-tells r h s pick move same k l u = bide_goes_on-tells o s
       ⊳ choose-tells _ stay-tells (lead_up-tells s pick move k (λ e. l s false))
       ⊳ choose-tells _ stay-tells (damage_of-tells s move move.effect)
       ⊳ choose-tells _ stay-tells (choose-tells _ (late_effect-tells r h s move move.effect (λ e. (o.knows s move k, e)) (λ e. l (other s) h.marked) ⊳ stop-tells) stay-tells)
-      ⊳ strike-tells r h s move
+      ⊳ strike-tells r h s move u
       (λ e. record { acts = o.acts s move; plain = not-toxic move.number (ap may_poison_by (sym same) ∙ e) }) (λ e. o.knows s move k)
 
-  pub says-any : ((s : Side) (move : Move) → v.said s move) → ((u : Side) (marked : Bool) → v.lulled u marked) → (r : Ruling) → RulingTells v z pre r → Says v z pre r
+  pub says-any : ((s : Side) (move : Move) → v.said s move) → ((u : Side) (marked : Bool) → v.lulled u marked) → ((u : Side) → v.upright u) → (r : Ruling) → RulingTells v z pre r → Says v z pre r
   unfolding given
-  says-any k l r h s pick = record {
-    leads = λ p i m. let move : Move = move_taken_in s pick p.field in (carry_out-tells r h s pick move refl (k s move) l).leads p i m;
+  says-any k l u r h s pick = record {
+    leads = λ p i m. let move : Move = move_taken_in s pick p.field in (carry_out-tells r h s pick move refl (k s move) l (u s)).leads p i m;
   }
 
   parts-tells : (r : Ruling) → RulingTells v z pre r → Says v z pre r → (s : Side) (pick : Pick) → Leads (Now v z pre) (MayFall v z pre) (MayFall v z pre) (action_parts r s pick)

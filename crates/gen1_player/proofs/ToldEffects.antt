@@ -1,5 +1,7 @@
 -- A story stays true through what moves do in addition to damage.
-use Rattle.std.proofs.Common.{[], Bool, List, None, Option, Some, ap, false, if◌then◌else◌, inl, inr, refl, subst, sym, true, true≢false, ℕ, ◌++◌, ◌==◌, ◌∙◌, ◌∷◌, ◌≡◌, ◌≢◌, ◌⊎◌}
+use Rattle.gen1_stats.specs.Members.{is_asleep, is_healthy}
+use Rattle.gen1_machine.proofs.Keeps.{on_conditions-keeps}
+use Rattle.std.proofs.Common.{Bool, List, None, Option, Some, [], ap, false, if◌then◌else◌, inl, inr, nat_lt, not, refl, subst, sym, true, true≢false, ℕ, ◌++◌, ◌+◌, ◌==◌, ◌||◌, ◌∙◌, ◌∷◌, ◌≡◌, ◌≢◌, ◌⊎◌}
 use Rattle.std.proofs.lemmas.Bool.Decides.{eqb_tells}
 use Rattle.gen1_tables.specs.Effects.{bides, recharges}
 use Rattle.gen1_tables.specs.Moves.{move_row, move_rows}
@@ -7,7 +9,7 @@ use Rattle.gen1_tables.specs.declared.effect.Stat.{Stat}
 use Rattle.gen1_tables.specs.declared.effect.Stat.TheVariants.{Attack, Speed}
 use Rattle.gen1_tables.specs.declared.effect.Effect.{Effect}
 use Rattle.gen1_tables.specs.declared.effect.Effect.TheVariants as effects
-use Rattle.gen1_rolls.specs.Streams.{low_bits}
+use Rattle.gen1_rolls.specs.Streams.{byte_at, low_bits}
 use Rattle.gen1_stats.specs.declared.known_move.KnownMove.{KnownMove}
 use Rattle.gen1_stats.specs.declared.status.Status.{Status}
 use Rattle.gen1_stats.specs.declared.status.Status.TheVariants.{Asleep}
@@ -23,22 +25,22 @@ use Rattle.gen1_machine.specs.Conditions.{with_bad_poison, with_recharge, after_
 use Rattle.gen1_machine.specs.Moves.{move_at, toxic, Move}
 use Rattle.gen1_machine.specs.State.{active_in, who_in, kind_of, changed_active, changed_conditions, with_types_of, Active, Field, Terms}
 use Rattle.gen1_machine.specs.CurrentStats.{at_new_stage, recomputed_at, with_penalty_of}
-use Rattle.gen1_machine.specs.Progress.{choose, Phase, active, inflict, note, on_active, on_conditions, on_field, on_member, stay, told, Progress}
+use Rattle.gen1_machine.specs.Progress.{Phase, Progress, active, choose, draw, fails_if, has_status, inflict, note, on_active, on_conditions, on_field, on_member, status_of, stay, told}
 use Rattle.gen1_machine.specs.StageShift.{note_boost, note_unboost, take_penalty_again, shift_to, raise_from, lower_from, raise_stage, lower_stage}
 use Rattle.gen1_machine.specs.Ruling.{is_sleep_count, sleep_for, fall_asleep, sleep_freely, freeze_freely, sleep_only_one, freeze_only_one, sleeps_under, freezes_under, ruling_of, Ruling}
 use Rattle.gen1_machine.specs.EarlyEffects.{confused_by, confuse, confuse_foe, take_types, convert, set_mist, set_focus_energy, set_light_screen, set_reflect, set_screen, with_levelled_stats, clear_side, cure_kind, set_skips, haze_cures, haze, rest_up, recover, heal, poison_foe, paralyse_foe, seed_foe, pay_for_substitute, make_substitute, splash, early_effect}
 use Rattle.gen1_machine.specs.LateEffects.{ready_to_sleep, put_to_sleep, lower_foes_stat, bide_for, start_bide, late_effect}
 use Rattle.gen1_machine.specs.SideEffects.{happens_below, by_chance, thaw, may_inflict, may_poison, may_confuse, flinch, kept_away_effect, names_slot, disable_for, disable_slot, disable, must_recharge, side_effect}
-use Rattle.gen1_machine.proofs.Watching.{seeing, Runs, Leads, after-leads, before-leads, ◌⊳◌, choose-tells, if-sees, given-tells, given-sees, stay-tells}
-use Rattle.gen1_player.proofs.Facts.{penalty-placid, is_still, with_cleared, Placid, Sizes}
-use Rattle.gen1_player.proofs.Stories.{Begun, Story, Holds, Now, MayFall, Tells, at_end, begun-active, begun-conditions, may-active, may-noise, draw-tells, until-tells, told-tells, note-tells, active-tells, conditions-tells, starts-tells, stores-tells, lose-tells, gain-tells, inflict-tells, cure-tells, holds-slept, poison-told, sickened, slept, slept-told}
-use Rattle.gen1_player.proofs.ToldGate.{fail-tells, fails_if-tells, must_hit-tells}
+use Rattle.gen1_machine.proofs.Watching.{Leads, Runs, after-leads, before-leads, choose-sees, choose-tells, given-sees, given-tells, if-sees, seeing, stay-tells, ◌⊳◌}
+use Rattle.gen1_player.proofs.Facts.{IsAwake, Placid, Sizes, is_still, penalty-placid, with_cleared}
+use Rattle.gen1_player.proofs.Stories.{Begun, Holds, MayFall, Now, Story, Tells, active-tells, at_end, begun-active, begun-conditions, conditions-tells, cure-tells, draw-tells, gain-tells, holds-slept, inflict-tells, lose-tells, may-active, may-noise, note-tells, poison-told, sickened, slept, slept-told, starts-tells, stores-tells, told-tells, until-tells, with-keeps}
+use Rattle.gen1_player.proofs.ToldGate.{awake-conditions, fail-tells, fails_if-awake, fails_if-sees, fails_if-tells, must_hit-awake, must_hit-tells}
 
 -- A sleep move puts the mark on its foe, or not.
 pub record RulingTells (v : Story) (n : Sizes) (pre : List Event) (r : Ruling) : Type 0 where
   pub marked : Bool
   pub sleeps : (s : Side) → v.lulled (other s) marked → Tells v n pre (r.sleeps s)
-  pub freezes : (s : Side) → Tells v n pre (r.freezes s)
+  pub freezes : (s : Side) → Leads (λ p. Now v n pre p × IsAwake (other s) p.field) (Now v n pre) (MayFall v n pre) (r.freezes s)
 
 -- Effects that may poison in addition to damage. Toxic has none of them.
 
@@ -136,6 +138,14 @@ pub record Due (v : Story) (n : Sizes) (pre : List Event) (change : Field → Fi
 abbrev pub IsDue : Story → Sizes → List Event → (Field → Field) → Progress → Type 0
 IsDue v n pre change p = Due v n pre change p.field p.events
 
+healthy-awake : (status : Status) → not (is_healthy status) ≡ false → is_asleep status ≡ false
+healthy-awake (Asleep turns marked) e = absurd (true≢false e)
+healthy-awake _ e = refl
+
+or-first : (a b : Bool) → (a || b) ≡ false → a ≡ false
+or-first true b e = e
+or-first false b e = refl
+
 -- Sleep has no penalty.
 pub unpenalised : (s : Side) (turns : ℕ) (marked : Bool) (f : Field) → changed_active s (with_penalty_of (Asleep turns marked)) f ≡ f
 unfolding changed_active with_penalty_of
@@ -230,13 +240,13 @@ module _ {v : Story} {n : Sizes} {pre : List Event} where
   sleeps_under-tells true s k = fails_if-tells s _ ⊳ fall_asleep-tells true (other s) k
   sleeps_under-tells false s k = fall_asleep-tells false (other s) k
 
-  freeze_freely-tells : (s : Side) → Tells v n pre (freeze_freely s)
+  freeze_freely-tells : (s : Side) → Leads (λ p. Now v n pre p × IsAwake (other s) p.field) (Now v n pre) (MayFall v n pre) (freeze_freely s)
   unfolding freeze_freely seeing
-  freeze_freely-tells s = conditions-tells (other s) _ (λ c. refl) ⊳ inflict-tells (other s) _ _ refl (refl, refl)
+  freeze_freely-tells s = with-keeps (conditions-tells (other s) _ (λ c. refl)) (on_conditions-keeps (other s) _ (awake-conditions (other s) (other s) _)) ⊳ inflict-tells (other s) _ _ refl (refl, refl)
 
-  pub freezes_under-tells : (clause : Bool) (s : Side) → Tells v n pre (freezes_under clause s)
+  pub freezes_under-tells : (clause : Bool) (s : Side) → Leads (λ p. Now v n pre p × IsAwake (other s) p.field) (Now v n pre) (MayFall v n pre) (freezes_under clause s)
   unfolding freezes_under freeze_only_one seeing
-  freezes_under-tells true s = choose-tells _ stay-tells (freeze_freely-tells s)
+  freezes_under-tells true s = choose-tells _ (before-leads (λ p m. m.0) stay-tells) (freeze_freely-tells s)
   freezes_under-tells false s = freeze_freely-tells s
 
   abbrev pub ruling_of-tells : (t : Terms) → RulingTells v n pre (ruling_of t)
@@ -318,6 +328,10 @@ module _ {v : Story} {n : Sizes} {pre : List Event} where
   unfolding heal seeing
   heal-tells s move k = fails_if-tells s _ ⊳ choose-tells _ (rest_up-tells s k) (recover-tells s)
 
+  -- A foe without a status is awake.
+  untouched : (s : Side) → Leads (Now v n pre) (λ p. Now v n pre p × IsAwake (other s) p.field) (MayFall v n pre) (fails_if s (has_status (other s)))
+  untouched s = after-leads (λ p m. (m.0, healthy-awake (status_of (other s) p) m.1)) (fails_if-sees s (has_status (other s)))
+
   -- Toxic's poison is bad.
   bad-told : (s : Side) (move : Move) → Leads (λ p. Holds v n pre (sickened s move p.field) p.events) (Now v n pre) (MayFall v n pre)
       (choose (λ p. move.number == toxic) (on_conditions (other s) with_bad_poison) stay)
@@ -328,12 +342,13 @@ module _ {v : Story} {n : Sizes} {pre : List Event} where
 
   pub poison-tells : (s : Side) (move : Move) → v.acted s move → Tells v n pre (poison_foe s move)
   unfolding poison_foe seeing
-  poison-tells s move a = fails_if-tells s _ ⊳ fails_if-tells s _ ⊳ fails_if-tells s _ ⊳ must_hit-tells s move ⊳ poison-told s move a
+  poison-tells s move a = fails_if-tells s _ ⊳ untouched s ⊳ with-keeps (fails_if-tells s _) (fails_if-awake (other s) s _)
+      ⊳ with-keeps (must_hit-tells s move) (must_hit-awake (other s) s move) ⊳ poison-told s move a
       ⊳ bad-told s move
 
   pub paralyse-tells : (s : Side) (move : Move) → Tells v n pre (paralyse_foe s move)
   unfolding paralyse_foe seeing
-  paralyse-tells s move = fails_if-tells s _ ⊳ fails_if-tells s _ ⊳ must_hit-tells s move ⊳ inflict-tells (other s) _ _ refl (refl, refl)
+  paralyse-tells s move = untouched s ⊳ with-keeps (fails_if-tells s _) (fails_if-awake (other s) s _) ⊳ with-keeps (must_hit-tells s move) (must_hit-awake (other s) s move) ⊳ inflict-tells (other s) _ _ refl (refl, refl)
 
   pub seed-tells : (s : Side) (move : Move) → Tells v n pre (seed_foe s move)
   unfolding seed_foe seeing
@@ -412,14 +427,25 @@ module _ {v : Story} {n : Sizes} {pre : List Event} where
   unfolding thaw seeing
   thaw-tells s move = choose-tells _ (cure-tells (other s) _) stay-tells
 
-  pub may_inflict-tells : (s : Side) (move : Move) (bound : ℕ) {f : Phase} → Tells v n pre f → Tells v n pre (may_inflict s move bound f)
+  -- Of a foe that is awake
+  chance-awake : (s : Side) (bound : ℕ) {f : Phase} → Leads (λ p. Now v n pre p × IsAwake s p.field) (Now v n pre) (MayFall v n pre) f
+      → Leads (λ p. Now v n pre p × IsAwake s p.field) (Now v n pre) (MayFall v n pre) (by_chance bound f)
+  unfolding by_chance happens_below draw
+  chance-awake s bound h = record {
+    leads = λ p r m. (choose-tells (λ q. nat_lt (byte_at p.stream p.drawn) bound) h (before-leads (λ q k. k.0) stay-tells)).leads (record p { drawn = p.drawn + 1 }) r m;
+  }
+
+  pub may_inflict-tells : (s : Side) (move : Move) (bound : ℕ) {f : Phase} → Leads (λ p. Now v n pre p × IsAwake (other s) p.field) (Now v n pre) (MayFall v n pre) f
+      → Tells v n pre (may_inflict s move bound f)
   unfolding may_inflict seeing
-  may_inflict-tells s move bound h = choose-tells _ (thaw-tells s move) (choose-tells _ stay-tells (by_chance-tells bound h))
+  may_inflict-tells s move bound h = choose-sees (has_status (other s)) (before-leads (λ p m. m.0) (thaw-tells s move))
+      (before-leads (λ p m. (m.0, healthy-awake (status_of (other s) p) m.1)) (choose-tells _ (before-leads (λ p m. m.0) stay-tells) (chance-awake (other s) bound h)))
 
   pub may_poison-tells : (s : Side) (move : Move) → v.acted s move → (move.number == toxic) ≡ false → (bound : ℕ) → Tells v n pre (may_poison s bound)
   unfolding may_poison seeing
-  may_poison-tells s move a e bound = choose-tells _ stay-tells (by_chance-tells bound (after-leads
-      (λ p m. subst (λ (b : Bool). Holds v n pre (if b then changed_conditions (other s) with_bad_poison p.field else p.field) p.events) e m) (poison-told s move a)))
+  may_poison-tells s move a e bound = choose-sees _ (before-leads (λ p m. m.0) stay-tells)
+      (before-leads (λ p m. (m.0, healthy-awake (status_of (other s) p) (or-first (has_status (other s) p) _ m.1))) (chance-awake (other s) bound (after-leads
+      (λ p m. subst (λ (b : Bool). Holds v n pre (if b then changed_conditions (other s) with_bad_poison p.field else p.field) p.events) e m) (poison-told s move a))))
 
   pub may_confuse-tells : (s : Side) (bound : ℕ) → Tells v n pre (may_confuse s bound)
   unfolding may_confuse seeing

@@ -13,10 +13,10 @@ use Rattle.gen1_machine.specs.Ruling.{Ruling, ruling_of}
 use Rattle.gen1_machine.specs.Falls.{faint_if_fallen, faint_in_order, the_fallen_faint, ask_nothing, battle_ends, end_if_decided, switch_if, ask_for_switches, ask_for_moves, settle, close}
 use Rattle.gen1_machine.specs.SwitchingIn.{send_out, start, switch_event}
 use Rattle.gen1_machine.specs.Step.{update_for, close_update, update, answered, events_of, is_among, offers, opened, run, run_by, step, step_by, Stepped}
-use Rattle.gen1_machine.proofs.Showing.{BothOut, IsOut}
+use Rattle.gen1_machine.proofs.Showing.{IsOut}
 use Rattle.gen1_machine.proofs.Watching.{Runs, Rests, Lands, Leads, after-leads, before-leads, ◌⊳◌, choose-tells, choose-sees, given-tells, stay-tells, stop-leads}
-use Rattle.gen1_player.proofs.Facts.{Fits, IsAwake, Sizes, is_still, sent}
-use Rattle.gen1_player.proofs.Stories.{Begun, Holds, May, MayFall, Now, Sized, Story, Switching, at_end, awake-after, begun-member, holds-noise, loosened, may-noise}
+use Rattle.gen1_player.proofs.Facts.{Fits, Sizes, is_still, sent}
+use Rattle.gen1_player.proofs.Stories.{Begun, Holds, May, MayFall, Now, Sized, Story, Switching, at_end, begun-member, holds-noise, loosened, may-noise}
 use Rattle.gen1_player.proofs.ToldTurns.{send_out-at, Goes, ChoiceFits, or-left, or-right, other-out-two, out-one, out-two, sent-sized, send_out-falls, tightened, turn-tells, replace-falls}
 use Rattle.std.proofs.lemmas.Bool.{false≢true}
 use Rattle.std.proofs.lemmas.List.{append-nil, append_assoc}
@@ -71,10 +71,6 @@ first-fits : {n : Sizes} (f : Field) → Begun n f → (s : Side) → Fits n s 1
 first-fits f b One = let e = b.sized.one in (omega arith, omega (arith, e, b.both.one.placed, b.both.one.within))
 first-fits f b Two = let e = b.sized.two in (omega arith, omega (arith, e, b.both.two.placed, b.both.two.within))
 
-fallen-awake : (s : Side) (f : Field) → BothOut f → IsAwake s (changed_member s fallen f)
-unfolding fallen
-fallen-awake s f o = awake-after s fallen f o refl
-
 module _ {v : Story} {n : Sizes} {pre : List Event} where
   may-apart : (f g : Field) (es : List Event) → f.one ≡ g.one → f.two ≡ g.two → May v n pre f es → May v n pre g es
   may-apart f g es one two m = record { begun = same-begun f g one two m.begun; loose = v.loose_apart f g (pre ++ es) one two m.loose }
@@ -87,17 +83,15 @@ module _ {v : Story} {n : Sizes} {pre : List Event} where
 
   -- The fallen faint
 
-  fallen-may : (s : Side) (f : Field) (es : List Event) → May v n pre f es → May v n pre (changed_member s fallen f) es
-  fallen-may s f es m = record { begun = begun-member s fallen f m.begun; loose = v.loose_falls s f (pre ++ es) m.begun.both m.loose }
-
   faint-falls : {S : Progress → Type 0} (s : Side) → Leads (MayFall v n pre) (MayFall v n pre) S (faint_if_fallen s)
   unfolding faint_if_fallen told
   faint-falls s = choose-tells _ (record {
     leads = λ p r m.
         let g : Field = changed_member s fallen p.field in
-        let event : Event = events.Faint (who_in s g) in
-        let w = fallen-may s p.field p.events m in
-        Runs r (record { begun = w.begun; loose = at_end v.loose g pre p.events event (v.loose_noise event g (fallen-awake s p.field m.begun.both) (pre ++ p.events) w.loose) });
+        Runs r (record {
+          begun = begun-member s fallen p.field m.begun;
+          loose = at_end v.loose g pre p.events (events.Faint (who_in s g)) (v.loose_falls s p.field (pre ++ p.events) m.begun.both m.loose);
+        });
   }) stay-tells
 
   faints-fall : {S : Progress → Type 0} → Leads (MayFall v n pre) (MayFall v n pre) S the_fallen_faint

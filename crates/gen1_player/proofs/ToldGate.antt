@@ -1,4 +1,6 @@
 -- A story stays true through the gate, the landing and the hit test.
+use Rattle.gen1_machine.specs.declared.side.Side.TheVariants.{One, Two}
+use Rattle.gen1_machine.proofs.Keeps.{Keeps, Spares, choose-keeps, draw-keeps, given-keeps, note-keeps, on_action-keeps, on_conditions-keeps, on_field-keeps, stay-keeps, stop-keeps, then-keeps}
 use Rattle.gen1_stats.specs.Members.{Member, is_asleep, is_marked}
 use Rattle.std.proofs.Common.{Bool, List, None, Option, Some, ap, false, if◌then◌else◌, nat_le, refl, sym, true, true≢false, ℕ, ◌-◌, ◌∙◌, ◌≡◌}
 use Rattle.gen1_stats.specs.declared.status.Status.{Status}
@@ -14,19 +16,19 @@ use Rattle.gen1_machine.specs.declared.event.Event.{Event}
 use Rattle.gen1_machine.specs.declared.event.Event.TheVariants as events
 use Rattle.gen1_machine.specs.declared.picks.Pick.{Pick}
 use Rattle.gen1_machine.specs.declared.picks.DisabledSlot.{DisabledSlot}
-use Rattle.gen1_machine.specs.Conditions.{with_confusion_one_less}
+use Rattle.gen1_machine.specs.Conditions.{ActiveConditions, with_confusion_one_less}
 use Rattle.gen1_machine.specs.Sides.{other}
-use Rattle.gen1_machine.specs.State.{Field, changed_member, member_in, one_turn_less_asleep, who_in, with_sleep_one_less}
+use Rattle.gen1_machine.specs.State.{changed_active, changed_conditions, changed_member, member_in, one_turn_less_asleep, who_in, with_last_damage, with_sleep_one_less}
 use Rattle.gen1_machine.specs.Moves.{Move}
-use Rattle.gen1_machine.specs.Progress.{Progress, fail, fails_if, set_missed, status_of, told}
+use Rattle.gen1_machine.specs.Progress.{Progress, fail, fails_if, on_member, set_last_damage, set_missed, status_of, told}
 use Rattle.gen1_machine.specs.Damage.{before_types}
 use Rattle.gen1_machine.specs.HitTest.{miss, set_tested, hits_below, test_by, hit_test, hit_or_miss, note_miss, must_hit}
 use Rattle.gen1_machine.specs.Landing.{set_broke, land_on_substitute, land_on_hp, land_by, land_damage, land}
 use Rattle.gen1_machine.specs.HitOnItself.{land_on_foes_substitute, hurt_itself_by, hurt_itself}
 use Rattle.gen1_machine.specs.Gate.{cant, wake, sleep_on, sleep_test, frozen_test, trapped_test, flinch_test, recharge_test, disable_count, may_hurt_itself, confusion_test, disabled_test, may_be_paralysed, paralysis_test, gate_of_status, gate_of_turn, gate_of_move, gate}
-use Rattle.gen1_machine.proofs.Watching.{before-leads, choose-tells, given-sees, given-tells, if-sees, seeing, stay-tells, ◌⊳◌, Leads, Runs}
-use Rattle.gen1_player.proofs.Facts.{is_own_damage, is_still, Restful, Sparing, Sizes, calm-mild, confusion-calm, substitute-calm, disable-calm}
-use Rattle.gen1_player.proofs.Stories.{Outline, Story, Tells, any-lasts, any-loses, any-note, mild-tells, awake-after, holds-health, holds-member, Now, MayFall, draw-tells, action-tells, note-tells, conditions-tells, member-tells, damage-tells, ends-tells, lasts-tells, lose-tells, stop-tells, fault-tells}
+use Rattle.gen1_machine.proofs.Watching.{Leads, Runs, before-leads, choose-sees, choose-tells, given-sees, given-tells, if-sees, seeing, stay-tells, stop-leads, ◌⊳◌}
+use Rattle.gen1_player.proofs.Facts.{IsAwake, Restful, Sizes, Sparing, calm-mild, confusion-calm, disable-calm, is_own_damage, is_still, substitute-calm}
+use Rattle.gen1_player.proofs.Stories.{MayFall, Now, Outline, Story, Tells, action-tells, any-lasts, any-loses, any-note, conditions-tells, damage-tells, draw-tells, ends-tells, fault-tells, holds-cured, lasts-tells, loosened, lose-tells, member-tells, mild-tells, note-tells, stop-tells}
 
 miss-noise : (b : Bool) (x y : Who) → is_still (if b then events.Immune x else events.Miss y) ≡ true
 miss-noise true x y = refl
@@ -49,6 +51,10 @@ unfolding with_sleep_one_less
 sleep-restful m e = less-restful m.status e
 
 -- At the end of the count it wakes up.
+sleeps-on : (turns : ℕ) (marked : Bool) (m : Member) → m.status ≡ Asleep turns marked → nat_le turns 1 ≡ false → is_asleep (with_sleep_one_less m).status ≡ true
+unfolding with_sleep_one_less
+sleeps-on turns marked m e h = ap (λ (x : Status). is_asleep (one_turn_less_asleep x)) e ∙ ap (λ (b : Bool). is_asleep (if b then Healthy else Asleep (turns - 1) marked)) h
+
 wakes-up : (turns : ℕ) (marked : Bool) (m : Member) → m.status ≡ Asleep turns marked → nat_le turns 1 ≡ true → is_asleep (with_sleep_one_less m).status ≡ false
 unfolding with_sleep_one_less
 wakes-up turns marked m e h = ap (λ (x : Status). is_asleep (one_turn_less_asleep x)) e ∙ ap (λ (b : Bool). is_asleep (if b then Healthy else Asleep (turns - 1) marked)) h
@@ -63,6 +69,11 @@ module _ {v : Story} {n : Sizes} {pre : List Event} where
   pub fail-tells : (s : Side) → Tells v n pre (fail s)
   unfolding fail seeing
   fail-tells s = note-tells _ (λ f. refl) ⊳ stop-tells
+
+  -- A test that fails no move is not met.
+  pub fails_if-sees : (s : Side) (test : Progress → Bool) → Leads (Now v n pre) (λ p. Now v n pre p × (test p ≡ false)) (MayFall v n pre) (fails_if s test)
+  unfolding fails_if fail
+  fails_if-sees s test = choose-sees test (before-leads (λ p m. m.0) (note-tells _ (λ f. refl) ⊳ stop-leads loosened)) stay-tells
 
   pub fails_if-tells : (s : Side) (test : Progress → Bool) → Tells v n pre (fails_if s test)
   unfolding fails_if seeing
@@ -128,23 +139,24 @@ module _ {v : Story} {n : Sizes} {pre : List Event} (o : Outline v) where
   unfolding told
   wake-told s turns marked h = record {
     leads = λ p r m.
-        let g : Field = changed_member s with_sleep_one_less p.field in
-        Runs r (holds-health (events.Cure (who_in s g) kinds.Sleep) g
-        (awake-after s with_sleep_one_less p.field m.0.begun.both (wakes-up turns marked (member_in s p.field) m.1 h)) p.events
-        (holds-member s with_sleep_one_less sleep-tame sleep-restful p.field p.events m.0));
+        Runs r (holds-cured s with_sleep_one_less kinds.Sleep sleep-tame p.field p.events (wakes-up turns marked (member_in s p.field) m.1 h) m.0);
   }
 
   pub wake-tells : (s : Side) (turns : ℕ) (marked : Bool) → nat_le turns 1 ≡ true → Leads (λ p. Now v n pre p × (status_of s p ≡ Asleep turns marked)) (Now v n pre) (MayFall v n pre) (wake s)
   unfolding wake
   wake-tells s turns marked h = wake-told s turns marked h ⊳ stop-tells
 
-  pub sleep_on-tells : (s : Side) → Tells v n pre (sleep_on s)
+  pub less-tells : {S : Progress → Type 0} (s : Side) (turns : ℕ) (marked : Bool) → nat_le turns 1 ≡ false
+      → Leads (λ p. Now v n pre p × (status_of s p ≡ Asleep turns marked)) (Now v n pre) S (on_member s with_sleep_one_less)
+  less-tells s turns marked h = member-tells s with_sleep_one_less sleep-tame sleep-restful (λ p m. (m.0, λ e. sleeps-on turns marked (member_in s p.field) m.1 h))
+
+  pub sleep_on-tells : (s : Side) (turns : ℕ) (marked : Bool) → nat_le turns 1 ≡ false → Leads (λ p. Now v n pre p × (status_of s p ≡ Asleep turns marked)) (Now v n pre) (MayFall v n pre) (sleep_on s)
   unfolding sleep_on
-  sleep_on-tells s = member-tells s with_sleep_one_less sleep-tame sleep-restful ⊳ cant-tells s _
+  sleep_on-tells s turns marked h = less-tells s turns marked h ⊳ cant-tells s _
 
   pub sleep-tells : (s : Side) (status : Status) → Leads (λ p. Now v n pre p × (status_of s p ≡ status)) (Now v n pre) (MayFall v n pre) (sleep_test s status)
   unfolding sleep_test
-  sleep-tells s (Asleep turns marked) = if-sees (nat_le turns 1) (λ h. wake-tells s turns marked h) (λ h. before-leads (λ p m. m.0) (sleep_on-tells s))
+  sleep-tells s (Asleep turns marked) = if-sees (nat_le turns 1) (λ h. wake-tells s turns marked h) (λ h. sleep_on-tells s turns marked h)
   sleep-tells s _ = before-leads (λ p m. m.0) stay-tells
 
   pub frozen-tells : (s : Side) → Tells v n pre (frozen_test s)
@@ -241,3 +253,40 @@ module _ {v : Story} {n : Sizes} {pre : List Event} where
   pub must_hit-tells : (s : Side) (move : Move) → Tells v n pre (must_hit s move)
   unfolding must_hit seeing
   must_hit-tells s move = hit_or_miss-tells s move ⊳ choose-tells _ (note_miss-tells s move ⊳ stop-tells) stay-tells
+
+-- It leaves who sleeps.
+
+pub awake-conditions : (u s : Side) (change : ActiveConditions → ActiveConditions) → Spares (λ f a w. IsAwake u f) (changed_conditions s change)
+unfolding changed_conditions changed_active
+awake-conditions One One change = record { spared = λ f a w h. h }
+awake-conditions One Two change = record { spared = λ f a w h. h }
+awake-conditions Two One change = record { spared = λ f a w h. h }
+awake-conditions Two Two change = record { spared = λ f a w h. h }
+
+awake-damage : (u : Side) (damage : ℕ) → Spares (λ f a w. IsAwake u f) (with_last_damage damage)
+unfolding with_last_damage
+awake-damage One damage = record { spared = λ f a w h. h }
+awake-damage Two damage = record { spared = λ f a w h. h }
+
+module _ (u : Side) where
+  miss-awake : (s : Side) → Keeps (λ f a w. IsAwake u f) (miss s)
+  unfolding miss set_missed set_last_damage
+  miss-awake s = then-keeps (on_action-keeps (record { spared = λ f a w h. h })) (then-keeps (on_field-keeps (awake-damage u 0)) (on_conditions-keeps s _ (awake-conditions u s _)))
+
+  tested-awake : (byte : ℕ) → Keeps (λ f a w. IsAwake u f) (set_tested byte)
+  unfolding set_tested
+  tested-awake byte = on_action-keeps (record { spared = λ f a w h. h })
+
+  test-awake : (s : Side) (base : ℕ) (o : Option Bool) → Keeps (λ f a w. IsAwake u f) (test_by s base o)
+  unfolding test_by hits_below
+  test-awake s base (Some true) = tested-awake base
+  test-awake s base (Some false) = then-keeps (tested-awake base) (miss-awake s)
+  test-awake s base None = given-keeps _ (λ byte. then-keeps (tested-awake byte) (draw-keeps (λ b. choose-keeps _ stay-keeps (miss-awake s))))
+
+  pub must_hit-awake : (s : Side) (move : Move) → Keeps (λ f a w. IsAwake u f) (must_hit s move)
+  unfolding must_hit hit_or_miss hit_test note_miss
+  must_hit-awake s move = then-keeps (given-keeps _ (λ base. given-keeps _ (test-awake s base))) (choose-keeps _ (then-keeps (note-keeps _) stop-keeps) stay-keeps)
+
+  pub fails_if-awake : (s : Side) (test : Progress → Bool) → Keeps (λ f a w. IsAwake u f) (fails_if s test)
+  unfolding fails_if fail
+  fails_if-awake s test = choose-keeps _ (then-keeps (note-keeps _) stop-keeps) stay-keeps

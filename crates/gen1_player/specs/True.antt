@@ -196,10 +196,14 @@ MembersAgree = OfRuns λ one two r. SideHasAppeared (public_of r).one r.state.fi
 
 -- Who put a sleeping member to sleep
 
--- A member that is shown asleep sleeps by a move of the foe (1) or by Rest (2). The mark of the sleep clause is on it exactly if the clause
--- is on and a move of the foe put it to sleep.
+-- A member sleeps by a move of the foe (1) or by Rest (2) exactly if it is shown asleep.
+pub record HasCause (s : Seen) : Type 0 where
+  pub asleep : s.status ≡ kind_number kinds.Sleep → (s.asleep_by ≡ 1) ⊎ (s.asleep_by ≡ 2)
+  pub awake : s.status ≢ kind_number kinds.Sleep → (s.asleep_by ≢ 1) × (s.asleep_by ≢ 2)
+
+-- The mark of the sleep clause is on it exactly if the clause is on and a move of the foe put it to sleep.
 pub record IsAsleepBy (clause : Bool) (s : Seen) (m : Member) : Type 0 where
-  pub cause : s.status ≡ kind_number kinds.Sleep → (s.asleep_by ≡ 1) ⊎ (s.asleep_by ≡ 2)
+  pub cause : HasCause s
   pub mark : is_marked m.status ≡ (clause && (s.status == kind_number kinds.Sleep && s.asleep_by == 1))
 
 abbrev pub SideSleeps : Bool → PublicSide → Party → Type 0

@@ -38,9 +38,8 @@ pub fn actives_agree()
     ensures { ActivesAgree }
 {}
 
-/// After any run from the start, a member that is shown asleep sleeps by Rest or by a move of the foe; under the sleep clause it has the
-/// mark exactly if by the latter.
-#[tactic(auto, using(crate::proofs::Sleeping::sleepers_agree))]
+/// After any run from the start, a member sleeps by Rest or by a move of the foe exactly if it is shown asleep; under the sleep clause it
+/// has the mark exactly if by the latter.
 pub fn sleepers_agree()
     ensures { SleepersAgree }
 {}
