@@ -4,8 +4,9 @@
 //!
 //! BATTLES (200) are played between sample teams, with 1,000 nodes for each choice. They are played side by side, one on each thread.
 use gen1::{Side, Team};
+use gen1_search::leaf::{self, MatchUps};
 use gen1_search::league::{Bot, play};
-use gen1_search::{Dice, Prior, leaf};
+use gen1_search::{Dice, Prior};
 use rayon::prelude::*;
 use std::process::ExitCode;
 
@@ -23,7 +24,7 @@ fn rows(battles: u64, seed: u64) -> Vec<Row> {
         let mut seen = Vec::new();
         let outcome = play([Bot::Nodes(1000); 2], of, &prior, &mut dice, |battle| {
             if !battle.is_over() {
-                seen.push(leaf::features(battle));
+                seen.push(leaf::features(battle, &MatchUps::of(battle)));
             }
         });
         let end = match outcome.winner() {

@@ -2,10 +2,12 @@
 //! many positions, so it is quick and not exact; `Battle::odds` is exact.
 use crate::leaf::{conditions, number};
 use gen1::layout::{ACTIVE, MEMBER, SIDE, active, member};
-use gen1::{Battle, Conditions, Effect, Element, MoveId, Side, effectiveness, layout};
+use gen1::{Battle, Conditions, Effect, Element, MoveId, Side, Species, effectiveness, layout};
 
 /// Where the level is in a member (docs/LAYOUT.md).
 const LEVEL: usize = 1;
+/// Where the stats are in a member.
+const STATS: usize = 6;
 
 /// The mean of the factors that the damage draws.
 const MEAN: f32 = 0.925;
@@ -13,25 +15,45 @@ const MEAN: f32 = 0.925;
 /// One hit in five is taken to be critical.
 const CRITICAL: f32 = 1.2;
 
-/// An active member and its active block.
+/// A member with the stats, types and conditions that count for damage.
 #[derive(Clone, Copy)]
-struct Out<'a> {
+struct Fighter<'a> {
     member: &'a [u8],
-    block: &'a [u8],
+    /// Two bytes each: Attack, Defense, Speed, Special.
+    stats: &'a [u8],
+    types: [Element; 2],
+    conditions: u32,
 }
 
-impl<'a> Out<'a> {
+impl<'a> Fighter<'a> {
     /// The living active member of a side.
-    fn of(bytes: &'a [u8]) -> Option<Self> {
+    fn out(bytes: &'a [u8]) -> Option<Self> {
         let (members, block) = bytes.split_at(ACTIVE);
         let at = usize::from(block[active::PLACE]).checked_sub(1)?;
         let member = &members[MEMBER * at..][..MEMBER];
-        (number(member, member::HP) > 0).then_some(Out { member, block })
+        // The bytes of a battle are types.
+        let kind = |at| Element::new(block[active::TYPES + at]).unwrap_or(Element::Normal);
+        (number(member, member::HP) > 0).then_some(Fighter {
+            member,
+            stats: &block[active::STAGES + 6..],
+            types: [kind(0), kind(1)],
+            conditions: conditions(block),
+        })
     }
 
-    /// A current stat: 0 Attack, 1 Defense, 2 Speed, 3 Special.
+    /// A member as it comes out.
+    fn fresh(member: &'a [u8]) -> Option<Self> {
+        let species = Species::new(member[member::SPECIES])?;
+        Some(Fighter {
+            member,
+            stats: &member[STATS..],
+            types: species.types(),
+            conditions: 0,
+        })
+    }
+
     fn stat(self, at: usize) -> u16 {
-        number(self.block, active::STAGES + 6 + 2 * at)
+        number(self.stats, 2 * at)
     }
 
     fn hp(self) -> f32 {
@@ -49,7 +71,7 @@ impl<'a> Out<'a> {
     }
 
     /// The expected damage of a move to a foe, a miss counting as 0; `None` if it is no move of damage.
-    fn damage(self, foe: Out<'_>, id: MoveId) -> Option<f32> {
+    fn damage(self, foe: Fighter<'_>, id: MoveId) -> Option<f32> {
         let hit = match id.effect() {
             Effect::NeverMisses => 1.0,
             _ => f32::from(id.accuracy_byte()) / 256.0,
@@ -66,14 +88,14 @@ impl<'a> Out<'a> {
     }
 
     /// The mean damage of a hit by the formula.
-    fn usual_damage(self, foe: Out<'_>, id: MoveId) -> f32 {
+    fn usual_damage(self, foe: Fighter<'_>, id: MoveId) -> f32 {
         let kind = id.kind();
         let (attack, defense, screen) = if kind.is_special() {
             (3, 3, Conditions::LIGHT_SCREEN)
         } else {
             (0, 1, Conditions::REFLECT)
         };
-        let screened = conditions(foe.block) & screen.bits() != 0;
+        let screened = foe.conditions & screen.bits() != 0;
         let screen = if screened { 0.5 } else { 1.0 };
         let quotient = f32::from(self.stat(attack)) / f32::from(foe.stat(defense).max(1));
         let level = f32::from(self.member[LEVEL]);
@@ -83,17 +105,11 @@ impl<'a> Out<'a> {
     }
 
     /// The factor of a move's type, for its user's types and the foe's.
-    fn factor(self, foe: Out<'_>, kind: Element) -> f32 {
-        let [first, second] = foe.types();
+    fn factor(self, foe: Fighter<'_>, kind: Element) -> f32 {
+        let [first, second] = foe.types;
         let (one, two) = effectiveness(kind, first, second);
-        let is_own = self.types().contains(&kind);
+        let is_own = self.types.contains(&kind);
         f32::from(one) * f32::from(two) * if is_own { 0.015 } else { 0.01 }
-    }
-
-    fn types(self) -> [Element; 2] {
-        // The bytes of a battle are types.
-        let at = |at| Element::new(self.block[active::TYPES + at]).unwrap_or(Element::Normal);
-        [at(0), at(1)]
     }
 }
 
@@ -112,7 +128,7 @@ fn times(effect: Effect) -> f32 {
 /// PP, and if a member that is out has no HP.
 pub fn shares(battle: &Battle) -> [[Option<f32>; 4]; 2] {
     let bytes = battle.as_bytes();
-    let [one, two] = Side::BOTH.map(|it| Out::of(&bytes[layout::side(it)..][..SIDE]));
+    let [one, two] = Side::BOTH.map(|it| Fighter::out(&bytes[layout::side(it)..][..SIDE]));
     let (Some(one), Some(two)) = (one, two) else {
         return [[None; 4]; 2];
     };
@@ -124,9 +140,23 @@ pub fn shares(battle: &Battle) -> [[Option<f32>; 4]; 2] {
     })
 }
 
+/// The share of the maximum HP of a foe that the best move of a member that comes out is expected to take, at most 1. Explosion, after which
+/// there is no match-up, is left out.
+pub fn best_share(own: &[u8], foe: &[u8]) -> f32 {
+    let (Some(own), Some(foe)) = (Fighter::fresh(own), Fighter::fresh(foe)) else {
+        return 0.0;
+    };
+    let usable = (0..4).filter_map(|slot| own.usable(slot));
+    let usable = usable.filter(|id| id.effect() != Effect::Explode);
+    let best = usable
+        .filter_map(|id| own.damage(foe, id))
+        .fold(0.0, f32::max);
+    (best / f32::from(number(foe.member, member::MAX_HP))).min(1.0)
+}
+
 #[cfg(test)]
 mod tests {
-    use super::{CRITICAL, shares, times};
+    use super::{CRITICAL, best_share, shares, times};
     use alloc::vec::Vec;
     use gen1::{Battle, Choice, Effect, MoveId, Side, Species, Team, layout, member};
 
@@ -146,6 +176,23 @@ mod tests {
                 && !matches!(id.effect(), Effect::DreamEater | Effect::LeftOut)
         };
         MoveId::all().filter(is_usual).collect()
+    }
+
+    /// As two members come out, the best share of one is that of its slots, but for Explosion.
+    #[test]
+    fn the_best_share_is_that_of_a_member_that_is_out() {
+        let of = |at: u8| gen1::sample_members(at).unwrap().to_vec();
+        for (own, foe) in (1..=12).flat_map(|own| (1..=12).map(move |foe| (of(own), of(foe)))) {
+            let [one, two] = [&own, &foe].map(|specs| Team::new(specs).unwrap());
+            let mut battle = Battle::new(&one, &two, [7; 10]);
+            battle.update_silent(Choice::Pass, Choice::Pass).unwrap();
+            let slots = own[0].moves.iter().zip(shares(&battle)[0]);
+            let slots = slots.filter(|((id, _), _)| id.effect() != Effect::Explode);
+            let due = slots.filter_map(|(_, share)| share).fold(0.0, f32::max);
+            let member = |side| &battle.as_bytes()[layout::side(side)..][..layout::MEMBER];
+            let best = best_share(member(Side::One), member(Side::Two));
+            assert!((best - due).abs() < 1e-6, "{best} {due}");
+        }
     }
 
     /// It differs from the exact odds of the engine by their rounding only.

@@ -1,84 +1,205 @@
-//! The value of a battle without a search: from HP, status, stages and conditions, with weights that were fitted to battles.
+//! The value of a battle without a search: from HP, status, stages, conditions and match-ups, with weights that were fitted to battles.
+use crate::expected::best_share;
+use core::cmp::Ordering;
 use gen1::layout::{ACTIVE, MEMBER, SIDE, active, member};
 use gen1::{Battle, Conditions, Side, layout};
 
+/// Where Defense and Speed are in a member (docs/LAYOUT.md).
+const DEFENSE: usize = 8;
+const SPEED: usize = 10;
+
 /// The number of features.
-pub const COUNT: usize = 20;
+pub const COUNT: usize = 27;
 
 /// The weights of the features, in the order of [`features`].
 ///
-/// Each is the change of [`score`] by 1 of the feature. They are the result of `cargo run --release --example fit -- 400 2`: a
-/// logistic regression on battles of the bot against itself, between sample teams, with 1,000 nodes for each choice.
+/// Each is the change of [`score`] by 1 of the feature. They are those of a logistic regression on 2,700 battles of the bot against itself,
+/// between sample teams, with 600 nodes for each choice. `cargo run --release --example fit -- 400 2` fits them to new battles.
 pub const WEIGHTS: [f64; COUNT] = [
-    0.29, 1.01, -0.42, -0.35, -0.33, -0.17, 0.0, -0.06, 0.0, 0.2, 0.05, 0.0, 0.0, 0.04, 0.0, -0.27,
-    0.08, 0.0, -0.18, 0.11,
+    0.69, -0.95, -0.57, -0.63, -0.23, -0.63, 0.0, 0.41, 0.0, -0.02, 0.08, 0.0, 0.0, -0.08, 0.0,
+    -0.13, 0.02, 0.0, -0.19, 0.0, 0.41, 0.41, 0.37, 0.67, 0.65, 0.6, 0.34,
 ];
 
 /// The differences between side 1 and side 2, side 1's first, in these features:
 ///
 /// 0 living members, 1 their HP as shares of the maximum; how many of them are 2 asleep, 3 frozen, 4 paralysed, 5 burned, 6 poisoned; of the
 /// active member the stages of 7 Attack, 8 Defense, 9 Speed, 10 Special, 11 accuracy and 12 evasion, and whether it has 13 a Substitute,
-/// 14 Leech Seed, 15 confusion, 16 Reflect, 17 Light Screen, 18 to recharge; and 19 its HP as a share of the maximum.
+/// 14 Leech Seed, 15 confusion, 16 Reflect, 17 Light Screen, 18 to recharge; and 19 its HP as a share of the maximum; the members' HP as
+/// shares times 20 the maximum HP, 21 Defense and 22 Speed, each as a share of 300. Then the differences as shares of the sums of 23 living
+/// members and 24 their HP; 25 what [`MatchUps`] say of the members that live; and 26 the share of the other's HP that the best move of the
+/// faster active member is expected to take.
 #[must_use]
-pub fn features(battle: &Battle) -> [f64; COUNT] {
+pub fn features(battle: &Battle, match_ups: &MatchUps) -> [f64; COUNT] {
     let bytes = battle.as_bytes();
-    let [one, two] = Side::BOTH.map(|it| side(&bytes[layout::side(it)..][..SIDE]));
-    core::array::from_fn(|at| f64::from(one[at] - two[at]))
+    let [one, two] = Side::BOTH.map(|it| Seen::of(&bytes[layout::side(it)..][..SIDE]));
+    let mut all: [f64; COUNT] = core::array::from_fn(|at| f64::from(one.found[at] - two.found[at]));
+    let relative = |one: f32, two: f32| f64::from((one - two) / (one + two).max(f32::MIN_POSITIVE));
+    all[23] = relative(one.found[0], two.found[0]);
+    all[24] = relative(one.found[1], two.found[1]);
+    all[25] = f64::from(match_ups.balance(&one, &two));
+    all[26] = f64::from(match_ups.first_hit(&one, &two));
+    all
 }
 
-/// The features of one side.
-fn side(bytes: &[u8]) -> [f32; COUNT] {
-    let mut found = [0.0; COUNT];
-    let (members, block) = bytes.split_at(ACTIVE);
-    for (at, bytes) in members.chunks_exact(MEMBER).enumerate() {
-        let hp = number(bytes, member::HP);
-        if hp == 0 {
-            continue;
-        }
-        let share = f32::from(hp) / f32::from(number(bytes, member::MAX_HP));
-        found[0] += 1.0;
-        found[1] += share;
-        let status = match bytes[member::STATUS] {
-            0 => None,
-            1..8 => Some(2),
-            32 => Some(3),
-            64 => Some(4),
-            16 => Some(5),
-            _ => Some(6),
+/// For each side, member and foe: the share of the foe's maximum HP that the member's best move is expected to take as both come out. It
+/// stays nearly the same through a battle, so a search computes it once.
+#[derive(Clone, Debug)]
+pub struct MatchUps([[[f32; 6]; 6]; 2]);
+
+impl MatchUps {
+    /// The match-ups of the members of a battle.
+    #[must_use]
+    pub fn of(battle: &Battle) -> Self {
+        let bytes = battle.as_bytes();
+        let members = |side, at| &bytes[layout::side(side) + MEMBER * at..][..MEMBER];
+        let of_side = |side: Side| {
+            core::array::from_fn(|own| {
+                let best = |foe| best_share(members(side, own), members(side.other(), foe));
+                core::array::from_fn(best)
+            })
         };
-        if let Some(status) = status {
-            found[status] += 1.0;
+        MatchUps(Side::BOTH.map(of_side))
+    }
+
+    /// The sum of the match-ups of all pairs that live, over the number of the smaller side's members. A match-up is near 1 if side 1's
+    /// member knocks out the other long before that knocks it out, and near -1 in the reverse case.
+    fn balance(&self, one: &Seen, two: &Seen) -> f32 {
+        /// What a member without damage is taken to deal.
+        const LEAST: f32 = 0.02;
+        let mut sum = 0.0;
+        for (own, first) in one.living() {
+            for (foe, second) in two.living() {
+                let [own, foe] = [
+                    self.0[0][own][foe] * first.acts,
+                    self.0[1][foe][own] * second.acts,
+                ];
+                let own = (own + LEAST * second.share) * first.share;
+                let foe = (foe + LEAST * first.share) * second.share;
+                sum += (own - foe) / (own + foe);
+            }
         }
-        if at + 1 == usize::from(block[active::PLACE]) {
-            found[19] = share;
-            of_active(block, &mut found);
+        sum / one.found[0].min(two.found[0]).max(1.0)
+    }
+
+    /// The share of the other's HP that the faster active member is expected to take, below 0 if it is side 2's.
+    fn first_hit(&self, one: &Seen, two: &Seen) -> f32 {
+        let (Some(own), Some(foe)) = (one.out, two.out) else {
+            return 0.0;
+        };
+        let hit = |share: f32, by: &Seen, to: &Seen, foe: usize| {
+            (share / to.members[foe].share).min(1.0) * by.acts_next
+        };
+        match one.speed.cmp(&two.speed) {
+            Ordering::Greater => hit(self.0[0][own][foe], one, two, foe),
+            Ordering::Less => -hit(self.0[1][foe][own], two, one, own),
+            Ordering::Equal => 0.0,
         }
     }
-    found
+}
+
+/// A member's HP as a share of its maximum, and how much of its turns it acts in.
+#[derive(Clone, Copy, Default)]
+struct Living {
+    share: f32,
+    acts: f32,
+}
+
+/// What counts of one side.
+struct Seen {
+    found: [f32; COUNT],
+    members: [Living; 6],
+    /// The active member, if it lives, its Speed, and how probably it acts in its next turn.
+    out: Option<usize>,
+    speed: u16,
+    acts_next: f32,
+}
+
+impl Seen {
+    fn of(bytes: &[u8]) -> Self {
+        let (members, block) = bytes.split_at(ACTIVE);
+        let mut seen = Seen {
+            found: [0.0; COUNT],
+            members: [Living::default(); 6],
+            out: None,
+            speed: number(block, active::STAGES + 10),
+            acts_next: 0.0,
+        };
+        let out = usize::from(block[active::PLACE]);
+        for (at, bytes) in members.chunks_exact(MEMBER).enumerate() {
+            let hp = number(bytes, member::HP);
+            if hp > 0 {
+                seen.add(at, bytes, hp);
+            }
+            if hp > 0 && at + 1 == out {
+                seen.out = Some(at);
+                seen.add_active(at, block);
+            }
+        }
+        seen
+    }
+
+    /// The members that live.
+    fn living(&self) -> impl Iterator<Item = (usize, Living)> + '_ {
+        let all = self.members.iter().copied().enumerate();
+        all.filter(|(_, it)| it.share > 0.0)
+    }
+
+    /// Adds a member that lives.
+    fn add(&mut self, at: usize, bytes: &[u8], hp: u16) {
+        let most = f32::from(number(bytes, member::MAX_HP));
+        let share = f32::from(hp) / most;
+        self.found[0] += 1.0;
+        self.found[1] += share;
+        let (status, acts) = match bytes[member::STATUS] {
+            0 => (None, 1.0),
+            1..8 => (Some(2), 0.5),
+            32 => (Some(3), 0.1),
+            64 => (Some(4), 0.75),
+            16 => (Some(5), 1.0),
+            _ => (Some(6), 1.0),
+        };
+        if let Some(status) = status {
+            self.found[status] += 1.0;
+        }
+        let stats = [
+            most,
+            f32::from(number(bytes, DEFENSE)),
+            f32::from(number(bytes, SPEED)),
+        ];
+        for (sum, stat) in self.found[20..].iter_mut().zip(stats) {
+            *sum += share * stat / 300.0;
+        }
+        self.members[at] = Living { share, acts };
+    }
+
+    /// Adds what counts of the active member only.
+    fn add_active(&mut self, at: usize, block: &[u8]) {
+        const SHOWN: [(usize, Conditions); 6] = [
+            (13, Conditions::SUBSTITUTE),
+            (14, Conditions::SEEDED),
+            (15, Conditions::CONFUSED),
+            (16, Conditions::REFLECT),
+            (17, Conditions::LIGHT_SCREEN),
+            (18, Conditions::RECHARGE),
+        ];
+        for (at, stage) in block[active::STAGES..][..6].iter().enumerate() {
+            self.found[7 + at] = f32::from(*stage) - 6.0;
+        }
+        let conditions = conditions(block);
+        for (at, which) in SHOWN {
+            self.found[at] = f32::from(u8::from(conditions & which.bits() != 0));
+        }
+        let Living { share, acts } = self.members[at];
+        self.found[19] = share;
+        // A member that sleeps or is frozen doesn't act, and one that wakes loses that turn.
+        let is_kept = acts < 0.75 || conditions & Conditions::RECHARGE.bits() != 0;
+        self.acts_next = if is_kept { 0.0 } else { acts };
+    }
 }
 
 /// The number of two bytes.
 pub(crate) fn number(bytes: &[u8], at: usize) -> u16 {
     u16::from_le_bytes([bytes[at], bytes[at + 1]])
-}
-
-/// The features of an active member that lives.
-fn of_active(block: &[u8], found: &mut [f32; COUNT]) {
-    const SHOWN: [(usize, Conditions); 6] = [
-        (13, Conditions::SUBSTITUTE),
-        (14, Conditions::SEEDED),
-        (15, Conditions::CONFUSED),
-        (16, Conditions::REFLECT),
-        (17, Conditions::LIGHT_SCREEN),
-        (18, Conditions::RECHARGE),
-    ];
-    for (at, stage) in block[active::STAGES..][..6].iter().enumerate() {
-        found[7 + at] = f32::from(*stage) - 6.0;
-    }
-    let conditions = conditions(block);
-    for (at, which) in SHOWN {
-        found[at] = f32::from(u8::from(conditions & which.bits() != 0));
-    }
 }
 
 /// The bits of the conditions of an active block.
@@ -115,11 +236,11 @@ pub fn squashed(score: f64) -> f64 {
     0.5 + 0.5 * half * (27.0 + square) / (27.0 + 9.0 * square)
 }
 
-/// How often side 1 is estimated to win.
+/// How often side 1 is estimated to win. The match-ups are those of the battle, or of one of its earlier positions.
 #[must_use]
-pub fn value(battle: &Battle) -> f64 {
+pub fn value(battle: &Battle, match_ups: &MatchUps) -> f64 {
     match battle.outcome() {
-        gen1::Outcome::Ongoing => squashed(score(&features(battle), &WEIGHTS)),
+        gen1::Outcome::Ongoing => squashed(score(&features(battle, match_ups), &WEIGHTS)),
         outcome => match outcome.winner() {
             Some(Side::One) => 1.0,
             Some(Side::Two) => 0.0,

@@ -1,6 +1,7 @@
 //! A search from what one side knows, with guesses of the rest.
+use crate::leaf::{self, MatchUps};
 use crate::tree::{Root, Sum, Tree, way_from};
-use crate::{Dice, Prior, leaf};
+use crate::{Dice, Prior};
 use alloc::string::String;
 use alloc::vec::Vec;
 use core::fmt;
@@ -223,9 +224,9 @@ fn forced(
     dice: &mut Dice,
 ) -> Thought {
     let guess = guess(player, prior, options, dice);
-    let value = guess
-        .as_ref()
-        .map_or(0.5, |it| of_side(player.side(), leaf::value(it)));
+    let value = guess.as_ref().map_or(0.5, |it| {
+        of_side(player.side(), leaf::value(it, &MatchUps::of(it)))
+    });
     let words = guess.map_or_else(
         |_| String::from("pass"),
         |it| choice_words(&it, player.side(), only),

@@ -3,7 +3,8 @@
 //! Each pass draws numbers for a fork, and plays choices until it meets a position without a node, whose leaf value goes back along the
 //! pass. Battles that share a node have the same members out, with the same moves, status, stages and conditions, and HP in the same
 //! eighth; which numbers were drawn on the way makes no difference otherwise.
-use crate::{Dice, expected, leaf};
+use crate::leaf::{self, MatchUps};
+use crate::{Dice, expected};
 use alloc::vec::Vec;
 use core::num::NonZeroUsize;
 use core::ops::Range;
@@ -97,6 +98,7 @@ pub struct Tree<'a> {
     slots: Vec<(u64, u32)>,
     nodes: Vec<Node>,
     pub root: Root,
+    match_ups: Vec<MatchUps>,
     dice: Dice,
 }
 
@@ -112,6 +114,7 @@ impl<'a> Tree<'a> {
         Tree {
             side,
             guesses,
+            match_ups: guesses.iter().map(MatchUps::of).collect(),
             root: Root {
                 regrets: alloc::vec![0.0; choices],
                 passes: 0.0,
@@ -132,7 +135,7 @@ impl<'a> Tree<'a> {
         let mut battle = self.guesses[guess].clone();
         battle.reseed(self.dice.numbers());
         let steps = self.played(&mut battle);
-        let value = leaf::value(&battle);
+        let value = leaf::value(&battle, &self.match_ups[guess]);
         for (at, step) in steps.iter().enumerate().rev() {
             self.learn(*step, value as f32, at == 0);
         }

@@ -1,5 +1,6 @@
 //! Values that are known without the solver, and what the bot may and may not know.
 use gen1::{Battle, Choice, OutcomeOptions, Player, Side, Team, Teller, TurnLimit, member};
+use gen1_search::leaf::{self, MatchUps};
 use gen1_search::matrix::best_play;
 use gen1_search::{
     Dice, Pp, Prior, PriorFault, SolveFault, SolveOptions, Solver, Stopped, TableFault, ThinkFault,
@@ -485,6 +486,30 @@ fn the_bot_knocks_out() {
         "{thought:?}"
     );
     assert_eq!(first.line[0][0], "Slash");
+}
+
+#[test]
+fn the_leaf_features_of_exchanged_sides_are_the_opposite() {
+    let prior = Prior::samples();
+    let teams: Vec<Team> = prior
+        .teams()
+        .iter()
+        .map(|(specs, _)| Team::new(specs).unwrap())
+        .collect();
+    let features = |one: &Team, two: &Team| {
+        let mut battle = Battle::new(one, two, [7; 10]);
+        battle.update_silent(Choice::Pass, Choice::Pass).unwrap();
+        leaf::features(&battle, &MatchUps::of(&battle))
+    };
+    for (one, two) in teams
+        .iter()
+        .flat_map(|one| teams.iter().map(move |two| (one, two)))
+    {
+        let both = features(one, two).into_iter().zip(features(two, one));
+        for (at, (first, second)) in both.enumerate() {
+            assert!((first + second).abs() < 1e-4, "{at}: {first} {second}");
+        }
+    }
 }
 
 #[test]
