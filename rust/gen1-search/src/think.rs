@@ -163,9 +163,9 @@ impl Thought {
 /// Searches for a side's best choice, from its player's view alone.
 ///
 /// The foe's team is guessed from the prior ([`Prior::guess`]), and [`Battle::from_player`] makes battles that fit. Each tree plays passes
-/// through them: both sides choose at once by regret matching, each pass draws its own numbers, and ends at a position that is new to the
-/// tree with its leaf value ([`leaf::value`]). At the root the side's regrets are those of all guesses together, so its strategy does not
-/// depend on what it doesn't know. Below it moves that are expected to deal much damage are tried first. The strategies of the trees are
+/// through them: both sides choose at once, each by what its own choices got, each pass draws its own numbers, and ends at a position that
+/// is new to the tree with its leaf value ([`leaf::value`]). At the root the side's sums are those of all guesses together, so its strategy
+/// does not depend on what it doesn't know. Moves that are expected to deal much damage are tried first. The strategies of the trees are
 /// averaged.
 ///
 /// ```
@@ -287,7 +287,7 @@ fn guesses(
     }
 }
 
-/// What is kept of a tree that was searched. The tree itself has up to 800 bytes for each node.
+/// What is kept of a tree that was searched. The tree itself has up to 300 bytes for each node.
 struct Searched {
     root: Root,
     nodes: u64,

@@ -1,8 +1,9 @@
-//! A search tree of choices that both sides make at once, by regret matching.
+//! A search tree of choices that both sides make at once.
 //!
 //! Each pass draws numbers for a fork, and plays choices until it meets a position without a node, whose leaf value goes back along the
-//! pass. Battles that share a node have the same members out, with the same moves, status, stages and conditions, and HP in the same
-//! eighth; which numbers were drawn on the way makes no difference otherwise.
+//! pass. Each side chooses by what its own choices got, as if the foe's choice were one of the draws: a node has numbers for each choice
+//! and not for each pair, so few passes tell the choices apart. Battles that share a node have the same members out, with the same moves,
+//! status, stages and conditions, and HP in the same eighth; which numbers were drawn on the way makes no difference otherwise.
 use crate::leaf::{self, MatchUps};
 use crate::{Dice, expected};
 use alloc::vec::Vec;
@@ -15,15 +16,27 @@ use gen1::{ArrayVec, Battle, Choice, Offered, OfferedMask, Side};
 const DEPTH: usize = 64;
 /// Up to so many nodes have their memory from the start. A search by time, which may have any number, takes it as it is needed.
 const MOST_EXPECTED: u64 = 1 << 16;
-/// How often a side explores, by any of its choices.
-const EXPLORED: f32 = 0.03;
-/// The sum of the first regrets of a side.
-const EXPECTED: f32 = 0.5;
+/// How much a side explores: with less, the tree is deeper and narrower.
+const EXPLORED: f32 = 0.4;
 
-/// Where the numbers of a node begin, and how many choices it has. A node gets numbers when it is met again: most nodes never are.
-///
-/// The numbers: for each side the regrets of its choices; then for each pair of choices how often it was played, and the sum of what
-/// side 1 got.
+/// A choice of a side at a node: how much of the side's play it is expected to be, how often the side made it, and the sum of what the
+/// side got.
+#[derive(Clone, Copy, Debug, Default)]
+struct Arm {
+    expected: f32,
+    made: f32,
+    got: f32,
+}
+
+impl Arm {
+    fn learn(&mut self, value: f32) {
+        self.made += 1.0;
+        self.got += value;
+    }
+}
+
+/// Where the arms of a node begin, side 1's first, and how many choices each side has. A node gets arms when it is met again: most nodes
+/// never are.
 #[derive(Clone, Copy, Debug)]
 struct Node {
     begin: Option<NonZeroUsize>,
@@ -66,23 +79,20 @@ impl Sum {
 /// The numbers of the side that thinks at the root, which are the same for all guesses.
 #[derive(Clone, Debug)]
 pub struct Root {
-    regrets: Vec<f32>,
+    arms: Vec<Arm>,
     passes: f64,
-    /// The sum of the strategies of all passes, each with the number of its pass as its weight: later passes know more.
+    /// How often each choice was made, each time with the number of its pass as its weight: later passes know more.
     pub strategy: Vec<f64>,
     /// What the side that thinks got with each choice, in the second half of the passes.
     pub got: Vec<Sum>,
 }
 
 impl Root {
-    /// Adds the strategy of a pass, by its regrets.
-    fn add_strategy(&mut self, regrets: &[f32]) {
-        let mut shares = [0.0; 16];
-        strategy(regrets, &mut shares);
+    /// Notes what the side that thinks got with a choice.
+    fn learn(&mut self, choice: usize, value: f32) {
+        self.arms[choice].learn(value);
         self.passes += 1.0;
-        for (sum, share) in self.strategy.iter_mut().zip(shares) {
-            *sum += self.passes * f64::from(share);
-        }
+        self.strategy[choice] += self.passes;
     }
 }
 
@@ -93,7 +103,7 @@ impl Root {
 pub struct Tree<'a> {
     side: Side,
     guesses: &'a [Battle],
-    numbers: Vec<f32>,
+    arms: Vec<Arm>,
     /// Open addressing by the hash of a node: the hash, and the number of the node.
     slots: Vec<(u64, u32)>,
     nodes: Vec<Node>,
@@ -116,7 +126,7 @@ impl<'a> Tree<'a> {
             guesses,
             match_ups: guesses.iter().map(MatchUps::of).collect(),
             root: Root {
-                regrets: alloc::vec![0.0; choices],
+                arms: alloc::vec![Arm::default(); choices],
                 passes: 0.0,
                 strategy: alloc::vec![0.0; choices],
                 got: alloc::vec![Sum::default(); choices],
@@ -124,7 +134,7 @@ impl<'a> Tree<'a> {
             nodes: Vec::with_capacity(expected),
             slots: alloc::vec![(0, 0); (2 * expected + 1).next_power_of_two().max(1 << 10)],
             // No node begins at 0.
-            numbers: alloc::vec![0.0],
+            arms: alloc::vec![Arm::default()],
             dice: Dice::new(seed),
         }
     }
@@ -167,9 +177,9 @@ impl<'a> Tree<'a> {
                 break;
             };
             if self.nodes[node].begin.is_none() {
-                self.begin(node, battle, ones, twos);
+                self.begin(node, battle, [ones, twos]);
             }
-            let (one, two) = self.chosen(node, steps.is_empty());
+            let [one, two] = self.chosen(node, steps.is_empty());
             steps.push(Step { node, one, two });
             let (Some(first), Some(second)) = (ones.get(one), twos.get(two)) else {
                 break;
@@ -210,17 +220,20 @@ impl<'a> Tree<'a> {
         None
     }
 
-    /// Gives a node its numbers. Its first regrets make strong moves probable: of even choices most would be switches.
-    fn begin(&mut self, node: usize, battle: &Battle, ones: OfferedMask, twos: OfferedMask) {
-        let begin = self.numbers.len();
-        let (rows, columns) = self.nodes[node].sizes();
-        self.numbers
-            .resize(begin + rows + columns + 2 * rows * columns, 0.0);
-        self.nodes[node].begin = NonZeroUsize::new(begin);
-        let (first, second) = self.numbers[begin..][..rows + columns].split_at_mut(rows);
-        let [one, two] = expected::shares(battle);
-        expect(first, ones, &one);
-        expect(second, twos, &two);
+    /// Gives a node its arms.
+    fn begin(&mut self, node: usize, battle: &Battle, offered: [OfferedMask; 2]) {
+        self.nodes[node].begin = NonZeroUsize::new(self.arms.len());
+        for (offered, shares) in offered.into_iter().zip(expected::shares(battle)) {
+            let begin = self.arms.len();
+            self.arms.extend(offered.iter().map(|it| Arm {
+                expected: weight(it, &shares),
+                ..Arm::default()
+            }));
+            let sum: f32 = self.arms[begin..].iter().map(|it| it.expected).sum();
+            for arm in &mut self.arms[begin..] {
+                arm.expected /= sum;
+            }
+        }
     }
 
     fn grow(&mut self) {
@@ -236,61 +249,50 @@ impl<'a> Tree<'a> {
         }
     }
 
-    /// A choice of each side, by its regrets, or sometimes any. At the root the regrets of the side that thinks are those of all guesses.
-    fn chosen(&mut self, node: usize, is_root: bool) -> (usize, usize) {
-        if is_root {
-            let own = self.own_regrets(node);
-            self.numbers[own].copy_from_slice(&self.root.regrets);
+    /// The choice of each side. At the root that of the side that thinks is by the arms of all guesses.
+    fn chosen(&mut self, node: usize, is_root: bool) -> [usize; 2] {
+        if is_root && self.root.passes == 0.0 {
+            let own = self.own_arms(node);
+            self.root.arms.copy_from_slice(&self.arms[own]);
         }
-        let (rows, columns) = self.nodes[node].sizes();
-        let regrets = &self.numbers[self.numbers_of(node)..][..rows + columns];
-        let (one, two) = regrets.split_at(rows);
-        (picked(one, &mut self.dice), picked(two, &mut self.dice))
+        let [one, two] = self.arms_of(node);
+        let both = match (is_root, self.side) {
+            (false, _) => [one, two],
+            (true, Side::One) => [&self.root.arms, two],
+            (true, Side::Two) => [one, &self.root.arms],
+        };
+        both.map(picked)
     }
 
-    /// Where the numbers of a node begin.
-    fn numbers_of(&self, node: usize) -> usize {
-        self.nodes[node].begin.map_or(0, NonZeroUsize::get)
-    }
-
-    /// Where the regrets of the side that thinks are in the numbers.
-    fn own_regrets(&self, node: usize) -> Range<usize> {
+    /// Where the arms of the side that thinks are.
+    fn own_arms(&self, node: usize) -> Range<usize> {
         let (rows, columns) = self.nodes[node].sizes();
-        let begin = self.numbers_of(node);
+        let begin = self.nodes[node].begin.map_or(0, NonZeroUsize::get);
         match self.side {
             Side::One => begin..begin + rows,
             Side::Two => begin + rows..begin + rows + columns,
         }
     }
 
-    /// Notes what side 1 got by a pass through a node, and what each side missed.
+    /// The arms of each side at a node.
+    fn arms_of(&self, node: usize) -> [&[Arm]; 2] {
+        let (rows, columns) = self.nodes[node].sizes();
+        let begin = self.nodes[node].begin.map_or(0, NonZeroUsize::get);
+        let (one, two) = self.arms[begin..][..rows + columns].split_at(rows);
+        [one, two]
+    }
+
+    /// Notes what side 1 got by a pass through a node.
     fn learn(&mut self, step: Step, value: f32, is_root: bool) {
-        let own = self.own_regrets(step.node);
+        let (rows, _) = self.nodes[step.node].sizes();
+        let begin = self.nodes[step.node].begin.map_or(0, NonZeroUsize::get);
+        self.arms[begin + step.one].learn(value);
+        self.arms[begin + rows + step.two].learn(1.0 - value);
         if is_root {
-            self.root.add_strategy(&self.numbers[own.clone()]);
-        }
-        let (rows, columns) = self.nodes[step.node].sizes();
-        let begin = self.numbers_of(step.node);
-        let (regrets, cells) = self.numbers[begin..].split_at_mut(rows + columns);
-        let (ones, twos) = regrets.split_at_mut(rows);
-        let cell = |one: usize, two: usize| 2 * (one * columns + two);
-        let at = cell(step.one, step.two);
-        cells[at] += 1.0;
-        cells[at + 1] += value;
-        let missed = |at: usize, sign: f32| match cells[at] > 0.0 {
-            true => sign * (cells[at + 1] / cells[at] - value),
-            false => 0.0,
-        };
-        let others = ones.iter_mut().enumerate();
-        for (other, regret) in others.filter(|(other, _)| *other != step.one) {
-            *regret = (*regret + missed(cell(other, step.two), 1.0)).max(0.0);
-        }
-        let others = twos.iter_mut().enumerate();
-        for (other, regret) in others.filter(|(other, _)| *other != step.two) {
-            *regret = (*regret + missed(cell(step.one, other), -1.0)).max(0.0);
-        }
-        if is_root {
-            self.root.regrets.copy_from_slice(&self.numbers[own]);
+            match self.side {
+                Side::One => self.root.learn(step.one, value),
+                Side::Two => self.root.learn(step.two, 1.0 - value),
+            }
         }
     }
 
@@ -307,18 +309,12 @@ impl<'a> Tree<'a> {
             slot = (slot + 1) & mask;
         }
         let at = self.slots[slot].1 as usize - 1;
-        let (rows, columns) = self.nodes[at].sizes();
-        let begin = self.nodes[at].begin?.get();
-        if (rows, columns) != (ones.len(), twos.len()) {
+        self.nodes[at].begin?;
+        if self.nodes[at].sizes() != (ones.len(), twos.len()) {
             return None;
         }
-        let cells = &self.numbers[begin + rows + columns..][..2 * rows * columns];
-        let mut made = [alloc::vec![0.0; rows], alloc::vec![0.0; columns]];
-        for (pair, cell) in cells.chunks_exact(2).enumerate() {
-            made[0][pair / columns] += cell[0];
-            made[1][pair % columns] += cell[0];
-        }
-        Some((at, made))
+        let made = |arms: &[Arm]| arms.iter().map(|it| it.made).collect();
+        Some((at, self.arms_of(at).map(made)))
     }
 }
 
@@ -327,54 +323,47 @@ pub fn way_from(node: usize, one: usize, two: usize) -> u64 {
     mixed(node as u64 + 1, (one * 16 + two) as u64)
 }
 
-/// The strategy of regrets: in proportion to them, or all equal if there are none.
-fn strategy(regrets: &[f32], shares: &mut [f32; 16]) {
-    let sum: f32 = regrets.iter().sum();
-    let even = 1.0 / regrets.len() as f32;
-    for (share, regret) in shares.iter_mut().zip(regrets) {
-        *share = if sum > 0.0 { regret / sum } else { even };
-    }
-}
-
-/// Sets the first regrets of a side: greater for a move by the share of the foe's HP that it takes, and small for a switch.
-fn expect(regrets: &mut [f32], offered: OfferedMask, shares: &[Option<f32>; 4]) {
-    if regrets.len() < 2 {
-        return;
-    }
-    let weight = |offered: Offered| match offered.choice() {
-        Choice::Move(slot) => {
-            let at = usize::from(slot.number()).checked_sub(1);
-            let share = at.and_then(|at| shares[at]);
-            share.map_or(0.4, |share| 0.2 + share)
-        }
-        _ => 0.1,
+/// How probable a choice is before it was tried: a move by the share of the foe's HP that it takes, and a switch seldom. Of even choices
+/// most would be switches.
+fn weight(offered: Offered, shares: &[Option<f32>; 4]) -> f32 {
+    let Choice::Move(slot) = offered.choice() else {
+        return 0.1;
     };
-    let mut sum = 0.0;
-    for (regret, offered) in regrets.iter_mut().zip(offered.iter()) {
-        *regret = weight(offered);
-        sum += *regret;
-    }
-    regrets.iter_mut().for_each(|it| *it *= EXPECTED / sum);
+    let at = usize::from(slot.number()).checked_sub(1);
+    let share = at.and_then(|at| shares[at]);
+    share.map_or(0.4, |share| 0.2 + share)
 }
 
-/// A choice by the strategy of regrets, or with the probability [`EXPLORED`] any.
-fn picked(regrets: &[f32], dice: &mut Dice) -> usize {
-    if regrets.len() < 2 {
+/// The choice with the greatest sum of its mean value and its bound, which is the greater the more often it is expected and the less
+/// often it was made. One that was never made has the mean of all.
+fn picked(arms: &[Arm]) -> usize {
+    if arms.len() < 2 {
         return 0;
     }
-    let sum: f32 = regrets.iter().sum();
-    let drawn = dice.share() as f32;
-    if sum <= 0.0 || drawn < EXPLORED {
-        return dice.below(regrets.len());
-    }
-    let mut left = (drawn - EXPLORED) / (1.0 - EXPLORED) * sum;
-    for (at, regret) in regrets.iter().enumerate() {
-        left -= regret;
-        if left < 0.0 {
-            return at;
+    let (made, got) = arms
+        .iter()
+        .fold((0.0, 0.0), |(made, got), it| (made + it.made, got + it.got));
+    let mean = if made > 0.0 { got / made } else { 0.5 };
+    let width = EXPLORED * root(made + 1.0);
+    let (mut best, mut most) = (0, f32::NEG_INFINITY);
+    for (at, arm) in arms.iter().enumerate() {
+        let value = if arm.made > 0.0 {
+            arm.got / arm.made
+        } else {
+            mean
+        };
+        let sum = value + width * arm.expected / (1.0 + arm.made);
+        if sum > most {
+            (best, most) = (at, sum);
         }
     }
-    regrets.iter().position(|regret| *regret > 0.0).unwrap_or(0)
+    best
+}
+
+/// The square root of a number from 1, at most 0.2 % off: half of its exponent, and one of Newton's steps. There is none without std.
+fn root(square: f32) -> f32 {
+    let near = f32::from_bits((square.to_bits() + 0x3f80_0000) >> 1);
+    0.5 * (near + square / near)
 }
 
 /// The class of a battle that was reached by a way: battles of one class share a node.
