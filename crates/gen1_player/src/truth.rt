@@ -38,8 +38,8 @@ pub fn actives_agree()
     ensures { ActivesAgree }
 {}
 
-/// After any run from the start, a member sleeps by Rest or by a move of the foe exactly if it is shown asleep; under the sleep clause it
-/// has the mark exactly if by the latter.
+/// After any run from the start, a member is said to sleep, by Rest or by a move of the foe, exactly if it is shown asleep; it has the mark
+/// of the sleep clause exactly if by the latter, with the clause on.
 pub fn sleepers_agree()
     ensures { SleepersAgree }
 {}
