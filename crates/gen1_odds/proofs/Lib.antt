@@ -5,6 +5,10 @@ pub mod Sums
 -- The hit test by its draw, and the phases that contain it.
 pub mod Tested
 pub mod Dealt
+-- The gate of a turn that begins, by its draws.
+pub mod Gated
+-- A side effect, by its draw.
+pub mod Harmed
 pub mod Counted
 -- The chances to knock out without the usual damage.
 pub mod FixedUses

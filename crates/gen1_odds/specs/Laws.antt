@@ -1,8 +1,13 @@
 -- What the odds say of the machine's own phases: of the hit test's draw, which values make a use hit. Each law is the
 -- contract of a function in src/laws.rt.
-use Rattle.std.specs.Prelude.{Bool, None, Option, Some, false, nat_le, not, true, ℕ, ◌+◌, ◌||◌, ◌≡◌, ◌≤◌}
-use Rattle.gen1_rolls.specs.Streams.{byte_at, first}
+use Rattle.std.specs.Prelude.{Bool, None, Option, Some, false, if◌then◌else◌, is_some, nat_le, nat_lt, not, true, ℕ, ◌+◌, ◌||◌, ◌≡◌, ◌≤◌}
+use Rattle.gen1_tables.specs.declared.effect.Effect.{Effect}
+use Rattle.gen1_tables.specs.declared.effect.Effect.TheVariants as effects
+use Rattle.gen1_rolls.specs.Streams.{byte_at, first, IsStream}
+use Rattle.gen1_machine.specs.declared.picks.Pick.{Pick}
 use Rattle.gen1_machine.specs.declared.side.Side.{Side}
+use Rattle.gen1_machine.specs.Action.{gate_or_held}
+use Rattle.gen1_machine.specs.Conditions.{without_flinch}
 use Rattle.gen1_machine.specs.Counter.{counter}
 use Rattle.gen1_machine.specs.Damage.{is_factor}
 use Rattle.gen1_machine.specs.EarlyEffects.{confuse_foe, paralyse_foe, poison_foe, seed_foe}
@@ -10,15 +15,21 @@ use Rattle.gen1_machine.specs.FixedDamage.{fixed_damage, knock_out}
 use Rattle.gen1_machine.specs.HitTest.{hit_or_miss, is_immune, must_hit}
 use Rattle.gen1_machine.specs.Landing.{breaks}
 use Rattle.gen1_machine.specs.Moves.{Move}
-use Rattle.gen1_machine.specs.Progress.{has_missed, Phase, Progress}
+use Rattle.gen1_machine.specs.Progress.{has_missed, on_conditions, Phase, Progress}
+use Rattle.gen1_machine.specs.Ruling.{ruling_of}
+use Rattle.gen1_machine.specs.SideEffects.{side_effect}
 use Rattle.gen1_machine.specs.Sides.{other}
-use Rattle.gen1_machine.specs.State.{active_in, Field}
+use Rattle.gen1_machine.specs.StageShift.{stage_in}
+use Rattle.gen1_machine.specs.State.{active_in, conditions_in, underway_in, Field, Terms}
+use Rattle.gen1_machine.specs.Valid.{IsField}
 use Rattle.gen1_multiturn.specs.Counter.{can_counter_in}
 use Rattle.gen1_odds.specs.declared.reasons.Reason.{Reason}
+use Rattle.gen1_odds.specs.Acting.{is_stopped, still_confused}
 use Rattle.gen1_odds.specs.KnockOut.{needed}
 use Rattle.gen1_odds.specs.Odds.{passes}
 use Rattle.gen1_odds.specs.Reasons.{confusion_reason, paralysis_reason, poison_reason, seed_reason}
-use Rattle.gen1_odds.specs.Trials.{goes_on_in, is_slower_in}
+use Rattle.gen1_odds.specs.SideEffects.{side_effect_draws}
+use Rattle.gen1_odds.specs.Trials.{goes_on_in, has_status_in, is_slower_in}
 
 -- An action of a side that has settled its move, and has neither missed nor stopped.
 pub record Acting (s : Side) (move : Move) (p : Progress) : Type 0 where
@@ -91,6 +102,44 @@ SeedCounts = StatusCounts seed_foe seed_reason
 
 abbrev pub ConfusionCounts : Type 0
 ConfusionCounts = StatusCounts confuse_foe confusion_reason
+
+-- A side effect shows after a hit exactly by the draws that are counted, where it didn't show before.
+
+abbrev pub shows : Effect → Side → Field → Field → Bool
+shows (effects.ConfusionChance n) s before after = is_some (conditions_in (other s) after).confused
+shows (effects.FlinchChance n) s before after = (conditions_in (other s) after).flinch
+shows effects.Recharge s before after = (underway_in s after).recharge
+shows (effects.StatDownChance stat) s before after = nat_lt (stage_in stat (other s) after) (stage_in stat (other s) before)
+shows (effects.PoisonChance n) s before after = has_status_in (other s) after
+shows effects.Twineedle s before after = has_status_in (other s) after
+shows (effects.BurnChance n) s before after = has_status_in (other s) after
+shows effects.FreezeChance s before after = has_status_in (other s) after
+shows (effects.ParalysisChance n) s before after = has_status_in (other s) after
+shows _ s before after = false
+
+-- A hit on a valid field, whose side effect comes next.
+pub record Hitting (t : Terms) (s : Side) (move : Move) (p : Progress) : Type 0 where
+  pub moves_on : p.stopped ≡ false
+  pub valid : IsField t p.field
+  pub bytes : IsStream p.stream
+  pub unharmed : shows move.effect s p.field p.field ≡ false
+
+abbrev pub SideEffectCounts : Type 0
+SideEffectCounts = (t : Terms) (s : Side) (move : Move) (p : Progress) → Hitting t s move p
+    → shows move.effect s p.field (side_effect (ruling_of t) s move move.effect p).field
+    ≡ nat_lt (byte_at p.stream p.drawn) (side_effect_draws t.rules s move p.field)
+
+-- The gate of a turn that begins stops a member by the draws that do not let it act. The draw for its paralysis comes after
+-- that for its confusion.
+
+abbrev pub after_confusion : Option ℕ → ℕ → ℕ
+after_confusion confused n = if still_confused confused then n + 1 else n
+
+abbrev pub GateCounts : Type 0
+GateCounts = (s : Side) (pick : Pick) (p : Progress) → p.stopped ≡ false
+    → let paralysis = after_confusion (conditions_in s p.field).confused p.drawn in
+    (gate_or_held s pick (on_conditions s without_flinch p)).stopped
+    ≡ is_stopped s pick p.field (byte_at p.stream p.drawn) (byte_at p.stream paralysis)
 
 -- A substitute breaks by the damage that is needed, and by no less. It has at most 249 HP.
 abbrev pub BreaksIfNeeded : Type 0

@@ -16,6 +16,8 @@ use Rattle.gen1_machine.specs.State.{active_in, conditions_in, status_in, underw
 use Rattle.gen1_layout.specs.Parts.{Parts}
 use Rattle.gen1_layout.specs.Within.{Setting, Within}
 use Rattle.gen1_multiturn.specs.Bide.{energy_let_out}
+use Rattle.gen1_odds.specs.declared.sights.Sight.{Sight}
+use Rattle.gen1_odds.specs.declared.sights.Sight.TheVariants as sights
 use Rattle.gen1_odds.specs.declared.trials.Trial.{Trial}
 use Rattle.gen1_odds.specs.declared.trials.Trial.TheVariants as trials
 
@@ -69,6 +71,18 @@ charges_first s move f = charges move.effect && not (underway_in s f).charging
 -- What Bide lets out in this action, or none if it stores or only begins.
 abbrev pub released_in : Side → Field → Option ℕ
 released_in s f = energy_let_out f.last_damage (underway_in s f).bide
+
+-- Whether a condition is on.
+abbrev pub is_on_in : Sight → Side → Field → Bool
+is_on_in sights.Trapping s f = is_some (underway_in s f).trapping
+is_on_in sights.Charging s f = (underway_in s f).charging
+is_on_in sights.Invulnerable s f = (conditions_in s f).invulnerable
+is_on_in sights.Mist s f = (conditions_in s f).mist
+is_on_in sights.FocusEnergy s f = (conditions_in s f).focus_energy
+is_on_in sights.Recharge s f = (underway_in s f).recharge
+is_on_in sights.Seeded s f = (conditions_in s f).seeded
+is_on_in sights.LightScreen s f = (conditions_in s f).light_screen
+is_on_in sights.Reflect s f = (conditions_in s f).reflect
 
 -- The machine's tests of a battle in progress, for its field
 

@@ -112,10 +112,17 @@ fn lowest_reason(battle: &Packed, side: Side, stat: Stat) -> Option<Reason>
     ensures stands { Reads battle.now result λ f.
         (if is_lowest stat side f then Some Reason.Stage else None) }
 {
-    let last = battle.stage(side, stat) == 0;
-    let least = stands_at(battle, side, stat, 1);
-    if last | least {
+    if is_lowest(battle, side, stat) {
         return Some(Reason::Stage);
     }
     None
+}
+
+/// Whether a stage, or the stat, doesn't fall any more.
+pub(crate) fn is_lowest(battle: &Packed, side: Side, stat: Stat) -> bool
+    ensures stands { Reads battle.now result (is_lowest stat side) }
+{
+    let last = battle.stage(side, stat) == 0;
+    let least = stands_at(battle, side, stat, 1);
+    last | least
 }

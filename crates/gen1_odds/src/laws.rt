@@ -1,5 +1,5 @@
 //! What the odds say of the machine's own phases. Each function has an empty body. Its contract is the law.
-ghost use Rattle.gen1_odds.specs.Laws.{BreaksIfNeeded, ConfusionCounts, CounterCounts, FixedCounts, ImmuneMisses, MustHitCounts, OneHitCounts, ParalysisCounts, PoisonCounts, SeedCounts, SlowerMisses, TestCounts};
+ghost use Rattle.gen1_odds.specs.Laws.{BreaksIfNeeded, ConfusionCounts, CounterCounts, FixedCounts, GateCounts, ImmuneMisses, MustHitCounts, OneHitCounts, ParalysisCounts, PoisonCounts, SeedCounts, SideEffectCounts, SlowerMisses, TestCounts};
 
 /// A move misses in the hit test exactly by the draws that the odds do not count (docs/MECHANICS.md, "Hit test").
 #[tactic(auto, using(crate::proofs::Counted::test_counts))]
@@ -65,6 +65,19 @@ pub fn seed_counts()
 #[tactic(auto, using(crate::proofs::Counted::confusion_counts))]
 pub fn confusion_counts()
     ensures { ConfusionCounts }
+{}
+
+/// A side effect shows after a hit exactly by the draws that are counted (docs/MECHANICS.md, "Side effects").
+#[tactic(auto, using(crate::proofs::Harmed::side_effect_counts))]
+pub fn side_effect_counts()
+    ensures { SideEffectCounts }
+{}
+
+/// As a turn begins, the gate stops a member exactly by the draws that the odds of its action do not count (docs/MECHANICS.md,
+/// "Gate").
+#[tactic(auto, using(crate::proofs::Gated::gate_counts))]
+pub fn gate_counts()
+    ensures { GateCounts }
 {}
 
 /// A substitute breaks by the damage that the chances to knock out take as needed, and by no less (docs/MECHANICS.md,

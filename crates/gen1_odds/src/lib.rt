@@ -10,6 +10,8 @@
 //! - `status_reasons`: the same for moves that give a status
 //! - `foe_reasons`: for other moves that change the foe
 //! - `own_reasons`: for moves that change their user
+//! - `acting`: [`ActionOdds`], of a member that may be kept from acting
+//! - `side_effects`: how many draws give a hit its side effect
 //! - `chances`: the numbers of draws, and [`takes_hit_test`]
 //! - `fixed_damage`: damage by a rule of its own
 //! - `hit_counts`: the number of hits, and what a damage gives back or costs
@@ -18,6 +20,7 @@
 //! - `laws`: what the odds say of the machine's own phases
 #![tactic(auto)]
 
+mod acting;
 mod chances;
 mod fixed_damage;
 mod fixed_uses;
@@ -28,20 +31,23 @@ mod laws;
 mod odds;
 mod own_reasons;
 mod reasons;
+mod side_effects;
 mod sights;
 mod status_reasons;
 mod trials;
 mod usual_uses;
 mod ways;
 
+pub use acting::{ActionOdds, action_odds_of};
 pub use chances::takes_hit_test;
 pub use hit_counts::{drained, recoil};
 pub use knock_outs::{Between, Chances, ThreeChances, knock_out, knock_out_in_three};
 pub use laws::{
-    breaks_if_needed, confusion_counts, counter_counts, fixed_counts, immune_misses,
-    must_hit_counts, one_hit_counts, paralysis_counts, poison_counts, seed_counts, slower_misses,
-    test_counts,
+    breaks_if_needed, confusion_counts, counter_counts, fixed_counts, gate_counts, immune_misses,
+    must_hit_counts, one_hit_counts, paralysis_counts, poison_counts, seed_counts,
+    side_effect_counts, slower_misses, test_counts,
 };
 pub use odds::{Damages, Odds, odds_of};
 pub use reasons::Reason;
+pub use side_effects::side_effect_draws;
 pub use ways::{HpChange, Wide};

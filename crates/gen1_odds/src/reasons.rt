@@ -214,7 +214,7 @@ fn usual_reason(battle: &Packed, side: Side, id: MoveId) -> Option<Reason>
     Some(why_harmless(battle, side, id))
 }
 
-fn hurts(battle: &Packed, side: Side, id: MoveId, critical: bool) -> bool
+pub(crate) fn hurts(battle: &Packed, side: Side, id: MoveId, critical: bool) -> bool
     ensures stands { Reads battle.now result (hurts_in side (move_at id) critical) }
 {
     let numbers = numbers(battle, side, id, critical);

@@ -70,8 +70,8 @@ pub(crate) fn trial_of(effect: Effect) -> Trial
     }
 }
 
-// The number of the move that was used last, or 0 for none.
-fn current_number(battle: &Packed, side: Side) -> u8
+/// The number of the move that was used last, or 0 for none.
+pub(crate) fn current_number(battle: &Packed, side: Side) -> u8
     ensures stands { Reads battle.now result λ f.
         number_in (active_in side f).current_move (member_in side f).moves }
 {

@@ -11,12 +11,230 @@
 //! - `status_reasons`: the same for moves that give a status
 //! - `foe_reasons`: for other moves that change the foe
 //! - `own_reasons`: for moves that change their user
+//! - `acting`: [`ActionOdds`], of a member that may be kept from acting
+//! - `side_effects`: how many draws give a hit its side effect
 //! - `chances`: the numbers of draws, and [`takes_hit_test`]
 //! - `fixed_damage`: damage by a rule of its own
 //! - `hit_counts`: the number of hits, and what a damage gives back or costs
 //! - `trials`: the kinds of use of a move, and whether it goes on
 //! - `sights`: what a use finds in a battle
 //! - `laws`: what the odds say of the machine's own phases
+
+mod acting {
+    //! Which draws let a member act, and which of them make its move hit or hold the foe ([docs/MECHANICS.md, "Gate"](https://hibsuloy.example/gen1/blob/main/docs/MECHANICS.md#gate), "Hit test",
+    //! "Going on").
+
+    use crate::generated::odds::chances::{critical_draws, deals_usual, hit_draws};
+    use crate::generated::odds::odds::flag;
+    use crate::generated::odds::reasons::{Reason, hurts, reason_of};
+    use crate::generated::odds::side_effects::side_effect_draws;
+    use crate::generated::odds::sights::{is_fallen, is_recharging, is_trapping, must_continue};
+    use crate::generated::odds::trials::{charges_first, current_number};
+    use crate::generated::odds::ways::mixed;
+    use crate::generated::hits::{damage, numbers};
+    use crate::generated::layout::Packed;
+    use crate::generated::machine::{DisabledSlot, Pick, Side, UsedMove};
+    use crate::generated::stats::Status;
+    use crate::generated::status::used_by;
+    use crate::generated::tables::MoveId;
+
+    /// The chances that a member acts in a turn and that its move then hits, holds or harms, as exact counts of draws.
+    #[repr(C)]
+    #[derive(Clone, Copy)]
+    pub struct ActionOdds {
+        /// How many of the pairs of a draw for confusion and one for paralysis let the member act.
+        pub acts: u64,
+        /// The number of these pairs: 65,536.
+        pub acts_of: u64,
+        /// How many of these pairs, with a critical draw and a draw of the hit test, let it act and make its move hit.
+        pub hits: u64,
+        /// The number of these: 4,294,967,296.
+        pub hits_of: u64,
+        /// How many of 256 draws give a hit its side effect, 0 to 256, as `side_effect_draws` returns it.
+        pub side_effect: u16,
+        /// How many of the 256 draws of the hit test hold the foe by a trapping move, 0 to 256, if the member acts.
+        pub holds: u16,
+        /// Zeros.
+        pub zeros: [u8; 4],
+    }
+
+    /// The odds of the action by which a side uses a move in the turn that begins, for the present state of the two members
+    /// that are out.
+    ///
+    /// What the foe does before is not counted. The member need not know the move. It does not act if it has to continue
+    /// another one. A move that only charges does not hit.
+    pub fn action_odds_of(battle: &Packed, side: Side, id: MoveId) -> ActionOdds {
+        let acts = acting_draws(battle, side, id);
+        ActionOdds {
+            acts,
+            acts_of: 65_536,
+            hits: acts * landing_draws(battle, side, id),
+            hits_of: 4_294_967_296,
+            side_effect: side_effect_draws(battle, side, id),
+            holds: holding_draws(battle, side, id),
+            zeros: [0; 4],
+        }
+    }
+
+    // The pick of a move
+    fn pick_of(battle: &Packed, side: Side, id: MoveId) -> Pick {
+        if must_continue(battle, side) {
+            return Pick::Continue;
+        }
+        Pick::Use(slot_of(battle, side, id))
+    }
+
+    // The slot that holds a move. Like Struggle, a move that the member doesn't know is in no slot.
+    fn slot_of(battle: &Packed, side: Side, id: MoveId) -> UsedMove {
+        if battle.move_in(side, 1) == id.number() {
+            return UsedMove::Slot(1);
+        }
+        if battle.move_in(side, 2) == id.number() {
+            return UsedMove::Slot(2);
+        }
+        if battle.move_in(side, 3) == id.number() {
+            return UsedMove::Slot(3);
+        }
+        if battle.move_in(side, 4) == id.number() {
+            return UsedMove::Slot(4);
+        }
+        UsedMove::Struggle
+    }
+
+    // Whether the member has to continue another move.
+    fn is_bound(battle: &Packed, side: Side, id: MoveId) -> bool {
+        let continues = must_continue(battle, side);
+        let same = current_number(battle, side) == id.number();
+        continues & !same
+    }
+
+    // The gate of a turn that begins
+    fn acting_draws(battle: &Packed, side: Side, id: MoveId) -> u64 {
+        if is_fallen(battle, side) {
+            return 0;
+        }
+        if is_bound(battle, side, id) {
+            return 0;
+        }
+        passing_pairs(battle, side, pick_of(battle, side, id))
+    }
+
+    // The pairs of a draw for confusion and one for paralysis by which a pick passes the gate.
+    fn passing_pairs(battle: &Packed, side: Side, pick: Pick) -> u64 {
+        if is_kept(battle, side, pick) {
+            return 0;
+        }
+        let confusion = confusion_draws(still_confused(battle.confused(side)));
+        let paralysis = paralysis_draws(is_paralysed(battle.status(side)));
+        confusion * paralysis
+    }
+
+    fn is_kept(battle: &Packed, side: Side, pick: Pick) -> bool {
+        let held = is_held(pick);
+        let out = is_out_of_action(battle, side);
+        let barred = is_barred(battle, side, pick);
+        let idle = is_idle(pick);
+        held | (out | (barred | idle))
+    }
+
+    fn is_held(pick: Pick) -> bool {
+        matches!(pick, Pick::Held)
+    }
+
+    fn is_idle(pick: Pick) -> bool {
+        matches!(pick, Pick::Idle)
+    }
+
+    fn is_out_of_action(battle: &Packed, side: Side) -> bool {
+        let sleeps = battle.status(side).sleeps_or_freezes();
+        let held = is_trapping(battle, side.other());
+        let recharges = is_recharging(battle, side);
+        sleeps | (held | recharges)
+    }
+
+    fn is_barred(battle: &Packed, side: Side, pick: Pick) -> bool {
+        bars(
+            still_disabled(battle.disabled(side)),
+            used_by(battle, side, pick),
+        )
+    }
+
+    // Disable ends with its last turn, before the move is tested.
+    fn still_disabled(disabled: Option<DisabledSlot>) -> Option<DisabledSlot> {
+        match disabled {
+            Some(slot) if slot.turns > 1 => Some(slot),
+            _ => None,
+        }
+    }
+
+    fn bars(disabled: Option<DisabledSlot>, used: UsedMove) -> bool {
+        match (disabled, used) {
+            (Some(disabled), UsedMove::Slot(slot)) => slot == disabled.slot,
+            _ => false,
+        }
+    }
+
+    // Confusion ends with its last turn, without a draw.
+    fn still_confused(confused: Option<u8>) -> bool {
+        match confused {
+            Some(turns) => turns > 1,
+            None => false,
+        }
+    }
+
+    fn is_paralysed(status: Status) -> bool {
+        matches!(status, Status::Paralysed)
+    }
+
+    fn confusion_draws(confused: bool) -> u64 {
+        if confused { 128 } else { 256 }
+    }
+
+    fn paralysis_draws(paralysed: bool) -> u64 {
+        if paralysed { 193 } else { 256 }
+    }
+
+    // The hit and the hold
+    // Of the pairs of a critical draw and one of the hit test, those by which the move hits.
+    fn landing_draws(battle: &Packed, side: Side, id: MoveId) -> u64 {
+        if charges_first(battle, side, id) {
+            return 0;
+        }
+        let reason = reason_of(battle, side, id);
+        let hit = hit_draws(battle, side, id, reason);
+        u64::from(hit) * hurting_draws(battle, side, id)
+    }
+
+    // The critical draws that lead to a damage.
+    fn hurting_draws(battle: &Packed, side: Side, id: MoveId) -> u64 {
+        if !deals_usual(battle, side, id) {
+            return 256;
+        }
+        let critical = u64::from(flag(hurts(battle, side, id, true)));
+        let usual = u64::from(flag(hurts(battle, side, id, false)));
+        mixed(critical_draws(battle, side, id), critical, usual)
+    }
+
+    // Trapping holds a foe that its damage doesn't hurt, and ends by a miss alone.
+    fn holding_draws(battle: &Packed, side: Side, id: MoveId) -> u16 {
+        if !id.effect().traps() {
+            return 0;
+        }
+        hit_draws(battle, side, id, holding_reason(battle, side, id))
+    }
+
+    fn holding_reason(battle: &Packed, side: Side, id: MoveId) -> Option<Reason> {
+        if is_fallen(battle, side) {
+            return Some(Reason::Fallen);
+        }
+        let usual = deals_usual(battle, side, id);
+        let faults = damage(&numbers(battle, side, id, false)).is_none();
+        if usual & faults {
+            return Some(Reason::Fault);
+        }
+        None
+    }
+}
 
 mod chances {
     //! Whether a move takes the hit test, and how many of the 256 possible draws make it hit or make its hit critical
@@ -373,12 +591,17 @@ mod foe_reasons {
     }
 
     fn lowest_reason(battle: &Packed, side: Side, stat: Stat) -> Option<Reason> {
-        let last = battle.stage(side, stat) == 0;
-        let least = stands_at(battle, side, stat, 1);
-        if last | least {
+        if is_lowest(battle, side, stat) {
             return Some(Reason::Stage);
         }
         None
+    }
+
+    /// Whether a stage, or the stat, doesn't fall any more.
+    pub(crate) fn is_lowest(battle: &Packed, side: Side, stat: Stat) -> bool {
+        let last = battle.stage(side, stat) == 0;
+        let least = stands_at(battle, side, stat, 1);
+        last | least
     }
 }
 
@@ -1045,7 +1268,7 @@ mod reasons {
         Some(why_harmless(battle, side, id))
     }
 
-    fn hurts(battle: &Packed, side: Side, id: MoveId, critical: bool) -> bool {
+    pub(crate) fn hurts(battle: &Packed, side: Side, id: MoveId, critical: bool) -> bool {
         let numbers = numbers(battle, side, id, critical);
         match damage(&numbers) {
             Some(before) => 0 < type_steps(before, &numbers),
@@ -1109,6 +1332,95 @@ mod reasons {
     }
 }
 
+mod side_effects {
+    //! How many draws give a hit its side effect ([docs/MECHANICS.md, "Side effects"](https://hibsuloy.example/gen1/blob/main/docs/MECHANICS.md#side-effects)).
+
+    use crate::generated::odds::foe_reasons::is_lowest;
+    use crate::generated::odds::sights::{has_status, has_substitute, has_type, is_confused};
+    use crate::generated::layout::Packed;
+    use crate::generated::machine::Side;
+    use crate::generated::status::has_frozen_member;
+    use crate::generated::tables::{Effect, Element, MoveId};
+
+    const TWINEEDLE: u16 = 52;
+
+    const FREEZE: u16 = 26;
+
+    const STAT_DOWN: u16 = 85;
+
+    /// How many of the 256 possible draws give a hit its side effect, if the foe stands and no substitute broke: 256 if the
+    /// effect is sure.
+    ///
+    /// It is 0 if the foe's status, type or substitute guards it, or if the move has none. The thaw of a frozen foe does not
+    /// count, nor does Disable, which does what it does by its hit.
+    pub fn side_effect_draws(battle: &Packed, side: Side, id: MoveId) -> u16 {
+        effect_draws(battle, side, id, id.effect())
+    }
+
+    fn effect_draws(battle: &Packed, side: Side, id: MoveId, effect: Effect) -> u16 {
+        let foe = side.other();
+        match effect {
+            Effect::ConfusionChance(bound) => {
+                unless_guarded(is_confused(battle, foe), u16::from(bound))
+            }
+            Effect::Disable => 0,
+            Effect::Recharge => 256,
+            _ => unless_guarded(
+                has_substitute(battle, foe),
+                harm_draws(battle, side, id, effect),
+            ),
+        }
+    }
+
+    // Of a foe without a substitute, for the effects that a substitute keeps away.
+    fn harm_draws(battle: &Packed, side: Side, id: MoveId, effect: Effect) -> u16 {
+        let foe = side.other();
+        match effect {
+            Effect::PoisonChance(bound) => poison_draws(battle, foe, u16::from(bound)),
+            Effect::Twineedle => poison_draws(battle, foe, TWINEEDLE),
+            Effect::BurnChance(bound) => status_draws(battle, side, id, u16::from(bound)),
+            Effect::FreezeChance => freeze_draws(battle, side, id),
+            Effect::ParalysisChance(bound) => status_draws(battle, side, id, u16::from(bound)),
+            Effect::FlinchChance(bound) => u16::from(bound),
+            Effect::StatDownChance(stat) => { unless_guarded(is_lowest(battle, foe, stat), STAT_DOWN) }
+            _ => 0,
+        }
+    }
+
+    fn poison_draws(battle: &Packed, foe: Side, bound: u16) -> u16 {
+        let ailing = has_status(battle, foe);
+        let immune = has_type(battle, foe, Element::Poison);
+        unless_guarded(ailing | immune, bound)
+    }
+
+    fn status_draws(battle: &Packed, side: Side, id: MoveId, bound: u16) -> u16 {
+        unless_guarded(resists_status(battle, side, id), bound)
+    }
+
+    fn freeze_draws(battle: &Packed, side: Side, id: MoveId) -> u16 {
+        let resists = resists_status(battle, side, id);
+        let clause = resists_freeze(battle, side);
+        unless_guarded(resists | clause, FREEZE)
+    }
+
+    // A status doesn't replace another, nor harm a foe of the move's own type.
+    fn resists_status(battle: &Packed, side: Side, id: MoveId) -> bool {
+        let ailing = has_status(battle, side.other());
+        let same = has_type(battle, side.other(), id.kind());
+        ailing | same
+    }
+
+    fn resists_freeze(battle: &Packed, side: Side) -> bool {
+        let clause = battle.freeze_clause();
+        let frozen = has_frozen_member(battle, side.other());
+        clause & frozen
+    }
+
+    fn unless_guarded(guarded: bool, bound: u16) -> u16 {
+        if guarded { 0 } else { bound }
+    }
+}
+
 mod sights {
     //! What a use of a move finds in a battle ([docs/MECHANICS.md, "Conditions"](https://hibsuloy.example/gen1/blob/main/docs/MECHANICS.md#conditions)).
 
@@ -1116,36 +1428,73 @@ mod sights {
     use crate::generated::machine::Side;
     use crate::generated::tables::Element;
 
+    // A condition that is on or off.
+    #[derive(Clone, Copy)]
+    pub(crate) enum Sight {
+        Trapping,
+        Charging,
+        Invulnerable,
+        Mist,
+        FocusEnergy,
+        Recharge,
+        Seeded,
+        LightScreen,
+        Reflect,
+    }
+
+    fn is_on(battle: &Packed, side: Side, sight: Sight) -> bool {
+        match sight {
+            Sight::Trapping => battle.is_on(side, Conditions::TRAPPING),
+            Sight::Charging => battle.is_on(side, Conditions::CHARGING),
+            Sight::Invulnerable => battle.is_on(side, Conditions::INVULNERABLE),
+            Sight::Mist => battle.is_on(side, Conditions::MIST),
+            Sight::FocusEnergy => battle.is_on(side, Conditions::FOCUS_ENERGY),
+            Sight::Recharge => battle.is_on(side, Conditions::RECHARGE),
+            Sight::Seeded => battle.is_on(side, Conditions::SEEDED),
+            Sight::LightScreen => battle.is_on(side, Conditions::LIGHT_SCREEN),
+            Sight::Reflect => battle.is_on(side, Conditions::REFLECT),
+        }
+    }
+
     pub(crate) fn is_invulnerable(battle: &Packed, side: Side) -> bool {
-        battle.is_on(side, Conditions::INVULNERABLE)
+        is_on(battle, side, Sight::Invulnerable)
     }
 
     pub(crate) fn has_mist(battle: &Packed, side: Side) -> bool {
-        battle.is_on(side, Conditions::MIST)
+        is_on(battle, side, Sight::Mist)
     }
 
     pub(crate) fn has_focus_energy(battle: &Packed, side: Side) -> bool {
-        battle.is_on(side, Conditions::FOCUS_ENERGY)
+        is_on(battle, side, Sight::FocusEnergy)
     }
 
     pub(crate) fn has_light_screen(battle: &Packed, side: Side) -> bool {
-        battle.is_on(side, Conditions::LIGHT_SCREEN)
+        is_on(battle, side, Sight::LightScreen)
     }
 
     pub(crate) fn has_reflect(battle: &Packed, side: Side) -> bool {
-        battle.is_on(side, Conditions::REFLECT)
+        is_on(battle, side, Sight::Reflect)
     }
 
     pub(crate) fn is_seeded(battle: &Packed, side: Side) -> bool {
-        battle.is_on(side, Conditions::SEEDED)
+        is_on(battle, side, Sight::Seeded)
     }
 
     pub(crate) fn is_recharging(battle: &Packed, side: Side) -> bool {
-        battle.is_on(side, Conditions::RECHARGE)
+        is_on(battle, side, Sight::Recharge)
     }
 
     pub(crate) fn is_charging(battle: &Packed, side: Side) -> bool {
-        battle.is_on(side, Conditions::CHARGING)
+        is_on(battle, side, Sight::Charging)
+    }
+
+    pub(crate) fn is_trapping(battle: &Packed, side: Side) -> bool {
+        is_on(battle, side, Sight::Trapping)
+    }
+
+    /// Whether something keeps the member at its current move.
+    pub(crate) fn must_continue(battle: &Packed, side: Side) -> bool {
+        battle.has_any(side, Conditions::CONTINUES)
     }
 
     pub(crate) fn is_confused(battle: &Packed, side: Side) -> bool {
@@ -1312,8 +1661,8 @@ mod trials {
         }
     }
 
-    // The number of the move that was used last, or 0 for none.
-    fn current_number(battle: &Packed, side: Side) -> u8 {
+    /// The number of the move that was used last, or 0 for none.
+    pub(crate) fn current_number(battle: &Packed, side: Side) -> u8 {
         number_of(battle, side, battle.current_move(side))
     }
 
@@ -1565,10 +1914,12 @@ mod ways {
 }
 
 
+pub use acting::{ActionOdds, action_odds_of};
 pub use chances::takes_hit_test;
 pub use hit_counts::{drained, recoil};
 pub use knock_outs::{Between, Chances, ThreeChances, knock_out, knock_out_in_three};
 
 pub use odds::{Damages, Odds, odds_of};
 pub use reasons::Reason;
+pub use side_effects::side_effect_draws;
 pub use ways::{HpChange, Wide};
