@@ -661,6 +661,37 @@ uint8_t gen1_odds_now(const gen1_battle *battle, uint8_t side, uint8_t move, gen
 uint32_t gen1_odds_between(const gen1_member *user, const gen1_member *foe, uint8_t move, gen1_odds *odds);
 
 /*
+ * The odds of the action by which a side uses a move in the turn that begins, as exact counts of independent draws: the member acts
+ * in `acts` of `acts_of` ways, and acts and hits in `hits` of `hits_of`. All ways are equally likely.
+ *
+ * What keeps the member from acting is counted as it is known when the turn begins: sleep, a freeze, the foe's trapping, recharging,
+ * a disabled move, confusion and paralysis. What the foe does first is not counted, such as a flinch. A member that has to continue
+ * another move does not act, and neither does one that has fallen, or whose foe has. A move that only charges in this turn does not
+ * hit, and a damage of 0 is a miss.
+ *
+ * A trapping move (Wrap, Bind, Clamp, Fire Spin) holds a foe that its damage does not hurt, until it misses.
+ */
+typedef struct gen1_action_odds {
+    uint64_t acts;        /* in how many ways the member acts */
+    uint64_t acts_of;     /* 65,536: the pairs of a draw for confusion and one for paralysis */
+    uint64_t hits;        /* in how many ways it acts and its move hits, or works */
+    uint64_t hits_of;     /* 4,294,967,296: these pairs, each with a critical draw and a draw of the hit test */
+    uint16_t side_effect; /* 0 to 256: how many of 256 draws give a hit its side effect; 0 if the foe is guarded; 256 if it is sure */
+    uint16_t holds;       /* 0 to 256: how many of 256 draws of the hit test hold the foe, if the member acts; 0 for other moves */
+    uint8_t zeros[4];     /* zeros */
+} gen1_action_odds;
+
+/*
+ * Computes the odds of the action by which `side` uses a move, with both active members as they are now (docs/MECHANICS.md, "Gate",
+ * "Hit test", "Side effects", "Going on").
+ *
+ * `move` is 1 to 165, and the member need not know it. The side effect is that of a hit after which the foe stands and its substitute
+ * is not broken; the thaw of a frozen foe and Disable are none. Returns 0, or GEN1_ERROR_SIDE, GEN1_ERROR_MOVE or
+ * GEN1_ERROR_NOBODY_OUT; then nothing has changed.
+ */
+uint8_t gen1_action_odds_now(const gen1_battle *battle, uint8_t side, uint8_t move, gen1_action_odds *odds);
+
+/*
  * The chance that one use of a move knocks out the foe, or two uses in a row, for independent draws: in `once` of `once_of`
  * ways, and in `twice` of `twice_of`. All ways are equally likely.
  *

@@ -10,7 +10,7 @@ import {blockOfState, indexOf, isState, memberAt} from "./states.mjs";
 import {MOVES, SPECIES} from "./tables.mjs";
 import {bytesOf, moveOf, Team, teamAt, teamError, teamGiven} from "./teams.mjs";
 import {made, Update} from "./update.mjs";
-import {chancesOf, oddsOf, ownSideOf, resultOf, stateOf, STATS, STATUSES, threeChancesOf} from "./views.mjs";
+import {actionOddsOf, chancesOf, oddsOf, ownSideOf, resultOf, stateOf, STATS, STATUSES, threeChancesOf} from "./views.mjs";
 
 const FACTORS = 39;
 const TERMS_KEYS = ["one", "two", "seed", "rules", "limit"];
@@ -297,6 +297,15 @@ export class Battle {
     const code = this.#library.calls.gen1_odds_now(battle, sideOf(side), number, odds);
     if (code) throw damageError(this.#library, code, move);
     return oddsOf(this.#library, number, odds);
+  }
+
+  /** The odds of the action by which a side uses a move in the turn that begins: that its member acts, and that the move then hits. */
+  actionOdds(side, move) {
+    const number = moveOf(this.#library, move);
+    const [battle, odds] = [this.#begin(), this.#library.roomOf("gen1_action_odds")];
+    const code = this.#library.calls.gen1_action_odds_now(battle, sideOf(side), number, odds);
+    if (code) throw damageError(this.#library, code, move);
+    return actionOddsOf(this.#library.readStruct("gen1_action_odds", odds));
   }
 
   /** The chances that a side's move knocks out the foe's active member, in one use and in two. */

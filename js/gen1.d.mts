@@ -268,6 +268,25 @@ export interface Odds {
 }
 
 /**
+ * The odds of the action by which a side uses a move in the turn that begins, with draws that are equally likely: the member acts in `acts`
+ * of `actsOf` ways, and acts and hits in `hits` of `hitsOf`, which are exact.
+ */
+export interface ActionOdds {
+  acts: number;
+  actsOf: number;
+  hits: number;
+  hitsOf: number;
+  /** `acts` divided by `actsOf`. */
+  chanceToAct: number;
+  /** `hits` divided by `hitsOf`. */
+  chanceToHit: number;
+  /** The chance that a hit has its side effect: 0 if the foe is guarded, 1 if the effect is sure. */
+  sideEffectChance: number;
+  /** The chance that a trapping move holds the foe, if the member acts; 0 for any other move. */
+  holdChance: number;
+}
+
+/**
  * The chance that one use of a move knocks out the foe, or two uses in a row, with draws that are equally likely: in `once` of `onceOf` ways,
  * and in `twice` of `twiceOf`, which are exact. Nothing else that happens between the uses is counted.
  */
@@ -596,6 +615,12 @@ export class Battle {
   outcomes(one: ChoiceLike, two: ChoiceLike, options?: OutcomeOptions): Outcomes;
   /** The odds of a side's move in the current state. Throws DamageError if no member is out. */
   odds(side: Side, move: MoveLike): Odds;
+  /**
+   * The odds of the action by which a side uses a move in the turn that begins. Sleep, a freeze, the foe's trapping, recharging, a disabled
+   * move, confusion and paralysis count as they are now. What the foe does first does not count, such as a flinch. Throws DamageError if no
+   * member is out.
+   */
+  actionOdds(side: Side, move: MoveLike): ActionOdds;
   /** The chances that a side's move knocks out the foe's active member, in one use and in two. Throws DamageError if no member is out. */
   knockOut(side: Side, move: MoveLike): KnockOut;
   /**

@@ -12,14 +12,14 @@ const NEEDED = [
   "memory",
   "__heap_base",
   ...["version", "new", "load", "offered", "update", "update_silent", "result", "next_event", "event_bytes",
-      "next_line", "next_sentence", "damage", "odds_now", "odds_between", "takes_hit_test", "playout", "outcomes",
-      "team_from_text", "team_from_packed", "team_to_text", "team_to_packed", "species_from_name", "move_from_name",
-      "error_text", "get_state", "set_state", "knock_out", "knock_out_in_three", "choice_words", "choice_from_words",
-      "random_team", "sample_team", "seed_from_number", "reseed", "room_begin", "room_choices", "room_forfeit",
-      "room_result", "room_submit", "spectator_begin", "spectator_feed", "player_begin", "player_feed", "player_show",
-      "battle_from_player", "get_own_side", "teller_begin", "tell", "offered_many", "update_many", "move_data",
-      "effectiveness", "member_stats", "drained", "recoil", "host_begin", "host_load", "host_apply", "host_message",
-      "host_notice", "host_number", "host_awaited", "host_result"]
+      "next_line", "next_sentence", "damage", "odds_now", "action_odds_now", "odds_between", "takes_hit_test",
+      "playout", "outcomes", "team_from_text", "team_from_packed", "team_to_text", "team_to_packed",
+      "species_from_name", "move_from_name", "error_text", "get_state", "set_state", "knock_out", "knock_out_in_three",
+      "choice_words", "choice_from_words", "random_team", "sample_team", "seed_from_number", "reseed", "room_begin",
+      "room_choices", "room_forfeit", "room_result", "room_submit", "spectator_begin", "spectator_feed", "player_begin",
+      "player_feed", "player_show", "battle_from_player", "get_own_side", "teller_begin", "tell", "offered_many",
+      "update_many", "move_data", "effectiveness", "member_stats", "drained", "recoil", "host_begin", "host_load",
+      "host_apply", "host_message", "host_notice", "host_number", "host_awaited", "host_result"]
       .map((call) => `gen1_${call}`),
 ];
 

@@ -251,6 +251,20 @@ export function oddsOf(library, move, odds) {
   };
 }
 
+/** The object of a gen1_action_odds. The ways are at most 2^32, which a number holds exactly. */
+export function actionOddsOf({acts, actsOf, hits, hitsOf, sideEffect, holds}) {
+  return {
+    acts,
+    actsOf,
+    hits,
+    hitsOf,
+    chanceToAct: acts / actsOf,
+    chanceToHit: hits / hitsOf,
+    sideEffectChance: sideEffect / 256,
+    holdChance: holds / 256,
+  };
+}
+
 /** The object of a gen1_chances. The ways are at most the square of 20,447,232, which a number holds exactly. */
 export function chancesOf({breaksSubstitute, ...ways}) {
   return {

@@ -228,6 +228,22 @@ function uses(gen1, check) {
   });
 }
 
+// The odds of an action, of a Tauros against a foe that it may paralyse, hold or leave unhurt.
+function actions(gen1, check) {
+  check("odds of an action", () => {
+    const battle = begun(gen1, "Tauros", "Starmie");
+    const slam = battle.actionOdds(1, "Body Slam");
+    equal([slam.chanceToAct, slam.chanceToHit, slam.sideEffectChance, slam.holdChance], [1, 255 / 256, 77 / 256, 0]);
+    equal([slam.actsOf, slam.hitsOf], [65536, 4294967296]);
+    const slow = battle.withStatus(1, 1, "paralysis").actionOdds(1, "Body Slam");
+    equal([slow.chanceToAct, slow.chanceToHit], [193 / 256, 193 * 255 / 65536]);
+    equal(battle.withStatus(2, 1, "burn").actionOdds(1, "Body Slam").sideEffectChance, 0);
+    equal(battle.actionOdds(1, "Hyper Beam").sideEffectChance, 1);
+    const wrap = begun(gen1, "Tauros", "Gengar").actionOdds(1, "Wrap");
+    equal([wrap.chanceToHit, wrap.holdChance], [0, 216 / 256]);
+  });
+}
+
 // The chances of a knock-out, for a Tauros with 353 HP, and 55 of 256 critical hits.
 function knockOuts(gen1, check) {
   const battle = begun(gen1, "Tauros", "Tauros");
@@ -272,5 +288,5 @@ function knockOuts(gen1, check) {
 
 /** Runs all examples of chances. */
 export function chances(gen1, check) {
-  for (const part of [odds, uses, outcomes, knockOuts]) part(gen1, check);
+  for (const part of [odds, uses, outcomes, actions, knockOuts]) part(gen1, check);
 }

@@ -170,6 +170,7 @@ function teams(gen1, check) {
       () => battle.playout(1, 1),
       () => battle.outcomes(0, 0),
       () => battle.odds(1, "Pound"),
+      () => battle.actionOdds(1, "Pound"),
       () => battle.knockOut(1, "Pound"),
       () => battle.knockOutInThree(1, "Pound"),
       () => battle.damage(1, "Pound"),
@@ -326,8 +327,9 @@ function choices(gen1, battle, check) {
     const asked = [
       (side) => battle.choices(side), (side) => battle.offeredMask(side), (side) => battle.damage(side, "Pound"),
       (side) => battle.odds(side, "Pound"), (side) => battle.words(side, "pass"),
-      (side) => battle.knockOut(side, "Pound"), (side) => battle.knockOutInThree(side, "Pound"),
-      (side) => battle.ownSide(side), (side) => battle.withHp(side, 1, 5), (side) => battle.withStatus(side, 1, "burn"),
+      (side) => battle.actionOdds(side, "Pound"), (side) => battle.knockOut(side, "Pound"),
+      (side) => battle.knockOutInThree(side, "Pound"), (side) => battle.ownSide(side),
+      (side) => battle.withHp(side, 1, 5), (side) => battle.withStatus(side, 1, "burn"),
       (side) => battle.withStage(side, "speed", 1)
     ];
     for (const call of asked) {
@@ -376,8 +378,8 @@ function moves(gen1, battle, check) {
                          () => battle.knockOutInThree(1, move), () => gen1.odds(TAUROS, TAUROS, move)])
         thrown(call, DamageError, /^no damage of -?\d.*: a move is not 1 to 165$/);
     const calls = [
-      (move) => battle.damage(1, move), (move) => battle.odds(1, move), (move) => battle.knockOut(1, move),
-      (move) => battle.knockOutInThree(1, move)
+      (move) => battle.damage(1, move), (move) => battle.odds(1, move), (move) => battle.actionOdds(1, move),
+      (move) => battle.knockOut(1, move), (move) => battle.knockOutInThree(1, move)
     ];
     for (const call of [...calls, (move) => gen1.damage(TAUROS, TAUROS, move)]) {
       outside(() => call("Pond"), /^move is "Pond", which is not in docs\/TABLES.md; did you mean "Pound"\?$/);
@@ -391,6 +393,7 @@ function moves(gen1, battle, check) {
         /^no damage of "Splash": the move does not have the usual damage/);
     thrown(() => gen1.battle(TERMS).damage(1, "Pound"), DamageError, /nobody is out/);
     thrown(() => gen1.battle(TERMS).odds(1, "Pound"), DamageError, /nobody is out/);
+    thrown(() => gen1.battle(TERMS).actionOdds(1, "Pound"), DamageError, /nobody is out/);
     thrown(() => gen1.battle(TERMS).knockOut(1, "Pound"), DamageError, /nobody is out/);
     thrown(() => gen1.battle(TERMS).knockOutInThree(1, "Pound"), DamageError, /nobody is out/);
     const three = (between) => () => battle.knockOutInThree(1, "Pound", between);

@@ -150,6 +150,7 @@ const OF_BATTLE = {
   playout: true,
   outcomes: true,
   odds: true,
+  actionOdds: true,
   damage: true,
   knockOut: true,
   knockOutInThree: true,
@@ -273,6 +274,17 @@ const OF_SEEN_ACTIVE = {
   stages: true,
   lastMove: true,
   announced: true
+};
+/** @type {Record<Named<import("../gen1.mjs").ActionOdds>, true>} */
+const OF_ACTION_ODDS = {
+  acts: true,
+  actsOf: true,
+  hits: true,
+  hitsOf: true,
+  chanceToAct: true,
+  chanceToHit: true,
+  sideEffectChance: true,
+  holdChance: true
 };
 /** @type {Record<Named<import("../gen1.mjs").KnockOut>, true>} */
 const OF_KNOCK_OUT = {
@@ -612,6 +624,7 @@ function battles(gen1) {
   holds(JSON.stringify(copy) === JSON.stringify(battle.state), "another copy");
   copy.free();
   hasKeys(battle.odds(1, "Strength"), OF_ODDS);
+  hasKeys(battle.actionOdds(1, "Strength"), OF_ACTION_ODDS);
   hasKeys(battle.knockOut(1, "Strength"), OF_KNOCK_OUT);
   hasKeys(battle.knockOutInThree(1, "Strength", {afterFirst: {lost: 1}}), OF_KNOCK_OUT_IN_THREE);
   hasKeys(gen1.base("Tauros"), OF_BASE);

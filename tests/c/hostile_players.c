@@ -250,6 +250,23 @@ static void try_knock_out(void) {
     tell("gen1_knock_out", got == want && is_right, got, want);
 }
 
+static void try_action_odds_now(void) {
+    bool is_valid;
+    gen1_battle from = some_battle(&is_valid);
+    uint8_t side = some_side(), move = one_in(4) ? any_byte() : (uint8_t)(1 + draw(165));
+    const gen1_battle *battle = block_of(0, &from, sizeof from);
+    gen1_action_odds *odds = block(1, sizeof *odds);
+    gen1_odds use;
+    note();
+    uint8_t want = gen1_odds_now(&from, side, move, &use), got = gen1_action_odds_now(battle, side, move, odds);
+    bool is_right = got != 0 ? unchanged() : changed_only(1, sizeof *odds);
+    if (got == 0)
+        is_right &= odds->acts <= odds->acts_of && odds->acts_of == 65536 && odds->hits <= odds->hits_of &&
+                    odds->hits_of == 4294967296 && odds->side_effect <= 256 && odds->holds <= 256 &&
+                    odds->zeros[3] == 0 && (use.hit_draws != 0 || odds->hits == 0);
+    tell("gen1_action_odds_now", got == want && is_right, got, want);
+}
+
 static gen1_hp_change some_change(void) {
     return (gen1_hp_change){(uint16_t)(one_in(2) ? 0 : draw(65536)), (uint16_t)(one_in(2) ? draw(100) : draw(65536))};
 }
@@ -310,6 +327,7 @@ try_call *const tries_of_players[] = {try_player_begin,
                                       try_tell,
                                       try_set_state,
                                       try_knock_out,
+                                      try_action_odds_now,
                                       try_knock_out_in_three,
                                       try_drained,
                                       try_recoil,

@@ -8,10 +8,12 @@ use Rattle.gen1_machine.specs.Rules.{Rules}
 use Rattle.gen1_machine.specs.declared.choice.Choice.TheVariants.{Pass}
 use Rattle.gen1_machine.specs.State.{Field, first_state, State, usual_terms}
 use Rattle.gen1_machine.specs.Step.{step}
+use Rattle.gen1_odds.specs.declared.acting.ActionOdds.{ActionOdds}
 use Rattle.gen1_odds.specs.declared.knock_outs.Between.{Between}
 use Rattle.gen1_odds.specs.declared.knock_outs.Chances.{Chances}
 use Rattle.gen1_odds.specs.declared.knock_outs.ThreeChances.{ThreeChances}
 use Rattle.gen1_odds.specs.declared.odds.Odds.{Odds}
+use Rattle.gen1_odds.specs.Acting.{action_odds_in}
 use Rattle.gen1_odds.specs.HitTests.{takes_hit_test}
 use Rattle.gen1_odds.specs.KnockOut.{chances_in, three_chances_in}
 use Rattle.gen1_odds.specs.Odds.{drained, odds_in, recoil}
@@ -30,6 +32,9 @@ due_of read r f (Err why) = Err why
 
 abbrev pub odds_due : Rules → Side → ℕ → Field → Result Odds ℕ
 odds_due r side id f = due_of odds_in r f (use_due side id f)
+
+abbrev pub action_odds_due : Rules → Side → ℕ → Field → Result ActionOdds ℕ
+action_odds_due r side id f = due_of action_odds_in r f (use_due side id f)
 
 abbrev pub chances_due : Rules → Side → ℕ → Field → Result Chances ℕ
 chances_due r side id f = due_of chances_in r f (use_due side id f)

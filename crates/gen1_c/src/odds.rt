@@ -8,7 +8,7 @@ ghost use Rattle.gen1_machine.specs.declared.side.Side.TheVariants.{One};
 ghost use Rattle.gen1_layout.specs.Within.{Stands};
 ghost use Rattle.gen1_odds.specs.KnockOut.{AreChances, AreThree};
 ghost use Rattle.gen1_odds.specs.Odds.{IsListed};
-ghost use Rattle.gen1_c.specs.Odds.{Tells, between_fault, chances_due, drained_due, facing, hit_test_due, odds_due, odds_of_state, recoil_due, three_chances_due, use_due};
+ghost use Rattle.gen1_c.specs.Odds.{Tells, action_odds_due, between_fault, chances_due, drained_due, facing, hit_test_due, odds_due, odds_of_state, recoil_due, three_chances_due, use_due};
 ghost use Rattle.gen1_c.specs.Teams.{sheet_of};
 ghost use Rattle.gen1_c.specs.Update.{IsNoSide};
 
@@ -17,8 +17,8 @@ use gen1_engine::packed::update_events;
 use gen1_layout::Packed;
 use gen1_machine::{Choice, EventList, Side};
 use gen1_odds::{
-    Between, Chances, Odds, ThreeChances, drained, knock_out, knock_out_in_three, odds_of, recoil,
-    takes_hit_test,
+    ActionOdds, Between, Chances, Odds, ThreeChances, action_odds_of, drained, knock_out,
+    knock_out_in_three, odds_of, recoil, takes_hit_test,
 };
 use gen1_stats::Team;
 use gen1_tables::MoveId;
@@ -50,6 +50,33 @@ pub extern "C" fn gen1_odds_now(battle: &Packed, side: u8, number: u8, odds: &mu
     match use_of(battle, side, number) {
         Ok(used) => {
             *odds = odds_of(battle, used.0, used.1);
+            0
+        }
+        Err(code) => code,
+    }
+}
+
+/// Computes the odds of the action by which a side uses a move in the turn that begins, with both active members as they are now.
+/// Returns 0, or the first code that applies, as `gen1_damage` returns it; then nothing has changed.
+#[unsafe(no_mangle)]
+pub extern "C" fn gen1_action_odds_now(
+    battle: &Packed,
+    side: u8,
+    number: u8,
+    odds: &mut ActionOdds,
+) -> u8
+    ensures tells { (s : State) (which : Side) → Stands battle.now s → side ≡ side_number which
+        → Tells (action_odds_due s.terms.rules which number s.field) odds.old odds.new result }
+    ensures no_side { IsNoSide side → (result ≡ 40) × (odds.new ≡ odds.old) }
+    // For any bytes, valid or not.
+    ensures code { result ≢ 0 → result ≢ 11 → result ≢ 40 → result ≡ 50 }
+    ensures kept { result ≢ 0 → odds.new ≡ odds.old }
+    ensures counts { result ≡ 0 → (odds.new.acts ≤ odds.new.acts_of) × (odds.new.hits ≤ odds.new.hits_of) }
+    ensures draws { result ≡ 0 → (odds.new.side_effect ≤ 256) × (odds.new.holds ≤ 256) }
+{
+    match use_of(battle, side, number) {
+        Ok(used) => {
+            *odds = action_odds_of(battle, used.0, used.1);
             0
         }
         Err(code) => code,

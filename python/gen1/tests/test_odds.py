@@ -11,12 +11,14 @@ from fractions import Fraction
 import pytest
 from conftest import BIG, LIB, NO_NUMBERS, RECORDED, random_member, random_team, recorded_only
 from gen1 import (
+    ActionOdds,
     BadArgument,
     BadTeam,
     BadType,
     Battle,
     Chances,
     Choice,
+    Conditions,
     Damages,
     DamageFault,
     Error,
@@ -28,6 +30,7 @@ from gen1 import (
     OddsReason,
     Outcome,
     Playouts,
+    Status,
     Team,
     ThreeChances,
     base,
@@ -167,6 +170,39 @@ def strikes():
     for whole, chance in ((112, Fraction(201, 256)), (217, Fraction(55, 256))):
         found += [(whole * factor // 255, chance * Fraction(255, 256) / 39) for factor in range(217, 256)]
     return found
+
+
+def test_odds_of_an_action():
+    """docs/MECHANICS.md, "Gate", "Side effects", "Going on": 193 of 256 draws pass paralysis, half of them confusion."""
+    tauros, starmie = Member("Tauros", ["Body Slam"]), Member("Starmie", ["Surf"])
+    sure, hit, slam, none = Fraction(1), Fraction(255, 256), Fraction(77, 256), Fraction(0)
+    battle = facing(tauros, starmie)
+    assert battle.action_odds(1, "Body Slam") == ActionOdds(sure, hit, slam, none)
+    active = Fraction(193, 256)
+    paralysed = battle.with_status(1, 1, Status.PARALYSIS)
+    assert paralysed.action_odds(1, "Body Slam") == ActionOdds(active, active * hit, slam, none)
+    for turns, part in ((1, sure), (2, sure / 2), (5, sure / 2)):
+        conditions = paralysed.state.one.active.conditions | Conditions.CONFUSED
+        confused = Battle.from_state(paralysed.state.with_active(1, conditions=conditions, confusion=turns))
+        assert confused.action_odds(1, "Body Slam").acts == active * part, turns
+    for status in (Status.SLEEP, Status.FREEZE):
+        assert battle.with_status(1, 1, status, 3).action_odds(1, "Body Slam") == ActionOdds(none, none, slam, none)
+    # A Normal type, a status and a Substitute guard a foe; Psybeam confuses behind one.
+    assert facing(tauros, tauros).action_odds(1, "Body Slam").side_effect == 0
+    assert battle.with_status(2, 1, Status.BURN).action_odds(1, "Body Slam").side_effect == 0
+    conditions = battle.state.two.active.conditions | Conditions.SUBSTITUTE
+    covered = Battle.from_state(battle.state.with_active(2, conditions=conditions, substitute=80))
+    for move, open_, guarded in (
+        ("Body Slam", slam, none),
+        ("Psybeam", Fraction(25, 256), Fraction(25, 256)),
+        ("Hyper Beam", sure, sure),
+        ("Strength", none, none),
+    ):
+        assert [it.action_odds(1, move).side_effect for it in (battle, covered)] == [open_, guarded], move
+    # Wrap holds a Ghost that it does not hurt. A move that only charges does not hit.
+    wrap = facing(tauros, Member("Gengar", ["Lick"])).action_odds(1, "Wrap")
+    assert wrap == ActionOdds(sure, none, none, Fraction(216, 256))
+    assert battle.action_odds(1, "Solar Beam") == ActionOdds(sure, none, none, none)
 
 
 def test_chances_to_knock_out():
@@ -323,6 +359,8 @@ def test_odds_with_wrong_arguments(battle, team, tauros):
     calls += [(lambda it=it: battle.odds(it, "Pound"), BadType) for it in NO_NUMBERS]
     calls += [(lambda it=it: battle.knock_out(it, "Pound"), BadArgument) for it in (0, 3, *BIG)]
     calls += [(lambda it=it: battle.knock_out(it, "Pound"), BadType) for it in NO_NUMBERS]
+    calls += [(lambda it=it: battle.action_odds(it, "Pound"), BadArgument) for it in (0, 3, *BIG)]
+    calls += [(lambda it=it: battle.action_odds(it, "Pound"), BadType) for it in NO_NUMBERS]
     calls += [(lambda it=it: battle.knock_out_in_three(it, "Pound"), BadArgument) for it in (0, 3, *BIG)]
     calls += [
         (lambda it=it: battle.knock_out_in_three(1, "Pound", HpChange(lost=it)), BadArgument)
@@ -337,6 +375,7 @@ def test_odds_with_wrong_arguments(battle, team, tauros):
     ]
     for call in (
         lambda it: battle.odds(1, it),
+        lambda it: battle.action_odds(1, it),
         lambda it: battle.knock_out(1, it),
         lambda it: battle.knock_out_in_three(1, it),
         lambda it: odds(tauros, tauros, it),
@@ -353,7 +392,7 @@ def test_odds_with_wrong_arguments(battle, team, tauros):
             call()
         assert isinstance(fault.value, Error) and len(str(fault.value)) > 10 and battle.bytes == before, at
     unbegun = Battle(team, team, range(10))
-    for call in (unbegun.odds, unbegun.knock_out, unbegun.knock_out_in_three):
+    for call in (unbegun.odds, unbegun.action_odds, unbegun.knock_out, unbegun.knock_out_in_three):
         with pytest.raises(NoDamage) as fault:
             call(1, "Pound")
         assert fault.value.code is DamageFault.NOBODY and "before its first update" in str(fault.value)

@@ -31,7 +31,7 @@
 //! | teams | [`member`], [`MemberSpec`], [`Team`], [`Species`], [`MoveId`], [`text`], [`random_team`], [`sample_team`] |
 //! | battles | [`Battle`], [`Choice`], [`Update`], [`Event`], [`Line`], [`Narrator`] |
 //! | the whole state of a battle | [`Battle::state`], [`State`], [`Battle::from_state`], [`Battle::with_hp`] |
-//! | damage and exact chances | [`Battle::damage`], [`Battle::odds`], [`Battle::knock_out`], [`Battle::knock_out_in_three`] |
+//! | damage and exact chances | [`Battle::damage`], [`Battle::odds`], [`Battle::action_odds`], [`Battle::knock_out`], [`Battle::knock_out_in_three`] |
 //! | all outcomes of an update, with exact probabilities | `Battle::outcomes`, [`Battle::outcomes_into`], [`Battle::ways`] |
 //! | battles played by random choices, and how they end | [`Battle::playout`], [`PlayoutOptions`], [`Weights`], [`Playouts`] |
 //! | searches | [`Battle::offered_mask`], [`Battle::update_silent`], [`Battle::reseed`], [`Battle::key`] |
@@ -159,7 +159,7 @@ pub use from_state::{StateFault, StateField};
 pub use guess::{Guess, GuessFault};
 pub use host::{Host, HostOptions, Message, Notice, Row};
 pub use lines::{Events, Line, Lines, events_of};
-pub use odds::{Between, Chances, DamageRefusal, HpChange, Odds, ThreeChances};
+pub use odds::{ActionOdds, Between, Chances, DamageRefusal, HpChange, Odds, ThreeChances};
 #[cfg(feature = "alloc")]
 pub use outcomes::OutcomeList;
 pub use outcomes::{NotProbability, OutcomeOptions, Way, Ways};

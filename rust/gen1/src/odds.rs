@@ -91,6 +91,27 @@ pub struct ThreeChances {
     pub breaks_substitute: bool,
 }
 
+/// The odds of the action by which a side uses a move in the turn that begins, for independent draws.
+///
+/// A chance is a number of ways out of all of them, which are equally likely.
+#[derive(Clone, Copy, Debug, PartialEq, Eq)]
+#[cfg_attr(feature = "serde", derive(serde::Serialize, serde::Deserialize))]
+#[non_exhaustive]
+pub struct ActionOdds {
+    /// In how many ways the member acts.
+    pub acts: u64,
+    /// All ways: the 65,536 pairs of a draw for confusion and one for paralysis.
+    pub acts_of: u64,
+    /// In how many ways it acts and its move hits, or works.
+    pub hits: u64,
+    /// All ways: these pairs, each with a critical draw and a draw of the hit test.
+    pub hits_of: u64,
+    /// How many of 256 draws give a hit its side effect: 0 if the foe is guarded, 256 if the effect is sure.
+    pub side_effect: u16,
+    /// How many of 256 draws of the hit test hold the foe, if the member acts. It is 0 unless the move traps.
+    pub holds: u16,
+}
+
 /// The odds of a use of a move: its damage, and its chances of a critical hit and of a hit.
 ///
 /// Chances are exact: each is the count of the 256 possible numbers of a draw that have the result.
@@ -196,6 +217,42 @@ impl Battle {
             hits: odds.hits,
             charges_first: odds.charges_first != 0,
             takes_hit_test: odds::takes_hit_test(id),
+        })
+    }
+
+    /// The odds of the action by which a side uses a move in the turn that begins, in the current state of both active members
+    /// ([docs/MECHANICS.md, "Gate"](https://hibsuloy.example/gen1/blob/main/docs/MECHANICS.md#gate), "Hit test", "Side effects").
+    ///
+    /// Sleep, a freeze, the foe's trapping, recharging, a disabled move, confusion and paralysis count as they are now. What the foe does
+    /// first does not count, such as a flinch. The member need not know the move. It does not act if it has to continue another one.
+    ///
+    /// ```
+    /// use gen1::{Battle, Choice, Side, Team, member};
+    ///
+    /// # fn main() -> Result<(), Box<dyn std::error::Error>> {
+    /// let one = Team::new(&[member("Snorlax", &["Body Slam"])?])?;
+    /// let two = Team::new(&[member("Alakazam", &["Psychic"])?])?;
+    /// let mut battle = Battle::new(&one, &two, [0; 10]);
+    /// battle.update(Choice::Pass, Choice::Pass)?;
+    /// let odds = battle.action_odds(Side::One, "Body Slam".parse()?)?;
+    /// assert_eq!((odds.acts, odds.side_effect), (odds.acts_of, 77));
+    /// assert_eq!(odds.hits * 256, odds.hits_of * 255);
+    /// # Ok(())
+    /// # }
+    /// ```
+    ///
+    /// # Errors
+    ///
+    /// [`DamageRefusal::NobodyOut`] only.
+    pub fn action_odds(&self, side: Side, id: MoveId) -> Result<ActionOdds, DamageRefusal> {
+        let odds = odds::action_odds_of(self.out()?, side, id);
+        Ok(ActionOdds {
+            acts: odds.acts,
+            acts_of: odds.acts_of,
+            hits: odds.hits,
+            hits_of: odds.hits_of,
+            side_effect: odds.side_effect,
+            holds: odds.holds,
         })
     }
 

@@ -1,8 +1,10 @@
 //! Exact chances of a use, each draw tried, and exact outcomes of an update: worked out from docs/MECHANICS.md, "Critical hits" and "Hit
 //! test", and both forms of outcomes against each other.
 use gen1::{
-    Battle, CantReason, Chance, Choice, DamageRefusal, Event, Kind, MoveId, NotProbability,
-    OddsReason, OutcomeOptions, OutcomesFault, Place, Refusal, Side, Successor, Team, Way, member,
+    Battle, CantReason, Chance, Choice, Conditions, DamageRefusal, DrawnFrom, Effect, Event, Kind,
+    MoveId, NotProbability, OddsReason, OutcomeOptions, OutcomesFault, Place, Refusal, Request,
+    Side, Stat, Successor, Team, UsedMove, Volatile, Way, Who, member, random_team,
+    seed_from_number,
 };
 
 fn facing(one: (&str, &str), two: (&str, &str)) -> Battle {
@@ -346,5 +348,229 @@ fn what_has_no_damage_says_why() {
     assert_eq!(
         before.odds(Side::Two, id("Pound")),
         Err(DamageRefusal::NobodyOut)
+    );
+}
+
+/// What a way says of the action of side 1, which comes first.
+struct Acted {
+    acts: bool,
+    hits: bool,
+    /// It hit, the foe stands, and no Substitute broke.
+    lands: bool,
+    harms: bool,
+    /// The foe is held, or has fallen by the hit.
+    holds: bool,
+}
+
+fn acted(way: &Way) -> Acted {
+    let is_foe = |who: &Who| who.side == Side::Two;
+    let foes = way.events.iter().position(|event| match event {
+        Event::Move(who, ..) | Event::Cant(who, _) | Event::Prepare(who, _) => is_foe(who),
+        Event::Activate(who, Volatile::Confusion) => is_foe(who),
+        _ => false,
+    });
+    let own = &way.events[..foes.unwrap_or(way.events.len())];
+    let foes = foes.map(|at| &way.events[at]);
+    let cannot = |why| matches!(foes, Some(Event::Cant(_, found)) if *found == why);
+    let strikes = own.iter().any(|event| matches!(event, Event::Move(..)));
+    let misses = own.iter().any(|event| match event {
+        Event::Miss(who) | Event::Fail(who) => !is_foe(who),
+        Event::Immune(who) => is_foe(who),
+        _ => false,
+    });
+    let falls = own
+        .iter()
+        .any(|event| matches!(event, Event::Faint(who) if is_foe(who)));
+    let breaks = own
+        .iter()
+        .any(|event| matches!(event, Event::End(who, Volatile::Substitute) if is_foe(who)));
+    let harms = own.iter().any(|event| match event {
+        Event::Status(who, _) | Event::Unboost(who, ..) => is_foe(who),
+        Event::Start(who, Volatile::Confusion) => is_foe(who),
+        Event::MustRecharge(who) => !is_foe(who),
+        _ => false,
+    });
+    Acted {
+        acts: strikes || own.iter().any(|event| matches!(event, Event::Prepare(..))),
+        hits: strikes && !misses,
+        lands: strikes && !misses && !falls && !breaks,
+        harms: harms || cannot(CantReason::Flinched),
+        holds: cannot(CantReason::PartiallyTrapped) || falls,
+    }
+}
+
+/// A battle of random teams after some random updates, in which side 1 is faster; `None` if it has no turn to play.
+fn position(number: u64) -> Option<Battle> {
+    let team = |seed| random_team(seed, 6, DrawnFrom::All).unwrap();
+    let [one, two] = [team(2 * number), team(2 * number + 1)];
+    let mut battle = Battle::new(&one, &two, seed_from_number(number));
+    for turn in 0..3 + number % 14 {
+        let pick = |side| {
+            let offered = battle.choices(side);
+            offered[(number * 7 + turn * 3) as usize % offered.len()]
+        };
+        let (one, two) = (pick(Side::One), pick(Side::Two));
+        battle.update(one, two).ok()?;
+    }
+    let result = battle.result();
+    if [result.request_one, result.request_two] != [Request::Move; 2] {
+        return None;
+    }
+    let place = |side: usize| {
+        battle.state().sides[side]
+            .active
+            .as_ref()
+            .map(|it| it.place)
+    };
+    let [one, two] = [place(0)?, place(1)?];
+    let with =
+        |battle: Battle, side, place, kind| battle.with_status(side, place, Some(kind), 0).ok();
+    battle = match number % 4 {
+        1 => with(battle, Side::One, one, Kind::Paralysis)?,
+        2 => with(battle, Side::Two, two, Kind::Burn)?,
+        _ => battle,
+    };
+    battle = battle.with_stage(Side::One, Stat::Speed, 6).ok()?;
+    battle = battle.with_stage(Side::Two, Stat::Speed, -6).ok()?;
+    battle
+        .with_state(|state| {
+            let active = state.sides[0].active.as_mut().unwrap();
+            if number % 3 == 0 {
+                active.conditions = active.conditions | Conditions::CONFUSED;
+                active.confusion = Some(1 + (number % 5) as u8);
+            }
+        })
+        .ok()
+}
+
+/// The moves that side 1 is offered, each with its choice.
+fn moves_of(battle: &Battle) -> Vec<(Choice, MoveId)> {
+    let state = battle.state();
+    let (active, member) = (
+        state.sides[0].active.as_ref().unwrap(),
+        state.sides[0].member_out().unwrap(),
+    );
+    let known = |slot: u8| member.moves[usize::from(slot) - 1].id;
+    let current = match active.current_move {
+        UsedMove::Slot(slot) => Some(known(slot)),
+        _ => None,
+    };
+    let id_of = |choice: &Choice| match choice {
+        Choice::Move(slot) if slot.number() == 0 => current,
+        Choice::Move(slot) => Some(known(slot.number())),
+        _ => None,
+    };
+    let offered = battle.choices(Side::One);
+    let all = offered.iter().map(|choice| (*choice, id_of(choice)));
+    all.filter_map(|(choice, id)| Some((choice, id?)))
+        .filter(|(_, id)| id.effect() != Effect::Bide)
+        .collect()
+}
+
+const SIDE_EFFECTS: fn(Effect) -> bool = |effect| {
+    matches!(
+        effect,
+        Effect::DamageOnly
+            | Effect::Twineedle
+            | Effect::FreezeChance
+            | Effect::BurnChance(_)
+            | Effect::ParalysisChance(_)
+            | Effect::PoisonChance(_)
+            | Effect::ConfusionChance(_)
+            | Effect::StatDownChance(_)
+            | Effect::Recharge
+    )
+};
+
+/// How many odds of an action were compared with its ways: that it acts, that it hits, its side effect, and its hold.
+fn compare_action(battle: &Battle, choice: Choice, id: MoveId, foes: Choice) -> [usize; 4] {
+    let options = OutcomeOptions::new().with_damage_classes(2);
+    let ways: Vec<Way> = battle
+        .ways_with(choice, foes, &options)
+        .unwrap()
+        .map(Result::unwrap)
+        .collect();
+    if !ways
+        .iter()
+        .all(|way| way.events[0].side() == Some(Side::One))
+    {
+        return [0; 4];
+    }
+    let odds = battle.action_odds(Side::One, id).unwrap();
+    let of = |is_met: &dyn Fn(&Acted) -> bool| {
+        sum(ways
+            .iter()
+            .filter(|way| is_met(&acted(way)))
+            .map(|way| way.chance))
+    };
+    let reduced = |num: u128, whole: u128| {
+        let by = divisor(num, whole);
+        (num / by, whole / by)
+    };
+    let part =
+        |(num, whole): (u128, u128), draws: u16| reduced(num * u128::from(draws), whole * 256);
+    let shown = format!("{id} {odds:?} {:?}", battle.state());
+    let acts = of(&|it| it.acts);
+    assert_eq!(
+        acts,
+        reduced(odds.acts.into(), odds.acts_of.into()),
+        "{shown}"
+    );
+    let hits = of(&|it| it.hits);
+    assert_eq!(
+        hits,
+        reduced(odds.hits.into(), odds.hits_of.into()),
+        "{shown}"
+    );
+    let foe = battle.state().sides[1].member_out().unwrap().status;
+    let user = battle.state().sides[0].member_out().unwrap().status;
+    let can_flinch = !matches!(foe, Some(Kind::Sleep | Kind::Freeze));
+    let lands = of(&|it| it.lands);
+    let has_side_effect =
+        SIDE_EFFECTS(id.effect()) || (matches!(id.effect(), Effect::FlinchChance(_)) && can_flinch);
+    if has_side_effect {
+        let harms = of(&|it| it.lands && it.harms);
+        assert_eq!(harms, part(lands, odds.side_effect), "{shown}");
+    }
+    let has_hold = can_flinch && !matches!(user, Some(Kind::Poison | Kind::Burn));
+    if has_hold && id.effect() == Effect::Trapping {
+        let holds = of(&|it| it.acts && it.holds);
+        assert_eq!(holds, part(acts, odds.holds), "{shown}");
+    }
+    [
+        1,
+        usize::from(hits.0 > 0),
+        usize::from(has_side_effect && odds.side_effect > 0),
+        usize::from(has_hold && odds.holds > 0),
+    ]
+}
+
+#[test]
+fn the_odds_of_an_action_are_those_of_its_ways() {
+    let (mut positions, mut counts) = (0, [0; 4]);
+    for number in 0..400 {
+        let Some(battle) = position(number) else {
+            continue;
+        };
+        let offered = battle.choices(Side::Two);
+        let Some(foes) = offered.iter().find(|it| matches!(it, Choice::Move(_))) else {
+            continue;
+        };
+        for (choice, id) in moves_of(&battle) {
+            let more = compare_action(&battle, choice, id, *foes);
+            for (count, more) in counts.iter_mut().zip(more) {
+                *count += more;
+            }
+        }
+        positions += 1;
+        if positions == 100 {
+            break;
+        }
+    }
+    assert_eq!(positions, 100);
+    let [acts, hits, harms, holds] = counts;
+    assert!(
+        acts >= 300 && hits >= 250 && harms >= 40 && holds >= 8,
+        "{counts:?}"
     );
 }

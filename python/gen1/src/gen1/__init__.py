@@ -80,7 +80,7 @@ from gen1._events import (
 )
 from gen1._library import LIBRARY_BUILD as library_build
 from gen1._library import LIBRARY_VERSION as library_version
-from gen1._odds import Chances, Damages, HpChange, Odds, ThreeChances, damage, drained, odds, recoil
+from gen1._odds import ActionOdds, Chances, Damages, HpChange, Odds, ThreeChances, damage, drained, odds, recoil
 from gen1._outcomes import Outcomes
 from gen1.battle import Battle, Playouts, Result, Update
 from gen1.choices import Choice, Rules, Side
@@ -187,6 +187,7 @@ def __dir__() -> list[str]:
 
 
 __all__ = [
+    "ActionOdds",
     "ActivateEvent",
     "ActiveState",
     "Announced",

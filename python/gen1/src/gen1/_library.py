@@ -15,6 +15,7 @@ from typing import Any
 
 from gen1._structs import (
     DAMAGES,
+    ActionOddsStruct,
     BattleBytes,
     BetweenStruct,
     ChancesStruct,
@@ -194,6 +195,7 @@ next_sentence = bind(
 )
 damage = bind("gen1_damage", c_uint8, _BATTLE, c_uint8, c_uint8, c_bool, c_uint16 * DAMAGES)
 odds_now = bind("gen1_odds_now", c_uint8, _BATTLE, c_uint8, c_uint8, POINTER(OddsStruct))
+action_odds_now = bind("gen1_action_odds_now", c_uint8, _BATTLE, c_uint8, c_uint8, POINTER(ActionOddsStruct))
 knock_out = bind("gen1_knock_out", c_uint8, _BATTLE, c_uint8, c_uint8, POINTER(ChancesStruct))
 knock_out_in_three = bind(
     "gen1_knock_out_in_three", c_uint8, _BATTLE, c_uint8, c_uint8, POINTER(BetweenStruct), POINTER(ThreeChancesStruct)

@@ -11,7 +11,15 @@ from fractions import Fraction
 from gen1 import _library
 from gen1._check import move as a_move
 from gen1._check import shown, truth, within
-from gen1._structs import ChancesStruct, DamagesStruct, HpChangeStruct, OddsStruct, ThreeChancesStruct, WideStruct
+from gen1._structs import (
+    ActionOddsStruct,
+    ChancesStruct,
+    DamagesStruct,
+    HpChangeStruct,
+    OddsStruct,
+    ThreeChancesStruct,
+    WideStruct,
+)
 from gen1.errors import BadArgument, BadType, NoDamage
 from gen1.names import DamageFault, Move, NewFault, OddsReason
 from gen1.teams import Member, struct_of
@@ -60,6 +68,24 @@ class Odds:
     fixed: tuple[int, int]
     hits: tuple[int, ...]
     charges_first: bool
+
+
+@dataclass(frozen=True)
+class ActionOdds:
+    """The odds of the action by which a side uses a move in the turn that
+    begins, with independent draws.
+
+    `acts` is the exact chance that the member acts, and `hits` that it acts
+    and its move hits, or works. `side_effect` is the chance that a hit has
+    its side effect: 0 if the foe is guarded, 1 if the effect is sure.
+    `holds` is the chance that a trapping move holds the foe, if the member
+    acts; it is 0 for any other move.
+    """
+
+    acts: Fraction
+    hits: Fraction
+    side_effect: Fraction
+    holds: Fraction
 
 
 @dataclass(frozen=True)
@@ -173,6 +199,16 @@ def odds_of(of: OddsStruct, move: Move) -> Odds:
         fixed=(of.least, of.most),
         hits=tuple(of.hits),
         charges_first=of.charges_first == 1,
+    )
+
+
+def action_odds_of(of: ActionOddsStruct) -> ActionOdds:
+    """The odds of an action that a struct holds."""
+    return ActionOdds(
+        acts=Fraction(of.acts, of.acts_of),
+        hits=Fraction(of.hits, of.hits_of),
+        side_effect=Fraction(of.side_effect, 256),
+        holds=Fraction(of.holds, 256),
     )
 
 

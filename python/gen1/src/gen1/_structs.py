@@ -126,6 +126,20 @@ class OddsStruct(Structure):
     ]
 
 
+class ActionOddsStruct(Structure):
+    """gen1_action_odds."""
+
+    _fields_ = [
+        ("acts", c_uint64),
+        ("acts_of", c_uint64),
+        ("hits", c_uint64),
+        ("hits_of", c_uint64),
+        ("side_effect", c_uint16),
+        ("holds", c_uint16),
+        ("zeros", c_uint8 * 4),
+    ]
+
+
 class ChancesStruct(Structure):
     """gen1_chances."""
 

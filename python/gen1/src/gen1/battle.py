@@ -16,10 +16,12 @@ from gen1._check import cut, digits, nearest, octets, seed_bytes, shown, truth, 
 from gen1._events import Event, events, lines
 from gen1._odds import (
     NO_CHANGE,
+    ActionOdds,
     Chances,
     HpChange,
     Odds,
     ThreeChances,
+    action_odds_of,
     chances_of,
     hp_change,
     no_damage,
@@ -31,6 +33,7 @@ from gen1._pack import bad_state, packed
 from gen1._structs import (
     DAMAGES,
     LOG_ROOM,
+    ActionOddsStruct,
     BattleBytes,
     BetweenStruct,
     ChancesStruct,
@@ -510,6 +513,22 @@ class Battle:
         if code:
             raise no_damage(DamageFault(code), known)
         return odds_of(of, known)
+
+    def action_odds(self, side: Side | int, move: Move | str | int) -> ActionOdds:
+        """The odds of the action by which a side uses a move in the turn that
+        begins: that its member acts, and that the move then hits.
+
+        Sleep, a freeze, the foe's trapping, recharging, a disabled move,
+        confusion and paralysis count as they are now. What the foe does
+        first does not count, such as a flinch. The member need not know the
+        move; it does not act if it has to continue another one. Raises
+        `NoDamage` if no member is out, `BadTeam` for an unknown move.
+        """
+        of, known = ActionOddsStruct(), a_move(move)
+        code = _library.action_odds_now(byref(self._held), a_side(side), known, byref(of))
+        if code:
+            raise no_damage(DamageFault(code), known)
+        return action_odds_of(of)
 
     def knock_out(self, side: Side | int, move: Move | str | int) -> Chances:
         """The exact chance that a side's move knocks out the foe's active
